@@ -1,0 +1,9 @@
+//! Calls, what each address pays for, and the greatest number of calls at once, read off events and records of calls.
+#![tactic(auto)]
+
+pub mod account;
+pub mod call;
+mod heard;
+pub mod peak;
+#[cfg(test)]
+mod tests;

@@ -1,0 +1,124 @@
+-- What a data packet does to a channel.
+use Rattle.std.proofs.Common.{◌≡◌, ◌+◌, ℕ, Bool, true, false, refl, sym, ◌∙◌, ap, subst, List, [], ◌∷◌, ◌++◌, length, Option, Some, None, Result, Ok, Err}
+use Rattle.std.specs.Prelude.{◌&&◌}
+use Rattle.line_model.specs.declared.interface.Interface.{Interface}
+use Rattle.line_model.specs.declared.state.Side.{Side}
+use Rattle.line_model.specs.declared.state.Side.TheVariants.{T, N}
+use Rattle.line_model.specs.declared.state.StateName.{StateName}
+use Rattle.line_model.specs.declared.event.Event.{Event}
+use Rattle.line_model.specs.declared.event.What.TheVariants.{Data as DataHeard}
+use Rattle.line_model.specs.Channels.{Channel, Heard, Told, of_side, with_side}
+use Rattle.line_model.specs.FlowControl.{Counts, sent_by, count_data}
+use Rattle.line_model.specs.Sequences.{is_alike, begun, is_category_a, sequence_octets}
+use Rattle.line_model.specs.Formats.{window_in_force, size_in_force, is_pad_call}
+use Rattle.line_model.specs.ChannelStep.{Outcome, counts_of, data_counted, data_alike, hearing, failing, completed_message, told_after}
+use Rattle.window_check.specs.Kept.{Kept, Stands, Answers}
+use Rattle.mbit_assembly.specs.Assembler as assembly
+use Rattle.channel_machine.specs.declared.events.Stamp.{Stamp}
+use Rattle.channel_machine.specs.declared.transfer.Transfer.{Transfer}
+use Rattle.channel_machine.specs.Events.{stamped, Reports}
+use Rattle.channel_machine.specs.Messages.{SettingsStand, told_reports}
+use Rattle.channel_machine.specs.Transfers.{StandsFor, IsHeard, counted_in_force}
+use Rattle.channel_machine.proofs.Counting.{answered_ok, answered_err, data_counts, sent_more}
+
+-- the values in force, by sides
+size_is : {A : Type 0} (i : Interface) (t : Transfer A) (c : Channel) (x : Side) → StandsFor i t c → of_side x (assembly.sizes t.assembler) ≡ size_in_force i c x
+size_is i t c T stands = ap (λ v. v.of_t) stands.sizes
+size_is i t c N stands = ap (λ v. v.of_n) stands.sizes
+
+window_is : {A : Type 0} (i : Interface) (t : Transfer A) (c : Channel) (x : Side) → StandsFor i t c → of_side x t.flow.windows ≡ window_in_force i c x
+window_is i t c T stands = ap (λ v. v.of_t) stands.windows
+window_is i t c N stands = ap (λ v. v.of_n) stands.windows
+
+pub in_force : {A : Type 0} (U : Type 0) (r : Result U ℕ) (i : Interface) (t : Transfer A) (new : Kept) (c : Channel) (x : Side) (s n : ℕ) → StandsFor i t c →
+    Answers r t.flow new (count_data t.flow.modulus (of_side x t.flow.windows) (counts_of c) x s n) → Answers r t.flow new (counted_in_force i x s n c)
+in_force U r i t new c x s n stands answer =
+    subst (λ w. Answers r t.flow new (count_data i.modulus w (counts_of c) x s n)) (window_is i t c x stands)
+    (subst (λ m. Answers r t.flow new (count_data m (of_side x t.flow.windows) (counts_of c) x s n)) stands.modulus answer)
+
+-- a fault of the numbers
+pub refused : {A : Type 0} (U : Type 0) (e : ℕ) (i : Interface) (s : Stamp) (t : Transfer A) (new : Kept) (before : List Event) (x : Side) (p : Heard) (r : Result Counts ℕ) (c : Channel) →
+    Answers {A = U} (Err e) t.flow new r → IsHeard (Some e) i s t t before before x p r c
+refused U e i s t new before x p r c answer =
+    ((λ q. ap (λ a. data_counted i x q p a c) (answered_err U e t.flow new r answer).0), refl, refl)
+
+-- another Q bit
+pub mixed : {A U : Type 0} (u : U) (i : Interface) (s : Stamp) (t new : Transfer A) (flow : Kept) (before after : List Event) (x : Side) (p : Heard) (r : Result Counts ℕ) (c : Channel) →
+    StandsFor i t c → Answers (Ok u) t.flow flow r → is_alike p (assembly.begun_by t.assembler x c.heard) ≡ false → new ≡ t → after ≡ before →
+    IsHeard (Some 83) i s t new before after x p r c
+mixed u i s t new flow before after x p r c stands answer other same none =
+    let (v, is, _) = answered_ok u t.flow flow r answer in
+    let unlike : is_alike p (begun (size_in_force i c x) x c.heard) ≡ false = subst (λ n. is_alike p (begun n x c.heard) ≡ false) (size_is i t c x stands) other in
+    ((λ q. ap (λ a. data_counted i x q p a c) is ∙ ap (λ b. data_alike i x q p v b c) unlike), same, none)
+
+-- a channel after a packet without fault
+settled : {A : Type 0} (i : Interface) (t new : Transfer A) (c : Channel) (x : Side) (p : Heard) (v : Counts) (m : Option (List ℕ)) → StandsFor i t c → p.side ≡ x →
+    v.sent ≡ with_side x (of_side x (sent_by c.heard) + 1) (sent_by c.heard) → v.unconfirmed ≡ c.unconfirmed → Stands new.flow v →
+    new.flow.modulus ≡ t.flow.modulus → new.flow.windows ≡ t.flow.windows →
+    assembly.StandsFor new.assembler (c.heard ++ p ∷ []) → assembly.sizes new.assembler ≡ assembly.sizes t.assembler →
+    SettingsStand new (told_after x c.told m) → StandsFor i new (hearing x p v m c).after
+settled i t new c x p v m stands side_is sent_is unconfirmed_is flow modulus windows sequences sizes settings = record {
+  flow = subst (λ s. Stands new.flow (record { sent = s; acknowledged = v.acknowledged; unconfirmed = c.unconfirmed })) (sent_is ∙ sent_more x c.heard p side_is)
+      (subst (λ b. Stands new.flow (record { sent = v.sent; acknowledged = v.acknowledged; unconfirmed = b })) unconfirmed_is flow);
+  modulus = modulus ∙ stands.modulus;
+  windows = windows ∙ stands.windows;
+  sequences = sequences;
+  sizes = sizes ∙ stands.sizes;
+  settings = settings;
+}
+
+-- which message is completed
+going_message : (a b c : Bool) (l : List ℕ) → c ≡ true →
+    ◌≡◌ {A = Option (List ℕ)} (elim a [ false ↦ None | true ↦ elim b [ false ↦ None | true ↦ elim c [ true ↦ None | false ↦ Some l ] ] ]) None
+going_message false b c l h = refl
+going_message true false c l h = refl
+going_message true true c l h = ap (λ d. elim d [ true ↦ None | false ↦ Some l ]) h
+
+untold_message : (a b c : Bool) (l : List ℕ) → (a && b) ≡ false →
+    ◌≡◌ {A = Option (List ℕ)} (elim a [ false ↦ None | true ↦ elim b [ false ↦ None | true ↦ elim c [ true ↦ None | false ↦ Some l ] ] ]) None
+untold_message false b c l h = refl
+untold_message true false c l h = refl
+untold_message true true c l h = cc
+
+told_message : (a b c : Bool) (l : List ℕ) → (a && b) ≡ true → c ≡ false →
+    ◌≡◌ {A = Option (List ℕ)} (elim a [ false ↦ None | true ↦ elim b [ false ↦ None | true ↦ elim c [ true ↦ None | false ↦ Some l ] ] ]) (Some l)
+told_message false b c l h e = cc
+told_message true false c l h e = cc
+told_message true true c l h e = ap (λ d. elim d [ true ↦ None | false ↦ Some l ]) e
+
+pub going_is : {A : Type 0} (i : Interface) (t : Transfer A) (c : Channel) (x : Side) (p : Heard) → StandsFor i t c →
+    is_category_a (of_side x (assembly.sizes t.assembler)) p ≡ true → completed_message i x c p ≡ None
+going_is i t c x p stands a =
+    going_message (is_pad_call c) p.qualified (is_category_a (size_in_force i c x) p) (sequence_octets (begun (size_in_force i c x) x c.heard ++ p ∷ []))
+    (subst (λ n. is_category_a n p ≡ true) (size_is i t c x stands) a)
+
+pub untold_is : (i : Interface) (c : Channel) (x : Side) (p : Heard) → (is_pad_call c && p.qualified) ≡ false → completed_message i x c p ≡ None
+untold_is i c x p h =
+    untold_message (is_pad_call c) p.qualified (is_category_a (size_in_force i c x) p) (sequence_octets (begun (size_in_force i c x) x c.heard ++ p ∷ [])) h
+
+pub told_is : {A : Type 0} (i : Interface) (t : Transfer A) (c : Channel) (x : Side) (p : Heard) → StandsFor i t c → (is_pad_call c && p.qualified) ≡ true →
+    is_category_a (of_side x (assembly.sizes t.assembler)) p ≡ false →
+    completed_message i x c p ≡ Some (sequence_octets (assembly.begun_by t.assembler x c.heard ++ p ∷ []))
+told_is i t c x p stands h a =
+    told_message (is_pad_call c) p.qualified (is_category_a (size_in_force i c x) p) (sequence_octets (begun (size_in_force i c x) x c.heard ++ p ∷ [])) h
+    (subst (λ n. is_category_a n p ≡ false) (size_is i t c x stands) a)
+    ∙ ap (λ n. Some (sequence_octets (begun n x c.heard ++ p ∷ []))) (sym (size_is i t c x stands))
+
+-- a packet without fault, which completes a message or not
+pub accepted : {A U : Type 0} (u : U) (i : Interface) (s : Stamp) (t new : Transfer A) (before after : List Event) (c : Channel) (x : Side) (sn rn : ℕ) (p : Heard) (m : Option (List ℕ)) →
+    StandsFor i t c → p.side ≡ x → Answers (Ok u) t.flow new.flow (counted_in_force i x sn rn c) →
+    is_alike p (assembly.begun_by t.assembler x c.heard) ≡ true → completed_message i x c p ≡ m →
+    new.flow.modulus ≡ t.flow.modulus → new.flow.windows ≡ t.flow.windows →
+    assembly.StandsFor new.assembler (c.heard ++ p ∷ []) → assembly.sizes new.assembler ≡ assembly.sizes t.assembler → SettingsStand new (told_after x c.told m) →
+    ((v : Counts) → Reports s before after (hearing x p v m c).reported) → IsHeard None i s t new before after x p (counted_in_force i x sn rn c) c
+accepted u i s t new before after c x sn rn p m stands side_is answer alike completes modulus windows sequences sizes settings events =
+    let r : Result Counts ℕ = counted_in_force i x sn rn c in
+    let (v, is, flow) = answered_ok u t.flow new.flow r answer in
+    let like : is_alike p (begun (size_in_force i c x) x c.heard) ≡ true = subst (λ n. is_alike p (begun n x c.heard) ≡ true) (size_is i t c x stands) alike in
+    let keeps = data_counts i.modulus (window_in_force i c x) (counts_of c) v x sn rn is in (
+      v,
+      m,
+      (λ q. ap (λ a. data_counted i x q p a c) is ∙ ap (λ b. data_alike i x q p v b c) like ∙ ap (λ o. hearing x p v o c) completes),
+      settled i t new c x p v m stands side_is keeps.0 keeps.1 flow modulus windows sequences sizes settings,
+      events v,
+    )

@@ -1,0 +1,11 @@
+pub mod Calls
+pub mod Counting
+pub mod Faults
+pub mod Hearing
+pub mod InForce
+pub mod Kept
+pub mod PairCounts
+pub mod Reporting
+pub mod Settings
+pub mod Steps
+pub mod Taking

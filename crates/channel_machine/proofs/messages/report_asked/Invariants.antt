@@ -1,0 +1,10 @@
+use Rattle.std.proofs.Common.{◌≤◌, ◌+◌, length, vec_len, vec_capacity}
+use Rattle.x3_parameters.specs.Effects.{asked_one}
+use Rattle.channel_machine.proofs.Reporting.{IsReported}
+use Rattle.channel_machine.proofs.messages.report_asked.Given as goal
+
+abbrev pub invariant-loop-pair : goal.invariant-loop-pair
+invariant-loop-pair g l = record {
+  reported : IsReported l.stamp (asked_one l.pad) l.fn.report.items l.report.items l.pair-iterator l.fn.pairs;
+  room : vec_len l.report + length l.pair-iterator ≤ vec_capacity l.report;
+}

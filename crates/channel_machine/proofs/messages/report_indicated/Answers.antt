@@ -1,0 +1,23 @@
+use Rattle.std.proofs.Common.{arith, ap, length}
+use Rattle.x29_messages.specs.Pairs.{shown}
+use Rattle.x3_parameters.specs.Effects.{indicated_one}
+use Rattle.channel_machine.proofs.Reporting.{reported_none, reported_one, reported_all}
+use Rattle.channel_machine.proofs.messages.report_indicated.Goals as goal
+
+pub loop-pair-init : goal.loop-pair-init
+loop-pair-init g c = record {
+  reported = reported_none c.args.stamp (indicated_one c.args.pad) c.args.report.now.items _ _ c.into_iter-pair-iterator.ensures.into_iter_gives;
+  room = omega (arith, c.requires.room, ap (λ l. length l) c.into_iter-pair-iterator.ensures.into_iter_gives);
+}
+
+pub loop-pair-preserved : goal.loop-pair-preserved
+loop-pair-preserved g c = record {
+  reported = reported_one c.args.stamp (indicated_one c.args.pad) c.args.report.now.items c.loop-pair.report.items _ (shown c.in-Some.pair) c.loop-pair.pair-iterator c.next.new.self c.args.pairs
+      c.loop-pair.invariant.reported c.in-Some.ensures.steps c.report_indicated_one.ensures.reports;
+  room = omega (arith, c.loop-pair.invariant.room, ap (λ l. length l) c.in-Some.ensures.steps, c.report_indicated_one.ensures.len, c.report_indicated_one.ensures.capacity);
+}
+
+pub returns : goal.returns
+returns g c =
+    reported_all c.args.stamp (indicated_one c.args.pad) c.args.report.now.items c.loop-pair.report.items c.loop-pair.pair-iterator c.args.pairs
+    c.loop-pair.invariant.reported c.in-None.ensures.steps.0

@@ -1,0 +1,7 @@
+pub mod Terms
+pub mod TermsStand
+pub mod Events
+pub mod Messages
+pub mod Transfers
+pub mod Channels
+pub mod Decisions

@@ -1,0 +1,23 @@
+-- PAD messages on a channel, and the settings that stand for them (X.29 clause 4).
+use Rattle.std.specs.Prelude.{ℕ, ◌≡◌, List, ◌∷◌, ◌++◌, option_to_list}
+use Rattle.line_model.specs.declared.state.Side.{Side}
+use Rattle.line_model.specs.declared.state.Side.TheVariants.{T, N}
+use Rattle.line_model.specs.declared.event.What.{What}
+use Rattle.line_model.specs.declared.event.What.TheVariants.{Data}
+use Rattle.line_model.specs.ChannelStep.{option_found}
+use Rattle.line_model.specs.Pad.{message_fault, settings_after}
+use Rattle.line_model.specs.Channels.{Told}
+use Rattle.x3_parameters.specs.Stands as settings
+use Rattle.channel_machine.specs.declared.transfer.Transfer.{Transfer}
+
+-- the settings of both PADs stand for the messages of the call
+pub record SettingsStand {A : Type 0} (t : Transfer A) (ts : List Told) : Type 0 where
+  pub pad_t : t.settings_t.pad ≡ T
+  pub pad_n : t.settings_n.pad ≡ N
+  pub of_t : settings.StandsFor t.settings_t ts
+  pub of_n : settings.StandsFor t.settings_n ts
+
+-- what a message of a side reports, on a packet of so many octets (X.29 clause 4; the order is profile)
+abbrev pub told_reports : Side → (length : ℕ) → (ts : List Told) → (message : List ℕ) → List What
+told_reports x n ts m =
+    option_to_list (option_found x (message_fault x ts m)) ++ Data x n ∷ settings_after (message_fault x ts m) x m

@@ -1,0 +1,58 @@
+-- The data transfer part of a channel, and what it stands for (X.25 clause 4).
+use Rattle.std.specs.Prelude.{ℕ, false, ◌≡◌, List, [], Option, Some, None, Result, Ok, Err}
+use Rattle.line_model.specs.declared.state.Side.{Side}
+use Rattle.line_model.specs.declared.state.Side.TheVariants.{T, N}
+use Rattle.line_model.specs.declared.state.StateName.{StateName}
+use Rattle.line_model.specs.declared.interface.Interface.{Interface}
+use Rattle.line_model.specs.declared.packet.DataHeader.{DataHeader}
+use Rattle.line_model.specs.declared.event.Event.{Event}
+use Rattle.line_model.specs.Channels.{Channel, Heard}
+use Rattle.line_model.specs.FlowControl.{Counts, count_data}
+use Rattle.line_model.specs.Formats.{window_in_force, size_in_force}
+use Rattle.line_model.specs.ChannelStep.{counts_of, data_counted, failing, hearing}
+use Rattle.window_check.specs.Kept.{Stands}
+use Rattle.mbit_assembly.specs.Assembler as assembly
+use Rattle.channel_machine.specs.Messages.{SettingsStand}
+use Rattle.channel_machine.specs.Events.{Reports}
+use Rattle.channel_machine.specs.declared.events.Stamp.{Stamp}
+use Rattle.channel_machine.specs.declared.transfer.Transfer.{Transfer}
+
+-- the windows, sequences and settings of a channel, under the values in force
+pub record StandsFor {A : Type 0} (i : Interface) (t : Transfer A) (c : Channel) : Type 0 where
+  pub flow : Stands t.flow (counts_of c)
+  pub modulus : t.flow.modulus ≡ i.modulus
+  pub windows : t.flow.windows ≡ record { of_t = window_in_force i c T; of_n = window_in_force i c N }
+  pub sequences : assembly.StandsFor t.assembler c.heard
+  pub sizes : assembly.sizes t.assembler ≡ record { of_t = size_in_force i c T; of_n = size_in_force i c N }
+  pub settings : SettingsStand t c.told
+
+-- a channel where nothing was heard yet (X.25 clause 4.4.3)
+abbrev pub silent : Channel → Channel
+silent c = record c {
+  heard = [];
+  acknowledged = record { of_t = 0; of_n = 0 };
+  unconfirmed = record { of_t = false; of_n = false };
+}
+
+-- what the counts answer to a data packet of a side, in the window in force (X.25 clause 4.4.1)
+abbrev pub counted_in_force : Interface → Side → (send receive : ℕ) → Channel → Result Counts ℕ
+counted_in_force i x s n c = count_data i.modulus (window_in_force i c x) (counts_of c) x s n
+
+-- the data packet of a header
+abbrev pub packet : Side → DataHeader → List ℕ → Heard
+packet x h octets = record { side = x; qualified = h.qualified; more = h.more; delivery = h.delivery; octets = octets }
+
+-- what a data packet does, by the answer of its counts: a fault is told and changes nothing
+abbrev pub IsHeard : {A : Type 0} → Option ℕ → Interface → Stamp → (old new : Transfer A) → (before after : List Event) →
+    Side → Heard → Result Counts ℕ → Channel → Type 0
+IsHeard (Some n) i s old new before after x p r c =
+    ((t : StateName) → data_counted i x t p r c ≡ failing x t n c) × (new ≡ old) × (after ≡ before)
+IsHeard None i s old new before after x p r c =
+    (v : Counts) × (m : Option (List ℕ)) × ((t : StateName) → data_counted i x t p r c ≡ hearing x p v m c)
+    × StandsFor i new (hearing x p v m c).after × Reports s before after (hearing x p v m c).reported
+
+-- what a packet that changes the counts alone does, by the answer of the counts
+abbrev pub IsCounted : {A U : Type 0} → Result U ℕ → Interface → (old new : Transfer A) → Result Counts ℕ → Channel → Type 0
+IsCounted (Ok u) i old new r c =
+    (v : Counts) × (r ≡ Ok v) × StandsFor i new (record c { acknowledged = v.acknowledged; unconfirmed = v.unconfirmed })
+IsCounted (Err e) i old new r c = (r ≡ Err e) × (new ≡ old)

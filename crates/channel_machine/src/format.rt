@@ -1,0 +1,176 @@
+//! The header, the user data and the faults of the packets of a channel (X.25 clause 5).
+
+ghost use Rattle.std.specs.Prelude.{◌≡◌, ◌+◌, ◌*◌, ◌%◌, ◌<◌, ◌≤◌, [], ◌∷◌, nat_lt, length, drop, unwrap_or, Some, None};
+ghost use Rattle.line_model.specs.Channels.{Channel};
+ghost use Rattle.line_model.specs.Octets.{octet};
+ghost use Rattle.line_model.specs.Choice.{first_fault};
+ghost use Rattle.line_model.specs.Classes.{class_of, data_header, receive_number, header_length};
+ghost use Rattle.line_model.specs.Formats.{format_fault, direction_fault, packet_fault};
+ghost use Rattle.packet_decode.specs.CallFaults.{IsCallPacket, fault_by_class};
+ghost use Rattle.channel_machine.specs.Channels.{Stands};
+
+use crate::channel::PlainChannel;
+use line_model::interface::Interface;
+use line_model::packet::{Class, DataHeader};
+use line_model::state::Side;
+use packet_decode::fields::call_fields;
+use std::alloc::Allocator;
+
+/// The octet at a place, counted from 0; 0 past the end.
+fn octet_at(octets: &[u8], k: usize) -> u8
+    ensures { result ≡ octet (k + 1) octets.now }
+{
+    match octets.get(k) {
+        Some(octet) => *octet,
+        None => 0,
+    }
+}
+
+/// The header of a data packet.
+pub(crate) fn data_header(interface: &Interface, octets: &[u8]) -> Option<DataHeader>
+    ensures { result ≡ data_header interface.now octets.now }
+{
+    let first = octet_at(octets, 0);
+    let third = octet_at(octets, 2);
+    let fourth = octet_at(octets, 3);
+    if interface.modulus == 8 {
+        return Some(DataHeader {
+            send: third / 2 % 8,
+            receive: third / 32 % 8,
+            more: third / 16 % 2 == 1,
+            delivery: first / 64 % 2 == 1,
+            qualified: first / 128 % 2 == 1,
+        });
+    }
+    if octets.len() < 4 {
+        return None;
+    }
+    Some(DataHeader {
+        send: third / 2 % 128,
+        receive: fourth / 2 % 128,
+        more: fourth % 2 == 1,
+        delivery: first / 64 % 2 == 1,
+        qualified: first / 128 % 2 == 1,
+    })
+}
+
+/// P(R) of RR and RNR, 0 where it is cut.
+pub(crate) fn receive_number(interface: &Interface, octets: &[u8]) -> u8
+    ensures { result ≡ unwrap_or (receive_number interface.now octets.now) 0 }
+{
+    if interface.modulus == 8 {
+        octet_at(octets, 2) / 32 % 8
+    } else if octets.len() < 4 {
+        0
+    } else {
+        octet_at(octets, 3) / 2 % 128
+    }
+}
+
+/// How many octets stand before the user data.
+pub(crate) fn header_length(interface: &Interface) -> usize
+    ensures length { result ≡ header_length interface.now }
+    ensures small { result ≤ 4 }
+{
+    if interface.modulus == 8 { 3 } else { 4 }
+}
+
+/// The user data of a data packet.
+pub(crate) fn user_data<'a>(interface: &Interface, octets: &'a [u8]) -> &'a [u8]
+    ensures data { result.now ≡ drop (header_length interface.now) octets.now }
+    ensures len { length result.now ≤ length octets.now }
+{
+    &octets[header_length(interface).min(octets.len())..]
+}
+
+/// The fault of a length below one bound or above another.
+fn length_fault(length: usize, low: usize, high: usize) -> Option<u8>
+    ensures { result ≡ first_fault ((nat_lt length low, 38) ∷ (nat_lt high length, 39) ∷ []) }
+{
+    if length < low {
+        Some(38)
+    } else if length > high {
+        Some(39)
+    } else {
+        None
+    }
+}
+
+/// The fault of a call packet.
+fn call_fault(interface: &Interface, class: Class, octets: &[u8], fast: bool) -> Option<u8>
+    requires call { IsCallPacket class }
+    requires class { class_of interface.now octets.now ≡ class }
+    ensures { result ≡ fault_by_class interface.now fast class octets.now }
+{
+    match call_fields(interface, octets, fast) {
+        Ok(_) => None,
+        Err(code) => Some(code),
+    }
+}
+
+impl<A: Allocator + Clone> PlainChannel<A> {
+    /// The first fault of a packet: a call against the direction of its channel (34, profile), or a fault of its format.
+    #[tactic(auto, using(crate::proofs::Steps::first_fault_is))]
+    pub(crate) fn packet_fault(&self, side: Side, class: Class, octets: &[u8]) -> Option<u8>
+        requires class { class_of self.now.terms.interface octets.now ≡ class }
+        requires short { length octets.now ≤ 4200 }
+        ensures { (c : Channel) → Stands self.now c → result ≡ packet_fault self.now.terms.interface self.now.channel c side class octets.now }
+    {
+        match self.direction_fault(side, class) {
+            Some(code) => Some(code),
+            None => self.format_fault(side, class, octets),
+        }
+    }
+
+    /// The fault of a call against the direction of a one-way channel.
+    fn direction_fault(&self, side: Side, class: Class) -> Option<u8>
+        ensures { result ≡ direction_fault self.now.terms.interface self.now.channel side class }
+    {
+        match class {
+            Class::Call => {
+                if self.terms.interface.is_against(side, self.channel) {
+                    Some(34)
+                } else {
+                    None
+                }
+            }
+            _ => None,
+        }
+    }
+
+    /// The fault of a packet's format.
+    #[tactic(auto, using(crate::proofs::InForce::size_stands, crate::proofs::InForce::fast_stands))]
+    fn format_fault(&self, side: Side, class: Class, octets: &[u8]) -> Option<u8>
+        requires class { class_of self.now.terms.interface octets.now ≡ class }
+        requires short { length octets.now ≤ 4200 }
+        ensures { (c : Channel) → Stands self.now c → result ≡ format_fault self.now.terms.interface c side class octets.now }
+    {
+        let interface = &self.terms.interface;
+        let header = header_length(interface);
+        let length = octets.len();
+        match class {
+            Class::Call => call_fault(interface, class, octets, false),
+            Class::Accepted => call_fault(interface, class, octets, self.terms.was_fast()),
+            Class::Clear => { if length < 4 { Some(38) } else { None } }
+            Class::Reset => length_fault(length, 4, 5),
+            Class::Interrupt => length_fault(length, 4, 35),
+            Class::ResetConfirm => too_long(length),
+            Class::InterruptConfirm => too_long(length),
+            Class::Rr => length_fault(length, header, header),
+            Class::Rnr => length_fault(length, header, header),
+            Class::Data => length_fault(
+                length,
+                header,
+                header + usize::from(self.terms.size(side)),
+            ),
+            _ => None,
+        }
+    }
+}
+
+/// The fault of a packet that ends after octet 3.
+fn too_long(length: usize) -> Option<u8>
+    ensures { result ≡ first_fault ((nat_lt 3 length, 39) ∷ []) }
+{
+    if length > 3 { Some(39) } else { None }
+}

@@ -1,0 +1,98 @@
+//! What a packet comes to on its channel, by the state tables and its fault of format.
+
+ghost use Rattle.std.specs.Prelude.{◌≡◌};
+ghost use Rattle.line_model.specs.Tables.{action};
+ghost use Rattle.line_model.specs.ChannelStep.{judged, verdict, joining, is_reset, is_call_or_clear};
+
+use line_model::packet::Class;
+use line_model::state::{ChannelState, Side, StateName};
+use line_model::table::{Action, table_n, table_t};
+use line_model::verdict::Verdict;
+
+/// The entry of a side's table.
+fn entry(side: Side, state: StateName, owed: bool, class: Class) -> Action
+    ensures { result ≡ action side state owed class }
+{
+    match side {
+        Side::T => table_t(state, class),
+        Side::N => table_n(state, owed, class),
+    }
+}
+
+/// The state in whose column a packet stands, and the entry there: in p4 the first table's, and the second's where that
+/// says so. Of an unknown channel a packet that tells what it is in is judged as in p1, on a permanent circuit as in d1.
+pub(crate) fn judged(
+    permanent: bool,
+    side: Side,
+    state: ChannelState,
+    owed: bool,
+    class: Class,
+) -> (StateName, Action)
+    ensures { record { state = result.0; entry = result.1 } ≡ judged permanent side state owed class }
+{
+    match state {
+        ChannelState::Setup(state) => (state.name(), entry(side, state.name(), owed, class)),
+        ChannelState::Transfer(state) => {
+            if !permanent {
+                let first = entry(side, StateName::P4, owed, class);
+                if first != Action::Below {
+                    return (StateName::P4, first);
+                }
+            }
+            (state.name(), entry(side, state.name(), owed, class))
+        }
+        ChannelState::Unknown => {
+            if permanent {
+                let in_d1 = entry(side, StateName::D1, owed, class);
+                joining(is_reset(class), StateName::D1, in_d1)
+            } else {
+                let in_p1 = entry(side, StateName::P1, owed, class);
+                joining(is_call_or_clear(class), StateName::P1, in_p1)
+            }
+        }
+    }
+}
+
+/// The entry of an unknown channel: every packet passes but those that tell what the channel is in.
+fn joining(taken: bool, state: StateName, entry: Action) -> (StateName, Action)
+    ensures { record { state = result.0; entry = result.1 } ≡ joining taken state entry }
+{
+    if taken {
+        (state, entry)
+    } else {
+        (state, Action::Pass)
+    }
+}
+
+/// Whether a class tells what an unknown permanent circuit is in.
+fn is_reset(class: Class) -> bool
+    ensures { result ≡ is_reset class }
+{
+    matches!(class, Class::Reset)
+}
+
+/// Whether a class tells what an unknown virtual call channel is in.
+fn is_call_or_clear(class: Class) -> bool
+    ensures { result ≡ is_call_or_clear class }
+{
+    matches!(class, Class::Call | Class::Clear)
+}
+
+/// What a packet comes to, by the entry and the fault of its format.
+pub(crate) fn weigh(state: StateName, entry: Action, fault: Option<u8>) -> Verdict
+    ensures { result ≡ verdict (record { state = state; entry = entry }) fault }
+{
+    match entry {
+        Action::Move(to) => match fault {
+            Some(code) => Verdict::Fails(state, code),
+            None => Verdict::Moves(to),
+        },
+        Action::Normal => match fault {
+            Some(code) => Verdict::Fails(state, code),
+            None => Verdict::Transfers,
+        },
+        Action::Error(code) => Verdict::Fails(state, code),
+        Action::Ends => Verdict::EndsOwed,
+        _ => Verdict::Nothing,
+    }
+}

@@ -1,0 +1,14 @@
+//! One logical channel: from its packets to events.
+#![tactic(auto)]
+
+pub mod channel;
+mod events;
+mod format;
+mod judging;
+mod messages;
+mod moves;
+mod step;
+mod terms;
+#[cfg(test)]
+mod tests;
+mod transfer;

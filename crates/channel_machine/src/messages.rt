@@ -1,0 +1,253 @@
+//! PAD messages on a channel: their findings, and what they tell of the settings.
+
+ghost use Rattle.std.specs.Prelude.{◌≡◌, ◌+◌, ◌<◌, ◌≤◌, ◌++◌, ◌∷◌, [], List, ℕ, length, take, option_to_list, flat_map, vec_len, vec_capacity};
+ghost use Rattle.line_model.specs.Channels.{Told};
+ghost use Rattle.line_model.specs.Pad.{is_parameter, settings_of, settings_after, message_fault};
+ghost use Rattle.line_model.specs.ChannelStep.{option_found, telling};
+ghost use Rattle.x29_messages.specs.Codes.{octets_of};
+ghost use Rattle.x29_messages.specs.Pairs.{shown};
+ghost use Rattle.x3_parameters.specs.Effects.{indicated_one, asked_one};
+ghost use Rattle.x3_parameters.specs.Told.{set_events, told};
+ghost use Rattle.channel_machine.specs.Events.{Reports};
+
+use crate::events::Stamp;
+use crate::transfer::Transfer;
+use line_model::event::{Entry, Event, What};
+use line_model::finding::{Code, Xcode};
+use line_model::state::{Side, StateName};
+use std::alloc::Allocator;
+use x29_messages::message::{Message, MessageCode, read_message};
+use x29_messages::pairs::{Pair, Pairs};
+
+/// Room for the events of a packet that completes a message: the finding, the data, and a setting for each pair of a
+/// message, or the return to initial values.
+pub(crate) const ROOM: usize = 514;
+
+impl<A: Allocator + Clone> Transfer<A> {
+    ghost use Rattle.channel_machine.specs.Messages.{SettingsStand, told_reports};
+
+    /// Takes the message that a packet of so many octets completes; `octets` are the first 1,025 of the message.
+    pub(crate) fn tell(
+        &mut self,
+        stamp: Stamp,
+        from: Side,
+        octets: &[u8],
+        size: u32,
+        report: &mut Vec<Event, A>,
+    )
+        requires room { vec_len report.old + 514 ≤ vec_capacity report.old }
+        ensures flow { self.new.flow ≡ self.old.flow }
+        ensures assembler { self.new.assembler ≡ self.old.assembler }
+        ensures reports { (m : List ℕ) (ts : List Told) → octets.now ≡ take 1025 m → SettingsStand self.old ts → Reports stamp report.old.items report.new.items (told_reports from size ts m) }
+        ensures stands { (m : List ℕ) (ts : List Told) → octets.now ≡ take 1025 m → SettingsStand self.old ts → SettingsStand self.new (ts ++ record { from = from; message = m } ∷ []) }
+    {
+        match read_message(octets) {
+            Err(fault) => {
+                report_fault(stamp, from, Some(fault), report);
+                report.push_reserved(stamp.event(heard(from, size)));
+            }
+            Ok(message) => self.take(stamp, from, &message, size, report),
+        }
+    }
+
+    /// Takes a message without a fault of its own, which a packet of so many octets completes.
+    fn take(
+        &mut self,
+        stamp: Stamp,
+        from: Side,
+        message: &Message<'_>,
+        size: u32,
+        report: &mut Vec<Event, A>,
+    )
+        requires room { vec_len report.old + 514 ≤ vec_capacity report.old }
+        requires short { length message.now.pairs.now < 1024 }
+        ensures flow { self.new.flow ≡ self.old.flow }
+        ensures assembler { self.new.assembler ≡ self.old.assembler }
+        ensures reports { (ts : List Told) → SettingsStand self.old ts → Reports stamp report.old.items report.new.items (told_reports from size ts (told from message.now).message) }
+        ensures stands { (ts : List Told) → SettingsStand self.old ts → SettingsStand self.new (ts ++ told from message.now ∷ []) }
+    {
+        let fault = self.read(from, message);
+        report_fault(stamp, from, fault, report);
+        report.push_reserved(stamp.event(heard(from, size)));
+        report_after(stamp, from, fault, message, report);
+    }
+
+    /// Hands a message to the settings of both PADs, and tells its fault.
+    #[tactic(auto, using(crate::proofs::Faults::both))]
+    fn read(&mut self, from: Side, message: &Message<'_>) -> Option<Xcode>
+        ensures flow { self.new.flow ≡ self.old.flow }
+        ensures assembler { self.new.assembler ≡ self.old.assembler }
+        ensures fault { (ts : List Told) → SettingsStand self.old ts → result ≡ message_fault from ts (told from message.now).message }
+        ensures stands { (ts : List Told) → SettingsStand self.old ts → SettingsStand self.new (ts ++ told from message.now ∷ []) }
+    {
+        let of_t = self.settings_t.apply(message, from);
+        let of_n = self.settings_n.apply(message, from);
+        match of_t {
+            Some(fault) => Some(fault),
+            None => of_n,
+        }
+    }
+}
+
+/// A data packet of so many octets.
+pub(crate) fn heard(side: Side, octets: u32) -> What
+    ensures { result ≡ What.Data side octets }
+{
+    What::Data { side, octets }
+}
+
+/// Reports the fault of a message, which stands in d1.
+fn report_fault<A: Allocator>(
+    stamp: Stamp,
+    from: Side,
+    fault: Option<Xcode>,
+    report: &mut Vec<Event, A>,
+)
+    requires room { vec_len report.old < vec_capacity report.old }
+    ensures reports { Reports stamp report.old.items report.new.items (option_to_list (option_found from fault)) }
+    ensures capacity { vec_capacity report.new ≡ vec_capacity report.old }
+    ensures len { vec_len report.new ≤ vec_len report.old + 1 }
+{
+    if let Some(fault) = fault {
+        report.push_reserved(stamp.event(found(from, fault)));
+    }
+}
+
+/// The finding on a message.
+fn found(side: Side, fault: Xcode) -> What
+    ensures { result ≡ What.Found side StateName.D1 (Code.Pad fault) }
+{
+    What::Found {
+        side,
+        state: StateName::D1,
+        code: Code::Pad(fault),
+    }
+}
+
+/// Reports what a message tells of the settings, after a fault of them: X4 keeps it from telling anything.
+fn report_after<A: Allocator>(
+    stamp: Stamp,
+    from: Side,
+    fault: Option<Xcode>,
+    message: &Message<'_>,
+    report: &mut Vec<Event, A>,
+)
+    requires room { vec_len report.old + 512 ≤ vec_capacity report.old }
+    requires short { length message.now.pairs.now < 1024 }
+    ensures { Reports stamp report.old.items report.new.items (settings_after fault from (octets_of message.now.code message.now.pairs.now)) }
+{
+    match fault {
+        None => report_settings(stamp, from, message, report),
+        Some(Xcode::X3) => report_settings(stamp, from, message, report),
+        Some(_) => {}
+    }
+}
+
+/// Reports the settings that a message says or asks.
+fn report_settings<A: Allocator>(
+    stamp: Stamp,
+    from: Side,
+    message: &Message<'_>,
+    report: &mut Vec<Event, A>,
+)
+    requires room { vec_len report.old + 512 ≤ vec_capacity report.old }
+    requires short { length message.now.pairs.now < 1024 }
+    ensures { Reports stamp report.old.items report.new.items (settings_of from (octets_of message.now.code message.now.pairs.now)) }
+{
+    match message.code {
+        MessageCode::Indication => {
+            report_indicated(stamp, from, Pairs::new(true, message.pairs), report);
+        }
+        MessageCode::Set => report_set(stamp, from.other(), message.pairs, report),
+        MessageCode::SetAndRead => report_set(stamp, from.other(), message.pairs, report),
+        _ => {}
+    }
+}
+
+/// Reports a set of a PAD, whose octets after the code are these.
+fn report_set<A: Allocator>(stamp: Stamp, pad: Side, octets: &[u8], report: &mut Vec<Event, A>)
+    requires room { vec_len report.old + 512 ≤ vec_capacity report.old }
+    requires short { length octets.now < 1024 }
+    ensures { Reports stamp report.old.items report.new.items (set_events pad octets.now) }
+{
+    if octets.is_empty() {
+        report.push_reserved(stamp.event(What::Initial { pad }));
+    } else {
+        report_asked(stamp, pad, Pairs::new(false, octets), report);
+    }
+}
+
+/// Reports what the pairs of an indication say.
+fn report_indicated<A: Allocator>(
+    stamp: Stamp,
+    pad: Side,
+    pairs: Pairs<'_>,
+    report: &mut Vec<Event, A>,
+)
+    requires room { vec_len report.old + length pairs ≤ vec_capacity report.old }
+    ensures { Reports stamp report.old.items report.new.items (flat_map (indicated_one pad) pairs.entry) }
+{
+    for pair in pairs {
+        report_indicated_one(stamp, pad, pair, report);
+    }
+}
+
+/// Reports what a pair of an indication says, if anything.
+fn report_indicated_one<A: Allocator>(
+    stamp: Stamp,
+    pad: Side,
+    pair: Pair,
+    report: &mut Vec<Event, A>,
+)
+    requires room { vec_len report.old < vec_capacity report.old }
+    ensures reports { Reports stamp report.old.items report.new.items (indicated_one pad (shown pair)) }
+    ensures capacity { vec_capacity report.new ≡ vec_capacity report.old }
+    ensures len { vec_len report.new ≤ vec_len report.old + 1 }
+{
+    let parameter = pair.reference % 128;
+    if is_parameter(parameter) {
+        let entry = if pair.reference >= 128 {
+            Entry::Refused(pair.value)
+        } else {
+            Entry::Said(pair.value)
+        };
+        report.push_reserved(stamp.event(What::Setting {
+            pad,
+            parameter,
+            entry,
+        }));
+    }
+}
+
+/// Reports what the pairs of a set ask.
+fn report_asked<A: Allocator>(stamp: Stamp, pad: Side, pairs: Pairs<'_>, report: &mut Vec<Event, A>)
+    requires room { vec_len report.old + length pairs ≤ vec_capacity report.old }
+    ensures { Reports stamp report.old.items report.new.items (flat_map (asked_one pad) pairs.entry) }
+{
+    for pair in pairs {
+        report_asked_one(stamp, pad, pair, report);
+    }
+}
+
+/// Reports what a pair of a set asks, if anything.
+fn report_asked_one<A: Allocator>(stamp: Stamp, pad: Side, pair: Pair, report: &mut Vec<Event, A>)
+    requires room { vec_len report.old < vec_capacity report.old }
+    ensures reports { Reports stamp report.old.items report.new.items (asked_one pad (shown pair)) }
+    ensures capacity { vec_capacity report.new ≡ vec_capacity report.old }
+    ensures len { vec_len report.new ≤ vec_len report.old + 1 }
+{
+    if is_parameter(pair.reference) {
+        report.push_reserved(stamp.event(What::Setting {
+            pad,
+            parameter: pair.reference,
+            entry: Entry::Asked(pair.value),
+        }));
+    }
+}
+
+/// Whether a reference is one of the parameters 1 to 22.
+fn is_parameter(reference: u8) -> bool
+    ensures { result ≡ is_parameter reference }
+{
+    (1..=22).contains(&reference)
+}

@@ -1,0 +1,176 @@
+//! The moves of a channel through the states, and what they do to its call.
+
+ghost use Rattle.std.specs.Prelude.{◌≡◌, ◌+◌, ◌<◌, ◌≤◌, ◌==◌, [], ◌∷◌, List, ℕ, vec_len, vec_capacity, Some, None, IfOk, false, true, IfErr, OnErr};
+ghost use Rattle.line_model.specs.declared.fault.Fault.TheVariants.{Memory};
+ghost use Rattle.line_model.specs.Channels.{Channel, fresh};
+ghost use Rattle.line_model.specs.Octets.{octet};
+ghost use Rattle.line_model.specs.Facilities.{fields_of};
+ghost use Rattle.line_model.specs.ChannelStep.{entering, ending, opening, changing, call_change, moving};
+ghost use Rattle.packet_decode.specs.Shown.{shown, IsUsable};
+ghost use Rattle.channel_machine.specs.Transfers.{StandsFor};
+ghost use Rattle.channel_machine.specs.TermsStand.{opened_of, values_of, TermsStand};
+ghost use Rattle.channel_machine.specs.Terms.{IsWindow};
+ghost use Rattle.channel_machine.specs.Channels.{Stands, Does, IsChange, interface_of, number_of};
+
+use crate::channel::PlainChannel;
+use crate::events::Stamp;
+use crate::terms::{Opened, Terms, Values};
+use crate::transfer::Transfer;
+use line_model::event::{Event, How, What};
+use line_model::fault::Fault;
+use line_model::interface::Interface;
+use line_model::packet::Class;
+use line_model::state::{ChannelState, Side, StateName};
+use line_model::verdict::CallChange;
+use mbit_assembly::assembler::Assembler;
+use packet_decode::fields::CallFields;
+use std::alloc::Allocator;
+use window_check::flow::Flow;
+use x3_parameters::settings::Settings;
+
+/// What a move of a class does to the call.
+pub(crate) fn change_of(side: Side, class: Class, to: StateName) -> CallChange
+    ensures change { result ≡ call_change side class to }
+    ensures class { IsChange result class }
+{
+    match class {
+        Class::Call => match side {
+            Side::T => return CallChange::Opens(true),
+            Side::N => {
+                if to == StateName::P3 {
+                    return CallChange::Opens(false);
+                }
+            }
+        },
+        Class::Accepted => {
+            if to == StateName::P4 {
+                return CallChange::GoesUp;
+            }
+        }
+        _ => {}
+    }
+    match to {
+        StateName::P6 => CallChange::Ends(How::T),
+        StateName::P7 => CallChange::Ends(How::N),
+        _ => CallChange::Keeps,
+    }
+}
+
+/// Whether user data names a PAD.
+fn names_pad(user_data: &[u8]) -> bool
+    ensures { result ≡ (octet 1 user_data.now == 1) }
+{
+    match user_data {
+        [first, ..] => *first == 1,
+        [] => false,
+    }
+}
+
+/// The values that a call packet asks.
+fn values(fields: &CallFields<'_>) -> Values
+    ensures sizes { result.sizes ≡ (shown fields.now).sizes }
+    ensures windows { result.windows ≡ (shown fields.now).windows }
+{
+    Values {
+        sizes: fields.sizes,
+        windows: fields.windows,
+    }
+}
+
+/// What the packet that opens a call says.
+fn opened(out: bool, fields: &CallFields<'_>) -> Opened
+    ensures opened { (xs : List ℕ) → shown fields.now ≡ fields_of xs → result ≡ opened_of (record { out = out; packet = xs }) }
+    ensures windows { result.values.windows ≡ fields.now.windows }
+{
+    Opened {
+        out,
+        fast: fields.fast,
+        pad_call: names_pad(fields.user_data),
+        values: values(fields),
+    }
+}
+
+impl<A: Allocator + Clone> PlainChannel<A> {
+    /// A fresh channel of an epoch: p1, or d1 where it is a permanent virtual circuit, and unknown in epoch 1 where the
+    /// trace begins in the middle. It takes no memory.
+    pub fn fresh(alloc: A, interface: &Interface, channel: u16, epoch: u32) -> Self
+        ensures interface { interface_of result ≡ interface.now }
+        ensures number { number_of result ≡ channel }
+        ensures stands { Stands result (fresh interface.now epoch channel) }
+    {
+        PlainChannel {
+            channel,
+            state: interface.fresh_state(epoch, channel),
+            owed: false,
+            terms: Terms::new(*interface),
+            transfer: Transfer {
+                flow: Flow::new(interface.modulus, interface.window, interface.window),
+                assembler: Assembler::new(alloc, interface.size, interface.size),
+                settings_t: Settings::new(Side::T),
+                settings_n: Settings::new(Side::N),
+            },
+        }
+    }
+
+    /// The state of the channel.
+    pub fn state(&self) -> ChannelState
+        ensures { (c : Channel) → Stands self.now c → result ≡ c.state }
+    {
+        self.state
+    }
+
+    /// Enters a state, where a call is opened.
+    pub(crate) fn open(
+        &mut self,
+        stamp: Stamp,
+        out: bool,
+        fields: &CallFields<'_>,
+        to: StateName,
+        report: &mut Vec<Event, A>,
+    ) -> Result<(), Fault>
+        requires usable { IsUsable self.old.terms.interface fields.now }
+        ensures does { (c : Channel) (xs : List ℕ) → shown fields.now ≡ fields_of xs → Stands self.old c → IfOk result (λ _. Does stamp self.old self.new report.old.items report.new.items (changing xs (CallChange.Opens out) (entering to false c))) }
+        ensures unchanged { OnErr result ((self.new ≡ self.old) × (report.new.items ≡ report.old.items)) }
+        ensures memory { IfErr result (λ fault. fault ≡ Memory) }
+    {
+        report.reserve(2)?;
+        self.end(stamp, How::Collision, to, false, report);
+        report.push_reserved(stamp.event(What::Open {
+            out,
+            called: fields.called.copied(),
+            calling: fields.calling.copied(),
+            reverse: fields.reverse,
+        }));
+        let terms = Terms {
+            interface: self.terms.interface,
+            opening: Some(opened(out, fields)),
+            accepting: self.terms.accepting,
+        };
+        self.enter(to, false, terms);
+        Ok(())
+    }
+
+    /// Enters a state, where a call comes up.
+    pub(crate) fn go_up(
+        &mut self,
+        stamp: Stamp,
+        fields: &CallFields<'_>,
+        to: StateName,
+        report: &mut Vec<Event, A>,
+    ) -> Result<(), Fault>
+        requires usable { IsUsable self.old.terms.interface fields.now }
+        ensures does { (c : Channel) (xs : List ℕ) → shown fields.now ≡ fields_of xs → Stands self.old c → IfOk result (λ _. Does stamp self.old self.new report.old.items report.new.items (changing xs CallChange.GoesUp (entering to false c))) }
+        ensures unchanged { OnErr result ((self.new ≡ self.old) × (report.new.items ≡ report.old.items)) }
+        ensures memory { IfErr result (λ fault. fault ≡ Memory) }
+    {
+        report.reserve(1)?;
+        report.push_reserved(stamp.event(What::Up));
+        let terms = Terms {
+            interface: self.terms.interface,
+            opening: self.terms.opening,
+            accepting: Some(values(fields)),
+        };
+        self.enter(to, false, terms);
+        Ok(())
+    }
+}

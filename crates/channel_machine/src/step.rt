@@ -1,0 +1,261 @@
+//! What a packet does to its channel.
+
+ghost use Rattle.std.specs.Prelude.{◌≡◌, ◌≤◌, length, ℕ, false, Some, None, IfOk, IfErr, OnErr};
+ghost use Rattle.line_model.specs.declared.fault.Fault.TheVariants.{Memory};
+ghost use Rattle.line_model.specs.Channels.{Channel, is_permanent};
+ghost use Rattle.line_model.specs.Classes.{class_of};
+ghost use Rattle.line_model.specs.Formats.{packet_fault};
+ghost use Rattle.line_model.specs.ChannelStep.{moving, changing, call_change, entering, transferring, verdict_step, judged, channel_step};
+ghost use Rattle.packet_decode.specs.CallFaults.{IsCallPacket};
+ghost use Rattle.channel_machine.specs.Channels.{Stands, Does, IsChange, interface_of, number_of};
+ghost use Rattle.channel_machine.specs.Decisions.{IsDecided, IsUnfaulted};
+
+use crate::channel::PlainChannel;
+use crate::events::Stamp;
+use crate::format::{data_header, receive_number, user_data};
+use crate::judging::{judged, weigh};
+use crate::moves::change_of;
+use line_model::event::Event;
+use line_model::fault::Fault;
+use line_model::packet::Class;
+use line_model::row::Row;
+use line_model::state::{Side, StateName};
+use line_model::verdict::{CallChange, Verdict};
+use packet_decode::decode::class_of;
+use packet_decode::fields::call_fields;
+use std::alloc::Allocator;
+
+impl<A: Allocator + Clone> PlainChannel<A> {
+    /// Takes a data packet without fault of format.
+    fn take_data(
+        &mut self,
+        stamp: Stamp,
+        side: Side,
+        state: StateName,
+        octets: &[u8],
+        report: &mut Vec<Event, A>,
+    ) -> Result<(), Fault>
+        requires short { length octets.now ≤ 4200 }
+        ensures does { (c : Channel) → Stands self.old c → IfOk result (λ _. Does stamp self.old self.new report.old.items report.new.items (transferring self.old.terms.interface side state Class.Data octets.now c)) }
+        ensures unchanged { OnErr result ((self.new ≡ self.old) × (report.new.items ≡ report.old.items)) }
+        ensures memory { IfErr result (λ fault. fault ≡ Memory) }
+    {
+        let interface = self.terms.interface;
+        let Some(header) = data_header(&interface, octets) else {
+            return Ok(());
+        };
+        let pad_call = self.terms.is_pad_call();
+        let field = user_data(&interface, octets);
+        match self
+            .transfer
+            .hear(stamp, side, &header, field, pad_call, report)?
+        {
+            Some(code) => self.fail(stamp, side, state, code, report),
+            None => Ok(()),
+        }
+    }
+
+    /// Takes an interrupt without fault of format.
+    fn take_interrupt(
+        &mut self,
+        stamp: Stamp,
+        side: Side,
+        state: StateName,
+        octets: &[u8],
+        report: &mut Vec<Event, A>,
+    ) -> Result<(), Fault>
+        ensures does { (c : Channel) → Stands self.old c → IfOk result (λ _. Does stamp self.old self.new report.old.items report.new.items (transferring self.old.terms.interface side state Class.Interrupt octets.now c)) }
+        ensures unchanged { OnErr result ((self.new ≡ self.old) × (report.new.items ≡ report.old.items)) }
+        ensures memory { IfErr result (λ fault. fault ≡ Memory) }
+    {
+        match self.transfer.interrupt(side) {
+            Err(code) => self.fail(stamp, side, state, code, report),
+            Ok(()) => Ok(()),
+        }
+    }
+
+    /// Takes an interrupt confirmation without fault of format.
+    fn take_confirmation(
+        &mut self,
+        stamp: Stamp,
+        side: Side,
+        state: StateName,
+        octets: &[u8],
+        report: &mut Vec<Event, A>,
+    ) -> Result<(), Fault>
+        ensures does { (c : Channel) → Stands self.old c → IfOk result (λ _. Does stamp self.old self.new report.old.items report.new.items (transferring self.old.terms.interface side state Class.InterruptConfirm octets.now c)) }
+        ensures unchanged { OnErr result ((self.new ≡ self.old) × (report.new.items ≡ report.old.items)) }
+        ensures memory { IfErr result (λ fault. fault ≡ Memory) }
+    {
+        match self.transfer.confirm(side) {
+            Err(code) => self.fail(stamp, side, state, code, report),
+            Ok(()) => Ok(()),
+        }
+    }
+
+    /// Takes the P(R) of a packet without fault of format.
+    fn take_ready(
+        &mut self,
+        stamp: Stamp,
+        side: Side,
+        state: StateName,
+        octets: &[u8],
+        report: &mut Vec<Event, A>,
+    ) -> Result<(), Fault>
+        ensures does { (c : Channel) → Stands self.old c → IfOk result (λ _. Does stamp self.old self.new report.old.items report.new.items (transferring self.old.terms.interface side state Class.Rr octets.now c)) }
+        ensures unchanged { OnErr result ((self.new ≡ self.old) × (report.new.items ≡ report.old.items)) }
+        ensures memory { IfErr result (λ fault. fault ≡ Memory) }
+    {
+        let interface = self.terms.interface;
+        let receive = receive_number(&interface, octets);
+        match self.transfer.acknowledge(side, receive) {
+            Err(code) => self.fail(stamp, side, state, code, report),
+            Ok(()) => Ok(()),
+        }
+    }
+
+    /// Moves to a state.
+    fn go(
+        &mut self,
+        stamp: Stamp,
+        side: Side,
+        class: Class,
+        octets: &[u8],
+        to: StateName,
+        report: &mut Vec<Event, A>,
+    ) -> Result<(), Fault>
+        requires class { class_of self.old.terms.interface octets.now ≡ class }
+        ensures does { (c : Channel) → packet_fault self.old.terms.interface self.old.channel c side class octets.now ≡ None → Stands self.old c → IfOk result (λ _. Does stamp self.old self.new report.old.items report.new.items (moving side class octets.now to c)) }
+        ensures unchanged { OnErr result ((self.new ≡ self.old) × (report.new.items ≡ report.old.items)) }
+        ensures memory { IfErr result (λ fault. fault ≡ Memory) }
+    {
+        let interface = self.terms.interface;
+        match change_of(side, class, to) {
+            CallChange::Opens(out) => match call_fields(&interface, octets, false) {
+                Ok(fields) => self.open(stamp, out, &fields, to, report),
+                Err(_) => Ok(()),
+            },
+            CallChange::GoesUp => match call_fields(&interface, octets, self.terms.was_fast()) {
+                Ok(fields) => self.go_up(stamp, &fields, to, report),
+                Err(_) => Ok(()),
+            },
+            CallChange::Ends(how) => {
+                report.reserve(1)?;
+                self.end(stamp, how, to, false, report);
+                Ok(())
+            }
+            CallChange::Keeps => {
+                self.enter(to, false, self.terms);
+                Ok(())
+            }
+        }
+    }
+
+    /// Takes a packet of data transfer without fault of format.
+    fn carry(
+        &mut self,
+        stamp: Stamp,
+        side: Side,
+        state: StateName,
+        class: Class,
+        octets: &[u8],
+        report: &mut Vec<Event, A>,
+    ) -> Result<(), Fault>
+        requires short { length octets.now ≤ 4200 }
+        ensures does { (c : Channel) → Stands self.old c → IfOk result (λ _. Does stamp self.old self.new report.old.items report.new.items (transferring self.old.terms.interface side state class octets.now c)) }
+        ensures unchanged { OnErr result ((self.new ≡ self.old) × (report.new.items ≡ report.old.items)) }
+        ensures memory { IfErr result (λ fault. fault ≡ Memory) }
+    {
+        match class {
+            Class::Data => self.take_data(stamp, side, state, octets, report),
+            Class::Interrupt => self.take_interrupt(stamp, side, state, octets, report),
+            Class::InterruptConfirm => self.take_confirmation(stamp, side, state, octets, report),
+            _ => self.take_ready(stamp, side, state, octets, report),
+        }
+    }
+
+    /// The state in whose column a packet stands, and what the packet comes to.
+    #[tactic(auto, using(crate::proofs::Steps::decided))]
+    fn decide(&self, side: Side, class: Class, octets: &[u8]) -> (StateName, Verdict)
+        requires class { class_of self.now.terms.interface octets.now ≡ class }
+        requires short { length octets.now ≤ 4200 }
+        ensures { (c : Channel) → Stands self.now c → IsDecided result.0 result.1 (judged (is_permanent self.now.terms.interface self.now.channel) side c.state c.owed class) (packet_fault self.now.terms.interface self.now.channel c side class octets.now) }
+    {
+        let (state, entry) = judged(
+            self.terms.interface.is_permanent(self.channel),
+            side,
+            self.state,
+            self.owed,
+            class,
+        );
+        let fault = self.packet_fault(side, class, octets);
+        (state, weigh(state, entry, fault))
+    }
+
+    /// Does what a packet comes to.
+    fn act(
+        &mut self,
+        stamp: Stamp,
+        side: Side,
+        state: StateName,
+        class: Class,
+        octets: &[u8],
+        verdict: Verdict,
+        report: &mut Vec<Event, A>,
+    ) -> Result<(), Fault>
+        requires class { class_of self.old.terms.interface octets.now ≡ class }
+        requires short { length octets.now ≤ 4200 }
+        ensures does { (c : Channel) → IsUnfaulted verdict (packet_fault self.old.terms.interface self.old.channel c side class octets.now) → Stands self.old c → IfOk result (λ _. Does stamp self.old self.new report.old.items report.new.items (verdict_step self.old.terms.interface side state class octets.now verdict c)) }
+        ensures unchanged { OnErr result ((self.new ≡ self.old) × (report.new.items ≡ report.old.items)) }
+        ensures memory { IfErr result (λ fault. fault ≡ Memory) }
+    {
+        match verdict {
+            Verdict::Fails(column, code) => self.fail(stamp, side, column, code, report),
+            Verdict::Moves(to) => self.go(stamp, side, class, octets, to, report),
+            Verdict::Transfers => self.carry(stamp, side, state, class, octets, report),
+            Verdict::EndsOwed => {
+                self.owed = false;
+                Ok(())
+            }
+            Verdict::Nothing => Ok(()),
+        }
+    }
+
+    /// Takes the row of a packet on the channel and appends its events.
+    pub fn step(
+        &mut self,
+        epoch: u32,
+        row: &Row<A>,
+        report: &mut Vec<Event, A>,
+    ) -> Result<(), Fault>
+        requires short { length row.now.octets ≤ 4200 }
+        ensures does { (c : Channel) → Stands self.old c → IfOk result (λ _. Does (record { epoch = epoch; channel = number_of self.old; packet = row.now.number }) self.old self.new report.old.items report.new.items (channel_step (interface_of self.old) (number_of self.old) c row.now)) }
+        ensures unchanged { OnErr result ((self.new ≡ self.old) × (report.new.items ≡ report.old.items)) }
+        ensures memory { IfErr result (λ fault. fault ≡ Memory) }
+    {
+        let stamp = Stamp {
+            epoch,
+            channel: self.channel,
+            packet: row.number,
+        };
+        self.take(stamp, row.side, &row.octets, report)
+    }
+
+    /// Takes the octets of a packet of a side.
+    fn take(
+        &mut self,
+        stamp: Stamp,
+        side: Side,
+        octets: &[u8],
+        report: &mut Vec<Event, A>,
+    ) -> Result<(), Fault>
+        requires short { length octets.now ≤ 4200 }
+        ensures does { (c : Channel) → Stands self.old c → IfOk result (λ _. Does stamp self.old self.new report.old.items report.new.items (channel_step self.old.terms.interface self.old.channel c (record { number = stamp.packet; side = side; octets = octets.now }))) }
+        ensures unchanged { OnErr result ((self.new ≡ self.old) × (report.new.items ≡ report.old.items)) }
+        ensures memory { IfErr result (λ fault. fault ≡ Memory) }
+    {
+        let class = class_of(&self.terms.interface, octets);
+        let (state, verdict) = self.decide(side, class, octets);
+        self.act(stamp, side, state, class, octets, verdict, report)
+    }
+}

@@ -1,0 +1,68 @@
+-- What contracts see of the types that hold lists, wherever their memory lies.
+use Rattle.std.specs.Prelude.{ℕ, Bool, List, Option}
+use Rattle.line_model.specs.declared.interface.Interface.{Interface}
+use Rattle.line_model.specs.declared.state.Side.{Side}
+use Rattle.line_model.specs.declared.packet.Packet.{Packet}
+use Rattle.line_model.specs.declared.finding.Finding.{Finding}
+use Rattle.line_model.specs.declared.event.How.{How}
+use Rattle.line_model.specs.declared.call.SettingRecord.{SettingRecord}
+use Rattle.line_model.specs.declared.call.Account.{Account}
+use Rattle.line_model.specs.declared.report.Peak.{Peak}
+use Rattle.line_model.specs.declared.totals.Summary.{Summary}
+
+-- a row of a trace
+pub record Row : Type 0 where
+  pub number : ℕ
+  pub side : Side
+  pub octets : List ℕ
+
+-- a row with its packet
+pub record Item : Type 0 where
+  pub row : Row
+  pub packet : Packet
+
+-- the rows of one channel in one epoch, and the row that left r1, if one did
+pub record Piece : Type 0 where
+  pub id : ℕ
+  pub interface : Interface
+  pub epoch : ℕ
+  pub channel : ℕ
+  pub items : List Item
+  pub end : Option ℕ
+
+-- a call, by its `Open` event and the events that belong to it
+pub record CallRecord : Type 0 where
+  pub epoch : ℕ
+  pub channel : ℕ
+  pub out : Bool
+  pub called : List ℕ
+  pub calling : List ℕ
+  pub reverse : Bool
+  pub up : Option ℕ
+  pub opened : ℕ
+  pub ended : Option ℕ
+  pub how : Option How
+  pub data_t : ℕ
+  pub oct_t : ℕ
+  pub data_n : ℕ
+  pub oct_n : ℕ
+  pub segments : ℕ
+  pub settings : List SettingRecord
+
+-- what a piece is worth
+pub record PieceReport : Type 0 where
+  pub id : ℕ
+  pub epoch : ℕ
+  pub channel : ℕ
+  pub findings : List Finding
+  pub calls : List CallRecord
+  pub octets : ℕ
+  pub segments : ℕ
+
+-- the lists of a report, each in the order of its lines
+pub record Report : Type 0 where
+  pub findings : List Finding
+  pub calls : List CallRecord
+  pub accounts : List Account
+  pub peak : Peak
+  pub summary : Summary

@@ -1,0 +1,60 @@
+//! What holds of the definitions alone.
+
+ghost use Rattle.line_model.specs.WorkedTraces.{WorkedTraces};
+ghost use Rattle.line_model.specs.Laws.{ShuffleLaw, PiecesLaw, PlanLaw, FindingsLaw, FindingsOrderLaw, TotalsLaw, NumbersLaw, PeakLaw, CallsLaw, CallsOrderLaw, CallsPeakLaw};
+
+/// Rows of different channels may be walked in any order.
+pub fn shuffle()
+    ensures { ShuffleLaw }
+{}
+
+/// The events of each channel in each epoch are those of its piece alone.
+pub fn pieces()
+    ensures { PiecesLaw }
+{}
+
+/// The plan has each piece once.
+pub fn plan()
+    ensures { PlanLaw }
+{}
+
+/// The findings of the restart machine and of the pieces, by their packets, are those of the walk.
+pub fn findings()
+    ensures { FindingsLaw }
+{}
+
+/// The findings of the restart machine and of the pieces are those of the walk, which rise by their packets.
+pub fn findings_order()
+    ensures { FindingsOrderLaw }
+{}
+
+/// The values of the pieces add up to the observer's totals over the channels.
+pub fn totals()
+    ensures sums { TotalsLaw }
+    ensures numbers { NumbersLaw }
+{}
+
+/// The peak after any row is the greatest number of calls that are up at once.
+pub fn peak()
+    ensures { PeakLaw }
+{}
+
+/// The calls of the pieces, by their opening packets, are those of the walk.
+pub fn calls()
+    ensures { CallsLaw }
+{}
+
+/// The peak after any row is the peak over the times of the calls.
+pub fn calls_peak()
+    ensures { CallsPeakLaw }
+{}
+
+/// The calls of the pieces are those of the walk, which rise by their opening packets.
+pub fn calls_order()
+    ensures { CallsOrderLaw }
+{}
+
+/// The worked traces are refused, or have their reports.
+pub fn worked_traces()
+    ensures { WorkedTraces }
+{}

@@ -1,0 +1,22 @@
+//! The types of the line model, the state tables, the definitions that every contract cites, and their laws.
+#![tactic(auto)]
+
+pub mod address;
+pub mod call;
+pub mod count;
+pub mod device;
+pub mod event;
+pub mod fault;
+pub mod finding;
+pub mod interface;
+pub mod laws;
+pub mod packet;
+pub mod piece;
+pub mod report;
+pub mod row;
+pub mod state;
+pub mod table;
+#[cfg(test)]
+mod tests;
+pub mod totals;
+pub mod verdict;

@@ -1,0 +1,148 @@
+//! Packets as they are decoded (X.25 clause 5).
+
+ghost use Rattle.std.specs.Prelude.{◌≡◌};
+
+/// The class of a packet, by which the state tables tell packets apart (X.25 Table 5-2; the classes of faulty packets are profile).
+#[derive(Clone, Copy, PartialEq, Eq, Debug)]
+pub enum Class {
+    /// Under two octets.
+    Short,
+    /// The general format identifier does not fit the interface's modulus.
+    WrongFormat,
+    /// No assigned logical channel, or no packet of channel 0.
+    Unassigned,
+    Restart,
+    RestartConfirm,
+    Diagnostic,
+    Registration,
+    /// A channel's packet without a type.
+    TwoOctets,
+    /// A restart packet on another channel than 0.
+    RestartHere,
+    Call,
+    Accepted,
+    Clear,
+    ClearConfirm,
+    Interrupt,
+    InterruptConfirm,
+    Reset,
+    ResetConfirm,
+    Data,
+    Rr,
+    Rnr,
+    Rej,
+    Undefined,
+}
+
+/// The header of a data packet (X.25 clause 5.3.1).
+#[derive(Clone, Copy, PartialEq, Eq, Debug)]
+pub struct DataHeader {
+    /// P(S), below the modulus.
+    pub send: u8,
+    /// P(R), below the modulus.
+    pub receive: u8,
+    /// The M bit: more data follows.
+    pub more: bool,
+    /// The D bit: delivery is to be confirmed.
+    pub delivery: bool,
+    /// The Q bit: the data is qualified, as PAD messages are.
+    pub qualified: bool,
+}
+
+/// What stands on an assigned channel: data with its header, RR and RNR with P(R). A header that is cut short is `None`.
+#[derive(Clone, Copy, PartialEq, Eq, Debug)]
+pub enum Kind {
+    TwoOctets,
+    RestartHere,
+    Call,
+    Accepted,
+    Clear,
+    ClearConfirm,
+    Interrupt,
+    InterruptConfirm,
+    Reset,
+    ResetConfirm,
+    Data(Option<DataHeader>),
+    Rr(Option<u8>),
+    Rnr(Option<u8>),
+    Rej,
+    Undefined,
+}
+
+/// A packet, decoded.
+#[derive(Clone, Copy, PartialEq, Eq, Debug)]
+pub enum Packet {
+    Short,
+    WrongFormat,
+    Unassigned,
+    Diagnostic,
+    Registration,
+    Restart,
+    RestartConfirm,
+    Channel { channel: u16, kind: Kind },
+}
+
+impl Class {
+    ghost use Rattle.line_model.specs.RestartMachine.{is_outside};
+
+    /// Whether a packet of the class is judged outside the machines.
+    pub fn is_outside(self) -> bool
+        ensures { result ≡ is_outside self }
+    {
+        matches!(
+            self,
+            Class::Short
+                | Class::WrongFormat
+                | Class::Unassigned
+                | Class::Diagnostic
+                | Class::Registration
+        )
+    }
+}
+
+impl Packet {
+    ghost use Rattle.line_model.specs.Classes.{packet_class};
+
+    /// The class of a packet.
+    pub fn class(&self) -> Class
+        ensures { result ≡ packet_class self.now }
+    {
+        match self {
+            Packet::Short => Class::Short,
+            Packet::WrongFormat => Class::WrongFormat,
+            Packet::Unassigned => Class::Unassigned,
+            Packet::Diagnostic => Class::Diagnostic,
+            Packet::Registration => Class::Registration,
+            Packet::Restart => Class::Restart,
+            Packet::RestartConfirm => Class::RestartConfirm,
+            Packet::Channel { kind, .. } => kind.class(),
+        }
+    }
+}
+
+impl Kind {
+    ghost use Rattle.line_model.specs.Classes.{kind_class};
+
+    /// The class of what stands on a channel.
+    fn class(&self) -> Class
+        ensures { result ≡ kind_class self.now }
+    {
+        match self {
+            Kind::TwoOctets => Class::TwoOctets,
+            Kind::RestartHere => Class::RestartHere,
+            Kind::Call => Class::Call,
+            Kind::Accepted => Class::Accepted,
+            Kind::Clear => Class::Clear,
+            Kind::ClearConfirm => Class::ClearConfirm,
+            Kind::Interrupt => Class::Interrupt,
+            Kind::InterruptConfirm => Class::InterruptConfirm,
+            Kind::Reset => Class::Reset,
+            Kind::ResetConfirm => Class::ResetConfirm,
+            Kind::Data(_) => Class::Data,
+            Kind::Rr(_) => Class::Rr,
+            Kind::Rnr(_) => Class::Rnr,
+            Kind::Rej => Class::Rej,
+            Kind::Undefined => Class::Undefined,
+        }
+    }
+}

@@ -1,0 +1,38 @@
+//! The report of a trace: its lists, its peak and its sums.
+
+use crate::call::{Account, CallRecord};
+use crate::finding::Finding;
+use crate::totals::Summary;
+use std::alloc::{Allocator, Global};
+use std::marker::Model;
+
+/// How many virtual calls were up at once at the most, and the first row after which they were, none for 0.
+#[derive(Clone, Copy, Debug, PartialEq, Eq)]
+pub struct Peak {
+    pub count: u64,
+    pub packet: Option<u32>,
+}
+
+/// The report of a trace. Each list stands in the order in which its lines are written.
+#[derive(Drop)]
+pub struct Report<A: Allocator = Global> {
+    pub findings: Vec<Finding, A>,
+    pub calls: Vec<CallRecord<A>, A>,
+    pub accounts: Vec<Account, A>,
+    pub peak: Peak,
+    pub summary: Summary,
+}
+
+impl<A: Allocator> Model for Report<A> {
+    ghost use Rattle.line_model.specs.Records as records;
+
+    ghost Value = { records.Report };
+
+    ghost view = { λ r. record {
+      findings = r.findings.items;
+      calls = r.calls.items;
+      accounts = r.accounts.items;
+      peak = r.peak;
+      summary = r.summary;
+    } };
+}

@@ -1,0 +1,144 @@
+//! What no contract says: the texts of faults, and values from outside.
+
+use crate::address::Address;
+use crate::fault::{Fault, Kind};
+use crate::finding::Xcode;
+use crate::interface::Interface;
+use crate::packet::{Class, Kind as PacketKind, Packet};
+use crate::state::{ChannelState, DState, PState, RState, Side, StateName};
+use crate::table::{Action, table_n, table_t};
+use std::test::Fail;
+
+/// Channel 1 is permanent, 2 for incoming calls, 3 and 4 two-way, 5 for outgoing calls.
+const MIXED: Interface = Interface {
+    modulus: 8,
+    window: 2,
+    size: 128,
+    pvc: 1,
+    incoming: 2,
+    two_way: 4,
+    svc: 5,
+    join: true,
+};
+
+#[test]
+fn faults_have_their_texts_and_numbers(rt: HostRuntime) -> Result<(), Fail> {
+    let faults = [
+        (Fault::Memory, 1, "out of memory"),
+        (Fault::Trace(3, Kind::Number), 2, "line 3: kind 25"),
+        (Fault::Trace(1, Kind::HeaderMissing), 2, "line 1: kind 21"),
+        (Fault::Trace(9, Kind::TextLarge), 2, "line 9: kind 29"),
+        (Fault::Read, 3, "read failed"),
+        (Fault::Write, 4, "write failed"),
+        (Fault::Start, 5, "thread refused"),
+        (Fault::Double(0), 6, "piece 0 posted twice"),
+        (Fault::Stranger(12), 7, "piece 12 unknown"),
+        (Fault::Missing(3), 8, "piece 3 missing"),
+    ];
+    for (fault, number, text) in faults {
+        let said = format!(in rt.alloc(); "{fault}")?;
+        assert!(rt; said.as_str() == text, "{text}");
+        assert_eq!(rt; fault.number(), number);
+    }
+    Ok(())
+}
+
+#[test]
+fn calls_keep_to_the_direction_of_their_channel(rt: HostRuntime) {
+    for (channel, permanent, against_t, against_n) in [
+        (1, true, false, false),
+        (2, false, true, false),
+        (3, false, false, false),
+        (4, false, false, false),
+        (5, false, false, true),
+    ] {
+        assert_eq!(rt; MIXED.is_permanent(channel), permanent, "channel {channel}");
+        assert_eq!(rt;
+            MIXED.is_against(Side::T, channel),
+            against_t,
+            "channel {channel}"
+        );
+        assert_eq!(rt;
+            MIXED.is_against(Side::N, channel),
+            against_n,
+            "channel {channel}"
+        );
+    }
+}
+
+#[test]
+fn channels_are_unknown_in_the_first_epoch_alone(rt: HostRuntime) {
+    assert!(rt; MIXED.fresh_state(1, 1) == ChannelState::Unknown);
+    assert!(rt; MIXED.fresh_state(1, 3) == ChannelState::Unknown);
+    assert!(rt; MIXED.fresh_state(2, 1) == ChannelState::Transfer(DState::D1));
+    assert!(rt; MIXED.fresh_state(2, 3) == ChannelState::Setup(PState::P1));
+}
+
+#[test]
+fn tables_have_the_printed_entries(rt: HostRuntime) {
+    for (state, class, action) in [
+        (StateName::R2, Class::Restart, Action::Discard),
+        (
+            StateName::R3,
+            Class::RestartConfirm,
+            Action::Move(StateName::R1),
+        ),
+        (StateName::P1, Class::Call, Action::Move(StateName::P2)),
+        (StateName::P3, Class::Call, Action::Move(StateName::P5)),
+        (StateName::P6, Class::Data, Action::Error(25)),
+        (StateName::D1, Class::Rej, Action::Error(37)),
+        (StateName::Dash, Class::Diagnostic, Action::Error(36)),
+    ] {
+        assert!(rt; table_t(state, class) == action, "{state:?} {class:?}");
+    }
+    for (state, owed, class, action) in [
+        (StateName::R3, true, Class::Data, Action::Pass),
+        (StateName::R3, false, Class::Data, Action::Error(19)),
+        (StateName::P7, true, Class::Clear, Action::Ends),
+        (
+            StateName::P5,
+            false,
+            Class::Accepted,
+            Action::Move(StateName::P4),
+        ),
+        (
+            StateName::D2,
+            false,
+            Class::Reset,
+            Action::Move(StateName::D1),
+        ),
+        (StateName::Dash, false, Class::Diagnostic, Action::Pass),
+    ] {
+        assert!(rt;
+            table_n(state, owed, class) == action,
+            "{state:?} {class:?}"
+        );
+    }
+}
+
+#[test]
+fn names_and_classes(rt: HostRuntime) {
+    assert!(rt; RState::R3.name() == StateName::R3);
+    assert!(rt; PState::P7.name() == StateName::P7);
+    assert!(rt; DState::D2.name() == StateName::D2);
+    assert!(rt; StateName::P4.entered() == ChannelState::Transfer(DState::D1));
+    let call = Packet::Channel {
+        channel: 4,
+        kind: PacketKind::Call,
+    };
+    assert!(rt; call.class() == Class::Call);
+    assert!(rt; Class::Diagnostic.is_outside());
+    assert!(rt; !Class::Call.is_outside());
+    assert!(rt; Xcode::X1 != Xcode::XL);
+}
+
+#[test]
+fn addresses_are_digits_in_ascii(rt: HostRuntime) {
+    let mut address = Address::absent();
+    assert!(rt; address.as_bytes() == b"".as_slice());
+    address.push(3);
+    let copy = address.copied();
+    address.push(4);
+    assert!(rt; address.as_bytes() == b"34".as_slice());
+    assert!(rt; copy.as_bytes() == b"3".as_slice());
+}

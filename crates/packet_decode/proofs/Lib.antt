@@ -1,0 +1,4 @@
+pub mod OctetLemmas
+pub mod FacilityLemmas
+pub mod AskedLemmas
+pub mod CallTypes

@@ -1,0 +1,5 @@
+pub mod Asked
+pub mod Reading
+pub mod CallFaults
+pub mod Blocks
+pub mod Shown

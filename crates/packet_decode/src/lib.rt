@@ -1,0 +1,9 @@
+//! From octets to packets and the fields of call packets.
+#![tactic(auto)]
+
+mod address;
+pub mod decode;
+mod facility;
+pub mod fields;
+#[cfg(test)]
+mod tests;

@@ -1,0 +1,20 @@
+//! What holds of the shared work after every schedule of its steps, about the definitions alone.
+
+ghost use Rattle.std.specs.Prelude.{◌≡◌, ℕ, List, length, map};
+ghost use Rattle.line_model.specs.declared.interface.Interface.{Interface};
+ghost use Rattle.line_model.specs.Records.{Row};
+ghost use Rattle.line_model.specs.Plans.{plan, value, channel_totals};
+ghost use Rattle.line_model.specs.Book.{totals_of};
+ghost use Rattle.line_model.specs.Work.{Move, WorkState, at_start, Leads, Always, IsPrefixOf, StandsOnce, IsSettled, AllPosted};
+
+/// However the steps of all threads fall, the pieces fed are the first ones of the plan, and each of them is in the
+/// queue, or held by one worker, or posted, and stands there once. Where all workers have their end and hold nothing,
+/// all of them were posted; where these are the whole plan of a trace, the totals of the posts are the observer's.
+pub fn schedule()
+    ensures prefix { Always (λ pieces s. IsPrefixOf pieces s.fed) }
+    ensures once { Always (λ pieces s. StandsOnce s) }
+    ensures posted { Always (λ pieces s. IsSettled s → AllPosted s) }
+    ensures totals { Always (λ pieces s. IsSettled s → length s.fed ≡ length pieces → totals_of s.posts ≡ totals_of (map value pieces)) }
+    ensures observer { (i : Interface) (rs : List Row) (capacity : ℕ) (moves : List Move) (s : WorkState) → Leads (plan i rs) capacity moves at_start s
+        → IsSettled s → length s.fed ≡ length (plan i rs) → totals_of s.posts ≡ channel_totals i rs }
+{}

@@ -1,0 +1,14 @@
+//! A queue of numbered pieces between one feeder and many workers.
+#![tactic(auto)]
+
+mod entry;
+pub mod laws;
+mod rule;
+mod work;
+
+pub use entry::Entry;
+pub use rule::Record;
+pub use work::{FeederPass, Taken, Work, WorkerPass};
+
+#[cfg(test)]
+mod tests;

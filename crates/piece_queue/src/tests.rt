@@ -1,0 +1,206 @@
+//! The queue in one thread, step by step, and between many threads.
+
+ghost use Rattle.std.specs.Prelude.{◌≡◌, ◌+◌, ◌<◌, ◌≤◌, [], false};
+ghost use Rattle.piece_queue.specs.Rule.{worker};
+
+use crate::{FeederPass, Taken, Work, WorkerPass};
+use line_model::interface::Interface;
+use line_model::piece::Piece;
+use std::alloc::Global;
+use std::marker::Brand;
+use std::sync::{Mutex, Wait};
+use std::test::Fail;
+use std::thread;
+use std::thread::{Scope, Threads};
+
+/// The pieces of three epochs on four channels.
+const PIECES: u32 = 12;
+
+const PLAIN: Interface = Interface {
+    modulus: 8,
+    window: 2,
+    size: 128,
+    pvc: 0,
+    incoming: 0,
+    two_way: 4,
+    svc: 4,
+    join: false,
+};
+
+/// A piece without rows.
+fn piece(alloc: Global, id: u32) -> Piece
+    ensures { result.id ≡ id }
+{
+    Piece {
+        id,
+        interface: PLAIN,
+        epoch: 1,
+        channel: 1,
+        items: Vec::new(alloc),
+        end: None,
+    }
+}
+
+#[test]
+fn a_queue_of_one_entry_and_one_worker(rt: HostRuntime) -> Result<(), Fail> {
+    let (work, mut feeder) = Work::<Brand>::new(rt.alloc(), 1)?;
+    let mut pass = work.split(&mut feeder);
+    assert!(rt; matches!(work.take(&rt, &mut pass), Taken::Empty));
+    let Ok(()) = work.feed(&rt, piece(rt.alloc(), 0), &mut feeder) else {
+        return Err("the first piece came back")?;
+    };
+    let Err(back) = work.feed(&rt, piece(rt.alloc(), 1), &mut feeder) else {
+        return Err("two entries in a queue of one")?;
+    };
+    assert_eq!(rt; back.id, 1);
+    let Taken::Got(first) = work.take(&rt, &mut pass) else {
+        return Err("no piece waits")?;
+    };
+    assert_eq!(rt; first.id, 0);
+    let Ok(()) = work.feed(&rt, back, &mut feeder) else {
+        return Err("the second piece came back")?;
+    };
+    assert!(rt; work.feed_end(&rt, &mut feeder).is_err());
+    let Taken::Got(second) = work.take(&rt, &mut pass) else {
+        return Err("no second piece waits")?;
+    };
+    assert_eq!(rt; second.id, 1);
+    assert!(rt; work.feed_end(&rt, &mut feeder).is_ok());
+    assert!(rt; matches!(work.take(&rt, &mut pass), Taken::Finish));
+    work.join(&mut feeder, pass);
+    Ok(())
+}
+
+/// Counts a piece that was taken.
+fn count(rt: &impl Wait, taken: &Mutex<[u32; 12]>, id: u32) {
+    let mut counts = taken.lock(rt);
+    if let Some(count) = counts.get_mut(id as usize) {
+        *count = count.wrapping_add(1);
+    }
+}
+
+/// Takes pieces until its end comes.
+fn drain<R: Wait>(rt: &R, work: &Work<Brand>, mut pass: WorkerPass, taken: &Mutex<[u32; 12]>)
+    requires { (pass.queue ≡ work.now.queue) × (pass.record_of ≡ worker [] false 0) }
+{
+    for _ in rt.forever() {
+        match work.take(rt, &mut pass) {
+            Taken::Got(piece) => count(rt, taken, piece.id),
+            Taken::Finish => return,
+            Taken::Empty => thread::yield_now(),
+        }
+    }
+}
+
+/// Feeds a piece, again while the queue is full.
+fn feed_one<R: Wait>(rt: &R, alloc: Global, work: &Work<Brand>, feeder: &mut FeederPass, id: u32)
+    requires queue { feeder.old.queue ≡ work.now.queue }
+    requires next { feeder.old.record_of.fed ≡ id }
+    requires open { feeder.old.record_of.ends ≡ 0 }
+    ensures queue { feeder.new.queue ≡ work.now.queue }
+    ensures fed { feeder.new.record_of.fed ≡ id + 1 }
+    ensures open { feeder.new.record_of.ends ≡ 0 }
+{
+    let mut next = piece(alloc, id);
+    for _ in rt.forever() {
+        match work.feed(rt, next, feeder) {
+            Ok(()) => return,
+            Err(back) => next = back,
+        }
+        thread::yield_now();
+    }
+    unreachable!()
+}
+
+/// Feeds all pieces.
+fn feed_all<R: Wait>(rt: &R, alloc: Global, work: &Work<Brand>, feeder: &mut FeederPass)
+    requires queue { feeder.old.queue ≡ work.now.queue }
+    requires fresh { feeder.old.record_of.fed ≡ 0 }
+    requires open { feeder.old.record_of.ends ≡ 0 }
+    ensures { feeder.new.queue ≡ work.now.queue }
+{
+    for id in 0..PIECES {
+        feed_one(rt, alloc, work, feeder, id);
+    }
+}
+
+/// Feeds an end for each worker.
+fn feed_ends<R: Wait>(rt: &R, work: &Work<Brand>, feeder: &mut FeederPass, workers: u32)
+    requires { feeder.old.queue ≡ work.now.queue }
+{
+    let mut left = workers;
+    for _ in rt.forever() {
+        if left == 0 {
+            return;
+        }
+        match work.feed_end(rt, feeder) {
+            Ok(()) => left -= 1,
+            Err(()) => thread::yield_now(),
+        }
+    }
+}
+
+/// Starts workers; says how many threads were made.
+fn start<'s, 'e: 's, R: Wait + Sync>(
+    scope: &'s Scope<'s, &'e ()>,
+    rt: &'s R,
+    work: &'s Work<Brand>,
+    feeder: &mut FeederPass,
+    taken: &'s Mutex<[u32; 12]>,
+    workers: u32,
+) -> u32
+    requires { feeder.old.queue ≡ work.now.queue }
+    ensures queue { feeder.new.queue ≡ work.now.queue }
+    ensures fed { feeder.new.record_of.fed ≡ feeder.old.record_of.fed }
+    ensures open { feeder.new.record_of.ends ≡ feeder.old.record_of.ends }
+{
+    let mut started: u32 = 0;
+    for _ in 0..workers {
+        let pass = work.split(feeder);
+        let worker = scope.spawn(
+            move ||
+                requires { (pass.queue ≡ work.now.queue) × (pass.record_of ≡ worker [] false 0) }
+            { drain(rt, work, pass, taken) },
+        );
+        if worker.is_ok() {
+            started = started.wrapping_add(1);
+        }
+    }
+    started
+}
+
+/// How often each piece was taken by so many workers.
+fn run<R: Threads + Wait + Sync>(
+    rt: &R,
+    alloc: Global,
+    workers: u32,
+    capacity: usize,
+) -> Result<[u32; 12], Fail>
+    requires some { 0 < capacity }
+    requires few { capacity ≤ 4096 }
+{
+    let (work, mut feeder) = Work::<Brand>::new(alloc, capacity)?;
+    let taken = Mutex::new([0; 12]);
+    let (queue, counts) = (&work, &taken);
+    thread::scope(
+        thread::scope_env(),
+        rt,
+        |scope|
+            requires { (feeder.queue ≡ queue.now.queue) × (feeder.record_of.fed ≡ 0) × (feeder.record_of.ends ≡ 0) }
+        {
+            let started = start(scope, rt, queue, &mut feeder, counts, workers);
+            feed_all(rt, alloc, queue, &mut feeder);
+            feed_ends(rt, queue, &mut feeder, started);
+        },
+    );
+    Ok(taken.into_inner())
+}
+
+#[test]
+fn each_piece_is_taken_once_by_any_number_of_workers(rt: HostRuntime) -> Result<(), Fail> {
+    for (workers, capacity) in [(1, 1), (1, 64), (2, 1), (2, 64), (64, 1), (64, 64)] {
+        let counts = run(&rt, rt.alloc(), workers, capacity)?;
+        assert!(rt; counts == [1; 12], "{workers} workers, capacity {capacity}");
+    }
+    Ok(())
+}

@@ -1,0 +1,173 @@
+//! The queue with its passes.
+ghost use Rattle.std.specs.Prelude.{◌≡◌, ◌+◌, ◌<◌, ◌≤◌, [], ◌++◌, ◌∷◌, true, false, IfOk, OnOk, IfErr, OnErr};
+ghost use Rattle.crossbeam_queue.specs.Fifo.{Held};
+ghost use Rattle.line_model.specs.Book.{IsPlanned};
+ghost use Rattle.piece_queue.specs.Rule.{feeder, worker, after_split, after_join, IsInQueue, IsAccounted};
+
+use crate::entry::Entry;
+use crate::rule::{Account, FeedsEnd, FeedsPiece, Record, Takes, Turns, Worker};
+use crossbeam_queue::{Pass, RuledArrayQueue};
+use line_model::fault::Fault;
+use line_model::piece::{Piece, Plan};
+use std::alloc::{Allocator, Global};
+use std::marker::Model;
+use std::sync::Wait;
+
+/// A queue of pieces. Contracts see which queue it is and how much it holds.
+#[derive(Drop)]
+pub struct Work<P: Plan, A: Allocator = Global> {
+    queue: RuledArrayQueue<Entry<A>, Record, Turns<P>, A>,
+}
+
+impl<P: Plan, A: Allocator> Model for Work<P, A> {
+    ghost use Rattle.piece_queue.specs.Passes.{Place};
+    ghost use Rattle.crossbeam_queue.specs.Passes.{ruled_capacity};
+
+    ghost Value = { Place };
+
+    ghost view = { λ s. record { queue = s.queue.table.shared.table_id; capacity = ruled_capacity s.queue } };
+}
+
+/// The pass of the thread that feeds. It has no bytes.
+#[derive(Drop)]
+pub struct FeederPass<A: Allocator = Global> {
+    pass: Pass<Entry<A>, Record>,
+}
+
+impl<A: Allocator> Model for FeederPass<A> {
+    ghost use Rattle.std.specs.Prelude.{◌≡◌, [], true};
+    ghost use Rattle.piece_queue.specs.Passes.{Known};
+    ghost use Rattle.crossbeam_queue.specs.Passes.{view as seen};
+
+    ghost Value = { Known };
+
+    ghost view = { λ s. record { queue = s.pass.table_id; record_of = seen s.pass } };
+
+    ghost invariant = { λ s. (s.pass.me.1 ≡ []) × ((seen s.pass).feeds ≡ true) };
+}
+
+/// The pass of a worker. It has no bytes.
+#[derive(Drop)]
+pub struct WorkerPass<A: Allocator = Global> {
+    pass: Pass<Entry<A>, Record>,
+}
+
+impl<A: Allocator> Model for WorkerPass<A> {
+    ghost use Rattle.std.specs.Prelude.{◌≡◌, [], true};
+    ghost use Rattle.piece_queue.specs.Passes.{Known};
+    ghost use Rattle.crossbeam_queue.specs.Passes.{view as seen};
+
+    ghost Value = { Known };
+
+    ghost view = { λ s. record { queue = s.pass.table_id; record_of = seen s.pass } };
+
+    ghost invariant = { λ s. (s.pass.me.1 ≡ []) × ((seen s.pass).works ≡ true) };
+}
+
+/// What a worker took.
+#[derive(Drop)]
+pub enum Taken<A: Allocator = Global> {
+    Got(Piece<A>),
+    Finish,
+    Empty,
+}
+
+impl<P: Plan, A: Allocator> Work<P, A> {
+    ghost use Rattle.piece_queue.specs.Takes.{IsTaken};
+
+    /// An empty queue that holds so many entries, and the feeder's pass; or want of memory.
+    pub fn new(alloc: A, capacity: usize) -> Result<(Work<P, A>, FeederPass<A>), Fault>
+    where
+        A: Clone,
+        requires some { 0 < capacity }
+        requires few { capacity ≤ 4096 }
+        ensures ok { IfOk result (λ r. (r.0.capacity ≡ capacity) × (r.1.queue ≡ r.0.queue) × (r.1.record_of ≡ feeder 0 0 0 0 [])) }
+        ensures refused { IfErr result (λ fault. fault ≡ Fault.Memory) }
+    {
+        match RuledArrayQueue::ruled(alloc, capacity) {
+            Ok((queue, pass)) => Ok((Work { queue }, FeederPass { pass })),
+            Err(_) => Err(Fault::Memory),
+        }
+    }
+
+    /// A worker's pass, which has taken nothing.
+    pub fn split(&self, pass: &mut FeederPass<A>) -> WorkerPass<A>
+        requires { pass.old.queue ≡ self.now.queue }
+        ensures queue { (pass.new.queue ≡ pass.old.queue) × (result.queue ≡ pass.old.queue) }
+        ensures counted { pass.new.record_of ≡ after_split pass.old.record_of }
+        ensures empty { result.record_of ≡ worker [] false 0 }
+    {
+        let pass = self.queue.another::<Worker>(&mut pass.pass);
+        WorkerPass { pass }
+    }
+
+    /// Feeds the plan's next piece. It comes back only if the queue was full at one moment of the call, and nothing
+    /// has changed then.
+    pub fn feed<R: Wait>(
+        &self,
+        rt: &R,
+        piece: Piece<A>,
+        pass: &mut FeederPass<A>,
+    ) -> Result<(), Piece<A>>
+        requires queue { pass.old.queue ≡ self.now.queue }
+        requires next { IsPlanned P.pieces pass.old.record_of.fed piece }
+        requires open { pass.old.record_of.ends ≡ 0 }
+        ensures queue { pass.new.queue ≡ pass.old.queue }
+        ensures ok { OnOk result (pass.new.record_of ≡ feeder (pass.old.record_of.fed + 1) pass.old.record_of.ends pass.old.record_of.pending pass.old.record_of.done pass.old.record_of.taken) }
+        ensures err { IfErr result (λ back. (back ≡ piece) × (pass.new.record_of ≡ pass.old.record_of)) }
+        ensures full { OnErr result (Held self.now.capacity (IsInQueue P.pieces pass.old.record_of)) }
+    {
+        match self
+            .queue
+            .push_as::<FeedsPiece<P>, R>(rt, &mut pass.pass, Entry { piece: Some(piece) })
+        {
+            Ok(()) => Ok(()),
+            Err(Entry { piece: Some(piece) }) => Err(piece),
+            Err(Entry { piece: None }) => unreachable!(),
+        }
+    }
+
+    /// Feeds an end, of which each worker needs one. Refused only if the queue was full at one moment of the call.
+    pub fn feed_end<R: Wait>(&self, rt: &R, pass: &mut FeederPass<A>) -> Result<(), ()>
+        requires queue { pass.old.queue ≡ self.now.queue }
+        ensures queue { pass.new.queue ≡ pass.old.queue }
+        ensures ok { OnOk result (pass.new.record_of ≡ feeder pass.old.record_of.fed (pass.old.record_of.ends + 1) pass.old.record_of.pending pass.old.record_of.done pass.old.record_of.taken) }
+        ensures err { OnErr result (pass.new.record_of ≡ pass.old.record_of) }
+        ensures full { OnErr result (Held self.now.capacity (IsInQueue P.pieces pass.old.record_of)) }
+    {
+        match self
+            .queue
+            .push_as::<FeedsEnd<P>, R>(rt, &mut pass.pass, Entry { piece: None })
+        {
+            Ok(()) => Ok(()),
+            Err(_) => Err(()),
+        }
+    }
+
+    /// Takes what stands at the front: the plan's piece of its id, which goes into the record of the pass, or an end,
+    /// after which the pass takes no more. `Empty` only if the queue was empty at one moment of the call.
+    pub fn take<R: Wait>(&self, rt: &R, pass: &mut WorkerPass<A>) -> Taken<A>
+        requires queue { pass.old.queue ≡ self.now.queue }
+        requires unfinished { pass.old.record_of.finished ≡ false }
+        ensures queue { pass.new.queue ≡ pass.old.queue }
+        ensures taken { IsTaken P.pieces pass.old.record_of result pass.new.record_of }
+    {
+        match self.queue.pop_as::<Takes<P>, R>(rt, &mut pass.pass) {
+            Some(Entry { piece: Some(piece) }) => Taken::Got(piece),
+            Some(Entry { piece: None }) => Taken::Finish,
+            None => Taken::Empty,
+        }
+    }
+
+    /// Takes in what a worker took. Where no pass is out any more, and one had its end, each piece that was fed was taken, once.
+    pub fn join(&self, pass: &mut FeederPass<A>, other: WorkerPass<A>)
+        requires { (pass.old.queue ≡ self.now.queue) × (other.queue ≡ self.now.queue) }
+        ensures queue { pass.new.queue ≡ pass.old.queue }
+        ensures joined { pass.new.record_of ≡ after_join pass.old.record_of other.record_of }
+        ensures all { IsAccounted pass.new.record_of }
+    {
+        let WorkerPass { pass: other } = other;
+        self.queue.absorb::<Worker>(&mut pass.pass, other);
+        self.queue.learn_as::<Account>(&mut pass.pass);
+    }
+}

@@ -1,0 +1,126 @@
+-- The merged report of a plan's values is the report of the walk.
+use Rattle.std.proofs.Common.{◌≡◌, ℕ, suc, ◌+◌, ◌<◌, Bool, true, false, not, Option, Some, None, List, [], ◌∷◌, ◌++◌, length, map, get_or, refl, sym, ap, ◌∙◌, subst, arith}
+use Rattle.std.specs.Prelude.{sum, sum_by}
+use Rattle.std.specs.List.{filter, flat_map}
+use Rattle.std.specs.List.Sorted.{IsPermutation, IsStrictlyIncreasing}
+use Rattle.std.proofs.lemmas.List.Sorted.{IsPermutation-refl, IsPermutation-sym, IsPermutation-trans, IsPermutation-append, sum_by-IsPermutation}
+use Rattle.line_model.specs.declared.interface.Interface.{Interface}
+use Rattle.line_model.specs.declared.verdict.Route.{Route}
+use Rattle.line_model.specs.declared.verdict.Route.TheVariants.{Found as ErrorFound, Leave}
+use Rattle.line_model.specs.declared.event.What.{What}
+use Rattle.line_model.specs.declared.event.What.TheVariants.{Data}
+use Rattle.line_model.specs.declared.finding.Finding.{Finding}
+use Rattle.line_model.specs.Records.{Row, CallRecord, PieceReport, Report}
+use Rattle.line_model.specs.MachineEvents.{RowEvent, walk_events}
+use Rattle.line_model.specs.Merge.{is_line}
+use Rattle.line_model.specs.Peak.{how_many, IsPeakOfTimes}
+use Rattle.line_model.specs.Observer.{x25, start, event_of, events, peak, routing, route_found}
+use Rattle.line_model.specs.Calls.{all_lengths, segments_of, calls_of, up_at}
+use Rattle.line_model.specs.Accounts.{accounts_of}
+use Rattle.line_model.specs.Report.{findings_of, report_of}
+use Rattle.line_model.specs.Plans.{plan, value, line_findings, channel_events_of}
+use Rattle.line_model.proofs.Rising.{rises-from_index}
+use Rattle.line_model.proofs.LinePart.{line_none}
+use Rattle.line_model.proofs.BookTotals.{totals_law}
+use Rattle.line_model.proofs.InOrder.{findings_order, calls_order}
+use Rattle.line_model.proofs.PeakOfCalls.{calls_peak}
+use Rattle.report_merge.specs.Merged.{IsMerged, IsOfWalk}
+use Rattle.report_merge.proofs.SortedLists.{sorted_unique, flat_map_permuted, flat_map-map}
+use Rattle.report_merge.proofs.OnePeak.{peak_unique}
+
+-- ---- data packets are of channels alone
+
+abbrev tells_data : What → Bool
+tells_data (Data x n) = true
+tells_data w = false
+
+line_tells_none : (r : Row) (v : Route) → how_many tells_data (route_found r v) ≡ 0
+line_tells_none r (ErrorFound s n) = refl
+line_tells_none r (Leave (Some n)) = refl
+line_tells_none r v = refl
+
+lengths_apart : (vs : List (RowEvent Row What)) → filter (λ v. tells_data v.what) (filter is_line vs) ≡ []
+    → all_lengths (map event_of vs) ≡ all_lengths (map event_of (filter (λ v. not (is_line v)) vs))
+lengths_apart [] h = refl
+lengths_apart (v ∷ vs) h = at v.channel v.what h (lengths_apart vs)
+  where
+    at : (c : Option ℕ) (w : What)
+        → filter (λ v. tells_data v.what) (filter is_line (record { epoch = v.epoch; channel = c; row = v.row; what = w } ∷ vs)) ≡ []
+        → (filter (λ v. tells_data v.what) (filter is_line vs) ≡ [] → all_lengths (map event_of vs) ≡ all_lengths (map event_of (filter (λ v. not (is_line v)) vs)))
+        → all_lengths (map event_of (record { epoch = v.epoch; channel = c; row = v.row; what = w } ∷ vs))
+        ≡ all_lengths (map event_of (filter (λ v. not (is_line v)) (record { epoch = v.epoch; channel = c; row = v.row; what = w } ∷ vs)))
+    at None (Data x n) h later = absurd (cc)
+    at None w h later = later h
+    at (Some k) (Data x n) h later = ap (λ l. n ∷ l) (later h)
+    at (Some k) w h later = later h
+
+lengths_of_channels : (i : Interface) (rs : List Row) → all_lengths (events i rs) ≡ all_lengths (channel_events_of i rs)
+lengths_of_channels i rs =
+    lengths_apart (walk_events (x25 i) (start i) rs) (line_none (x25 i) tells_data (λ e l x. line_tells_none x (routing i l x).route) (start i) rs)
+
+-- ---- the parts of the report
+
+increasing : (ns : List ℕ) → IsStrictlyIncreasing (0 ∷ ns) → IsStrictlyIncreasing ns
+increasing ns h = λ k lt.
+    let e : suc k + 1 ≡ suc (k + 1) = omega arith in
+    subst (λ j. get_or ns k 0 < get_or (0 ∷ ns) j 0) e (h (suc k) (omega arith))
+
+findings_are : (i : Interface) (rs : List Row) (reports : List PieceReport) (line : List Finding) (packets pieces : ℕ) (r : Report)
+    → IsOfWalk i rs reports line packets pieces → IsMerged r reports line packets → r.findings ≡ findings_of (events i rs)
+findings_are i rs reports line packets pieces r w m =
+    let own = findings_order i rs (increasing (map (λ r. r.number) rs) w.rising) in
+    let walked = findings_of (events i rs) in
+    let found : PieceReport → List Finding = λ p. p.findings in
+    let of_values = flat_map found (map value (plan i rs)) in
+    let start_from : IsPermutation walked (line_findings i rs ++ of_values) =
+    subst (λ l. IsPermutation walked (line_findings i rs ++ l)) (sym (flat_map-map found value (plan i rs)))
+    (IsPermutation-sym (line_findings i rs ++ flat_map (λ p. (value p).findings) (plan i rs)) walked own.same_findings) in
+    let reported : IsPermutation (line_findings i rs ++ of_values) (line ++ flat_map found reports) =
+    subst (λ l. IsPermutation (line_findings i rs ++ of_values) (l ++ flat_map found reports)) (sym w.line_is)
+    (IsPermutation-append (line_findings i rs) (line_findings i rs) of_values (flat_map found reports) (IsPermutation-refl (line_findings i rs)) (flat_map_permuted found (map value (plan i rs)) reports w.values)) in
+    sorted_unique (λ f. f.packet) walked r.findings (rises-from_index (map (λ f. f.packet) walked) own.in_order) m.findings_sorted
+    (IsPermutation-trans walked (line_findings i rs ++ of_values) r.findings start_from
+    (IsPermutation-trans (line_findings i rs ++ of_values) (line ++ flat_map found reports) r.findings reported m.same_findings))
+
+calls_are : (i : Interface) (rs : List Row) (reports : List PieceReport) (line : List Finding) (packets pieces : ℕ) (r : Report)
+    → IsOfWalk i rs reports line packets pieces → IsMerged r reports line packets → r.calls ≡ calls_of (events i rs)
+calls_are i rs reports line packets pieces r w m =
+    let own = calls_order i rs (increasing (map (λ r. r.number) rs) w.rising) in
+    let walked = calls_of (events i rs) in
+    let opened : PieceReport → List CallRecord = λ p. p.calls in
+    let of_values = flat_map opened (map value (plan i rs)) in
+    let start_from : IsPermutation walked of_values =
+    subst (λ l. IsPermutation walked l) (sym (flat_map-map opened value (plan i rs)))
+    (IsPermutation-sym (flat_map (λ p. (value p).calls) (plan i rs)) walked own.same_calls) in
+    sorted_unique (λ c. c.opened) walked r.calls (rises-from_index (map (λ c. c.opened) walked) own.in_order) m.calls_sorted
+    (IsPermutation-trans walked of_values r.calls start_from
+    (IsPermutation-trans of_values (flat_map opened reports) r.calls (flat_map_permuted opened (map value (plan i rs)) reports w.values) m.same_calls))
+
+octets_are : (i : Interface) (rs : List Row) (reports : List PieceReport) → IsPermutation (map value (plan i rs)) reports → sum_by (λ p. p.octets) reports ≡ sum (all_lengths (events i rs))
+octets_are i rs reports h =
+    sum_by-IsPermutation (λ p. p.octets) (map value (plan i rs)) reports h ∙ ap (λ t. t.octets) (totals_law i rs) ∙ ap sum (sym (lengths_of_channels i rs))
+
+segments_are : (i : Interface) (rs : List Row) (reports : List PieceReport) → IsPermutation (map value (plan i rs)) reports → sum_by (λ p. p.segments) reports ≡ segments_of (all_lengths (events i rs))
+segments_are i rs reports h =
+    sum_by-IsPermutation (λ p. p.segments) (map value (plan i rs)) reports h ∙ ap (λ t. t.segments) (totals_law i rs) ∙ ap segments_of (sym (lengths_of_channels i rs))
+
+-- ---- the report
+
+pub report_is : (i : Interface) (rs : List Row) (reports : List PieceReport) (line : List Finding) (packets pieces : ℕ) (r : Report)
+    → IsOfWalk i rs reports line packets pieces → IsMerged r reports line packets → r ≡ report_of i rs
+report_is i rs reports line packets pieces r w m =
+    let found = findings_are i rs reports line packets pieces r w m in
+    let called = calls_are i rs reports line packets pieces r w m in
+    let paid : r.accounts ≡ accounts_of (calls_of (events i rs)) = m.accounts ∙ ap accounts_of called in
+    let top = peak_unique (up_at (calls_of (events i rs))) r.peak.count (peak i rs).0 r.peak.packet (peak i rs).1
+    (subst (λ l. IsPeakOfTimes (up_at l) r.peak.count r.peak.packet) called m.peak) (calls_peak i rs w.rising) in
+    let sums : r.summary ≡ (report_of i rs).summary =
+    m.summary
+    ∙ ap (λ n. record { packets = n; findings = length r.findings; calls = length r.calls; octets = sum_by (λ p. p.octets) reports; segments = sum_by (λ p. p.segments) reports }) w.packets_are
+    ∙ ap (λ l. record { packets = length rs; findings = length l; calls = length r.calls; octets = sum_by (λ p. p.octets) reports; segments = sum_by (λ p. p.segments) reports }) found
+    ∙ ap (λ l. record { packets = length rs; findings = length (findings_of (events i rs)); calls = length l; octets = sum_by (λ p. p.octets) reports; segments = sum_by (λ p. p.segments) reports }) called
+    ∙ ap (λ n. record { packets = length rs; findings = length (findings_of (events i rs)); calls = length (calls_of (events i rs)); octets = n; segments = sum_by (λ p. p.segments) reports }) (octets_are i rs reports w.values)
+    ∙ ap (λ n. record { packets = length rs; findings = length (findings_of (events i rs)); calls = length (calls_of (events i rs)); octets = sum (all_lengths (events i rs)); segments = n }) (segments_are i rs reports w.values) in
+    let count = top.0 in
+    let packet = top.1 in
+    λ j. record { findings = found j; calls = called j; accounts = paid j; peak = record { count = count j; packet = packet j }; summary = sums j }

@@ -1,0 +1,102 @@
+-- Marks of the ids that were seen.
+use Rattle.std.proofs.Common.{◌≡◌, ℕ, zero, suc, ◌+◌, ◌<◌, ◌==◌, ◌||◌, not, nat_lt, Bool, true, false, cond, List, [], ◌∷◌, length, get_or, set, drop, count_by, refl, sym, ap, ◌∙◌, subst, arith, Option, Some, None, if◌then◌else◌}
+use Rattle.std.proofs.lemmas.Bool.Decides.{nat_tests}
+use Rattle.std.proofs.lemmas.List.Sums.{sum_by-cons}
+use Rattle.line_model.specs.Records.{PieceReport}
+use Rattle.line_model.specs.Book.{ids_of}
+use Rattle.report_merge.specs.Seen.{double_with, is_among}
+use Rattle.report_merge.specs.Refusal.{stranger}
+
+pub ids-drop : (ps : List PieceReport) (i : ℕ) (p : PieceReport) → i < length ps → p ≡ get_or ps i p → ids_of (drop i ps) ≡ p.id ∷ ids_of (drop (i + 1) ps)
+ids-drop [] i p lt is = absurd (omega arith)
+ids-drop (q ∷ ps) zero p lt is = ap (λ z. z.id ∷ ids_of ps) (sym is)
+ids-drop (q ∷ ps) (suc i) p lt is =
+    let e : suc i + 1 ≡ suc (i + 1) = omega arith in
+    subst (λ k. ids_of (drop i ps) ≡ p.id ∷ ids_of (drop k (q ∷ ps))) (sym e) (ids-drop ps i p (omega arith) is)
+
+later_apart : (k : ℕ) → (suc k == 0) ≡ false
+later_apart k = grind (arith, nat_tests)
+
+front_apart : (k : ℕ) → (0 == suc k) ≡ false
+front_apart k = grind (arith, nat_tests)
+
+both_later : (k i : ℕ) → (suc k == suc i) ≡ (k == i)
+both_later k i = grind (arith, nat_tests)
+
+pub marked-at : (s : List Bool) (i k : ℕ) → i < length s → get_or (set s i true) k false ≡ ((k == i) || get_or s k false)
+marked-at [] i k lt = absurd (omega arith)
+marked-at (b ∷ s) zero zero lt = refl
+marked-at (b ∷ s) zero (suc k) lt = sym (ap (λ x. x || get_or s k false) (later_apart k))
+marked-at (b ∷ s) (suc i) zero lt = sym (ap (λ x. x || b) (front_apart i))
+marked-at (b ∷ s) (suc i) (suc k) lt = marked-at s i k (omega arith) ∙ sym (ap (λ x. x || get_or s k false) (both_later k i))
+
+pub double_with-same : (f g : ℕ → Bool) (is : List ℕ) → ((k : ℕ) → f k ≡ g k) → double_with f is ≡ double_with g is
+double_with-same f g [] h = refl
+double_with-same f g (i ∷ is) h =
+    let later = double_with-same (λ k. (k == i) || f k) (λ k. (k == i) || g k) is (λ k. ap (λ b. (k == i) || b) (h k)) in
+    ap (λ b. if b then Some i else double_with (λ k. (k == i) || f k) is) (h i) ∙ ap (λ o. if g i then Some i else o) later
+
+pub count-marked : (s : List Bool) (i : ℕ) → i < length s → get_or s i false ≡ false → count_by (λ b. b) (set s i true) ≡ count_by (λ b. b) s + 1
+count-marked [] i lt off = absurd (omega arith)
+count-marked (b ∷ s) zero lt off =
+    let bit : Bool → ℕ = λ b. cond b 1 0 in
+    omega (arith, sum_by-cons bit b s, sum_by-cons bit true s, ap bit off)
+count-marked (b ∷ s) (suc i) lt off =
+    let later = count-marked s i (omega arith) off in
+    omega (arith, sum_by-cons (λ (b : Bool). cond b 1 0) b s, sum_by-cons (λ (b : Bool). cond b 1 0) b (set s i true))
+
+pub stranger-more : (n i : ℕ) (is : List ℕ) → stranger n (i ∷ is) ≡ None → (i < n) × (stranger n is ≡ None)
+stranger-more n i is h = at (nat_lt i n) refl h
+  where
+    at : (b : Bool) → nat_lt i n ≡ b → cond (not b) (Some i) (stranger n is) ≡ None → (i < n) × (stranger n is ≡ None)
+    at true e k = (grind (arith, nat_tests), k)
+    at false e k = absurd (cc)
+
+pub among-more : (x y a b : Bool) → (x || (y || a)) ≡ b → ((y || x) || a) ≡ b
+among-more true true a b h = h
+among-more true false a b h = h
+among-more false true a b h = h
+among-more false false a b h = h
+
+pub known_next : (reports : List PieceReport) (i : ℕ) (p : PieceReport) (pieces : ℕ) → i < length reports → p ≡ get_or reports i p → stranger pieces (ids_of (drop i reports)) ≡ None
+    → (p.id < pieces) × (stranger pieces (ids_of (drop (i + 1) reports)) ≡ None)
+known_next reports i p pieces some is known = stranger-more pieces p.id (ids_of (drop (i + 1) reports)) (subst (λ l. stranger pieces l ≡ None) (ids-drop reports i p some is) known)
+
+-- one more report that was not seen
+pub record IsMarked (reports : List PieceReport) (i : ℕ) (p : PieceReport) (seen : List Bool) (pieces : ℕ) : Type 0 where
+  pub some : i < length reports
+  pub is : p ≡ get_or reports i p
+  pub len : length seen ≡ pieces
+  pub off : get_or seen p.id false ≡ false
+  pub known : stranger pieces (ids_of (drop i reports)) ≡ None
+
+pub marked_known : (reports : List PieceReport) (i : ℕ) (p : PieceReport) (seen : List Bool) (pieces : ℕ) → IsMarked reports i p seen pieces → (p.id < pieces) × (stranger pieces (ids_of (drop (i + 1) reports)) ≡ None)
+marked_known reports i p seen pieces h =
+    stranger-more pieces p.id (ids_of (drop (i + 1) reports)) (subst (λ l. stranger pieces l ≡ None) (ids-drop reports i p h.some h.is) h.known)
+
+pub marked_seen : (reports : List PieceReport) (i : ℕ) (p : PieceReport) (seen : List Bool) (pieces : ℕ) → IsMarked reports i p seen pieces
+    → ((k : ℕ) → (get_or seen k false || is_among k (ids_of (drop i reports))) ≡ is_among k (ids_of reports))
+    → (k : ℕ) → (get_or (set seen p.id true) k false || is_among k (ids_of (drop (i + 1) reports))) ≡ is_among k (ids_of reports)
+marked_seen reports i p seen pieces h before k =
+    let w = marked_known reports i p seen pieces h in
+    let rest : List ℕ = ids_of (drop (i + 1) reports) in
+    ap (λ b. b || is_among k rest) (marked-at seen p.id k (omega (arith, w.0, h.len)))
+    ∙ among-more (get_or seen k false) (k == p.id) (is_among k rest) (is_among k (ids_of reports)) (subst (λ l. (get_or seen k false || is_among k l) ≡ is_among k (ids_of reports)) (ids-drop reports i p h.some h.is) (before k))
+
+pub marked_double : (reports : List PieceReport) (i : ℕ) (p : PieceReport) (seen : List Bool) (pieces : ℕ) (all : Option ℕ) → IsMarked reports i p seen pieces
+    → all ≡ double_with (λ k. get_or seen k false) (ids_of (drop i reports)) → all ≡ double_with (λ k. get_or (set seen p.id true) k false) (ids_of (drop (i + 1) reports))
+marked_double reports i p seen pieces all h before =
+    let w = marked_known reports i p seen pieces h in
+    let rest : List ℕ = ids_of (drop (i + 1) reports) in
+    before
+    ∙ ap (λ l. double_with (λ k. get_or seen k false) l) (ids-drop reports i p h.some h.is)
+    ∙ ap (λ b. if b then Some p.id else double_with (λ k. (k == p.id) || get_or seen k false) rest) h.off
+    ∙ double_with-same (λ k. (k == p.id) || get_or seen k false) (λ k. get_or (set seen p.id true) k false) rest (λ k. sym (marked-at seen p.id k (omega (arith, w.0, h.len))))
+
+pub found_double : (reports : List PieceReport) (i : ℕ) (p : PieceReport) (seen : List Bool) (all : Option ℕ) → i < length reports → p ≡ get_or reports i p → get_or seen p.id false ≡ true
+    → all ≡ double_with (λ k. get_or seen k false) (ids_of (drop i reports)) → all ≡ Some p.id
+found_double reports i p seen all some is on before =
+    let rest : List ℕ = ids_of (drop (i + 1) reports) in
+    before
+    ∙ ap (λ l. double_with (λ k. get_or seen k false) l) (ids-drop reports i p some is)
+    ∙ ap (λ b. if b then Some p.id else double_with (λ k. (k == p.id) || get_or seen k false) rest) on

@@ -1,0 +1,138 @@
+-- Texts that a sink takes in parts.
+use Rattle.std.proofs.Common.{◌≡◌, ℕ, ◌-◌, true, false, zero, suc, ◌+◌, ◌<◌, ◌≤◌, List, [], ◌∷◌, ◌++◌, length, get_or, take, drop, refl, sym, ap, ◌∙◌, subst, arith, Option, Some, None, append_assoc}
+use Rattle.std.proofs.lemmas.List.{append-nil, take-append-drop}
+use Rattle.std.proofs.lemmas.Grind.{common_steps}
+use Rattle.std.specs.List.{flat_map, enumerate_from}
+use Rattle.line_model.specs.Device.{with_more}
+use Rattle.report_merge.specs.declared.chunk.Chunk.{Chunk}
+use Rattle.line_model.specs.Report.{line}
+use Rattle.report_merge.specs.Written.{Writes}
+
+pub with_more-append : (o : Option (List ℕ)) (a b : List ℕ) → with_more (with_more o a) b ≡ with_more o (a ++ b)
+with_more-append None a b = refl
+with_more-append (Some t) a b = ap Some (append_assoc t a b)
+
+pub with_more-nil : (o : Option (List ℕ)) → with_more o [] ≡ o
+with_more-nil None = refl
+with_more-nil (Some t) = ap Some (append-nil t)
+
+-- what is held is sent, all of it or a first part, and nothing is held then
+pub flushed : (before taken after : Option (List ℕ) × ℕ) (c d : Chunk) (text front rest : List ℕ) → Writes before taken c text → c.failed ≡ false → c.bytes.items ≡ front ++ rest → after.0 ≡ with_more taken.0 front
+    → (d.failed ≡ false → rest ≡ []) → d.bytes.items ≡ [] → taken.1 ≤ after.1 → (d.failed ≡ true → taken.1 < after.1) → Writes before after d text
+flushed before taken after c d text front rest w fine split sent all empty rising cause = record {
+  sent = w.sent ++ front;
+  left = rest;
+  took = sent ∙ ap (λ o. with_more o front) w.took ∙ with_more-append before.0 w.sent front;
+  whole = append_assoc w.sent front rest ∙ ap (λ l. w.sent ++ l) (sym split ∙ sym (w.held fine)) ∙ w.whole;
+  held = λ e. all e ∙ sym empty;
+  rising = omega (arith, w.rising, rising);
+  cause = λ e. omega (arith, w.rising, cause e);
+}
+
+-- after a failure nothing is known of what is held
+pub given_up : (before taken : Option (List ℕ) × ℕ) (c d : Chunk) (text more : List ℕ) → Writes before taken c text → c.failed ≡ true → d.failed ≡ true → Writes before taken d (text ++ more)
+given_up before taken c d text more w was failed = record {
+  sent = w.sent;
+  left = w.left ++ more;
+  took = w.took;
+  whole = sym (append_assoc w.sent w.left more) ∙ ap (λ l. l ++ more) w.whole;
+  held = λ e. absurd (cc);
+  rising = w.rising;
+  cause = λ e. w.cause was;
+}
+
+pub held_more : (before taken : Option (List ℕ) × ℕ) (c d : Chunk) (text more : List ℕ) → Writes before taken c text → d.failed ≡ c.failed → d.bytes.items ≡ c.bytes.items ++ more → Writes before taken d (text ++ more)
+held_more before taken c d text more w same items = record {
+  sent = w.sent;
+  left = w.left ++ more;
+  took = w.took;
+  whole = sym (append_assoc w.sent w.left more) ∙ ap (λ l. l ++ more) w.whole;
+  held = λ e. ap (λ l. l ++ more) (w.held (sym same ∙ e)) ∙ sym items;
+  rising = w.rising;
+  cause = λ e. w.cause (sym same ∙ e);
+}
+
+pub passed : (before taken after : Option (List ℕ) × ℕ) (c d : Chunk) (text more front rest : List ℕ) → Writes before taken c text → c.failed ≡ false → c.bytes.items ≡ [] → more ≡ front ++ rest → after.0 ≡ with_more taken.0 front
+    → (d.failed ≡ false → rest ≡ d.bytes.items) → taken.1 ≤ after.1 → (d.failed ≡ true → taken.1 < after.1) → Writes before after d (text ++ more)
+passed before taken after c d text more front rest w fine empty split sent held rising cause =
+    let all : w.sent ≡ text = sym (append-nil w.sent) ∙ ap (λ l. w.sent ++ l) (sym (w.held fine ∙ empty)) ∙ w.whole in
+    record {
+      sent = w.sent ++ front;
+      left = rest;
+      took = sent ∙ ap (λ o. with_more o front) w.took ∙ with_more-append before.0 w.sent front;
+      whole = append_assoc w.sent front rest ∙ ap (λ l. w.sent ++ l) (sym split) ∙ ap (λ l. l ++ more) all;
+      held = held;
+      rising = omega (arith, w.rising, rising);
+      cause = λ e. omega (arith, w.rising, cause e);
+    }
+
+-- what was given up stays so
+pub still_given_up : (before taken : Option (List ℕ) × ℕ) (c d : Chunk) (text : List ℕ) → Writes before taken c text → c.failed ≡ true → d.failed ≡ true → Writes before taken d text
+still_given_up before taken c d text w was failed = record {
+  sent = w.sent;
+  left = w.left;
+  took = w.took;
+  whole = w.whole;
+  held = λ e. absurd (cc);
+  rising = w.rising;
+  cause = λ e. w.cause was;
+}
+
+pub split_rest : (front rest text : List ℕ) (n : ℕ) → text ≡ front ++ rest → text ≡ (front ++ take n rest) ++ take (length rest - n) (drop n rest)
+split_rest front rest text n e =
+    let back : take (length rest - n) (drop n rest) ≡ drop n rest = grind (arith, common_steps) in
+    e ∙ ap (λ xs. front ++ xs) (sym (take-append-drop n rest)) ∙ sym (append_assoc front (take n rest) (drop n rest)) ∙ ap (λ xs. (front ++ take n rest) ++ xs) (sym back)
+
+-- ---- lines
+
+-- a text with words behind it, each with its space
+abbrev pub after_words : List ℕ → List (List ℕ) → List ℕ
+after_words text [] = text
+after_words text (w ∷ ws) = after_words (text ++ (w ++ 32 ∷ [])) ws
+
+-- the last word makes it the text with a line
+pub line_after : (text : List ℕ) (ws : List (List ℕ)) (last : List ℕ) → after_words text ws ++ (last ++ 10 ∷ []) ≡ text ++ line (ws ++ last ∷ [])
+line_after text [] last = refl
+line_after text (w ∷ []) last = append_assoc text (w ++ 32 ∷ []) (last ++ 10 ∷ []) ∙ ap (λ l. text ++ l) (append_assoc w (32 ∷ []) (last ++ 10 ∷ []))
+line_after text (w ∷ v ∷ ws) last =
+    line_after (text ++ (w ++ 32 ∷ [])) (v ∷ ws) last
+    ∙ append_assoc text (w ++ 32 ∷ []) (line (v ∷ (ws ++ last ∷ [])))
+    ∙ ap (λ l. text ++ l) (append_assoc w (32 ∷ []) (line (v ∷ (ws ++ last ∷ []))))
+
+-- ---- lists of lines
+
+dropped : {X : Type 0} → (xs : List X) (i : ℕ) (x : X) → i < length xs → x ≡ get_or xs i x → drop i xs ≡ x ∷ drop (i + 1) xs
+dropped [] i x lt is = absurd (omega arith)
+dropped (y ∷ ys) zero x lt is = ap (λ z. z ∷ ys) (sym is)
+dropped (y ∷ ys) (suc i) x lt is =
+    let e : suc i + 1 ≡ suc (i + 1) = omega arith in
+    subst (λ k. drop i ys ≡ x ∷ drop k (y ∷ ys)) (sym e) (dropped ys i x (omega arith) is)
+
+pub lines_more : {X : Type 0} → (f : X → List ℕ) (xs : List X) (i : ℕ) (x : X) (done : List ℕ) → i < length xs → x ≡ get_or xs i x → done ++ flat_map f (drop i xs) ≡ flat_map f xs
+    → (done ++ f x) ++ flat_map f (drop (i + 1) xs) ≡ flat_map f xs
+lines_more f xs i x done lt is h = append_assoc done (f x) (flat_map f (drop (i + 1) xs)) ∙ ap (λ l. done ++ flat_map f l) (sym (dropped xs i x lt is)) ∙ h
+
+pub numbered_more : {X : Type 0} → (f : ℕ × X → List ℕ) (xs : List X) (i : ℕ) (x : X) (done : List ℕ) → i < length xs → x ≡ get_or xs i x
+    → done ++ flat_map f (enumerate_from (i + 1) (drop i xs)) ≡ flat_map f (enumerate_from 1 xs)
+    → (done ++ f (i + 1, x)) ++ flat_map f (enumerate_from (i + 1 + 1) (drop (i + 1) xs)) ≡ flat_map f (enumerate_from 1 xs)
+numbered_more f xs i x done lt is h =
+    append_assoc done (f (i + 1, x)) (flat_map f (enumerate_from (i + 1 + 1) (drop (i + 1) xs)))
+    ∙ ap (λ l. done ++ flat_map f (enumerate_from (i + 1) l)) (sym (dropped xs i x lt is)) ∙ h
+
+pub finished : (before taken : Option (List ℕ) × ℕ) (c : Chunk) (text : List ℕ) → Writes before taken c text → c.failed ≡ false → c.bytes.items ≡ [] → taken.0 ≡ with_more before.0 text
+finished before taken c text w fine empty =
+    w.took ∙ ap (λ l. with_more before.0 l) (sym (append-nil w.sent) ∙ ap (λ l. w.sent ++ l) (sym (w.held fine ∙ empty)) ∙ w.whole)
+
+any_default : {X : Type 0} → (xs : List X) (i : ℕ) (d e : X) → i < length xs → get_or xs i d ≡ get_or xs i e
+any_default [] i d e lt = absurd (omega arith)
+any_default (x ∷ xs) zero d e lt = refl
+any_default (x ∷ xs) (suc i) d e lt = any_default xs i d e (omega arith)
+
+-- a loop's turn over lines, for what is true of the texts before and after
+pub turn : {X B : Type 0} → (f : X → List ℕ) (xs : List X) (i : ℕ) (d : X) (first before after : B → List ℕ → Type 0) → i < length xs
+    → (done : List ℕ) × (done ++ flat_map f (drop i xs) ≡ flat_map f xs) × ((b : B) (text : List ℕ) → first b text → before b (text ++ done))
+    → ((b : B) (text : List ℕ) → before b text → after b (text ++ f (get_or xs i d)))
+    → (done : List ℕ) × (done ++ flat_map f (drop (i + 1) xs) ≡ flat_map f xs) × ((b : B) (text : List ℕ) → first b text → after b (text ++ done))
+turn f xs i d first before after lt t step =
+    let x = get_or xs i d in
+    (t.0 ++ f x, lines_more f xs i x t.0 lt (any_default xs i d x lt) t.1, λ b text w. subst (after b) (append_assoc text t.0 (f x)) (step b (text ++ t.0) (t.2 b text w)))

@@ -1,0 +1,40 @@
+use Rattle.std.proofs.Common.{◌≡◌, ℕ, ◌+◌, ◌||◌, false, true, length, get_or, set, drop, count_by, arith, sym, subst, ap, ◌∙◌}
+use Rattle.line_model.specs.Book.{ids_of}
+use Rattle.report_merge.specs.Seen.{is_among, double, double_with}
+use Rattle.std.proofs.lemmas.List.{get_or_read}
+use Rattle.report_merge.proofs.SeenLemmas.{IsMarked, known_next, marked_seen, marked_double, count-marked}
+use Rattle.report_merge.proofs.judge.seen_ids.Goals as goal
+
+pub loop-report-preserved : goal.loop-report-preserved
+loop-report-preserved g c =
+    let reports = c.args.reports.now in
+    let i = c.loop-report.report-index in
+    let p = c.report-item.result in
+    let seen = c.loop-report.seen.items in
+    let inv = c.loop-report.invariant in
+    let same : c.report.inside.id ≡ p.id = ap (λ r. r.id) c.report.view_is in
+    let w = known_next reports i p c.args.pieces c.loop-report-test.true c.report-item.is inv.known in
+    let long : length seen ≡ c.args.pieces = omega (arith, c.loop-report.seen.ok.0, inv.len) in
+    let off : get_or seen p.id false ≡ false =
+    subst (λ k. get_or seen k false ≡ false) same
+    (sym (get_or_read seen c.report.inside.id c.index.result.now (omega (arith, w.0, long, same)) c.index.ensures false) ∙ c.if-index.false) in
+    let h : IsMarked reports i p seen c.args.pieces = record {
+      some = c.loop-report-test.true;
+      is = c.report-item.is;
+      len = long;
+      off = off;
+      known = inv.known;
+    } in
+    record {
+      len = inv.len;
+      known = w.1;
+      seen =
+          subst (λ n. (k : ℕ) → (get_or (set seen n true) k false || is_among k (ids_of (drop (i + 1) reports))) ≡ is_among k (ids_of reports)) (sym same)
+          (marked_seen reports i p seen c.args.pieces h inv.seen);
+      double =
+          subst (λ n. double (ids_of reports) ≡ double_with (λ k. get_or (set seen n true) k false) (ids_of (drop (i + 1) reports))) (sym same)
+          (marked_double reports i p seen c.args.pieces _ h inv.double);
+      count =
+          subst (λ n. count_by (λ b. b) (set seen n true) ≡ i + 1) (sym same)
+          (count-marked seen p.id (omega (arith, w.0, long)) off ∙ ap (λ n. n + 1) inv.count);
+    }

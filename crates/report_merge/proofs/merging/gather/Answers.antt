@@ -1,0 +1,20 @@
+use Rattle.std.proofs.Common.{◌≡◌, ◌∙◌, sum_by, sym, ap, arith}
+use Rattle.std.proofs.lemmas.List.{map-id}
+use Rattle.std.proofs.lemmas.Iterator.Adapters.{YieldsList-from_vec}
+use Rattle.std.proofs.lemmas.Iterator.Consumers.{YieldsList-end}
+use Rattle.report_merge.specs.Merged.{all_findings, all_calls}
+use Rattle.report_merge.proofs.merging.gather.Goals as goal
+
+pub returns-clause-gathered : goal.returns-clause-gathered
+returns-clause-gathered g c =
+    let given = c.into_iter-report-iterator.ensures.into_iter_gives in
+    let t = YieldsList-end (YieldsList-from_vec {s = c.into_iter-report-iterator.result} c.args.reports.items given.0 (given.1 ∙ c.args.reports.ok.0)) c.loop-report.yielded c.loop-report.report-iterator c.loop-report.yielded_by c.next.result c.next.new.self c.in-None.is c.next.ensures.steps in
+    let whole : c.loop-report.yielded ≡ c.args.reports.items = sym (map-id c.loop-report.yielded) ∙ t.0 in
+    let inv = c.loop-report.invariant in
+    record {
+      findings = inv.findings ∙ ap (λ ps. all_findings ps c.args.line.items) whole;
+      calls = inv.calls ∙ ap all_calls whole;
+      octets = inv.octets ∙ ap (sum_by (λ p. p.octets)) whole;
+      segments = inv.segments ∙ ap (sum_by (λ p. p.segments)) whole;
+      few = omega (arith, inv.within, inv.few_segments, t.1, c.requires.few);
+    }

@@ -1,0 +1,4 @@
+pub mod Seen
+pub mod Refusal
+pub mod Merged
+pub mod Written

@@ -1,0 +1,51 @@
+-- What a merged report is of the reports of the pieces and of the findings of the restart machine (profile).
+use Rattle.std.specs.Prelude.{◌≡◌, ℕ, ◌≤◌, ◌^◌, ◌++◌, ◌∷◌, List, length, map, sum_by}
+use Rattle.std.specs.List.{flat_map}
+use Rattle.std.specs.List.Sorted.{IsPermutation, IsNonDecreasingBy, IsStrictlyIncreasing}
+use Rattle.line_model.specs.declared.interface.Interface.{Interface}
+use Rattle.line_model.specs.declared.finding.Finding.{Finding}
+use Rattle.line_model.specs.Records.{Row, CallRecord, PieceReport, Report}
+use Rattle.line_model.specs.Accounts.{accounts_of}
+use Rattle.line_model.specs.Calls.{up_at}
+use Rattle.line_model.specs.Peak.{IsPeakOfTimes}
+use Rattle.line_model.specs.Plans.{plan, value, line_findings}
+use Rattle.report_merge.specs.declared.merging.Parts.{Parts}
+
+-- the findings of the line and of the pieces
+abbrev pub all_findings : List PieceReport → List Finding → List Finding
+all_findings ps line = line ++ flat_map (λ p. p.findings) ps
+
+-- the calls of the pieces
+abbrev pub all_calls : List PieceReport → List CallRecord
+all_calls ps = flat_map (λ p. p.calls) ps
+
+-- what pieces and line give, put together
+pub record IsGathered {A : Type 0} (g : Parts A) (ps : List PieceReport) (line : List Finding) : Type 0 where
+  pub findings : g.findings.items ≡ all_findings ps line
+  pub calls : g.calls.items ≡ all_calls ps
+  pub octets : g.octets ≡ sum_by (λ p. p.octets) ps
+  pub segments : g.segments ≡ sum_by (λ p. p.segments) ps
+  pub few : sum_by (λ c. c.segments) g.calls.items ≤ 2 ^ 63
+
+-- the lists of a report in their orders, and its numbers
+pub record IsArranged (r : Report) (findings : List Finding) (calls : List CallRecord) (octets segments packets : ℕ) : Type 0 where
+  pub same_findings : IsPermutation findings r.findings
+  pub findings_sorted : IsNonDecreasingBy (λ f. f.packet) r.findings
+  pub same_calls : IsPermutation calls r.calls
+  pub calls_sorted : IsNonDecreasingBy (λ c. c.opened) r.calls
+  pub accounts : r.accounts ≡ accounts_of r.calls
+  pub peak : IsPeakOfTimes (up_at r.calls) r.peak.count r.peak.packet
+  pub summary : r.summary ≡ record { packets = packets; findings = length r.findings; calls = length r.calls; octets = octets; segments = segments }
+
+-- the findings by packet, the calls by opening packet, and what is counted over them and over the pieces
+abbrev pub IsMerged : Report → List PieceReport → List Finding → (packets : ℕ) → Type 0
+IsMerged r ps line packets = IsArranged r (all_findings ps line) (all_calls ps) (sum_by (λ p. p.octets) ps) (sum_by (λ p. p.segments) ps) packets
+
+-- what is merged comes of the walk over some rows, whose numbers rise from above 0: the reports are the values of the
+-- plan's pieces, in any order; with the findings of the restart machine, and with the numbers of rows and of pieces
+pub record IsOfWalk (i : Interface) (rs : List Row) (reports : List PieceReport) (line : List Finding) (packets pieces : ℕ) : Type 0 where
+  pub rising : IsStrictlyIncreasing (0 ∷ map (λ r. r.number) rs)
+  pub values : IsPermutation (map value (plan i rs)) reports
+  pub line_is : line ≡ line_findings i rs
+  pub packets_are : packets ≡ length rs
+  pub pieces_are : pieces ≡ length (plan i rs)

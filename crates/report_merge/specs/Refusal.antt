@@ -1,0 +1,40 @@
+-- Which ids of reports are refused (profile).
+use Rattle.std.specs.Prelude.{◌≡◌, ℕ, ◌<◌, ◌≤◌, not, nat_lt, List, ◌∷◌, ◌++◌, find, Option, Some, None}
+use Rattle.line_model.specs.declared.fault.Fault.{Fault}
+use Rattle.line_model.specs.declared.fault.Fault.TheVariants.{Memory, Double, Stranger, Missing}
+use Rattle.line_model.specs.Book.{times}
+
+-- the first id that is not below the number of pieces
+abbrev pub stranger : (pieces : ℕ) → List ℕ → Option ℕ
+stranger n ids = find (λ i. not (nat_lt i n)) ids
+
+-- no number stands twice
+abbrev pub IsDistinct : List ℕ → Type 0
+IsDistinct ids = (x : ℕ) → times x ids ≤ 1
+
+-- the first id that stands before it
+pub record IsFirstDouble (i : ℕ) (ids : List ℕ) : Type 0 where
+  pub front : List ℕ
+  pub back : List ℕ
+  pub place : ids ≡ front ++ i ∷ back
+  pub before : 0 < times i front
+  pub first : IsDistinct front
+
+-- the least id below the number of pieces that is absent
+pub record IsLeastAbsent (i pieces : ℕ) (ids : List ℕ) : Type 0 where
+  pub below : i < pieces
+  pub absent : times i ids ≡ 0
+  pub least : (k : ℕ) → k < i → 0 < times k ids
+
+-- why reports are refused: strangers first, then doubles, then what is missing, and want of memory after the strangers
+abbrev pub IsRefusal : Fault → (pieces : ℕ) → List ℕ → Type 0
+IsRefusal (Stranger i) n ids = stranger n ids ≡ Some i
+IsRefusal (Double i) n ids = (stranger n ids ≡ None) × IsFirstDouble i ids
+IsRefusal (Missing i) n ids = (stranger n ids ≡ None) × IsDistinct ids × IsLeastAbsent i n ids
+IsRefusal Memory n ids = stranger n ids ≡ None
+IsRefusal _ n ids = ⊥
+
+-- each number below that of the pieces stands once, and no other
+pub record IsWhole (pieces : ℕ) (ids : List ℕ) : Type 0 where
+  pub known : stranger pieces ids ≡ None
+  pub once : (k : ℕ) → k < pieces → times k ids ≡ 1

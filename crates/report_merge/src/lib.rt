@@ -1,0 +1,11 @@
+//! The report of a trace: merged from the reports of its pieces, and written as text.
+#![tactic(auto)]
+
+mod chunk;
+mod judge;
+mod lines;
+pub mod merging;
+#[cfg(test)]
+mod tests;
+pub mod text;
+mod words;

@@ -1,0 +1,92 @@
+//! The text of a report.
+
+ghost use Rattle.std.specs.Prelude.{◌≡◌, ℕ, List, ◌++◌, ◌<◌, ◌+◌, OnOk, OnErr, IfErr};
+ghost use Rattle.std.specs.List.{flat_map, enumerate_from};
+ghost use Rattle.line_model.specs.Device.{with_more};
+ghost use Rattle.line_model.specs.Report.{text_of, finding_line, call_line, setting_line, setting_lines, account_line};
+ghost use Rattle.report_merge.specs.Written.{Writes, Puts};
+
+use crate::chunk::Chunk;
+use line_model::call::{Account, CallRecord, SettingRecord};
+use line_model::device::Sink;
+use line_model::fault::Fault;
+use line_model::finding::Finding;
+use line_model::report::Report;
+use std::alloc::Allocator;
+
+impl Chunk {
+    /// Puts the lines of findings.
+    fn findings<W: Sink>(&mut self, sink: &mut W, findings: &[Finding])
+        ensures { Puts (W.taken sink.old, W.failures sink.old) (W.taken sink.new, W.failures sink.new) self.old self.new (flat_map finding_line findings.now) }
+    {
+        for finding in findings {
+            self.finding(sink, finding);
+        }
+    }
+
+    /// Puts the lines of accounts.
+    fn accounts<W: Sink>(&mut self, sink: &mut W, accounts: &[Account])
+        ensures { Puts (W.taken sink.old, W.failures sink.old) (W.taken sink.new, W.failures sink.new) self.old self.new (flat_map account_line accounts.now) }
+    {
+        for account in accounts {
+            self.account(sink, account);
+        }
+    }
+
+    /// Puts the lines of the settings of a call.
+    fn settings<W: Sink>(&mut self, sink: &mut W, number: u64, settings: &[SettingRecord])
+        ensures { Puts (W.taken sink.old, W.failures sink.old) (W.taken sink.new, W.failures sink.new) self.old self.new (flat_map (setting_line number) settings.now) }
+    {
+        for setting in settings {
+            self.setting(sink, number, setting);
+        }
+    }
+
+    /// Puts the lines of calls.
+    fn calls<W: Sink, A: Allocator>(&mut self, sink: &mut W, calls: &[CallRecord<A>])
+        ensures { Puts (W.taken sink.old, W.failures sink.old) (W.taken sink.new, W.failures sink.new) self.old self.new (flat_map call_line (enumerate_from 1 calls.now)) }
+    {
+        for (index, call) in calls.iter().enumerate() {
+            self.call(sink, index as u64 + 1, call);
+        }
+    }
+
+    /// Puts the lines of the settings of calls.
+    fn all_settings<W: Sink, A: Allocator>(&mut self, sink: &mut W, calls: &[CallRecord<A>])
+        ensures { Puts (W.taken sink.old, W.failures sink.old) (W.taken sink.new, W.failures sink.new) self.old self.new (flat_map setting_lines (enumerate_from 1 calls.now)) }
+    {
+        for (index, call) in calls.iter().enumerate() {
+            self.settings(sink, index as u64 + 1, call.settings.as_slice());
+        }
+    }
+
+    /// Puts all the lines of a report.
+    fn report<W: Sink, A: Allocator>(&mut self, sink: &mut W, report: &Report<A>)
+        ensures { Puts (W.taken sink.old, W.failures sink.old) (W.taken sink.new, W.failures sink.new) self.old self.new (text_of report.now) }
+    {
+        self.findings(sink, report.findings.as_slice());
+        self.calls(sink, report.calls.as_slice());
+        self.all_settings(sink, report.calls.as_slice());
+        self.accounts(sink, report.accounts.as_slice());
+        self.peak(sink, report.peak);
+        self.summary(sink, &report.summary);
+    }
+}
+
+/// Writes the text of a report to a sink, in chunks (the text is profile). It takes no memory. `Write` is answered only
+/// where the sink failed; a first part of the text was taken then.
+pub fn write_report<W: Sink, A: Allocator>(report: &Report<A>, sink: &mut W) -> Result<(), Fault>
+    ensures ok { OnOk result (W.taken sink.new ≡ with_more (W.taken sink.old) (text_of report.now)) }
+    ensures part { OnErr result ((front : List ℕ) × (rest : List ℕ) × (text_of report.now ≡ front ++ rest) × (W.taken sink.new ≡ with_more (W.taken sink.old) front)) }
+    ensures cause { OnErr result (W.failures sink.old < W.failures sink.new) }
+    ensures write { IfErr result (λ f. f ≡ Fault.Write) }
+{
+    let mut chunk = Chunk::new();
+    chunk.report(sink, report);
+    chunk.flush(sink);
+    if chunk.failed() {
+        Err(Fault::Write)
+    } else {
+        Ok(())
+    }
+}

@@ -1,0 +1,117 @@
+-- What one more row does to the pieces that are known whole, and to the rows of the open epoch.
+use Rattle.std.proofs.Common.{◌≡◌, ◌≢◌, ◌∙◌, sym, ap, subst, refl, ℕ, zero, suc, ◌+◌, ◌-◌, ◌<◌, ◌≤◌, Bool, true, false, true≢false, ◌&&◌, eqb, List, [], ◌∷◌, ◌++◌, length, None, arith}
+use Rattle.std.specs.Prelude.{is_some}
+use Rattle.std.specs.List.{filter}
+use Rattle.std.proofs.lemmas.Bool.{ne_eqb, and_right, eq-eqb, eqb-true, eqb-false}
+use Rattle.line_model.specs.declared.interface.Interface.{Interface}
+use Rattle.line_model.specs.Records.{Row, Piece}
+use Rattle.line_model.specs.Shuffle.{is_channel}
+use Rattle.line_model.specs.Pieces.{Placed, piece_end}
+use Rattle.restart_epochs.specs.Cutting.{observer, places, given_of, EndsOf}
+use Rattle.restart_epochs.proofs.Epochs.{rows_same, end_same, end_stays, end_new}
+use Rattle.restart_epochs.proofs.Cuts.{SameEpoch, pieces_to, pieces_in, pieces_more, pieces_to_same, keys_to, pieces-length, plan_is, all_given, others_given}
+
+pub ends_nothing : EndsOf [] 1 true
+ends_nothing = record {
+  begun = omega arith;
+  ended = λ e lo hi. absurd (omega (arith, lo, hi));
+  left = λ h. absurd (true≢false h);
+  unended = λ h. refl;
+  later = λ e k h. refl;
+  later_end = λ e h. refl;
+}
+
+not_of : (b : Bool) (p : Placed Row) (epoch e : ℕ) → p.epoch ≡ epoch → epoch ≢ e → (b && eqb p.epoch e) ≡ false
+not_of b p epoch e at ne = and_right b (eqb p.epoch e) (ne_eqb p.epoch e (λ h. ne (sym at ∙ h)))
+
+stays_in : (p : Placed Row) (e : ℕ) → p.leaves ≡ false → (p.leaves && eqb p.epoch e) ≡ false
+stays_in p e h = ap (λ b. b && eqb p.epoch e) h
+
+pub ends_same : (ps : List (Placed Row)) (p : Placed Row) (epoch : ℕ) (ready : Bool) → EndsOf ps epoch ready → p.epoch ≡ epoch → p.leaves ≡ false → EndsOf (ps ++ p ∷ []) epoch ready
+ends_same ps p epoch ready h at stays = record {
+  begun = h.begun;
+  ended = λ e lo hi. ap (λ o. is_some o) (end_same e ps p (stays_in p e stays)) ∙ h.ended e lo hi;
+  left = λ r. ap (λ o. is_some o) (end_same epoch ps p (stays_in p epoch stays)) ∙ h.left r;
+  unended = λ r. end_same epoch ps p (stays_in p epoch stays) ∙ h.unended r;
+  later = λ e k lt. rows_same e k ps p (not_of (is_channel k p.channel) p epoch e at (λ q. omega (arith, q, lt))) ∙ h.later e k lt;
+  later_end = λ e lt. end_same e ps p (stays_in p e stays) ∙ h.later_end e lt;
+}
+
+pub ends_leave : (ps : List (Placed Row)) (p : Placed Row) (epoch : ℕ) → EndsOf ps epoch true → p.epoch ≡ epoch → p.leaves ≡ true → EndsOf (ps ++ p ∷ []) epoch false
+ends_leave ps p epoch h at leaves = record {
+  begun = h.begun;
+  ended = λ e lo hi. ap (λ o. is_some o) (end_stays e ps p (h.ended e lo hi)) ∙ h.ended e lo hi;
+  left = λ r. ap (λ o. is_some o) (end_new epoch ps p (ap (λ b. b && eqb p.epoch epoch) leaves ∙ eq-eqb p.epoch epoch at) (h.unended refl));
+  unended = λ r. absurd (true≢false (sym r));
+  later = λ e k lt. rows_same e k ps p (not_of (is_channel k p.channel) p epoch e at (λ q. omega (arith, q, lt))) ∙ h.later e k lt;
+  later_end = λ e lt. end_same e ps p (not_of p.leaves p epoch e at (λ q. omega (arith, q, lt))) ∙ h.later_end e lt;
+}
+
+split_last : (e epoch : ℕ) → e < epoch + 1 → (e ≢ epoch → e < epoch)
+split_last e epoch lt ne = omega (arith, lt, ne)
+
+pub ends_enter : (ps : List (Placed Row)) (p : Placed Row) (epoch : ℕ) → EndsOf ps epoch false → p.epoch ≡ epoch → p.leaves ≡ false → EndsOf (ps ++ p ∷ []) (epoch + 1) true
+ends_enter ps p epoch h at stays = record {
+  begun = omega arith;
+  ended = λ e lo hi. ap (λ o. is_some o) (end_same e ps p (stays_in p e stays)) ∙ was e lo hi (eqb e epoch) refl;
+  left = λ r. absurd (true≢false r);
+  unended = λ r. end_same (epoch + 1) ps p (stays_in p (epoch + 1) stays) ∙ h.later_end (epoch + 1) (omega arith);
+  later = λ e k lt. rows_same e k ps p (not_of (is_channel k p.channel) p epoch e at (λ q. omega (arith, q, lt))) ∙ h.later e k (omega (arith, lt));
+  later_end = λ e lt. end_same e ps p (stays_in p e stays) ∙ h.later_end e (omega (arith, lt));
+}
+  where
+    was : (e : ℕ) → 1 ≤ e → e < epoch + 1 → (b : Bool) → eqb e epoch ≡ b → is_some (piece_end e ps) ≡ true
+    was e lo hi true same = subst (λ n. is_some (piece_end n ps) ≡ true) (sym (eqb-true e epoch same)) (h.left refl)
+    was e lo hi false other = h.ended e lo (split_last e epoch hi (eqb-false e epoch other))
+
+-- how many epochs are known whole
+abbrev pub whole_epochs : (epoch : ℕ) (ready : Bool) → ℕ
+whole_epochs epoch true = epoch - 1
+whole_epochs epoch false = epoch
+
+pub given_pieces : (i : Interface) (rs : List Row) (ready : Bool) → EndsOf (places i rs) (observer i rs).epoch ready → given_of i rs ≡ pieces_to i (places i rs) (whole_epochs (observer i rs).epoch ready)
+given_pieces i rs true h = ap (filter (λ p. is_some p.end)) (plan_is i rs) ∙ at (observer i rs).epoch h.begun h.ended (h.unended refl)
+  where
+    at : (n : ℕ) → 1 ≤ n → ((e : ℕ) → 1 ≤ e → e < n → is_some (piece_end e (places i rs)) ≡ true) → piece_end n (places i rs) ≡ None
+        → filter (λ p. is_some p.end) (pieces_to i (places i rs) n) ≡ pieces_to i (places i rs) (n - 1)
+    at zero lo ended none = absurd (omega (arith, lo))
+    at (suc n) lo ended none =
+        let one : suc n ≡ n + 1 = omega arith in
+        others_given i (places i rs) n (λ e low high. ended e low (omega (arith, high))) (subst (λ m. piece_end m (places i rs) ≡ None) one none)
+        ∙ ap (pieces_to i (places i rs)) (omega arith)
+given_pieces i rs false h =
+    ap (filter (λ p. is_some p.end)) (plan_is i rs)
+    ∙ all_given i (places i rs) (observer i rs).epoch (λ e lo hi. was e lo hi (eqb e (observer i rs).epoch) refl)
+  where
+    was : (e : ℕ) → 1 ≤ e → e ≤ (observer i rs).epoch → (b : Bool) → eqb e (observer i rs).epoch ≡ b → is_some (piece_end e (places i rs)) ≡ true
+    was e lo hi true same = subst (λ n. is_some (piece_end n (places i rs)) ≡ true) (sym (eqb-true e (observer i rs).epoch same)) (h.left refl)
+    was e lo hi false other = let ne = eqb-false e (observer i rs).epoch other in h.ended e lo (omega (arith, hi, ne))
+
+-- ---- epochs that the row is none of
+
+pub same_below : (ps : List (Placed Row)) (p : Placed Row) (epoch e : ℕ) → p.epoch ≡ epoch → e < epoch → SameEpoch e ps (ps ++ p ∷ [])
+same_below ps p epoch e at lt = record {
+  rows = λ k. rows_same e k ps p (not_of (is_channel k p.channel) p epoch e at (λ q. omega (arith, q, lt)));
+  end = end_same e ps p (not_of p.leaves p epoch e at (λ q. omega (arith, q, lt)));
+}
+
+pub same_line : (ps : List (Placed Row)) (p : Placed Row) (e : ℕ) → p.channel ≡ None → p.leaves ≡ false → SameEpoch e ps (ps ++ p ∷ [])
+same_line ps p e line stays = record {
+  rows = λ k. rows_same e k ps p (ap (λ c. is_channel k c && eqb p.epoch e) line);
+  end = end_same e ps p (stays_in p e stays);
+}
+
+-- the pieces of an epoch that is left come behind those before it
+pub leave_pieces : (i : Interface) (ps : List (Placed Row)) (p : Placed Row) (epoch : ℕ) → 1 ≤ epoch → p.epoch ≡ epoch
+    → pieces_to i (ps ++ p ∷ []) epoch ≡ pieces_to i ps (epoch - 1) ++ pieces_in i (ps ++ p ∷ []) (length (pieces_to i ps (epoch - 1))) epoch
+leave_pieces i ps p zero lo at = absurd (omega (arith, lo))
+leave_pieces i ps p (suc n) lo at =
+    let qs : List (Placed Row) = ps ++ p ∷ [] in
+    let same : (e : ℕ) → e ≤ n → SameEpoch e ps qs = λ e h. same_below ps p (suc n) e at (omega (arith, h)) in
+    let back : n ≡ suc n - 1 = omega arith in
+    let next : n + 1 ≡ suc n = omega arith in
+    pieces_more i qs n
+    ∙ ap (λ l. l ++ pieces_in i qs (length (keys_to i qs n)) (n + 1)) (pieces_to_same i ps qs n same)
+    ∙ ap (λ m. pieces_to i ps n ++ pieces_in i qs m (n + 1)) (sym (pieces-length i qs n) ∙ ap (λ (l : List Piece). length l) (pieces_to_same i ps qs n same))
+    ∙ ap (λ m. pieces_to i ps n ++ pieces_in i qs (length (pieces_to i ps n)) m) next
+    ∙ ap (λ m. pieces_to i ps m ++ pieces_in i qs (length (pieces_to i ps m)) (suc n)) back

@@ -1,0 +1,12 @@
+pub mod Routes
+pub mod Epochs
+pub mod Steps
+pub mod Cuts
+pub mod Growth
+pub mod Lanes
+pub mod LineFindings
+pub mod Listed
+pub mod Pushes
+pub mod GivenOut
+pub mod Bounds
+pub mod Taken

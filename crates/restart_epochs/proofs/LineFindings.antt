@@ -1,0 +1,76 @@
+-- The findings of the restart machine, with one more row.
+use Rattle.std.proofs.Common.{◌≡◌, ◌∙◌, sym, ap, refl, ℕ, Bool, true, false, List, [], ◌∷◌, ◌++◌, map, true≢false, Some, None, append-nil, append_assoc}
+use Rattle.std.specs.List.{filter}
+use Rattle.std.proofs.lemmas.List.{map-append}
+use Rattle.std.proofs.lemmas.List.Elements.{filter_map-append}
+use Rattle.line_model.specs.declared.interface.Interface.{Interface}
+use Rattle.line_model.specs.declared.finding.Finding.{Finding}
+use Rattle.line_model.specs.declared.verdict.Route.{Route}
+use Rattle.line_model.specs.declared.verdict.Route.TheVariants.{Pass, Found, Leave, Enter, ToChannel}
+use Rattle.line_model.specs.declared.event.What.{What}
+use Rattle.line_model.specs.Records.{Row}
+use Rattle.line_model.specs.RestartMachine.{LineState}
+use Rattle.line_model.specs.Channels.{Channel}
+use Rattle.line_model.specs.ChannelStep.{channel_step}
+use Rattle.line_model.specs.Octets.{channel_of}
+use Rattle.line_model.specs.Machine.{Machine, Observer, after, walk}
+use Rattle.line_model.specs.MachineEvents.{RowEvent, stamp, closed_events, row_events, row_events_routed, walk_events}
+use Rattle.line_model.specs.Merge.{is_line}
+use Rattle.line_model.specs.Observer.{x25, start, routing, is_ready, route_found, event_of}
+use Rattle.line_model.specs.Report.{findings_of}
+use Rattle.line_model.specs.Plans.{line_findings}
+use Rattle.line_model.proofs.Rising.{filter_append}
+use Rattle.line_model.proofs.LinePart.{channel_dropped, line_kept, closed_dropped}
+use Rattle.restart_epochs.specs.Cutting.{observer, route_finding}
+use Rattle.restart_epochs.proofs.Routes.{is_to_channel}
+use Rattle.restart_epochs.proofs.Steps.{routed_to, routed_none}
+
+events_append : {X L S E : Type 0} → (m : Machine X L S E) (o : Observer L S) (p q : List X) → walk_events m o (p ++ q) ≡ walk_events m o p ++ walk_events m (walk m o p) q
+events_append m o [] q = refl
+events_append m o (x ∷ p) q = ap (λ l. row_events m o x ++ l) (events_append m (after m o x) p q) ∙ sym (append_assoc (row_events m o x) (walk_events m (after m o x) p) (walk_events m (walk m (after m o x) p) q))
+
+-- the findings among the line's events
+line_of_events : List (RowEvent Row What) → List Finding
+line_of_events vs = findings_of (map event_of (filter is_line vs))
+
+line_append : (us vs : List (RowEvent Row What)) → findings_of (map event_of (filter is_line (us ++ vs))) ≡ findings_of (map event_of (filter is_line us)) ++ findings_of (map event_of (filter is_line vs))
+line_append us vs =
+    ap (λ l. findings_of (map event_of l)) (filter_append is_line us vs)
+    ∙ ap findings_of (map-append event_of (filter is_line us) (filter is_line vs))
+    ∙ filter_map-append _ (map event_of (filter is_line us)) (map event_of (filter is_line vs))
+
+found_here : (e : ℕ) (r : Row) (route : Route) → findings_of (map event_of (stamp e None r (route_found r route))) ≡ route_finding r route
+found_here e r (Found s n) = refl
+found_here e r (Leave (Some n)) = refl
+found_here e r (Leave None) = refl
+found_here e r Pass = refl
+found_here e r Enter = refl
+found_here e r ToChannel = refl
+
+pub to_none : (r : Row) (route : Route) → is_to_channel route ≡ true → route_finding r route ≡ []
+to_none r ToChannel h = refl
+to_none r Pass h = refl
+to_none r (Found s n) h = absurd (true≢false (sym h))
+to_none r (Leave c) h = absurd (true≢false (sym h))
+to_none r Enter h = refl
+
+on_routed : (i : Interface) (o : Observer LineState Channel) (r : Row) (b : Bool) → is_to_channel (routing i o.line r).route ≡ b
+    → findings_of (map event_of (filter is_line (row_events (x25 i) o r))) ≡ route_finding r (routing i o.line r).route
+on_routed i o r true h =
+    ap (λ q. findings_of (map event_of (filter is_line (row_events_routed (x25 i) o r q)))) (routed_to i o.line r h)
+    ∙ ap (λ l. findings_of (map event_of l)) (channel_dropped o.epoch (channel_of r.octets) r (channel_step i (channel_of r.octets) (o.states (channel_of r.octets)) r).reported)
+    ∙ sym (to_none r (routing i o.line r).route h)
+on_routed i o r false h =
+    let own = stamp o.epoch None r (route_found r (routing i o.line r).route) in
+    let closed = closed_events (x25 i) o r (is_ready o.line) (is_ready (routing i o.line r).after) in
+    ap (λ q. findings_of (map event_of (filter is_line (row_events_routed (x25 i) o r q)))) (routed_none i o.line r h)
+    ∙ ap (λ l. findings_of (map event_of l)) (filter_append is_line own closed ∙ ap (λ l. filter is_line own ++ l) (closed_dropped (x25 i) o r (is_ready o.line) (is_ready (routing i o.line r).after)) ∙ append-nil (filter is_line own) ∙ line_kept o.epoch r (route_found r (routing i o.line r).route))
+    ∙ found_here o.epoch r (routing i o.line r).route
+
+pub line_findings_more : (i : Interface) (rs : List Row) (r : Row) → line_findings i (rs ++ r ∷ []) ≡ line_findings i rs ++ route_finding r (routing i (observer i rs).line r).route
+line_findings_more i rs r =
+    let o = observer i rs in
+    ap (λ l. findings_of (map event_of (filter is_line l))) (events_append (x25 i) (start i) rs (r ∷ []))
+    ∙ line_append (walk_events (x25 i) (start i) rs) (row_events (x25 i) o r ++ [])
+    ∙ ap (λ l. line_findings i rs ++ findings_of (map event_of (filter is_line l))) (append-nil (row_events (x25 i) o r))
+    ∙ ap (λ l. line_findings i rs ++ l) (on_routed i o r (is_to_channel (routing i o.line r).route) refl)

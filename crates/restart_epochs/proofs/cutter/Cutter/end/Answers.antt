@@ -1,0 +1,18 @@
+use Rattle.std.proofs.Common.{◌≡◌, ◌∙◌, ap, ◌++◌, [], rules, None}
+use Rattle.restart_epochs.specs.OpenRows.{rows_of}
+use Rattle.restart_epochs.specs.Cutting.{given_of, pieces_out}
+use Rattle.restart_epochs.proofs.Bounds.{lane_piece}
+use Rattle.restart_epochs.proofs.Pushes.{rest_open}
+use Rattle.restart_epochs.proofs.cutter.Cutter.end.Goals as goal
+
+pub give_out-requires-clause-pieces : goal.give_out-requires-clause-pieces
+give_out-requires-clause-pieces g c k = lane_piece _ k c.self.invariant
+
+pub returns-clause-pieces : goal.returns-clause-pieces
+returns-clause-pieces g c i rows s =
+    let nothing : c.reserve.new.self.items ≡ [] = search rules in
+    ap (λ l. given_of i rows ++ l)
+    (c.give_out.ensures.given
+    ∙ ap (λ l. l ++ pieces_out c.self.inside.interface c.self.inside.epoch None (rows_of c.self.inside.open_rows) c.self.inside.given c.self.inside.open_rows.channels) nothing
+    ∙ ap (λ v. pieces_out v.interface v.epoch None (rows_of v.open_rows) v.given v.open_rows.channels) c.self.view_is)
+    ∙ rest_open i rows c.args.self s

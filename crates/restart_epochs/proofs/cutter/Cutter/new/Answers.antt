@@ -1,0 +1,8 @@
+use Rattle.std.proofs.Common.{ap, refl}
+use Rattle.restart_epochs.specs.OpenRows.{rows_of}
+use Rattle.restart_epochs.proofs.Pushes.{stands_nothing}
+use Rattle.restart_epochs.proofs.cutter.Cutter.new.Goals as goal
+
+pub returns-clause-stands : goal.returns-clause-stands
+returns-clause-stands g c =
+    stands_nothing c.args.interface.now _ refl c.first_machine.ensures refl refl refl c.new.ensures.items (λ k. ap (λ o. rows_of o k) c.new-2.ensures) (ap (λ o. o.channels) c.new-2.ensures)

@@ -1,0 +1,163 @@
+-- A trace that falls into pieces, row by row (profile).
+use Rattle.std.specs.Prelude.{◌≡◌, ◌≢◌, ◌⊎◌, ℕ, Bool, true, false, ◌+◌, ◌<◌, ◌≤◌, ◌^◌, List, [], ◌∷◌, ◌++◌, length, map, filter, is_some, All, Option, Some, None}
+use Rattle.line_model.specs.declared.interface.Interface.{Interface}
+use Rattle.line_model.specs.declared.finding.Finding.{Finding}
+use Rattle.line_model.specs.declared.finding.Code.TheVariants.{Number}
+use Rattle.line_model.specs.declared.state.StateName.TheVariants.{R1}
+use Rattle.line_model.specs.declared.verdict.Route.{Route}
+use Rattle.line_model.specs.declared.verdict.Route.TheVariants.{Found, Leave}
+use Rattle.line_model.specs.Records.{Row, Item, Piece}
+use Rattle.line_model.specs.RestartMachine.{LineState}
+use Rattle.line_model.specs.Channels.{Channel}
+use Rattle.line_model.specs.Machine.{Observer, walk}
+use Rattle.line_model.specs.Pieces.{Placed, placed, piece_rows, piece_end}
+use Rattle.line_model.specs.Plan.{has_some}
+use Rattle.std.specs.List.{range_with_len, AllByRecursion}
+use Rattle.line_model.specs.Observer.{x25, start, is_ready}
+use Rattle.line_model.specs.Plans.{plan, item_of, line_findings}
+use Rattle.line_model.specs.Bounds.{IsItem, all_octets}
+use Rattle.restart_epochs.specs.OpenRows.{OpenRows, rows_of, IsSame, HasMore}
+
+-- the observer of an interface after some rows
+abbrev pub observer : Interface → List Row → Observer LineState Channel
+observer i rs = walk (x25 i) (start i) rs
+
+-- the rows with their epochs and channels
+abbrev pub places : Interface → List Row → List (Placed Row)
+places i rs = placed (x25 i) (start i) rs
+
+-- the pieces whose epoch a row has left: they are known whole
+abbrev pub given_of : Interface → List Row → List Piece
+given_of i rs = filter (λ p. is_some p.end) (plan i rs)
+
+-- what a cutter keeps: the restart machine, the epoch, how many pieces and rows there were, the number of the last
+-- row, all octets, the findings of the restart machine, and the rows of the open epoch
+pub record Cutting : Type 0 where
+  pub interface : Interface
+  pub line : LineState
+  pub epoch : ℕ
+  pub given : ℕ
+  pub packets : ℕ
+  pub last : ℕ
+  pub octets : ℕ
+  pub findings : List Finding
+  pub open_rows : OpenRows
+
+-- rows of a channel, with their packets, that are no more than these
+pub record IsLane (i : Interface) (k packets octets : ℕ) (items : List Item) : Type 0 where
+  pub few_rows : length items ≤ packets
+  pub few_octets : all_octets items ≤ octets
+  pub packets_of : All (IsItem i k) items
+
+-- the numbers of a cutter stay within their types
+pub record IsCutting (c : Cutting) : Type 0 where
+  pub rows : c.packets ≤ c.last
+  pub last : c.last ≤ 999999999
+  pub octets : c.octets ≤ 2 ^ 31
+  pub epochs : c.epoch ≤ c.packets + 1
+  pub ids : c.given + length c.open_rows.channels ≤ c.packets
+  pub lanes : (k : ℕ) → IsLane c.interface k c.packets c.octets (rows_of c.open_rows k)
+
+-- the same rows were pushed
+pub record IsUnchanged (before after : Cutting) : Type 0 where
+  pub interface : after.interface ≡ before.interface
+  pub line : after.line ≡ before.line
+  pub epoch : after.epoch ≡ before.epoch
+  pub given : after.given ≡ before.given
+  pub packets : after.packets ≡ before.packets
+  pub last : after.last ≡ before.last
+  pub octets : after.octets ≡ before.octets
+  pub findings : after.findings ≡ before.findings
+  pub open_rows : IsSame before.open_rows after.open_rows
+
+-- the finding of the restart machine on a row, by its route
+abbrev pub route_finding : Row → Route → List Finding
+route_finding r (Found s n) = record { packet = r.number; side = r.side; state = s; code = Number n } ∷ []
+route_finding r (Leave (Some n)) = record { packet = r.number; side = r.side; state = R1; code = Number n } ∷ []
+route_finding r _ = []
+
+-- each epoch before the last was left, the last one where the line is not in r1; nothing lies beyond it
+pub record EndsOf (ps : List (Placed Row)) (epoch : ℕ) (ready : Bool) : Type 0 where
+  pub begun : 1 ≤ epoch
+  pub ended : (e : ℕ) → 1 ≤ e → e < epoch → is_some (piece_end e ps) ≡ true
+  pub left : ready ≡ false → is_some (piece_end epoch ps) ≡ true
+  pub unended : ready ≡ true → piece_end epoch ps ≡ None
+  pub later : (e k : ℕ) → epoch < e → piece_rows e k ps ≡ []
+  pub later_end : (e : ℕ) → epoch < e → piece_end e ps ≡ None
+
+-- the channels that have rows in an epoch
+abbrev pub channels_in : Interface → List (Placed Row) → ℕ → List ℕ
+channels_in i ps e = filter (λ k. has_some (piece_rows e k ps)) (range_with_len 1 i.svc)
+
+-- the rows of a channel in the last epoch, if it is open
+abbrev pub rows_if : (ready : Bool) → Interface → List (Placed Row) → (epoch channel : ℕ) → List Item
+rows_if true i ps e k = map (item_of i) (piece_rows e k ps)
+rows_if false i ps e k = []
+
+-- the channels that have rows in the last epoch, if it is open
+abbrev pub channels_if : (ready : Bool) → Interface → List (Placed Row) → (epoch : ℕ) → List ℕ
+channels_if true i ps e = channels_in i ps e
+channels_if false i ps e = []
+
+-- the cutter was given these rows of an interface
+pub record StandsFor (i : Interface) (rs : List Row) (c : Cutting) : Type 0 where
+  pub interface : c.interface ≡ i
+  pub line : c.line ≡ (observer i rs).line
+  pub epoch : c.epoch ≡ (observer i rs).epoch
+  pub packets : c.packets ≡ length rs
+  pub findings : c.findings ≡ line_findings i rs
+  pub given : c.given ≡ length (given_of i rs)
+  pub rows : (k : ℕ) → rows_of c.open_rows k ≡ rows_if (is_ready (observer i rs).line) i (places i rs) (observer i rs).epoch k
+  pub channels : c.open_rows.channels ≡ channels_if (is_ready (observer i rs).line) i (places i rs) (observer i rs).epoch
+  pub epochs : EndsOf (places i rs) (observer i rs).epoch (is_ready (observer i rs).line)
+
+-- the pieces of an epoch with these channels, from an id on
+abbrev pub pieces_out : Interface → (epoch : ℕ) → (end : Option ℕ) → (ℕ → List Item) → (id : ℕ) → List ℕ → List Piece
+pieces_out i e end rows id [] = []
+pieces_out i e end rows id (k ∷ ks) = record { id = id; interface = i; epoch = e; channel = k; items = rows k; end = end } ∷ pieces_out i e end rows (id + 1) ks
+
+-- a row was counted
+pub record IsCounted (r : Row) (before after : Cutting) : Type 0 where
+  pub interface : after.interface ≡ before.interface
+  pub packets : after.packets ≡ before.packets + 1
+  pub last : after.last ≡ r.number
+  pub octets : after.octets ≡ before.octets + length r.octets
+
+-- a row was kept on its channel
+pub record IsKeptOn (channel : ℕ) (item : Item) (before after : Cutting) : Type 0 where
+  pub counted : IsCounted item.row before after
+  pub line : after.line ≡ before.line
+  pub epoch : after.epoch ≡ before.epoch
+  pub given : after.given ≡ before.given
+  pub findings : after.findings ≡ before.findings
+  pub open_rows : HasMore channel item before.open_rows after.open_rows
+
+-- a row stepped the restart machine, which did not leave r1
+pub record IsStepped (r : Row) (machine : LineState) (next_epoch : ℕ) (found : List Finding) (before after : Cutting) : Type 0 where
+  pub counted : IsCounted r before after
+  pub line : after.line ≡ machine
+  pub epoch : after.epoch ≡ next_epoch
+  pub given : after.given ≡ before.given
+  pub findings : after.findings ≡ before.findings ++ found
+  pub open_rows : IsSame before.open_rows after.open_rows
+
+-- no row is left of a channel, or it had none of those that were taken out
+abbrev pub IsEmptied : OpenRows → OpenRows → Type 0
+IsEmptied before after = (k : ℕ) → (rows_of after k ≡ []) ⊎ ((rows_of after k ≡ rows_of before k) × AllByRecursion (λ j. j ≢ k) before.channels)
+
+-- a row left r1, and the pieces of its epoch were given out
+pub record IsLeft (r : Row) (machine : LineState) (found : List Finding) (before after : Cutting) : Type 0 where
+  pub counted : IsCounted r before after
+  pub line : after.line ≡ machine
+  pub epoch : after.epoch ≡ before.epoch
+  pub given : after.given ≡ before.given + length before.open_rows.channels
+  pub findings : after.findings ≡ before.findings ++ found
+  pub channels : after.open_rows.channels ≡ []
+  pub emptied : IsEmptied before.open_rows after.open_rows
+
+-- a row was taken: of any rows that were taken before, the cutter stands for them and this one, and the pieces that are
+-- known whole came to stand behind those that were
+pub record IsTaken (item : Item) (before after : Cutting) (out out_after : List Piece) : Type 0 where
+  pub stands : (i : Interface) (rs : List Row) → StandsFor i rs before → StandsFor i (rs ++ item.row ∷ []) after
+  pub given : (i : Interface) (rs : List Row) (ps : List Piece) → StandsFor i rs before → out ≡ ps ++ given_of i rs → out_after ≡ ps ++ given_of i (rs ++ item.row ∷ [])
+  pub counted : IsCounted item.row before after

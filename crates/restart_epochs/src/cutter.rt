@@ -1,0 +1,328 @@
+//! The cutter: a trace falls into pieces by epoch and logical channel, row by row.
+
+ghost use Rattle.std.specs.Prelude.{option_to_list, ◌≡◌, ℕ, ◌<◌, ◌≤◌, ◌+◌, ◌^◌, ◌++◌, ◌∷◌, [], List, length, Some, None, IfErr, IfOk, OnOk, OnErr};
+ghost use Rattle.line_model.specs.Classes.{packet_of, packet_class};
+ghost use Rattle.std.specs.Vec.{vec_len, vec_capacity};
+ghost use Rattle.line_model.specs.Octets.{channel_of};
+ghost use Rattle.line_model.specs.Observer.{line_in_r1};
+ghost use Rattle.line_model.specs.RestartMachine.{line_step};
+ghost use Rattle.restart_epochs.specs.OpenRows.{rows_of};
+ghost use Rattle.restart_epochs.specs.Cutting.{pieces_out, route_finding, IsUnchanged};
+
+use crate::giving::give_out;
+use crate::open_epoch::OpenEpoch;
+use crate::restart::{Restart, Route};
+use line_model::fault::Fault;
+use line_model::finding::{Code, Finding};
+use line_model::interface::Interface;
+use line_model::piece::Piece;
+use line_model::row::{Item, Row};
+use line_model::state::StateName;
+use std::alloc::{AllocError, Allocator, Global};
+use std::marker::Model;
+
+/// Cuts a trace into pieces.
+#[derive(Drop)]
+pub struct Cutter<A: Allocator = Global> {
+    pub(crate) interface: Interface,
+    machine: Restart,
+    epoch: u32,
+    /// How many pieces were given out.
+    given: u32,
+    packets: u32,
+    /// The number of the last row, or 0.
+    pub(crate) last: u32,
+    pub(crate) octets: u32,
+    findings: Vec<Finding, A>,
+    open_rows: OpenEpoch<A>,
+}
+
+impl<A: Allocator> Model for Cutter<A> {
+    ghost use Rattle.restart_epochs.specs.Cutting.{Cutting, IsCutting};
+
+    ghost Value = { Cutting };
+
+    ghost view = { λ c. record {
+      interface = c.interface;
+      line = c.machine;
+      epoch = c.epoch;
+      given = c.given;
+      packets = c.packets;
+      last = c.last;
+      octets = c.octets;
+      findings = c.findings.items;
+      open_rows = c.open_rows;
+    } };
+
+    ghost invariant = { λ c. IsCutting (record {
+      interface = c.interface;
+      line = c.machine;
+      epoch = c.epoch;
+      given = c.given;
+      packets = c.packets;
+      last = c.last;
+      octets = c.octets;
+      findings = c.findings.items;
+      open_rows = c.open_rows;
+    }) };
+}
+
+/// A trace that was cut: its pieces, the findings of the restart machine, and the number of rows.
+#[derive(Drop)]
+pub struct Cut<A: Allocator = Global> {
+    pub pieces: Vec<Piece<A>, A>,
+    pub line: Vec<Finding, A>,
+    pub packets: u32,
+}
+
+/// The restart machine before the first row.
+fn first_machine(join: bool) -> Restart
+    ensures { result ≡ line_in_r1 join }
+{
+    if join {
+        Restart::joined()
+    } else {
+        Restart::new()
+    }
+}
+
+/// The logical channel of a packet (X.25 clauses 5.1.2 and 5.1.3).
+fn logical_channel(octets: &[u8]) -> u16
+    ensures { result ≡ channel_of octets.now }
+{
+    match octets {
+        [first, second, ..] => u16::from(*first % 16) * 256 + u16::from(*second),
+        [first] => u16::from(*first % 16) * 256,
+        [] => 0,
+    }
+}
+
+/// The finding of the restart machine on a row, if its route has one.
+fn finding_of<A: Allocator>(route: Route, row: &Row<A>) -> Option<Finding>
+    ensures { option_to_list result ≡ route_finding row.now route }
+{
+    let (state, code) = match route {
+        Route::Found(state, code) => (state, code),
+        Route::Leave(Some(code)) => (StateName::R1, code),
+        _ => return None,
+    };
+    Some(Finding {
+        packet: row.number,
+        side: row.side,
+        state,
+        code: Code::Number(code),
+    })
+}
+
+/// Appends a finding, if there is one.
+fn note<A: Allocator>(
+    findings: &mut Vec<Finding, A>,
+    finding: Option<Finding>,
+) -> Result<(), AllocError>
+    ensures ok { OnOk result (findings.new.items ≡ findings.old.items ++ option_to_list finding) }
+    ensures refused { OnErr result (findings.new.items ≡ findings.old.items) }
+{
+    match finding {
+        Some(finding) => {
+            findings.push(finding)?;
+            Ok(())
+        }
+        None => Ok(()),
+    }
+}
+
+impl<A: Allocator + Copy> Cutter<A> {
+    ghost use Rattle.line_model.specs.Plans.{plan, line_findings};
+    ghost use Rattle.line_model.specs.Records as records;
+    ghost use Rattle.line_model.specs.declared.interface.Interface.{Interface as AnyInterface};
+    ghost use Rattle.line_model.specs.declared.fault.Fault.TheVariants.{Memory};
+    ghost use Rattle.restart_epochs.specs.Cutting.{StandsFor, IsCounted, IsKeptOn, IsStepped, IsLeft, IsTaken, given_of};
+
+    /// A cutter before the first row. It takes no memory.
+    pub fn new(alloc: A, interface: &Interface) -> Self
+        ensures stands { StandsFor interface.now [] result }
+        ensures last { result.last ≡ 0 }
+        ensures octets { result.octets ≡ 0 }
+    {
+        Cutter {
+            interface: *interface,
+            machine: first_machine(interface.join),
+            epoch: 1,
+            given: 0,
+            packets: 0,
+            last: 0,
+            octets: 0,
+            findings: Vec::new(alloc),
+            open_rows: OpenEpoch::new(alloc),
+        }
+    }
+
+    /// Keeps a row on its channel.
+    fn keep(&mut self, channel: u16, item: Item<A>) -> Result<(), Item<A>>
+        requires packet { item.packet ≡ packet_of self.old.interface item.row.octets }
+        requires channel { channel_of item.row.octets ≡ channel }
+        requires rising { self.old.last < item.row.number }
+        requires number { item.row.number ≤ 999999999 }
+        requires octets { self.old.octets + length item.row.octets ≤ 2 ^ 31 }
+        ensures ok { OnOk result (IsKeptOn channel item self.old self.new) }
+        ensures refused { IfErr result (λ back. (back ≡ item) × IsUnchanged self.old self.new) }
+    {
+        let number = item.row.number;
+        let length = item.row.octets.len() as u32;
+        match self.open_rows.push(channel, item) {
+            Ok(()) => {
+                self.packets += 1;
+                self.last = number;
+                self.octets += length;
+                Ok(())
+            }
+            Err(back) => Err(back),
+        }
+    }
+
+    /// Takes a row that steps the restart machine and does not leave r1.
+    fn advance(
+        &mut self,
+        machine: Restart,
+        ended: u32,
+        finding: Option<Finding>,
+        item: Item<A>,
+    ) -> Result<(), Item<A>>
+        requires ended { ended ≤ 1 }
+        requires rising { self.old.last < item.row.number }
+        requires number { item.row.number ≤ 999999999 }
+        requires octets { self.old.octets + length item.row.octets ≤ 2 ^ 31 }
+        ensures ok { OnOk result (IsStepped item.row machine (self.old.epoch + ended) (option_to_list finding) self.old self.new) }
+        ensures refused { IfErr result (λ back. (back ≡ item) × IsUnchanged self.old self.new) }
+    {
+        if note(&mut self.findings, finding).is_err() {
+            return Err(item);
+        }
+        self.machine = machine;
+        self.epoch += ended;
+        self.packets += 1;
+        self.last = item.row.number;
+        self.octets += item.row.octets.len() as u32;
+        Ok(())
+    }
+
+    /// Takes a row that leaves r1, and gives out the pieces of the epoch that it ends.
+    fn leave(
+        &mut self,
+        machine: Restart,
+        finding: Option<Finding>,
+        item: Item<A>,
+        out: &mut Vec<Piece<A>, A>,
+    ) -> Result<(), Item<A>>
+        requires rising { self.old.last < item.row.number }
+        requires number { item.row.number ≤ 999999999 }
+        requires octets { self.old.octets + length item.row.octets ≤ 2 ^ 31 }
+        ensures ok { OnOk result (IsLeft item.row machine (option_to_list finding) self.old self.new) }
+        ensures given { OnOk result (out.new.items ≡ out.old.items ++ pieces_out self.old.interface self.old.epoch (Some item.row.number) (rows_of self.old.open_rows) self.old.given self.old.open_rows.channels) }
+        ensures refused { IfErr result (λ back. (back ≡ item) × IsUnchanged self.old self.new × (out.new.items ≡ out.old.items)) }
+    {
+        let pieces = self.open_rows.len();
+        if out.reserve(pieces).is_err() {
+            return Err(item);
+        }
+        if note(&mut self.findings, finding).is_err() {
+            return Err(item);
+        }
+        let end = Some(item.row.number);
+        give_out(
+            &self.interface,
+            self.epoch,
+            end,
+            self.given,
+            &mut self.open_rows,
+            out,
+        );
+        self.given += pieces as u32;
+        self.machine = machine;
+        self.packets += 1;
+        self.last = item.row.number;
+        self.octets += item.row.octets.len() as u32;
+        Ok(())
+    }
+
+    /// Where the restart machine stands after a row, and where the row goes.
+    fn stepped(&self, item: &Item<A>) -> (Restart, Route)
+        ensures { record { route = result.1; after = result.0 } ≡ line_step self.now.line item.now.row.side (packet_class item.now.packet) (length item.now.row.octets) }
+    {
+        let mut machine = self.machine;
+        let route = machine.step(&item.packet, item.row.octets.len(), item.row.side);
+        (machine, route)
+    }
+
+    /// Takes a row. Where memory is refused the row comes back, and nothing has changed.
+    fn take(&mut self, item: Item<A>, out: &mut Vec<Piece<A>, A>) -> Result<(), Item<A>>
+        requires packet { item.packet ≡ packet_of self.old.interface item.row.octets }
+        requires rising { self.old.last < item.row.number }
+        requires number { item.row.number ≤ 999999999 }
+        requires octets { self.old.octets + length item.row.octets ≤ 2 ^ 31 }
+        ensures ok { OnOk result (IsTaken item self.old self.new out.old.items out.new.items) }
+        ensures refused { IfErr result (λ back. (back ≡ item) × IsUnchanged self.old self.new × (out.new.items ≡ out.old.items)) }
+    {
+        let (machine, route) = self.stepped(&item);
+        let finding = finding_of(route, &item.row);
+        match route {
+            Route::ToChannel => self.keep(logical_channel(item.row.octets.as_slice()), item),
+            Route::Leave(_) => self.leave(machine, finding, item, out),
+            Route::Enter => self.advance(machine, 1, finding, item),
+            Route::Found(_, _) => self.advance(machine, 0, finding, item),
+            Route::Pass => self.advance(machine, 0, finding, item),
+        }
+    }
+
+    /// Takes the next row, and appends the pieces of the epoch that it ends, if it leaves r1. A refusal for memory
+    /// gives the row back and changes nothing.
+    pub fn push(
+        &mut self,
+        item: Item<A>,
+        out: &mut Vec<Piece<A>, A>,
+    ) -> Result<(), (Item<A>, Fault)>
+        requires packet { item.packet ≡ packet_of self.old.interface item.row.octets }
+        requires rising { self.old.last < item.row.number }
+        requires number { item.row.number ≤ 999999999 }
+        requires octets { self.old.octets + length item.row.octets ≤ 2 ^ 31 }
+        // Of any rows that it was given: it stands for them and this one.
+        ensures stands { (i : AnyInterface) (rows : List records.Row) → StandsFor i rows self.old → OnOk result (StandsFor i (rows ++ item.row ∷ []) self.new) }
+        // The pieces that are known whole came to stand behind those that were.
+        ensures given { (i : AnyInterface) (rows : List records.Row) (pieces : List records.Piece) → StandsFor i rows self.old → out.old.items ≡ pieces ++ given_of i rows → OnOk result (out.new.items ≡ pieces ++ given_of i (rows ++ item.row ∷ [])) }
+        ensures counted { OnOk result (IsCounted item.row self.old self.new) }
+        ensures refused { IfErr result (λ back. (back.0 ≡ item) × (back.1 ≡ Memory) × IsUnchanged self.old self.new × (out.new.items ≡ out.old.items)) }
+    {
+        match self.take(item, out) {
+            Ok(()) => Ok(()),
+            Err(back) => Err((back, Fault::Memory)),
+        }
+    }
+
+    /// The pieces that were not given out yet, all findings of the restart machine, and the number of rows.
+    pub fn end(self) -> Result<Cut<A>, Fault>
+        ensures pieces { (i : AnyInterface) (rows : List records.Row) → StandsFor i rows self → IfOk result (λ cut. given_of i rows ++ cut.pieces.items ≡ plan i rows) }
+        ensures line { (i : AnyInterface) (rows : List records.Row) → StandsFor i rows self → IfOk result (λ cut. cut.line.items ≡ line_findings i rows) }
+        ensures packets { (i : AnyInterface) (rows : List records.Row) → StandsFor i rows self → IfOk result (λ cut. cut.packets ≡ length rows) }
+        ensures refused { IfErr result (λ fault. fault ≡ Memory) }
+    {
+        let Cutter {
+            interface,
+            epoch,
+            given,
+            packets,
+            findings,
+            open_rows: mut rows,
+            ..
+        } = self;
+        let mut pieces = Vec::new(*findings.allocator());
+        if pieces.reserve(rows.len()).is_err() {
+            return Err(Fault::Memory);
+        }
+        give_out(&interface, epoch, None, given, &mut rows, &mut pieces);
+        Ok(Cut {
+            pieces,
+            line: findings,
+            packets,
+        })
+    }
+}

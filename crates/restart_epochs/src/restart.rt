@@ -1,0 +1,165 @@
+//! The restart machine.
+
+ghost use Rattle.std.specs.Prelude.{◌≡◌, false, true};
+ghost use Rattle.line_model.specs.Classes.{packet_class};
+ghost use Rattle.line_model.specs.Observer.{line_in_r1};
+ghost use Rattle.line_model.specs.RestartMachine.{Routing, restart_fault, restart_move, restart_error, restart_step, inside_step, passes_joining, line_step};
+
+use line_model::packet::{Class, Packet};
+use line_model::state::{RState, Side, StateName};
+use line_model::table::{Action, table_n, table_t};
+pub use line_model::verdict::Route;
+use std::marker::Model;
+
+/// The restart machine: its state, and whether the DCE still owes its indication.
+#[derive(Clone, Copy)]
+pub struct Restart {
+    state: RState,
+    owed: bool,
+    /// The trace began in the middle, and r1 was not left yet.
+    joining: bool,
+}
+
+impl Model for Restart {
+    ghost use Rattle.line_model.specs.RestartMachine.{LineState};
+
+    ghost Value = { LineState };
+
+    ghost view = { λ r. record { state = r.state; owed = r.owed; joining = r.joining } };
+
+    ghost inverse = { λ l. record { state = l.state; owed = l.owed; joining = l.joining } };
+}
+
+/// The fault of a restart packet's format.
+fn fault(class: Class, length: usize) -> Option<u8>
+    ensures { result ≡ restart_fault class length }
+{
+    match class {
+        Class::Restart if length < 4 => Some(38),
+        Class::Restart if length > 5 => Some(39),
+        Class::RestartConfirm if length > 3 => Some(39),
+        _ => None,
+    }
+}
+
+impl Restart {
+    /// The machine before the first row.
+    pub fn new() -> Self
+        ensures { result ≡ line_in_r1 false }
+    {
+        Restart {
+            state: RState::R1,
+            owed: false,
+            joining: false,
+        }
+    }
+
+    /// The machine before the first row of a trace that begins in the middle.
+    pub fn joined() -> Self
+        ensures { result ≡ line_in_r1 true }
+    {
+        Restart {
+            state: RState::R1,
+            owed: false,
+            joining: true,
+        }
+    }
+
+    /// The state of the machine.
+    pub fn state(&self) -> RState
+        ensures { result ≡ self.now.state }
+    {
+        self.state
+    }
+
+    /// Takes one row, and says where it goes.
+    pub fn step(&mut self, packet: &Packet, length: usize, side: Side) -> Route
+        ensures { record { route = result; after = self.new } ≡ line_step self.old side (packet_class packet.now) length }
+    {
+        let class = packet.class();
+        let name = self.state.name();
+        let action = match side {
+            Side::T => table_t(name, class),
+            Side::N => table_n(name, self.owed, class),
+        };
+        if class.is_outside() {
+            match action {
+                Action::Error(code) => Route::Found(StateName::Dash, code),
+                _ => Route::Pass,
+            }
+        } else if self.passes(class) {
+            Route::Pass
+        } else {
+            self.act(class, length, side, action)
+        }
+    }
+
+    /// Whether a packet confirms a restart before the trace.
+    fn passes(&self, class: Class) -> bool
+        ensures { result ≡ passes_joining self.now class }
+    {
+        match class {
+            Class::RestartConfirm => self.joining,
+            _ => false,
+        }
+    }
+
+    /// Does what an entry of the table says.
+    fn act(&mut self, class: Class, length: usize, side: Side, action: Action) -> Route
+        ensures { record { route = result; after = self.new } ≡ restart_step self.old side class length action }
+    {
+        match action {
+            Action::Move(state) => match fault(class, length) {
+                Some(code) => Route::Found(self.state.name(), code),
+                None => self.enter(state),
+            },
+            Action::Error(code) => self.fail(side, code),
+            Action::Ends => {
+                self.owed = false;
+                Route::Pass
+            }
+            Action::ToChannel => Route::ToChannel,
+            _ => Route::Pass,
+        }
+    }
+
+    /// Moves to a state.
+    fn enter(&mut self, state: StateName) -> Route
+        ensures { record { route = result; after = self.new } ≡ restart_move self.old.state state }
+    {
+        let left = self.state == RState::R1;
+        self.owed = false;
+        self.joining = false;
+        match state {
+            StateName::R1 => {
+                self.state = RState::R1;
+                return Route::Enter;
+            }
+            StateName::R2 => self.state = RState::R2,
+            _ => self.state = RState::R3,
+        }
+        if left {
+            Route::Leave(None)
+        } else {
+            Route::Pass
+        }
+    }
+
+    /// Tells an error: the DTE's has the DCE restart.
+    fn fail(&mut self, side: Side, code: u8) -> Route
+        ensures { record { route = result; after = self.new } ≡ restart_error self.old side code }
+    {
+        let state = self.state;
+        if side == Side::N {
+            return Route::Found(state.name(), code);
+        }
+        self.state = RState::R3;
+        self.owed = true;
+        self.joining = false;
+        if state == RState::R1 {
+            Route::Leave(Some(code))
+        } else {
+            Route::Found(state.name(), code)
+        }
+    }
+}

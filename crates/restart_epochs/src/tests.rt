@@ -1,0 +1,299 @@
+//! The restart packets of worked traces, and the rows of an epoch by channel.
+
+ghost use Rattle.std.specs.Prelude.{◌≡◌};
+
+use crate::cutter::Cutter;
+use crate::open_epoch::OpenEpoch;
+use crate::restart::{Restart, Route};
+use line_model::finding::Code;
+use line_model::interface::Interface;
+use line_model::packet::Packet;
+use line_model::piece::Piece;
+use line_model::row::{Item, Row};
+use line_model::state::{RState, Side, StateName};
+use packet_decode::decode::decode;
+use std::alloc::Global;
+use std::test::Fail;
+
+/// Channels 1 to 4 are virtual.
+const PLAIN: Interface = Interface {
+    modulus: 8,
+    window: 2,
+    size: 128,
+    pvc: 0,
+    incoming: 0,
+    two_way: 4,
+    svc: 4,
+    join: false,
+};
+
+/// Where a row goes, and the state after it.
+fn step(machine: &mut Restart, octets: &[u8], side: Side) -> (Route, RState) {
+    let route = machine.step(&decode(&PLAIN, octets), octets.len(), side);
+    (route, machine.state())
+}
+
+#[test]
+fn a_channel_packet_decides_the_restart_machine(rt: HostRuntime) {
+    let mut machine = Restart::new();
+    for (octets, side, answer) in [
+        (
+            b"\x10\x00\xfb\x00\x00".as_slice(),
+            Side::T,
+            (Route::Leave(None), RState::R2),
+        ),
+        (
+            b"\x10\x01\x00".as_slice(),
+            Side::T,
+            (Route::Found(StateName::R2, 18), RState::R3),
+        ),
+        (
+            b"\x10\x00\xfb\x00\x00".as_slice(),
+            Side::T,
+            (Route::Enter, RState::R1),
+        ),
+        (
+            b"\x10\x00\xff".as_slice(),
+            Side::N,
+            (Route::Found(StateName::R1, 17), RState::R1),
+        ),
+    ] {
+        assert!(rt; step(&mut machine, octets, side) == answer, "{octets:?}");
+    }
+}
+
+#[test]
+fn restart_packets_have_their_formats(rt: HostRuntime) {
+    let mut machine = Restart::new();
+    for (octets, side, answer) in [
+        (
+            b"\x10\x00\xfb".as_slice(),
+            Side::T,
+            (Route::Found(StateName::R1, 38), RState::R1),
+        ),
+        (
+            b"\x10\x00\xfb\x00\x00\x00".as_slice(),
+            Side::N,
+            (Route::Found(StateName::R1, 39), RState::R1),
+        ),
+        (
+            b"\x10\x00\xfb\x00\x00".as_slice(),
+            Side::N,
+            (Route::Leave(None), RState::R3),
+        ),
+        (
+            b"\x10\x00\xff\x00".as_slice(),
+            Side::T,
+            (Route::Found(StateName::R3, 39), RState::R3),
+        ),
+        (
+            b"\x10\x00\xff".as_slice(),
+            Side::T,
+            (Route::Enter, RState::R1),
+        ),
+    ] {
+        assert!(rt; step(&mut machine, octets, side) == answer, "{octets:?}");
+    }
+}
+
+#[test]
+fn the_indication_of_the_dce_is_owed_after_an_error_of_the_dte(rt: HostRuntime) {
+    let mut machine = Restart::new();
+    for (octets, side, answer) in [
+        (
+            b"\x10\x00\xff".as_slice(),
+            Side::T,
+            (Route::Leave(Some(17)), RState::R3),
+        ),
+        (
+            b"\x10\x00\xff".as_slice(),
+            Side::N,
+            (Route::Pass, RState::R3),
+        ),
+        (
+            b"\x10\x00\xfb\x00\x00".as_slice(),
+            Side::N,
+            (Route::Pass, RState::R3),
+        ),
+        (
+            b"\x10\x00\xff".as_slice(),
+            Side::N,
+            (Route::Found(StateName::R3, 19), RState::R3),
+        ),
+        (
+            b"\x10\x00\xff".as_slice(),
+            Side::T,
+            (Route::Enter, RState::R1),
+        ),
+        (
+            b"\x10\x01\x00\xaa".as_slice(),
+            Side::T,
+            (Route::ToChannel, RState::R1),
+        ),
+        (
+            b"\x10".as_slice(),
+            Side::N,
+            (Route::Found(StateName::Dash, 38), RState::R1),
+        ),
+        (
+            b"\x10\x00\xf1".as_slice(),
+            Side::N,
+            (Route::Pass, RState::R1),
+        ),
+        (
+            b"\x10\x00\xf1".as_slice(),
+            Side::T,
+            (Route::Found(StateName::Dash, 36), RState::R1),
+        ),
+    ] {
+        assert!(rt; step(&mut machine, octets, side) == answer, "{octets:?}");
+    }
+}
+
+#[test]
+fn confirmations_pass_until_r1_is_first_left(rt: HostRuntime) {
+    let mut machine = Restart::joined();
+    for (octets, side, answer) in [
+        (
+            b"\x10\x00\xff\x01\x02".as_slice(),
+            Side::T,
+            (Route::Pass, RState::R1),
+        ),
+        (
+            b"\x10\x00\xff".as_slice(),
+            Side::N,
+            (Route::Pass, RState::R1),
+        ),
+        (
+            b"\x10\x00\xfb\x00\x00".as_slice(),
+            Side::T,
+            (Route::Leave(None), RState::R2),
+        ),
+        (
+            b"\x10\x00\xff".as_slice(),
+            Side::N,
+            (Route::Enter, RState::R1),
+        ),
+        (
+            b"\x10\x00\xff".as_slice(),
+            Side::N,
+            (Route::Found(StateName::R1, 17), RState::R1),
+        ),
+    ] {
+        assert!(rt; step(&mut machine, octets, side) == answer, "{octets:?}");
+    }
+}
+
+/// A row without octets, with its packet.
+fn item(alloc: Global, number: u32) -> Item {
+    Item {
+        row: Row {
+            number,
+            side: Side::T,
+            octets: Vec::new(alloc),
+        },
+        packet: Packet::Short,
+    }
+}
+
+#[test]
+fn channels_are_taken_out_in_order_with_their_rows(rt: HostRuntime) -> Result<(), Fail> {
+    let mut open_epoch = OpenEpoch::new(rt.alloc());
+    for (channel, number) in [(7, 1), (2, 2), (7, 3), (4095, 4)] {
+        let kept = open_epoch.push(channel, item(rt.alloc(), number));
+        assert!(rt; kept.is_ok(), "row {number}");
+    }
+    assert_eq!(rt; open_epoch.len(), 3);
+    for (wanted, rows) in [(2, 1), (7, 2), (4095, 1)] {
+        let Some((channel, items)) = open_epoch.pop_first() else {
+            return Err("a channel is missing")?;
+        };
+        assert_eq!(rt; channel, wanted);
+        assert_eq!(rt; items.len(), rows);
+    }
+    assert!(rt; open_epoch.pop_first().is_none());
+    Ok(())
+}
+
+/// The interface of a cutter, the number of its last row, and the octets of all its rows.
+fn seen(cutter: &Cutter) -> (Interface, u32, u32)
+    ensures interface { result.0 ≡ cutter.now.interface }
+    ensures last { result.1 ≡ cutter.now.last }
+    ensures octets { result.2 ≡ cutter.now.octets }
+{
+    (cutter.interface, cutter.last, cutter.octets)
+}
+
+/// Pushes the next row.
+fn push(
+    alloc: Global,
+    cutter: &mut Cutter,
+    side: Side,
+    octets: &[u8],
+    out: &mut Vec<Piece>,
+) -> Result<(), Fail> {
+    let (interface, last, before) = seen(cutter);
+    if last >= 1000 || before >= 1000 || octets.len() >= 1000 {
+        return Err("more rows than a test has")?;
+    }
+    let packet = decode(&interface, octets);
+    let item = Item {
+        row: Row {
+            number: last + 1,
+            side,
+            octets: octets.to_vec(alloc)?,
+        },
+        packet,
+    };
+    match cutter.push(item, out) {
+        Ok(()) => Ok(()),
+        Err(_) => Err("a row was refused")?,
+    }
+}
+
+/// A piece's number, epoch, channel, rows and end.
+fn shape(piece: &Piece) -> (u32, u32, u16, usize, Option<u32>) {
+    (
+        piece.id,
+        piece.epoch,
+        piece.channel,
+        piece.items.len(),
+        piece.end,
+    )
+}
+
+#[test]
+fn row_that_leaves_r1_gives_out_its_epoch(rt: HostRuntime) -> Result<(), Fail> {
+    let mut cutter = Cutter::new(rt.alloc(), &PLAIN);
+    let mut out = Vec::new(rt.alloc());
+    for (side, octets, given) in [
+        (Side::T, b"\x10\x02\x0b\x00\x00".as_slice(), 0),
+        (Side::T, b"\x10\x01\x0b\x00\x00".as_slice(), 0),
+        (Side::N, b"\x10\x02\x0f".as_slice(), 0),
+        (Side::T, b"\x10\x00\xfb\x00\x00".as_slice(), 2),
+        (Side::T, b"\x10\x00\xfb\x00\x00".as_slice(), 2),
+        (Side::N, b"\x10\x00\xff".as_slice(), 2),
+        (Side::T, b"\x10\x02\x0b\x00\x00".as_slice(), 2),
+        (Side::N, b"\x10\x00\xff".as_slice(), 2),
+    ] {
+        push(rt.alloc(), &mut cutter, side, octets, &mut out)?;
+        assert_eq!(rt; out.len(), given, "{octets:?}");
+    }
+    let [first, second] = out.as_slice() else {
+        return Err("the first epoch has two pieces")?;
+    };
+    assert!(rt; shape(first) == (0, 1, 1, 1, Some(4)));
+    assert!(rt; shape(second) == (1, 1, 2, 2, Some(4)));
+    let cut = match cutter.end() {
+        Ok(cut) => cut,
+        Err(_) => return Err("no memory")?,
+    };
+    assert_eq!(rt; cut.packets, 8);
+    let ([rest], [finding]) = (cut.pieces.as_slice(), cut.line.as_slice()) else {
+        return Err("the second epoch has a piece, and the last row a finding")?;
+    };
+    assert!(rt; shape(rest) == (2, 2, 2, 1, None));
+    assert_eq!(rt; finding.packet, 8);
+    assert!(rt; finding.code == Code::Number(17));
+    Ok(())
+}

@@ -1,0 +1,56 @@
+-- Which texts a reader of lines may have been fed.
+use Rattle.std.specs.Prelude.{◌≡◌, ◌⊎◌, ℕ, List, Option, None, Some, Result, Err, length, is_some, take, ◌++◌}
+use Rattle.line_model.specs.Text.{ended_lines, begun_line, size_of, head_of, has_header, last_number, early, lines_of, begun_kind}
+use Rattle.line_model.specs.declared.fault.Kind.{Kind}
+use Rattle.line_model.specs.declared.fault.Fault.{Fault}
+use Rattle.line_model.specs.declared.fault.Fault.TheVariants.{Memory, Trace}
+use Rattle.line_model.specs.Records.{Row}
+use Rattle.line_model.specs.declared.interface.Interface.{Interface}
+use Rattle.trace_text.specs.Progress.{Progress}
+
+-- it keeps of the text what its lines so far say, and none of them is faulty
+pub record StandsFor (reader : Progress) (text : List ℕ) : Type 0 where
+  pub ended : reader.ended ≡ length (ended_lines text)
+  pub start : reader.start ≡ size_of (ended_lines text)
+  pub interface : reader.interface ≡ head_of (ended_lines text)
+  pub header : is_some reader.interface ≡ has_header (ended_lines text)
+  pub last : reader.last ≡ last_number (ended_lines text)
+  pub begun : reader.begun ≡ begun_line text
+  pub sound : early text ≡ None
+  pub running : reader.refused ≡ None
+
+-- the fault is the one of the text's first faulty line, or want of memory
+abbrev pub IsFaultOf : Option (ℕ × Kind) → Fault → Type 0
+IsFaultOf at Memory = Unit {0}
+IsFaultOf at (Trace line kind) = at ≡ Some (line, kind)
+IsFaultOf at _ = ⊥
+
+-- rows came to stand after these, all of the text's, or where memory ran out some first ones
+abbrev pub IsTold : {T : Type 0} → Result T Fault → List Row → List Row → List Row → Type 0
+IsTold (Err Memory) out rows more = (n : ℕ) × (out ≡ rows ++ take n more)
+IsTold _ out rows more = out ≡ rows ++ more
+
+-- the interface that is kept is the text's, or where memory ran out perhaps none yet
+abbrev pub IsHeadKept : {T : Type 0} → Result T Fault → Option Interface → Option Interface → Type 0
+IsHeadKept (Err Memory) kept head = (kept ≡ None) ⊎ (kept ≡ head)
+IsHeadKept _ kept head = kept ≡ head
+
+-- want of memory, or a fault of this line
+abbrev pub IsAtLine : ℕ → Fault → Type 0
+IsAtLine line Memory = Unit {0}
+IsAtLine line (Trace l kind) = l ≡ line
+IsAtLine line _ = ⊥
+
+-- want of memory, or a faulty line
+abbrev pub IsTextFault : Fault → Type 0
+IsTextFault Memory = Unit {0}
+IsTextFault (Trace line kind) = Unit {0}
+IsTextFault _ = ⊥
+
+-- at the end of a text that has so many lines, none of them faulty, the reader keeps its header
+pub record EndsText (reader : Progress) (count : ℕ) (text : List ℕ) : Type 0 where
+  pub lines : count ≡ length (lines_of text)
+  pub interface : reader.interface ≡ head_of (lines_of text)
+  pub header : is_some reader.interface ≡ has_header (lines_of text)
+  pub sound : begun_kind (ended_lines text) (begun_line text) ≡ None
+  pub early : early text ≡ None

@@ -1,0 +1,48 @@
+//! What one line says.
+
+ghost use Rattle.std.specs.Prelude.{◌≡◌, ◌≢◌, ℕ, None, Some, IfOk, IfErr, MatchResult};
+ghost use Rattle.line_model.specs.Header.{interface_of};
+ghost use Rattle.line_model.specs.RowLine.{row_kind, row_of};
+ghost use Rattle.line_model.specs.Text.{header_kind};
+
+use line_model::fault::Kind;
+use line_model::interface::Interface;
+use line_model::row::Row;
+use std::alloc::{AllocError, AllocFailed, Allocator};
+
+/// What a line without a fault says.
+#[derive(Drop)]
+pub enum Content<A: Allocator> {
+    Comment,
+    Header(Interface),
+    Packet(Row<A>),
+}
+
+/// Why a line was not read.
+#[derive(Clone, Copy, Debug, PartialEq, Eq)]
+pub enum LineFault {
+    Memory,
+    Broken(Kind),
+}
+
+impl From<AllocError> for LineFault {
+    ghost use Rattle.std.specs.Prelude.{◌≡◌};
+    ghost use Rattle.trace_text.specs.declared.content.LineFault.TheVariants.{Memory};
+
+    ghost from_gives = { λ _ f. f ≡ Memory };
+
+    fn from(_error: AllocError) -> LineFault {
+        LineFault::Memory
+    }
+}
+
+impl<T: Drop> From<AllocFailed<T>> for LineFault {
+    ghost use Rattle.std.specs.Prelude.{◌≡◌};
+    ghost use Rattle.trace_text.specs.declared.content.LineFault.TheVariants.{Memory};
+
+    ghost from_gives = { λ _ f. f ≡ Memory };
+
+    fn from(_error: AllocFailed<T>) -> LineFault {
+        LineFault::Memory
+    }
+}

@@ -1,0 +1,14 @@
+//! The text of a trace, read in pieces of any size.
+#![tactic(auto)]
+
+mod content;
+mod cuts;
+mod digits;
+mod header;
+pub mod lines;
+mod number;
+mod reading;
+mod row_line;
+#[cfg(test)]
+mod tests;
+mod words;

@@ -1,0 +1,39 @@
+//! Numbers of 1 to 9 digits.
+
+ghost use Rattle.std.specs.Prelude.{◌≡◌, ◌<◌, ◌^◌, IfSome};
+ghost use Rattle.line_model.specs.Header.{is_number as is_number_word};
+ghost use Rattle.line_model.specs.Header.{number_of};
+ghost use Rattle.std.specs.List.{list_all};
+ghost use Rattle.std.specs.Char.{is_ascii_digit};
+
+fn all_digits(word: &[u8]) -> bool
+    ensures { result ≡ list_all is_ascii_digit word.now }
+{
+    word.iter().all(|b| b.is_ascii_digit())
+}
+
+fn is_number(word: &[u8]) -> bool
+    ensures { result ≡ is_number_word word.now }
+{
+    if word.is_empty() || word.len() > 9 {
+        return false;
+    }
+    if !all_digits(word) {
+        return false;
+    }
+    word.len() == 1 || word[0] != b'0'
+}
+
+/// A number of 1 to 9 digits without leading zeros.
+pub fn read_number(word: &[u8]) -> Option<u32>
+    ensures value { result ≡ number_of word.now }
+{
+    if !is_number(word) {
+        return None;
+    }
+    let mut value = 0;
+    for digit in word {
+        value = value * 10 + (*digit - b'0') as u32;
+    }
+    Some(value)
+}

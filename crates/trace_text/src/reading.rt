@@ -1,0 +1,46 @@
+//! What one line says after those before it: a comment, the header, or a row.
+
+ghost use Rattle.std.specs.Prelude.{◌≡◌, ◌<◌, ◌^◌, ℕ, None, Some, MatchResult, IfOk, IfErr};
+ghost use Rattle.line_model.specs.Header.{interface_of};
+ghost use Rattle.line_model.specs.RowLine.{row_kind, row_of};
+ghost use Rattle.line_model.specs.Text.{header_kind, contents_kind, is_comment};
+ghost use Rattle.trace_text.specs.Reads.{ReadsAs, Breaks};
+
+use crate::content::{Content, LineFault};
+use crate::header::read_header;
+use crate::row_line::read_row;
+use std::alloc::Allocator;
+
+fn is_comment_line(line: &[u8]) -> bool
+    ensures { result ≡ is_comment line.now }
+{
+    match line {
+        [first, ..] => *first == b'#',
+        [] => false,
+    }
+}
+
+/// What a line says that stands before the header, or after it and after a row of the number `last`.
+#[tactic(auto, unfolding(line_model::specs::Text::contents_kind))]
+pub fn read_line<A: Allocator + Clone>(
+    alloc: &A,
+    after_header: bool,
+    last: u32,
+    line: &[u8],
+) -> Result<Content<A>, LineFault>
+    ensures { MatchResult result
+        (λ content. (contents_kind after_header last line.now ≡ None) × ReadsAs after_header last line.now content)
+        (Breaks (contents_kind after_header last line.now)) }
+{
+    if is_comment_line(line) {
+        return Ok(Content::Comment);
+    }
+    if after_header {
+        let row = read_row(alloc, last, line)?;
+        return Ok(Content::Packet(row));
+    }
+    match read_header(line) {
+        Ok(interface) => Ok(Content::Header(interface)),
+        Err(kind) => Err(LineFault::Broken(kind)),
+    }
+}

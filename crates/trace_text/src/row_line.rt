@@ -1,0 +1,120 @@
+//! The line of a row: `number side hex`.
+
+ghost use Rattle.std.specs.Prelude.{◌≡◌, ◌<◌, ◌^◌, None, Some, MatchResult, MatchOption, ◌⊎◌};
+ghost use Rattle.line_model.specs.declared.fault.Kind.TheVariants.{Hex};
+ghost use Rattle.trace_text.specs.declared.content.LineFault.TheVariants.{Memory, Broken};
+ghost use Rattle.line_model.specs.RowLine.{RowWords, octets_of, row_kind, row_of, row_words, side_of, rising_number};
+ghost use Rattle.trace_text.specs.Reads.{Breaks};
+
+use crate::content::LineFault;
+use crate::digits::read_digits;
+use crate::number::read_number;
+use crate::words::Words;
+use line_model::fault::Kind;
+use line_model::row::Row;
+use line_model::state::Side;
+use std::alloc::Allocator;
+use std::marker::Model;
+
+/// The octets that a row may have.
+const OCTET_LIMIT: usize = 4200;
+
+/// The three words of a row's line.
+#[derive(Drop)]
+struct Fields<'a> {
+    number: &'a [u8],
+    side: &'a [u8],
+    hex: &'a [u8],
+}
+
+impl<'a> Model for Fields<'a> {
+    ghost use Rattle.line_model.specs.RowLine.{RowWords};
+
+    ghost Value = { RowWords };
+
+    ghost view = { λ f. record { number = f.number.now; side = f.side.now; hex = f.hex.now } };
+}
+
+#[tactic(auto, unfolding(line_model::specs::RowLine::row_words))]
+fn split_fields(line: &[u8]) -> Option<Fields<'_>>
+    ensures { result ≡ row_words line.now }
+{
+    let mut words = Words::new(line);
+    let number = words.next()?;
+    let side = words.next()?;
+    let hex = words.next()?;
+    match words.next() {
+        None if !number.is_empty() && !side.is_empty() && !hex.is_empty() => Some(Fields {
+            number,
+            side,
+            hex,
+        }),
+        _ => None,
+    }
+}
+
+/// The number of a row that stands after one of the number `last`.
+fn read_rising(last: u32, word: &[u8]) -> Option<u32>
+    ensures { result ≡ rising_number last word.now }
+{
+    match read_number(word) {
+        Some(number) if last < number => Some(number),
+        _ => None,
+    }
+}
+
+fn read_side(word: &[u8]) -> Option<Side>
+    ensures { result ≡ side_of word.now }
+{
+    match word {
+        [b'T'] => Some(Side::T),
+        [b'N'] => Some(Side::N),
+        _ => None,
+    }
+}
+
+/// The octets that hex digits write, or `-` for none.
+#[tactic(auto, unfolding(line_model::specs::RowLine::octets_of))]
+fn read_octets<A: Allocator>(alloc: A, word: &[u8]) -> Result<Vec<u8, A>, LineFault>
+    ensures { MatchResult result (λ octets. octets_of word.now ≡ Some octets.items) (λ fault. (fault ≡ Memory) ⊎ ((fault ≡ Broken Hex) × (octets_of word.now ≡ None))) }
+{
+    if word == b"-".as_slice() {
+        return Ok(Vec::new(alloc));
+    }
+    if word.len() > 2 * OCTET_LIMIT {
+        return Err(LineFault::Broken(Kind::Hex));
+    }
+    if word.len() % 2 != 0 {
+        return Err(LineFault::Broken(Kind::Hex));
+    }
+    match read_digits(alloc, word) {
+        Ok(octets) => Ok(octets),
+        Err(fault) => Err(fault),
+    }
+}
+
+/// The row that a line writes after one of the number `last`, or the rule that it breaks.
+#[tactic(auto, unfolding(line_model::specs::RowLine::row_kind, line_model::specs::RowLine::row_of))]
+pub fn read_row<A: Allocator + Clone>(
+    alloc: &A,
+    last: u32,
+    line: &[u8],
+) -> Result<Row<A>, LineFault>
+    ensures { MatchResult result (λ row. (row_kind last line.now ≡ None) × (row_of line.now ≡ Some row)) (Breaks (row_kind last line.now)) }
+{
+    let Some(fields) = split_fields(line) else {
+        return Err(LineFault::Broken(Kind::LineForm));
+    };
+    let Some(number) = read_rising(last, fields.number) else {
+        return Err(LineFault::Broken(Kind::Number));
+    };
+    let Some(side) = read_side(fields.side) else {
+        return Err(LineFault::Broken(Kind::Side));
+    };
+    let octets = read_octets(alloc.clone()?, fields.hex)?;
+    Ok(Row {
+        number,
+        side,
+        octets,
+    })
+}

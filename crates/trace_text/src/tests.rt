@@ -1,0 +1,251 @@
+//! Texts from outside, read in pieces of several sizes.
+
+use crate::digits::read_digits;
+use crate::lines::Lines;
+use line_model::fault::{Fault, Kind};
+use line_model::interface::Interface;
+use line_model::row::Row;
+use line_model::state::Side;
+use std::alloc::Global;
+use std::process::Abort;
+use std::test::Fail;
+
+const HEADER: &[u8] = b"X25 1 MOD 8 WIN 2 SIZE 128 PVC 0 SVC 4\n";
+
+/// Reads a text that comes in pieces of so many bytes.
+fn read(
+    alloc: Global,
+    text: &[u8],
+    size: usize,
+    rows: &mut Vec<Row<Global>, Global>,
+) -> Result<Interface, Fault> {
+    let mut lines = Lines::new(alloc);
+    let mut rest = text;
+    for _ in 0..text.len() {
+        let (piece, more) = rest.split_at(size.min(rest.len()));
+        lines.feed(piece, rows)?;
+        rest = more;
+    }
+    lines.end(rows)
+}
+
+/// Reads a text in pieces of 1, 7 and 4,096 bytes, which all have to answer the same.
+fn read_in_pieces(
+    rt: &impl Abort,
+    alloc: Global,
+    text: &[u8],
+    rows: usize,
+) -> Result<Interface, Fault> {
+    let mut whole = Vec::new(alloc);
+    let answer = read(alloc, text, text.len(), &mut whole);
+    assert_eq!(rt; whole.len(), rows);
+    for size in [1, 7, 4096] {
+        let mut told = Vec::new(alloc);
+        let again = read(alloc, text, size, &mut told);
+        assert!(rt; again == answer, "in pieces of {size}");
+        assert_eq!(rt; told.len(), rows, "in pieces of {size}");
+    }
+    answer
+}
+
+#[test]
+fn the_first_faulty_line_is_told(rt: HostRuntime) -> Result<(), Fail> {
+    for (rows_text, line, kind, rows) in [
+        (b"5 T -\n5 T -\n".as_slice(), 3, Kind::Number, 1),
+        (b"\n".as_slice(), 2, Kind::LineForm, 0),
+        (b"1 T\n".as_slice(), 2, Kind::LineForm, 0),
+        (b"1  T -\n".as_slice(), 2, Kind::LineForm, 0),
+        (b"1 T - \n".as_slice(), 2, Kind::LineForm, 0),
+        (b"01 T -".as_slice(), 2, Kind::Number, 0),
+        (b"0 T -".as_slice(), 2, Kind::Number, 0),
+        (b"1000000000 T -".as_slice(), 2, Kind::Number, 0),
+        (
+            b"1 T -\n# a comment\n2 X 100\n3 T 1".as_slice(),
+            4,
+            Kind::Side,
+            1,
+        ),
+        (b"1 T 100\n".as_slice(), 2, Kind::Hex, 0),
+        (b"1 T 1g\n".as_slice(), 2, Kind::Hex, 0),
+        (b"1 T 10\r\n".as_slice(), 2, Kind::Hex, 0),
+    ] {
+        let mut text = Vec::new(rt.alloc());
+        text.extend_from_slice(HEADER)?;
+        text.extend_from_slice(rows_text)?;
+        let answer = read_in_pieces(&rt, rt.alloc(), text.as_slice(), rows);
+        assert!(rt; answer == Err(Fault::Trace(line, kind)), "{line} {kind:?}");
+    }
+    Ok(())
+}
+
+#[test]
+fn faulty_headers_are_told(rt: HostRuntime) -> Result<(), Fail> {
+    for (text, line, kind) in [
+        (b"".as_slice(), 1, Kind::HeaderMissing),
+        (b"#".as_slice(), 2, Kind::HeaderMissing),
+        (b"#\n".as_slice(), 2, Kind::HeaderMissing),
+        (b"\n".as_slice(), 1, Kind::HeaderForm),
+        (
+            b"X25 2 MOD 8 WIN 2 SIZE 128 PVC 0 SVC 4".as_slice(),
+            1,
+            Kind::HeaderForm,
+        ),
+        (
+            b"X25 1 MOD 8 WIN 2 SIZE 128 PVC 0 SVC 4 JOIN".as_slice(),
+            1,
+            Kind::HeaderForm,
+        ),
+        (
+            b"X25 1 MOD 08 WIN 2 SIZE 128 PVC 0 SVC 4".as_slice(),
+            1,
+            Kind::HeaderForm,
+        ),
+        (
+            b"X25 1 MOD 1000000000 WIN 2 SIZE 128 PVC 0 SVC 4".as_slice(),
+            1,
+            Kind::HeaderForm,
+        ),
+        (
+            b"#\nX25 1 MOD 9 WIN 2 SIZE 128 PVC 0 SVC 4".as_slice(),
+            2,
+            Kind::HeaderRange,
+        ),
+        (
+            b"X25 1 MOD 8 WIN 8 SIZE 128 PVC 0 SVC 4".as_slice(),
+            1,
+            Kind::HeaderRange,
+        ),
+        (
+            b"X25 1 MOD 8 WIN 2 SIZE 100 PVC 0 SVC 4".as_slice(),
+            1,
+            Kind::HeaderRange,
+        ),
+        (
+            b"X25 1 MOD 8 WIN 2 SIZE 128 PVC 5 SVC 4".as_slice(),
+            1,
+            Kind::HeaderRange,
+        ),
+        (
+            b"X25 2 MOD 8 WIN 2 SIZE 128 PVC 1 IN 0 TWO 4 OUT 4".as_slice(),
+            1,
+            Kind::HeaderRange,
+        ),
+    ] {
+        let answer = read_in_pieces(&rt, rt.alloc(), text, 0);
+        assert!(rt; answer == Err(Fault::Trace(line, kind)), "{line} {kind:?}");
+    }
+    Ok(())
+}
+
+#[test]
+fn both_header_forms_are_read(rt: HostRuntime) -> Result<(), Fail> {
+    let first = read_in_pieces(
+        &rt,
+        rt.alloc(),
+        b"X25 1 MOD 128 WIN 7 SIZE 4096 PVC 1 SVC 9",
+        0,
+    );
+    assert!(rt;
+        first
+            == Ok(Interface {
+                modulus: 128,
+                window: 7,
+                size: 4096,
+                pvc: 1,
+                incoming: 1,
+                two_way: 9,
+                svc: 9,
+                join: false,
+            })
+    );
+    let second = read_in_pieces(
+        &rt,
+        rt.alloc(),
+        b"X25 2 MOD 8 WIN 2 SIZE 16 PVC 1 IN 2 TWO 3 OUT 4 JOIN\n",
+        0,
+    );
+    assert!(rt;
+        second
+            == Ok(Interface {
+                modulus: 8,
+                window: 2,
+                size: 16,
+                pvc: 1,
+                incoming: 2,
+                two_way: 3,
+                svc: 4,
+                join: true,
+            })
+    );
+    Ok(())
+}
+
+#[test]
+fn rows_are_told_in_order(rt: HostRuntime) -> Result<(), Fail> {
+    let text = b"# first\nX25 1 MOD 8 WIN 2 SIZE 128 PVC 0 SVC 4\n1 T 10010b0000\n# last\n7 N -";
+    let mut rows = Vec::new(rt.alloc());
+    read(rt.alloc(), text, 5, &mut rows)?;
+    assert_eq!(rt; rows.len(), 2);
+    assert!(rt; rows[0].number == 1 && rows[0].side == Side::T);
+    assert!(rt; rows[0].octets.as_slice() == b"\x10\x01\x0b\x00\x00".as_slice());
+    assert!(rt; rows[1].number == 7 && rows[1].side == Side::N);
+    assert!(rt; rows[1].octets.is_empty());
+    Ok(())
+}
+
+#[test]
+fn a_refusal_stays_and_the_header_too(rt: HostRuntime) -> Result<(), Fail> {
+    let mut lines = Lines::new(rt.alloc());
+    let mut rows = Vec::new(rt.alloc());
+    assert!(rt; lines.interface().is_none());
+    lines.feed(HEADER, &mut rows)?;
+    assert!(rt; lines.interface().is_some());
+    let fault = Fault::Trace(2, Kind::Side);
+    assert!(rt; lines.feed(b"1 t -\n2 T -\n", &mut rows) == Err(fault));
+    assert!(rt; lines.feed(b"3 T -\n", &mut rows) == Err(fault));
+    assert!(rt; lines.interface().is_some());
+    assert!(rt; lines.end(&mut rows) == Err(fault));
+    assert!(rt; rows.is_empty());
+    Ok(())
+}
+
+#[test]
+fn lines_and_rows_have_their_limits(rt: HostRuntime) -> Result<(), Fail> {
+    for (front, fill, count, answer) in [
+        (b"#".as_slice(), b"a".as_slice(), 8499, None),
+        (b"#".as_slice(), b"a".as_slice(), 8500, Some(Kind::LineLong)),
+        (b"1 T ".as_slice(), b"00".as_slice(), 4200, None),
+        (b"1 T ".as_slice(), b"00".as_slice(), 4201, Some(Kind::Hex)),
+    ] {
+        let mut text = Vec::new(rt.alloc());
+        text.extend_from_slice(HEADER)?;
+        text.extend_from_slice(front)?;
+        for _ in 0..count {
+            text.extend_from_slice(fill)?;
+        }
+        let mut rows = Vec::new(rt.alloc());
+        let refusal = read(rt.alloc(), text.as_slice(), 1000, &mut rows).err();
+        assert!(rt;
+            refusal == answer.map(|kind| Fault::Trace(2, kind)),
+            "{count}"
+        );
+    }
+    Ok(())
+}
+
+#[test]
+fn octets_are_those_of_hex(rt: HostRuntime) -> Result<(), Fail> {
+    for high in 0..=255u8 {
+        for low in 0..=255u8 {
+            let digits = [high, low];
+            let ours = read_digits(rt.alloc(), digits.as_slice());
+            match hex::decode(rt.alloc(), digits.as_slice()) {
+                Ok(wanted) => {
+                    assert!(rt; ours.is_ok_and(|octets| octets.as_slice() == wanted.as_slice()));
+                }
+                Err(_) => assert!(rt; ours.is_err(), "{high} {low}"),
+            }
+        }
+    }
+    Ok(())
+}

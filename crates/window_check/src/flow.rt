@@ -1,0 +1,166 @@
+//! The windows and interrupts of a logical channel in data transfer.
+
+ghost use Rattle.std.specs.Prelude.{◌≡◌, ◌⊎◌, ◌<◌, ◌≤◌, OnErr};
+ghost use Rattle.line_model.specs.FlowControl.{Counts, count_interrupt, count_receive, count_confirm, count_data, no_counts};
+ghost use Rattle.line_model.specs.Channels.{of_side};
+ghost use Rattle.window_check.specs.Kept.{IsDirection, Stands, Answers};
+ghost use Rattle.window_check.specs.Directions.{direction_of, with_direction};
+
+use crate::direction::Direction;
+use line_model::state::Side;
+use std::marker::Model;
+
+/// The windows and interrupts of a channel: for each direction the window in force, the residues of the numbers
+/// of data packets sent and acknowledged since d1 was entered, and whether an interrupt is unconfirmed
+/// (X.25 clauses 4.3 and 4.4.1). A refusal is the diagnostic code of the fault, and changes nothing.
+#[derive(Clone, Copy)]
+pub struct Flow {
+    pub(crate) modulus: u8,
+    pub(crate) of_t: Direction,
+    pub(crate) of_n: Direction,
+}
+
+impl Model for Flow {
+    ghost use Rattle.window_check.specs.Kept.{Kept};
+
+    ghost Value = { Kept };
+
+    ghost use Rattle.window_check.specs.FlowFields.{kept, unkept, IsFlow};
+
+    ghost view = { kept };
+
+    ghost invariant = { IsFlow };
+
+    ghost inverse = { unkept };
+}
+
+impl Flow {
+    /// Nothing was sent yet. `window_t` bounds the packets of T that are unacknowledged, `window_n` those of N.
+    pub fn new(modulus: u8, window_t: u8, window_n: u8) -> Flow
+        requires eight { (modulus ≡ 8) ⊎ (modulus ≡ 128) }
+        requires window_t { (1 ≤ window_t) × (window_t < modulus) }
+        requires window_n { (1 ≤ window_n) × (window_n < modulus) }
+        ensures modulus { result.modulus ≡ modulus }
+        ensures windows { result.windows ≡ record { of_t = window_t; of_n = window_n } }
+        ensures stands { Stands result no_counts }
+    {
+        Flow {
+            modulus,
+            of_t: Direction::fresh(window_t),
+            of_n: Direction::fresh(window_n),
+        }
+    }
+
+    /// Judges a data packet of a side by its P(S) and then its P(R): 1 where P(S) is not the next number or lies
+    /// outside the window, 2 where P(R) acknowledges no packet sent (X.25 clauses 4.4.1.1 to 4.4.1.3).
+    pub fn data(&mut self, side: Side, send: u8, receive: u8) -> Result<(), u8>
+        ensures modulus { self.new.modulus ≡ self.old.modulus }
+        ensures windows { self.new.windows ≡ self.old.windows }
+        ensures unchanged { OnErr result (self.new ≡ self.old) }
+        ensures counts { (c : Counts) → Stands self.old c → Answers result self.old self.new (count_data self.old.modulus (of_side side self.old.windows) c side send receive) }
+    {
+        let sender = self.direction(side);
+        if !sender.is_next(self.modulus, send) {
+            return Err(1);
+        }
+        let sent = (sender.sent + 1) % self.modulus;
+        self.ack(side, receive)?;
+        self.set(side, Direction { sent, ..sender });
+        Ok(())
+    }
+
+    /// Judges the P(R) of a side: 2 where it acknowledges no packet that the other side sent (X.25 clause 4.4.1.3).
+    pub fn ack(&mut self, side: Side, receive: u8) -> Result<(), u8>
+        ensures modulus { self.new.modulus ≡ self.old.modulus }
+        ensures windows { self.new.windows ≡ self.old.windows }
+        ensures unchanged { OnErr result (self.new ≡ self.old) }
+        ensures counts { (c : Counts) → Stands self.old c → Answers result self.old self.new (count_receive self.old.modulus c side receive) }
+    {
+        let acknowledged = self.direction(side.other());
+        if !acknowledged.acknowledges(self.modulus, receive) {
+            return Err(2);
+        }
+        self.set(
+            side.other(),
+            Direction {
+                acknowledged: receive,
+                ..acknowledged
+            },
+        );
+        Ok(())
+    }
+
+    /// Judges an interrupt of a side: 44 while one of that side is unconfirmed (X.25 clause 4.3.5).
+    pub fn interrupt(&mut self, side: Side) -> Result<(), u8>
+        ensures modulus { self.new.modulus ≡ self.old.modulus }
+        ensures windows { self.new.windows ≡ self.old.windows }
+        ensures unchanged { OnErr result (self.new ≡ self.old) }
+        ensures counts { (c : Counts) → Stands self.old c → Answers result self.old self.new (count_interrupt c side) }
+    {
+        let sender = self.direction(side);
+        if sender.unconfirmed {
+            return Err(44);
+        }
+        self.set(
+            side,
+            Direction {
+                unconfirmed: true,
+                ..sender
+            },
+        );
+        Ok(())
+    }
+
+    /// Judges an interrupt confirmation of a side: 43 while none of the other side is unconfirmed (X.25 clause 4.3.5).
+    pub fn confirm(&mut self, side: Side) -> Result<(), u8>
+        ensures modulus { self.new.modulus ≡ self.old.modulus }
+        ensures windows { self.new.windows ≡ self.old.windows }
+        ensures unchanged { OnErr result (self.new ≡ self.old) }
+        ensures counts { (c : Counts) → Stands self.old c → Answers result self.old self.new (count_confirm c side) }
+    {
+        let confirmed = self.direction(side.other());
+        if !confirmed.unconfirmed {
+            return Err(43);
+        }
+        self.set(
+            side.other(),
+            Direction {
+                unconfirmed: false,
+                ..confirmed
+            },
+        );
+        Ok(())
+    }
+
+    /// Forgets what was sent, as entering d1 does; the windows stay.
+    pub fn reset(&mut self)
+        ensures modulus { self.new.modulus ≡ self.old.modulus }
+        ensures windows { self.new.windows ≡ self.old.windows }
+        ensures stands { Stands self.new no_counts }
+    {
+        self.of_t = Direction::fresh(self.of_t.window);
+        self.of_n = Direction::fresh(self.of_n.window);
+    }
+
+    /// The numbers of the packets of a side.
+    fn direction(&self, side: Side) -> Direction
+        ensures value { result ≡ direction_of side self.now }
+        ensures in_range { IsDirection self.now.modulus result.window result.sent result.acknowledged }
+    {
+        match side {
+            Side::T => self.of_t,
+            Side::N => self.of_n,
+        }
+    }
+
+    /// Other numbers for the packets of a side.
+    fn set(&mut self, side: Side, direction: Direction)
+        requires { IsDirection self.old.modulus direction.window direction.sent direction.acknowledged }
+        ensures { self.new ≡ with_direction side direction self.old }
+    {
+        match side {
+            Side::T => self.of_t = direction,
+            Side::N => self.of_n = direction,
+        }
+    }
+}

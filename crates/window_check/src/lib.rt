@@ -1,0 +1,8 @@
+//! Sequence numbers, windows and interrupts of one logical channel.
+#![tactic(auto)]
+
+mod direction;
+pub mod flow;
+#[cfg(test)]
+mod tests;
+mod word;

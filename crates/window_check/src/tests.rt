@@ -1,0 +1,76 @@
+//! Worked sequences of numbers, windows and interrupts.
+
+use crate::flow::Flow;
+use line_model::state::Side;
+use std::test::Fail;
+
+#[test]
+fn packs_to_the_stated_words(rt: HostRuntime) -> Result<(), Fail> {
+    let mut flow = Flow::new(8, 2, 3);
+    assert_eq!(rt; flow.pack(), 207_232_172_032);
+    assert_eq!(rt; flow.data(Side::T, 0, 0), Ok(()));
+    assert_eq!(rt; flow.pack(), 207_232_172_034);
+    assert!(rt; Flow::unpack(0).is_none());
+    let unpacked = Flow::unpack(207_232_172_034).ok_or("refused")?;
+    assert_eq!(rt; unpacked.pack(), 207_232_172_034);
+    Ok(())
+}
+
+#[test]
+fn words_of_no_channel_are_refused(rt: HostRuntime) {
+    let refused = [
+        ("the window of T is 0", 3 << 36),
+        ("the window of N is the modulus", (2 << 29) + (8 << 36)),
+        ("a residue is the modulus", (2 << 29) + (3 << 36) + (8 << 1)),
+        (
+            "three packets are unacknowledged in a window of 2",
+            (2 << 29) + (3 << 36) + (3 << 1),
+        ),
+        ("a higher bit", (2 << 29) + (3 << 36) + (1 << 45)),
+    ];
+    for (why, word) in refused {
+        assert!(rt; Flow::unpack(word).is_none(), "{why}");
+    }
+}
+
+#[test]
+fn third_packet_in_a_window_of_two_is_refused(rt: HostRuntime) {
+    let mut flow = Flow::new(8, 2, 2);
+    assert_eq!(rt; flow.data(Side::T, 0, 0), Ok(()));
+    assert_eq!(rt; flow.data(Side::T, 1, 0), Ok(()));
+    assert_eq!(rt; flow.data(Side::T, 2, 0), Err(1));
+    assert_eq!(rt; flow.ack(Side::N, 1), Ok(()));
+    assert_eq!(rt; flow.data(Side::T, 2, 0), Ok(()));
+}
+
+#[test]
+fn receive_number_of_nothing_sent_is_refused(rt: HostRuntime) {
+    let mut flow = Flow::new(8, 2, 2);
+    assert_eq!(rt; flow.ack(Side::T, 1), Err(2));
+    flow.reset();
+    assert_eq!(rt; flow.data(Side::T, 0, 0), Ok(()));
+}
+
+#[test]
+fn numbers_wrap_around_in_a_window_of_seven(rt: HostRuntime) {
+    let mut flow = Flow::new(8, 7, 7);
+    for number in 0..7 {
+        assert_eq!(rt; flow.data(Side::T, number, 0), Ok(()), "at {number}");
+    }
+    assert_eq!(rt; flow.data(Side::T, 7, 0), Err(1));
+    assert_eq!(rt; flow.ack(Side::N, 7), Ok(()));
+    assert_eq!(rt; flow.data(Side::T, 7, 0), Ok(()));
+    assert_eq!(rt; flow.data(Side::T, 0, 0), Ok(()));
+}
+
+#[test]
+fn interrupts_are_confirmed_one_by_one(rt: HostRuntime) {
+    let mut flow = Flow::new(128, 2, 2);
+    assert_eq!(rt; flow.interrupt(Side::T), Ok(()));
+    assert_eq!(rt; flow.interrupt(Side::T), Err(44));
+    assert_eq!(rt; flow.confirm(Side::T), Err(43));
+    assert_eq!(rt; flow.confirm(Side::N), Ok(()));
+    assert_eq!(rt; flow.interrupt(Side::T), Ok(()));
+    flow.reset();
+    assert_eq!(rt; flow.interrupt(Side::T), Ok(()));
+}

@@ -1,0 +1,74 @@
+//! The windows and interrupts of a channel in one word of 64 bits.
+
+ghost use Rattle.std.specs.Prelude.{◌≡◌, ◌==◌, ◌<◌, ◌/◌, ◌%◌, ◌^◌, IfSome, IfNone, Some};
+ghost use Rattle.window_check.specs.Kept.{Kept, IsKept, word_of};
+
+use crate::direction::Direction;
+use crate::flow::Flow;
+
+/// Seven bits of a word, from bit `from` up.
+fn number(word: u64, from: u32) -> u8
+    requires { from < 64 }
+    ensures { result ≡ word / 2 ^ from % 128 }
+{
+    ((word >> from) % 128) as u8
+}
+
+/// Bit `at` of a word.
+fn bit(word: u64, at: u32) -> bool
+    requires { at < 64 }
+    ensures { result ≡ (word / 2 ^ at % 2 == 1) }
+{
+    (word >> at) % 2 == 1
+}
+
+impl Flow {
+    /// The windows and interrupts as a word (profile). Bits from 0 up: 0 is 1 at modulo 128; 1 to 7 the number sent
+    /// of T, 8 to 14 that acknowledged of T, 15 to 21 and 22 to 28 the same of N; 29 to 35 the window of T, 36 to 42
+    /// that of N; 43 and 44 an unconfirmed interrupt of T and of N. All higher bits are 0.
+    pub fn pack(&self) -> u64
+        ensures word { result ≡ word_of self.now }
+        ensures in_range { IsKept self.now }
+    {
+        u64::from(self.modulus == 128)
+            + (u64::from(self.of_t.sent) << 1)
+            + (u64::from(self.of_t.acknowledged) << 8)
+            + (u64::from(self.of_n.sent) << 15)
+            + (u64::from(self.of_n.acknowledged) << 22)
+            + (u64::from(self.of_t.window) << 29)
+            + (u64::from(self.of_n.window) << 36)
+            + (u64::from(self.of_t.unconfirmed) << 43)
+            + (u64::from(self.of_n.unconfirmed) << 44)
+    }
+
+    /// The windows and interrupts that `pack` makes this word of; `None` where it makes it of none: a residue or
+    /// window is not below the modulus, a window is 0, more is unacknowledged than the window, or a higher bit is set.
+    pub fn unpack(word: u64) -> Option<Flow>
+        ensures packs { IfSome result (λ f. word_of f ≡ word) }
+        ensures none { IfNone result ((f : Kept) → IsKept f → ¬ (word_of f ≡ word)) }
+        ensures back { (f : Kept) → IsKept f → word_of f ≡ word → result ≡ Some f }
+    {
+        let modulus = if bit(word, 0) { 128 } else { 8 };
+        let of_t = Direction {
+            window: number(word, 29),
+            sent: number(word, 1),
+            acknowledged: number(word, 8),
+            unconfirmed: bit(word, 43),
+        };
+        let of_n = Direction {
+            window: number(word, 36),
+            sent: number(word, 15),
+            acknowledged: number(word, 22),
+            unconfirmed: bit(word, 44),
+        };
+        if word >> 45 == 0 && of_t.is_in_range(modulus) && of_n.is_in_range(modulus) {
+            Some(Flow {
+                modulus,
+                of_t,
+                of_n,
+            })
+        } else {
+            None
+        }
+    }
+}

@@ -1,0 +1,4 @@
+pub mod Options
+pub mod Program
+pub mod Scan
+pub mod Thin

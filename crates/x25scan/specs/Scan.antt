@@ -1,0 +1,57 @@
+-- What a scan answers, and what it wrote.
+use Rattle.std.specs.Prelude.{◌≡◌, ℕ, ◌⊎◌, List, [], ◌++◌, Option, Some, None, take}
+use Rattle.line_model.specs.Device.{with_more}
+use Rattle.line_model.specs.Text.{early, fault}
+use Rattle.line_model.specs.declared.fault.Fault.{Fault}
+use Rattle.line_model.specs.declared.fault.Fault.TheVariants.{Memory, Trace, Read, Write}
+use Rattle.line_model.specs.declared.totals.Summary.{Summary}
+use Rattle.x25scan.specs.Thin.{report, summary}
+
+-- what a refusal while the text is read says of the bytes that were given
+abbrev pub IsEarlyRefusal : (given rest : List ℕ) → Fault → Type 0
+IsEarlyRefusal given rest Memory = Unit {0}
+IsEarlyRefusal given rest (Trace line kind) = early given ≡ Some (line, kind)
+IsEarlyRefusal given rest Read = early given ≡ None
+IsEarlyRefusal given rest _ = ⊥
+
+-- the same of any refusal of a scan: a faulty line is told as soon as it is known, else at the end of the text
+abbrev pub IsRefusal : (given rest : List ℕ) → Fault → Type 0
+IsRefusal given rest Memory = Unit {0}
+IsRefusal given rest (Trace line kind) = (early given ≡ Some (line, kind)) ⊎ ((rest ≡ []) × (fault given ≡ Some (line, kind)))
+IsRefusal given rest Read = early given ≡ None
+IsRefusal given rest Write = (rest ≡ []) × (fault given ≡ None)
+IsRefusal given rest _ = ⊥
+
+-- a refusal by the first bytes of a text, which the source gave; the others are left
+pub record IsRefusedBy (why : List ℕ → List ℕ → Fault → Type 0) (text : List ℕ) (after : Option (List ℕ)) (told : Fault) : Type 0 where
+  pub given : List ℕ
+  pub rest : List ℕ
+  pub whole : text ≡ given ++ rest
+  pub left : after ≡ Some rest
+  pub refusal : why given rest told
+
+-- the faults that reading a text may meet
+abbrev pub IsReadingFault : Fault → Type 0
+IsReadingFault Memory = Unit {0}
+IsReadingFault (Trace line kind) = Unit {0}
+IsReadingFault Read = Unit {0}
+IsReadingFault _ = ⊥
+
+-- the faults that a scan of one thread may meet
+abbrev pub IsScanFault : Fault → Type 0
+IsScanFault Memory = Unit {0}
+IsScanFault (Trace line kind) = Unit {0}
+IsScanFault Read = Unit {0}
+IsScanFault Write = Unit {0}
+IsScanFault _ = ⊥
+
+-- the text has no fault, the sink took exactly its report, and the sums are those of its last line
+pub record IsReported (text : List ℕ) (before after : Option (List ℕ)) (sums : Summary) : Type 0 where
+  pub sound : fault text ≡ None
+  pub taken : after ≡ with_more before (report text)
+  pub counted : sums ≡ summary text
+
+-- nothing was taken, or where the sink failed a first part of the report
+abbrev pub IsTaken : Option (List ℕ) → Option (List ℕ) → List ℕ → Fault → Type 0
+IsTaken before after text Write = (n : ℕ) × (after ≡ with_more before (take n text))
+IsTaken before after text _ = after ≡ before

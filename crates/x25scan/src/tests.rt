@@ -1,0 +1,273 @@
+//! Worked traces, refused texts, failing devices, and the words of the program.
+
+mod devices;
+mod runs;
+
+use crate::options::parse;
+use crate::tests::runs::{Cuts, run, scan};
+use line_model::fault::{Fault, Kind};
+use std::test::Fail;
+
+/// A header.
+const HEADER: &str = "X25 1 MOD 8 WIN 2 SIZE 128 PVC 0 SVC 4\n";
+
+/// How many bytes a source gives at once.
+const STEPS: [usize; 3] = [1, 7, usize::MAX];
+
+#[test]
+fn memory_is_not_always_refused(rt: HostRuntime) -> Result<(), Fail> {
+    let scanned = scan(rt.alloc(), HEADER.as_bytes(), Cuts::of_steps(1, 1));
+    assert!(rt; scanned.answer.is_ok());
+    Ok(())
+}
+
+#[test]
+fn packets_outside_the_state_machines_are_reported(rt: HostRuntime) -> Result<(), Fail> {
+    for (rows, findings, report) in [
+        ("", 0, "Z 0 0 0 0 0\n"),
+        ("1 T -\n", 1, "F 1 T - 38\nZ 1 1 0 0 0\n"),
+        ("1 T -", 1, "F 1 T - 38\nZ 1 1 0 0 0\n"),
+        ("1 T 20010B0000\n", 1, "F 1 T - 40\nZ 1 1 0 0 0\n"),
+        (
+            "1 T 10050B0000\n2 T 10040B0000\n",
+            1,
+            "F 1 T - 36\nZ 2 1 0 0 0\n",
+        ),
+        (
+            "# both sides\n7 T 1000F101\n8 N 1000F101\n9 T 1000F3\n12 N 10\n",
+            2,
+            "F 7 T - 36\nF 12 N - 38\nZ 4 2 0 0 0\n",
+        ),
+    ] {
+        let text = format!(in rt.alloc(); "{HEADER}{rows}")?;
+        for step in STEPS {
+            let scanned = scan(rt.alloc(), text.as_bytes(), Cuts::of_steps(step, step));
+            assert_eq!(rt;
+                scanned.taken.as_slice(),
+                report.as_bytes(),
+                "at {rows} by {step}"
+            );
+            let Ok(summary) = scanned.answer else {
+                return Err(Fail::new("refused"));
+            };
+            assert_eq!(rt; summary.findings, findings, "at {rows} by {step}");
+        }
+    }
+    Ok(())
+}
+
+#[test]
+fn a_text_is_refused_by_its_first_faulty_line(rt: HostRuntime) -> Result<(), Fail> {
+    for (text, line, kind) in [
+        ("", 1, Kind::HeaderMissing),
+        ("# no header", 2, Kind::HeaderMissing),
+        (
+            "X25 2 MOD 8 WIN 2 SIZE 128 PVC 0 SVC 4\n",
+            1,
+            Kind::HeaderForm,
+        ),
+        (
+            "X25 1 MOD 8 WIN 2 SIZE 128 PVC 0 SVC 4\n5 T -\n5 T -\n",
+            3,
+            Kind::Number,
+        ),
+        (
+            "X25 1 MOD 9 WIN 2 SIZE 128 PVC 0 SVC 4\n",
+            1,
+            Kind::HeaderRange,
+        ),
+        (
+            "X25 1 MOD 8 WIN 2 SIZE 128 PVC 0 SVC 4\n\n",
+            2,
+            Kind::LineForm,
+        ),
+        (
+            "X25 1 MOD 8 WIN 2 SIZE 128 PVC 0 SVC 4\n01 T -\n",
+            2,
+            Kind::Number,
+        ),
+        (
+            "X25 1 MOD 8 WIN 2 SIZE 128 PVC 0 SVC 4\n1 X 100\n",
+            2,
+            Kind::Side,
+        ),
+        (
+            "X25 1 MOD 8 WIN 2 SIZE 128 PVC 0 SVC 4\n1 T 100\n",
+            2,
+            Kind::Hex,
+        ),
+        (
+            "X25 1 MOD 8 WIN 2 SIZE 128 PVC 0 SVC 4\n1 T 100",
+            2,
+            Kind::Hex,
+        ),
+    ] {
+        for step in STEPS {
+            let scanned = scan(rt.alloc(), text.as_bytes(), Cuts::of_steps(step, step));
+            assert_eq!(rt;
+                scanned.answer,
+                Err(Fault::Trace(line, kind)),
+                "at {text} by {step}"
+            );
+            assert!(rt; scanned.taken.is_empty());
+        }
+    }
+    Ok(())
+}
+
+#[test]
+fn long_lines_are_refused(rt: HostRuntime) -> Result<(), Fail> {
+    for (front, byte, count, fault) in [
+        ("1 T ", b'0', 8402, Some(Kind::Hex)),
+        ("1 T ", b'0', 8400, None),
+        ("#", b' ', 8500, Some(Kind::LineLong)),
+        ("#", b' ', 8499, None),
+    ] {
+        let mut text = Vec::new(rt.alloc());
+        text.extend_from_slice(HEADER.as_bytes())?;
+        text.extend_from_slice(front.as_bytes())?;
+        for _ in 0..count {
+            text.push(byte)?;
+        }
+        text.push(b'\n')?;
+        for step in STEPS {
+            let scanned = scan(rt.alloc(), text.as_slice(), Cuts::of_steps(step, step));
+            match fault {
+                Some(kind) => {
+                    assert_eq!(rt; scanned.answer, Err(Fault::Trace(2, kind)), "{count} bytes");
+                    assert!(rt; scanned.taken.is_empty());
+                }
+                None => assert!(rt; scanned.answer.is_ok(), "{count} bytes"),
+            }
+        }
+    }
+    Ok(())
+}
+
+#[test]
+fn a_failing_source_hides_no_faulty_line(rt: HostRuntime) {
+    let header = "X25 2 MOD 8 WIN 2 SIZE 128 PVC 0 SVC 4\n1 T -\n";
+    for (good_bytes, fault) in [
+        (0, Fault::Read),
+        (38, Fault::Read),
+        (39, Fault::Trace(1, Kind::HeaderForm)),
+        (40, Fault::Trace(1, Kind::HeaderForm)),
+    ] {
+        for step in STEPS {
+            let cuts = Cuts {
+                good_bytes,
+                ..Cuts::of_steps(step, step)
+            };
+            let scanned = scan(rt.alloc(), header.as_bytes(), cuts);
+            assert_eq!(rt; scanned.answer, Err(fault), "{good_bytes} bytes by {step}");
+            assert!(rt; scanned.taken.is_empty());
+        }
+    }
+}
+
+#[test]
+fn a_failing_sink_took_the_first_bytes(rt: HostRuntime) {
+    let report = b"Z 0 0 0 0 0\n";
+    for good_writes in 0..14 {
+        let cuts = Cuts {
+            good_writes,
+            ..Cuts::of_steps(1, 1)
+        };
+        let scanned = scan(rt.alloc(), HEADER.as_bytes(), cuts);
+        if good_writes < report.len() {
+            assert_eq!(rt; scanned.answer, Err(Fault::Write));
+            assert_eq!(rt; scanned.taken.as_slice(), &report[..good_writes]);
+        } else {
+            assert!(rt; scanned.answer.is_ok());
+            assert_eq!(rt; scanned.taken.as_slice(), report.as_slice());
+        }
+    }
+}
+
+#[test]
+fn the_status_follows_the_scan(rt: HostRuntime) -> Result<(), Fail> {
+    let whole = Cuts::of_steps(usize::MAX, usize::MAX);
+    let unread = Cuts {
+        good_bytes: 0,
+        ..whole
+    };
+    let unwritten = Cuts {
+        good_writes: 0,
+        ..whole
+    };
+    for (rows, cuts, status, report, told) in [
+        ("", whole, 0, "Z 0 0 0 0 0\n", ""),
+        ("1 T -\n", whole, 1, "F 1 T - 38\nZ 1 1 0 0 0\n", ""),
+        ("5 T -\n5 T -\n", whole, 2, "", "x25scan: line 3: kind 25\n"),
+        ("", unread, 3, "", "x25scan: read failed\n"),
+        ("", unwritten, 3, "", "x25scan: write failed\n"),
+    ] {
+        let text = format!(in rt.alloc(); "{HEADER}{rows}")?;
+        for words in [
+            ["x25scan"].as_slice(),
+            ["x25scan", "--alone"].as_slice(),
+            ["x25scan", "--workers", "1"].as_slice(),
+            ["x25scan", "--alone", "--workers=64"].as_slice(),
+        ] {
+            let ran = run(rt.alloc(), words, text.as_bytes(), cuts);
+            assert_eq!(rt; ran.status, status, "at {rows}");
+            assert_eq!(rt; ran.taken.as_slice(), report.as_bytes());
+            assert_eq!(rt; ran.told.as_slice(), told.as_bytes());
+        }
+    }
+    Ok(())
+}
+
+#[test]
+fn the_words_choose_the_threads(rt: HostRuntime) -> Result<(), Fail> {
+    for (words, workers, alone) in [
+        (["x25scan"].as_slice(), 4, false),
+        (["x25scan", "--alone"].as_slice(), 4, true),
+        (["x25scan", "--workers", "1"].as_slice(), 1, false),
+        (["x25scan", "--workers=64", "--alone"].as_slice(), 64, true),
+    ] {
+        let Ok(options) = parse(rt.alloc(), words) else {
+            return Err(Fail::new("refused"));
+        };
+        assert_eq!(rt; options.workers, workers);
+        assert_eq!(rt; options.alone, alone);
+    }
+    Ok(())
+}
+
+#[test]
+fn other_words_are_usage(rt: HostRuntime) {
+    for words in [
+        ["x25scan", "--workers", "0"].as_slice(),
+        ["x25scan", "--workers", "65"].as_slice(),
+        ["x25scan", "--workers", "four"].as_slice(),
+        ["x25scan", "--workers"].as_slice(),
+        ["x25scan", "--alone", "--workers", "0"].as_slice(),
+        ["x25scan", "--threads"].as_slice(),
+        ["x25scan", "trace.txt"].as_slice(),
+    ] {
+        let ran = run(rt.alloc(), words, b"", Cuts::of_steps(1, 1));
+        assert_eq!(rt; ran.status, 64);
+        assert!(rt; ran.taken.is_empty());
+        assert!(rt; ran.told.starts_with(b"error: "));
+    }
+}
+
+#[test]
+fn help_goes_to_the_sink(rt: HostRuntime) {
+    for words in [
+        ["x25scan", "--help"].as_slice(),
+        ["x25scan", "-h"].as_slice(),
+        ["x25scan", "--alone", "--help"].as_slice(),
+    ] {
+        let ran = run(
+            rt.alloc(),
+            words,
+            b"",
+            Cuts::of_steps(usize::MAX, usize::MAX),
+        );
+        assert_eq!(rt; ran.status, 0);
+        assert!(rt; ran.told.is_empty());
+        assert!(rt; ran.taken.starts_with(b"Reports what an observer"));
+    }
+}

@@ -1,0 +1,7 @@
+//! PAD messages: their codes and their pairs of parameter references and values.
+#![tactic(auto)]
+
+pub mod message;
+pub mod pairs;
+#[cfg(test)]
+mod tests;

@@ -1,0 +1,8 @@
+//! What is known of the parameters of a PAD from the messages of a call.
+#![tactic(auto)]
+
+mod concern;
+pub mod settings;
+#[cfg(test)]
+mod tests;
+mod values;
