@@ -91,11 +91,17 @@ fn segments(octets: u32) -> u64
 /// What is heard of a call.
 #[derive(Clone, Copy)]
 pub struct Heard {
+    /// The packet that brought the call into p4, if one did.
     pub up: Option<u32>,
+    /// Data packets of the DTE.
     pub data_t: u64,
+    /// Octets of the DTE.
     pub oct_t: u64,
+    /// Data packets of the DCE.
     pub data_n: u64,
+    /// Octets of the DCE.
     pub oct_n: u64,
+    /// Segments of 64 octets of both sides.
     pub segments: u64,
     settings_t: Table,
     settings_n: Table,

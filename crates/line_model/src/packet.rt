@@ -11,26 +11,43 @@ pub enum Class {
     WrongFormat,
     /// No assigned logical channel, or no packet of channel 0.
     Unassigned,
+    /// Restart request or indication.
     Restart,
+    /// Restart confirmation.
     RestartConfirm,
+    /// Diagnostic.
     Diagnostic,
+    /// Registration request or confirmation.
     Registration,
     /// A channel's packet without a type.
     TwoOctets,
     /// A restart packet on another channel than 0.
     RestartHere,
+    /// Call request or incoming call.
     Call,
+    /// Call accepted or connected.
     Accepted,
+    /// Clear request or indication.
     Clear,
+    /// Clear confirmation.
     ClearConfirm,
+    /// Interrupt.
     Interrupt,
+    /// Interrupt confirmation.
     InterruptConfirm,
+    /// Reset request or indication.
     Reset,
+    /// Reset confirmation.
     ResetConfirm,
+    /// Data.
     Data,
+    /// Receive ready.
     Rr,
+    /// Receive not ready.
     Rnr,
+    /// Reject.
     Rej,
+    /// A type that no packet has.
     Undefined,
 }
 
@@ -52,33 +69,56 @@ pub struct DataHeader {
 /// What stands on an assigned channel: data with its header, RR and RNR with P(R). A header that is cut short is `None`.
 #[derive(Clone, Copy, PartialEq, Eq, Debug)]
 pub enum Kind {
+    /// A packet without a type.
     TwoOctets,
+    /// A restart packet on another channel than 0.
     RestartHere,
+    /// Call request or incoming call.
     Call,
+    /// Call accepted or connected.
     Accepted,
+    /// Clear request or indication.
     Clear,
+    /// Clear confirmation.
     ClearConfirm,
+    /// Interrupt.
     Interrupt,
+    /// Interrupt confirmation.
     InterruptConfirm,
+    /// Reset request or indication.
     Reset,
+    /// Reset confirmation.
     ResetConfirm,
+    /// Data, with its header.
     Data(Option<DataHeader>),
+    /// Receive ready, with P(R).
     Rr(Option<u8>),
+    /// Receive not ready, with P(R).
     Rnr(Option<u8>),
+    /// Reject.
     Rej,
+    /// A type that no packet has.
     Undefined,
 }
 
 /// A packet, decoded.
 #[derive(Clone, Copy, PartialEq, Eq, Debug)]
 pub enum Packet {
+    /// Under two octets.
     Short,
+    /// The general format identifier does not fit the interface's modulus.
     WrongFormat,
+    /// No assigned logical channel, or no packet of channel 0.
     Unassigned,
+    /// Diagnostic, on channel 0.
     Diagnostic,
+    /// Registration, on channel 0.
     Registration,
+    /// Restart request or indication, on channel 0.
     Restart,
+    /// Restart confirmation, on channel 0.
     RestartConfirm,
+    /// A packet on an assigned logical channel.
     Channel { channel: u16, kind: Kind },
 }
 

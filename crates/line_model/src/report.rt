@@ -9,17 +9,24 @@ use std::marker::Model;
 /// How many virtual calls were up at once at the most, and the first row after which they were, none for 0.
 #[derive(Clone, Copy, Debug, PartialEq, Eq)]
 pub struct Peak {
+    /// How many were up.
     pub count: u64,
+    /// The number of that row.
     pub packet: Option<u32>,
 }
 
 /// The report of a trace. Each list stands in the order in which its lines are written.
 #[derive(Drop)]
 pub struct Report<A: Allocator = Global> {
+    /// By packet.
     pub findings: Vec<Finding, A>,
+    /// By the packet that opened them.
     pub calls: Vec<CallRecord<A>, A>,
+    /// By address, the absent one first.
     pub accounts: Vec<Account, A>,
+    /// The peak of virtual calls.
     pub peak: Peak,
+    /// The sums.
     pub summary: Summary,
 }
 

@@ -5,7 +5,9 @@ ghost use Rattle.std.specs.Prelude.{◌≡◌};
 /// A side of the interface: T is the DTE, N the DCE.
 #[derive(Clone, Copy, PartialEq, Eq, Debug)]
 pub enum Side {
+    /// The DTE.
     T,
+    /// The DCE, the network.
     N,
 }
 
@@ -26,35 +28,50 @@ impl Side {
 /// A state of the restart machine.
 #[derive(Clone, Copy, PartialEq, Eq, Debug)]
 pub enum RState {
+    /// Packet level ready.
     R1,
+    /// DTE restart request.
     R2,
+    /// DCE restart indication.
     R3,
 }
 
 /// A state of call set-up and clearing.
 #[derive(Clone, Copy, PartialEq, Eq, Debug)]
 pub enum PState {
+    /// Ready.
     P1,
+    /// DTE waiting.
     P2,
+    /// DCE waiting.
     P3,
+    /// Data transfer.
     P4,
+    /// Call collision.
     P5,
+    /// DTE clear request.
     P6,
+    /// DCE clear indication.
     P7,
 }
 
 /// A state of data transfer.
 #[derive(Clone, Copy, PartialEq, Eq, Debug)]
 pub enum DState {
+    /// Flow control ready.
     D1,
+    /// DTE reset request.
     D2,
+    /// DCE reset indication.
     D3,
 }
 
 /// The state of a channel. `Transfer` stands in p4 and on permanent circuits.
 #[derive(Clone, Copy, PartialEq, Eq, Debug)]
 pub enum ChannelState {
+    /// Call set-up or clearing.
     Setup(PState),
+    /// Data transfer.
     Transfer(DState),
     /// The trace began in the middle, and nothing was heard of the channel yet.
     Unknown,
@@ -63,6 +80,7 @@ pub enum ChannelState {
 /// The name of a state, as a finding prints it.
 #[derive(Clone, Copy, PartialEq, Eq, Debug)]
 pub enum StateName {
+    /// Judged outside the state machines.
     Dash,
     R1,
     R2,

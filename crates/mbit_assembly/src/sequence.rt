@@ -11,9 +11,13 @@ pub const KEPT: usize = 1025;
 /// A data packet without its sequence numbers: the Q, M and D bits and the user data (X.25 clause 5.3.1).
 #[derive(Clone, Copy)]
 pub struct DataField<'a> {
+    /// The Q bit.
     pub qualified: bool,
+    /// The M bit.
     pub more: bool,
+    /// The D bit.
     pub delivery: bool,
+    /// The user data.
     pub octets: &'a [u8],
 }
 
@@ -56,8 +60,11 @@ impl<A: Allocator> UserData<'_, A> {
 /// A complete sequence of a side (X.25 clause 4.3.4).
 #[derive(Drop)]
 pub struct Sequence<'a, A: Allocator = Global> {
+    /// The side that sent it.
     pub side: Side,
+    /// The Q bit of all its packets.
     pub qualified: bool,
+    /// Its user data, the first 1,025 octets.
     pub octets: UserData<'a, A>,
 }
 

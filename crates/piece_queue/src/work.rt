@@ -67,8 +67,11 @@ impl<A: Allocator> Model for WorkerPass<A> {
 /// What a worker took.
 #[derive(Drop)]
 pub enum Taken<A: Allocator = Global> {
+    /// The plan's piece of its id.
     Got(Piece<A>),
+    /// An end: the pass takes no more.
     Finish,
+    /// The queue was empty at one moment of the call.
     Empty,
 }
 

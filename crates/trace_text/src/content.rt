@@ -13,15 +13,20 @@ use std::alloc::{AllocError, AllocFailed, Allocator};
 /// What a line without a fault says.
 #[derive(Drop)]
 pub enum Content<A: Allocator> {
+    /// A line without content, or a comment.
     Comment,
+    /// The header line.
     Header(Interface),
+    /// A row.
     Packet(Row<A>),
 }
 
 /// Why a line was not read.
 #[derive(Clone, Copy, Debug, PartialEq, Eq)]
 pub enum LineFault {
+    /// Want of memory.
     Memory,
+    /// The line is faulty.
     Broken(Kind),
 }
 

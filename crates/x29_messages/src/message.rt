@@ -10,21 +10,32 @@ use line_model::finding::Xcode;
 /// What a message is for, by bits 4 to 1 of its first octet (X.29 Table 3).
 #[derive(Clone, Copy, PartialEq, Eq, Debug)]
 pub enum MessageCode {
+    /// 0: parameter indication.
     Indication,
+    /// 1: invitation to clear.
     InvitationToClear,
+    /// 2: set parameters.
     Set,
+    /// 3: indication of break.
     Break,
+    /// 4: read parameters.
     Read,
+    /// 5: error.
     Error,
+    /// 6: set and read parameters.
     SetAndRead,
+    /// 7: reselection.
     Reselection,
+    /// 8: reselection with TOA/NPI addresses.
     ReselectionWithAddress,
 }
 
 /// A message without a fault of its own: its code, and the octets after it.
 #[derive(Clone, Copy)]
 pub struct Message<'a> {
+    /// What it is for.
     pub code: MessageCode,
+    /// The octets after the code.
     pub pairs: &'a [u8],
     pub ghost well_formed: { form_fault (octets_of code pairs.now) ≡ None },
 }

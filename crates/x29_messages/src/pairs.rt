@@ -9,7 +9,9 @@ use std::marker::Model;
 /// A parameter reference and its value.
 #[derive(Clone, Copy, PartialEq, Eq, Debug)]
 pub struct Pair {
+    /// The parameter reference (X.3 Table 1).
     pub reference: u8,
+    /// The value; in an indication, bit 8 of the reference marks an error.
     pub value: u8,
 }
 
