@@ -19,7 +19,6 @@ pub mod OneFinding
 pub mod Findings
 mod FirstForm
 pub mod BookTotals
-pub mod Reached
 pub mod Marks
 pub mod EventKinds
 pub mod Every
