@@ -1,13 +1,29 @@
 -- The events of a row on a channel.
-use Rattle.std.specs.Prelude.{ℕ, List, Some, map}
+use Rattle.std.specs.Prelude.{ℕ, Bool, List, [], ◌∷◌, ◌++◌, Option, Some, None, map}
 use Rattle.line_model.specs.declared.interface.Interface.{Interface}
 use Rattle.line_model.specs.declared.event.Event.{Event}
 use Rattle.line_model.specs.Records.{Row}
 use Rattle.line_model.specs.Channels.{Channel}
 use Rattle.line_model.specs.ChannelStep.{channel_step}
 use Rattle.line_model.specs.MachineEvents.{stamp}
-use Rattle.line_model.specs.Observer.{event_of}
+use Rattle.line_model.specs.Observer.{event_of, restart_end_if}
+use Rattle.line_model.specs.Plans.{row_numbered}
 
 -- the events of a row on a channel in an epoch
 abbrev pub row_events : Interface → (epoch channel : ℕ) → Channel → Row → List Event
 row_events i e k c r = map event_of (stamp e (Some k) r (channel_step i k c r).reported)
+
+-- the events with which a restart ends the epoch of a channel, by the number of its row
+abbrev pub end_events : (epoch channel : ℕ) → (end : Option ℕ) → (open_call : Bool) → List Event
+end_events e k None b = []
+end_events e k (Some n) b = map event_of (stamp e (Some k) (row_numbered n) (restart_end_if b))
+
+-- the channel after some rows
+abbrev pub channel_after : Interface → ℕ → Channel → List Row → Channel
+channel_after i k c [] = c
+channel_after i k c (r ∷ rs) = channel_after i k (channel_step i k c r).after rs
+
+-- the events of some rows on a channel in an epoch
+abbrev pub rows_events : Interface → (epoch channel : ℕ) → Channel → List Row → List Event
+rows_events i e k c [] = []
+rows_events i e k c (r ∷ rs) = row_events i e k c r ++ rows_events i e k (channel_step i k c r).after rs

@@ -1,16 +1,20 @@
 //! The run of a piece: any machine of one logical channel, over the rows of the piece.
 
-ghost use Rattle.std.specs.Prelude.{◌≡◌, ◌≤◌, ◌^◌, ◌++◌, ℕ, length, IfOk, IfErr, OnErr};
+ghost use Rattle.std.specs.Prelude.{◌≡◌, ◌≤◌, ◌^◌, ◌++◌, [], ◌∷◌, ℕ, length, sum, true, IfOk, IfErr, OnOk, OnErr};
 ghost use Rattle.line_model.specs.declared.fault.Fault.TheVariants.{Memory};
 ghost use Rattle.line_model.specs.Channels as channels;
 ghost use Rattle.line_model.specs.Channels.{fresh, is_open};
 ghost use Rattle.line_model.specs.ChannelStep.{channel_step};
 ghost use Rattle.line_model.specs.Bounds.{IsItem};
 ghost use Rattle.line_model.specs.Plans as plans;
-ghost use Rattle.channel_machine.specs.Run.{row_events};
+ghost use Rattle.line_model.specs.Report.{findings_of};
+ghost use Rattle.line_model.specs.Calls.{all_lengths, segments_of};
+ghost use Rattle.channel_machine.specs.Run.{row_events, end_events};
 
-use line_model::event::Event;
+use call_accounts::call::calls_of;
+use line_model::event::{Event, How, What};
 use line_model::fault::Fault;
+use line_model::finding::Finding;
 use line_model::interface::Interface;
 use line_model::packet::Packet;
 use line_model::piece::{Piece, PieceReport};
@@ -58,8 +62,8 @@ pub trait Channel<A: Allocator>: Drop {
     ) -> Result<(), Fault>
         requires item { IsItem (interface_of self.old) (number_of self.old) (record { row = row.now; packet = packet.now }) }
         requires short { length row.now.octets ≤ 2 ^ 31 }
-        ensures interface { interface_of self.new ≡ interface_of self.old }
-        ensures number { number_of self.new ≡ number_of self.old }
+        ensures interface { (c : channels.Channel) → stands_for self.old c → IfOk result (λ _. interface_of self.new ≡ interface_of self.old) }
+        ensures number { (c : channels.Channel) → stands_for self.old c → IfOk result (λ _. number_of self.new ≡ number_of self.old) }
         ensures stands { (c : channels.Channel) → stands_for self.old c → IfOk result (λ _. stands_for self.new (channel_step (interface_of self.old) (number_of self.old) c row.now).after) }
         ensures events { (c : channels.Channel) → stands_for self.old c → IfOk result (λ _. events.new.items ≡ events.old.items ++ row_events (interface_of self.old) epoch (number_of self.old) c row.now) }
         ensures unchanged { OnErr result ((self.new ≡ self.old) × (events.new.items ≡ events.old.items)) }
@@ -75,5 +79,124 @@ pub fn run_piece<A: Allocator + Clone, C: Channel<A>>(
     ensures value { IfOk result (λ report. report ≡ plans.value piece.now) }
     ensures memory { IfErr result (λ fault. fault ≡ Memory) }
 {
-    Err(Fault::Memory)
+    let events = piece_events::<A, C>(alloc.clone()?, piece)?;
+    report_of(alloc, piece, events.as_slice())
+}
+
+/// The events of the rows of a piece on a fresh channel, and of the restart that ends its epoch.
+fn piece_events<A: Allocator + Clone, C: Channel<A>>(
+    alloc: A,
+    piece: &Piece<A>,
+) -> Result<Vec<Event, A>, Fault>
+    ensures events { IfOk result (λ events. events.items ≡ plans.piece_events piece.now) }
+    ensures memory { IfErr result (λ fault. fault ≡ Memory) }
+{
+    let mut channel = C::fresh(alloc.clone()?, &piece.interface, piece.channel, piece.epoch);
+    let mut events = Vec::new(alloc);
+    for item in &piece.items {
+        channel.step(piece.epoch, &item.row, &item.packet, &mut events)?;
+    }
+    if channel.is_open() {
+        end_call(piece.epoch, piece.channel, piece.end, &mut events)?;
+    }
+    Ok(events)
+}
+
+/// Ends a call that is open, where a restart ends the epoch.
+fn end_call<A: Allocator>(
+    epoch: u32,
+    channel: u16,
+    end: Option<u32>,
+    events: &mut Vec<Event, A>,
+) -> Result<(), Fault>
+    ensures end { OnOk result (events.new.items ≡ events.old.items ++ end_events epoch channel end true) }
+    ensures memory { IfErr result (λ fault. fault ≡ Memory) }
+{
+    if let Some(packet) = end {
+        events.push(Event {
+            epoch,
+            channel,
+            packet,
+            what: What::End(How::Restart),
+        })?;
+    }
+    Ok(())
+}
+
+/// The report of a piece by its events.
+fn report_of<A: Allocator + Clone>(
+    alloc: A,
+    piece: &Piece<A>,
+    events: &[Event],
+) -> Result<PieceReport<A>, Fault>
+    requires events { events.now ≡ plans.piece_events piece.now }
+    ensures value { IfOk result (λ report. report ≡ plans.value piece.now) }
+    ensures memory { IfErr result (λ fault. fault ≡ Memory) }
+{
+    let findings = findings_of(alloc.clone()?, events)?;
+    let calls = calls_of(alloc, events)?;
+    let octets = data_octets(events);
+    let segments = data_segments(events);
+    Ok(PieceReport {
+        id: piece.id,
+        epoch: piece.epoch,
+        channel: piece.channel,
+        findings,
+        calls,
+        octets,
+        segments,
+    })
+}
+
+/// The findings among events.
+fn findings_of<A: Allocator>(alloc: A, events: &[Event]) -> Result<Vec<Finding, A>, Fault>
+    ensures findings { IfOk result (λ v. v.items ≡ findings_of events.now) }
+    ensures memory { IfErr result (λ fault. fault ≡ Memory) }
+{
+    let mut findings = Vec::new(alloc);
+    for event in events {
+        if let What::Found { side, state, code } = event.what {
+            findings.push(Finding {
+                packet: event.packet,
+                side,
+                state,
+                code,
+            })?;
+        }
+    }
+    Ok(findings)
+}
+
+/// The octets of a data packet, 0 of any other event.
+fn octets_in(event: &Event) -> u64
+    ensures { result ≡ sum (all_lengths (event.now ∷ [])) }
+{
+    match event.what {
+        What::Data { octets, .. } => u64::from(octets),
+        _ => 0,
+    }
+}
+
+/// The octets of the data packets among events.
+fn data_octets(events: &[Event]) -> u64
+    requires few { sum (all_lengths events.now) ≤ 2 ^ 31 }
+    ensures { result ≡ sum (all_lengths events.now) }
+{
+    let mut octets = 0;
+    for event in events {
+        octets += octets_in(event);
+    }
+    octets
+}
+
+/// The segments of 64 octets of the data packets among events, the last one begun counts whole.
+fn data_segments(events: &[Event]) -> u64
+    requires few { segments_of (all_lengths events.now) ≤ 2 ^ 31 }
+    ensures { result ≡ segments_of (all_lengths events.now) }
+{
+    let mut segments = 0;
+    for event in events {
+        segments += octets_in(event).div_ceil(64);
+    }
+    segments
 }

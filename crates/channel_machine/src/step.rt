@@ -7,7 +7,7 @@ ghost use Rattle.line_model.specs.Classes.{class_of};
 ghost use Rattle.line_model.specs.Formats.{packet_fault};
 ghost use Rattle.line_model.specs.ChannelStep.{moving, changing, call_change, entering, transferring, verdict_step, judged, channel_step};
 ghost use Rattle.packet_decode.specs.CallFaults.{IsCallPacket};
-ghost use Rattle.channel_machine.specs.Channels.{Stands, Does, IsChange, interface_of, number_of};
+ghost use Rattle.channel_machine.specs.Channels.{Stands, Does, IsChange};
 ghost use Rattle.channel_machine.specs.Decisions.{IsDecided, IsUnfaulted};
 
 use crate::channel::PlainChannel;
@@ -18,10 +18,8 @@ use crate::moves::change_of;
 use line_model::event::Event;
 use line_model::fault::Fault;
 use line_model::packet::Class;
-use line_model::row::Row;
 use line_model::state::{Side, StateName};
 use line_model::verdict::{CallChange, Verdict};
-use packet_decode::decode::class_of;
 use packet_decode::fields::call_fields;
 use std::alloc::Allocator;
 
@@ -221,40 +219,21 @@ impl<A: Allocator + Clone> PlainChannel<A> {
         }
     }
 
-    /// Takes the row of a packet on the channel and appends its events.
-    pub fn step(
-        &mut self,
-        epoch: u32,
-        row: &Row<A>,
-        report: &mut Vec<Event, A>,
-    ) -> Result<(), Fault>
-        requires short { length row.now.octets ≤ 2 ^ 31 }
-        ensures does { (c : Channel) → Stands self.old c → IfOk result (λ _. Does (record { epoch = epoch; channel = number_of self.old; packet = row.now.number }) self.old self.new report.old.items report.new.items (channel_step (interface_of self.old) (number_of self.old) c row.now)) }
-        ensures unchanged { OnErr result ((self.new ≡ self.old) × (report.new.items ≡ report.old.items)) }
-        ensures memory { IfErr result (λ fault. fault ≡ Memory) }
-    {
-        let stamp = Stamp {
-            epoch,
-            channel: self.channel,
-            packet: row.number,
-        };
-        self.take(stamp, row.side, &row.octets, report)
-    }
-
     /// Takes the octets of a packet of a side.
-    fn take(
+    pub(crate) fn take(
         &mut self,
         stamp: Stamp,
         side: Side,
+        class: Class,
         octets: &[u8],
         report: &mut Vec<Event, A>,
     ) -> Result<(), Fault>
+        requires class { class_of self.old.terms.interface octets.now ≡ class }
         requires short { length octets.now ≤ 2 ^ 31 }
         ensures does { (c : Channel) → Stands self.old c → IfOk result (λ _. Does stamp self.old self.new report.old.items report.new.items (channel_step self.old.terms.interface self.old.channel c (record { number = stamp.packet; side = side; octets = octets.now }))) }
         ensures unchanged { OnErr result ((self.new ≡ self.old) × (report.new.items ≡ report.old.items)) }
         ensures memory { IfErr result (λ fault. fault ≡ Memory) }
     {
-        let class = class_of(&self.terms.interface, octets);
         let (state, verdict) = self.decide(side, class, octets);
         self.act(stamp, side, state, class, octets, verdict, report)
     }
