@@ -10,3 +10,4 @@ pub mod Settings
 pub mod Steps
 pub mod Taking
 pub mod Machines
+pub mod Runs

@@ -17,13 +17,3 @@ row_events i e k c r = map event_of (stamp e (Some k) r (channel_step i k c r).r
 abbrev pub end_events : (epoch channel : ℕ) → (end : Option ℕ) → (open_call : Bool) → List Event
 end_events e k None b = []
 end_events e k (Some n) b = map event_of (stamp e (Some k) (row_numbered n) (restart_end_if b))
-
--- the channel after some rows
-abbrev pub channel_after : Interface → ℕ → Channel → List Row → Channel
-channel_after i k c [] = c
-channel_after i k c (r ∷ rs) = channel_after i k (channel_step i k c r).after rs
-
--- the events of some rows on a channel in an epoch
-abbrev pub rows_events : Interface → (epoch channel : ℕ) → Channel → List Row → List Event
-rows_events i e k c [] = []
-rows_events i e k c (r ∷ rs) = row_events i e k c r ++ rows_events i e k (channel_step i k c r).after rs

@@ -1,6 +1,6 @@
 //! The run of a piece: any machine of one logical channel, over the rows of the piece.
 
-ghost use Rattle.std.specs.Prelude.{◌≡◌, ◌≤◌, ◌^◌, ◌++◌, [], ◌∷◌, ℕ, length, sum, true, IfOk, IfErr, OnOk, OnErr};
+ghost use Rattle.std.specs.Prelude.{◌≡◌, ◌≤◌, ◌^◌, ◌++◌, [], ◌∷◌, ℕ, length, sum, IfOk, IfErr, OnOk, OnErr};
 ghost use Rattle.line_model.specs.declared.fault.Fault.TheVariants.{Memory};
 ghost use Rattle.line_model.specs.Channels as channels;
 ghost use Rattle.line_model.specs.Channels.{fresh, is_open};
@@ -96,31 +96,34 @@ fn piece_events<A: Allocator + Clone, C: Channel<A>>(
     for item in &piece.items {
         channel.step(piece.epoch, &item.row, &item.packet, &mut events)?;
     }
-    if channel.is_open() {
-        end_call(piece.epoch, piece.channel, piece.end, &mut events)?;
-    }
+    let is_open = channel.is_open();
+    end_call(piece.epoch, piece.channel, piece.end, is_open, &mut events)?;
     Ok(events)
 }
 
-/// Ends a call that is open, where a restart ends the epoch.
+/// Ends the call with the packet of the restart that ends the epoch, where one does and a call is open.
 fn end_call<A: Allocator>(
     epoch: u32,
     channel: u16,
     end: Option<u32>,
+    is_open: bool,
     events: &mut Vec<Event, A>,
 ) -> Result<(), Fault>
-    ensures end { OnOk result (events.new.items ≡ events.old.items ++ end_events epoch channel end true) }
+    ensures end { OnOk result (events.new.items ≡ events.old.items ++ end_events epoch channel end is_open) }
     ensures memory { IfErr result (λ fault. fault ≡ Memory) }
 {
-    if let Some(packet) = end {
-        events.push(Event {
-            epoch,
-            channel,
-            packet,
-            what: What::End(How::Restart),
-        })?;
+    match end {
+        Some(packet) if is_open => {
+            events.push(Event {
+                epoch,
+                channel,
+                packet,
+                what: What::End(How::Restart),
+            })?;
+            Ok(())
+        }
+        _ => Ok(()),
     }
-    Ok(())
 }
 
 /// The report of a piece by its events.
@@ -155,24 +158,46 @@ fn findings_of<A: Allocator>(alloc: A, events: &[Event]) -> Result<Vec<Finding, 
 {
     let mut findings = Vec::new(alloc);
     for event in events {
-        if let What::Found { side, state, code } = event.what {
+        push_finding(event, &mut findings)?;
+    }
+    Ok(findings)
+}
+
+/// Adds the finding of an event, if it is one.
+fn push_finding<A: Allocator>(event: &Event, findings: &mut Vec<Finding, A>) -> Result<(), Fault>
+    ensures finding { OnOk result (findings.new.items ≡ findings.old.items ++ findings_of (event.now ∷ [])) }
+    ensures memory { IfErr result (λ fault. fault ≡ Memory) }
+{
+    match event.what {
+        What::Found { side, state, code } => {
             findings.push(Finding {
                 packet: event.packet,
                 side,
                 state,
                 code,
             })?;
+            Ok(())
         }
+        _ => Ok(()),
     }
-    Ok(findings)
 }
 
-/// The octets of a data packet, 0 of any other event.
+/// The octets of an event, 0 where it is no data packet.
 fn octets_in(event: &Event) -> u64
     ensures { result ≡ sum (all_lengths (event.now ∷ [])) }
 {
     match event.what {
         What::Data { octets, .. } => u64::from(octets),
+        _ => 0,
+    }
+}
+
+/// The segments of 64 octets of an event, the last one begun counts whole; 0 where it is no data packet.
+fn segments_in(event: &Event) -> u64
+    ensures { result ≡ segments_of (all_lengths (event.now ∷ [])) }
+{
+    match event.what {
+        What::Data { octets, .. } => u64::from(octets).div_ceil(64),
         _ => 0,
     }
 }
@@ -189,14 +214,14 @@ fn data_octets(events: &[Event]) -> u64
     octets
 }
 
-/// The segments of 64 octets of the data packets among events, the last one begun counts whole.
+/// The segments of the data packets among events.
 fn data_segments(events: &[Event]) -> u64
     requires few { segments_of (all_lengths events.now) ≤ 2 ^ 31 }
     ensures { result ≡ segments_of (all_lengths events.now) }
 {
     let mut segments = 0;
     for event in events {
-        segments += octets_in(event).div_ceil(64);
+        segments += segments_in(event);
     }
     segments
 }
