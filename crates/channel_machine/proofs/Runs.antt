@@ -1,16 +1,21 @@
 -- The run over the rows of a piece.
-use Rattle.std.proofs.Common.{◌≡◌, ◌+◌, ◌≤◌, ◌<◌, ◌^◌, ℕ, Bool, List, [], ◌∷◌, ◌++◌, length, drop, get_or, sum_by, map, Option, Some, None, refl, sym, ◌∙◌, ap, subst, arith, append_assoc}
+use Rattle.std.proofs.Common.{◌≡◌, ◌+◌, ◌≤◌, ◌<◌, ◌^◌, ℕ, Bool, List, [], ◌∷◌, ◌++◌, length, drop, get_or, sum, map, Option, Some, None, refl, sym, ◌∙◌, ap, subst, arith, append_assoc}
 use Rattle.std.specs.Prelude.{option_map}
 use Rattle.std.proofs.lemmas.List.{map-append, drop_more, drop_all}
 use Rattle.line_model.specs.declared.interface.Interface.{Interface}
 use Rattle.line_model.specs.declared.event.Event.{Event}
-use Rattle.line_model.specs.Records.{Row, Item, Piece}
+use Rattle.line_model.specs.declared.finding.Finding.{Finding}
+use Rattle.line_model.specs.Records.{Row, Item, Piece, CallRecord}
 use Rattle.line_model.specs.Channels.{Channel, is_open}
 use Rattle.line_model.specs.ChannelStep.{channel_step}
 use Rattle.line_model.specs.MachineEvents.{stamp}
 use Rattle.line_model.specs.Pieces.{piece_value}
 use Rattle.line_model.specs.Observer.{x25, event_of}
 use Rattle.line_model.specs.Plans.{row_numbered, piece_events}
+use Rattle.line_model.specs.Bounds.{IsPiece, IsPieceReport}
+use Rattle.line_model.specs.Calls.{all_lengths, segments_of, calls_of}
+use Rattle.line_model.specs.Report.{findings_of}
+use Rattle.line_model.proofs.ValueBounds.{value_bounds}
 use Rattle.channel_machine.specs.Run.{row_events, end_events}
 
 -- the events of what is left of a piece, from a channel on
@@ -71,3 +76,17 @@ run_ends S p before after n items e k end b long of_epoch of_channel of_end open
     ∙ ap (λ l. before ++ l) (sym (rest_end p r.channel))
     ∙ ap (λ l. before ++ rest_events p r.channel l) (sym (drop_all n items long))
     ∙ r.so_far
+
+-- what the events of a piece give is within its rows
+pub run_bounds : (inside p : Piece) (es : List Event) → inside ≡ p → IsPiece inside.interface inside.channel inside.items → es ≡ piece_events p →
+    IsPieceReport (findings_of es) (calls_of es) (sum (all_lengths es)) (segments_of (all_lengths es))
+run_bounds inside p es same h is =
+    subst (λ l. IsPieceReport (findings_of l) (calls_of l) (sum (all_lengths l)) (segments_of (all_lengths l))) (sym is)
+    (value_bounds p (subst (λ q. IsPiece q.interface q.channel q.items) same h))
+
+-- values that are those of the events are within them
+pub within : (es : List Event) (findings : List Finding) (calls : List CallRecord) (octets segments : ℕ) →
+    findings ≡ findings_of es → calls ≡ calls_of es → octets ≡ sum (all_lengths es) → segments ≡ segments_of (all_lengths es) →
+    IsPieceReport (findings_of es) (calls_of es) (sum (all_lengths es)) (segments_of (all_lengths es)) → IsPieceReport findings calls octets segments
+within es findings calls octets segments a b c d h =
+    subst (λ (r : List Finding × List CallRecord × ℕ × ℕ). IsPieceReport r.0 r.1 r.2 r.3) (λ j. (sym a j, sym b j, sym c j, sym d j)) h

@@ -136,14 +136,17 @@ fn report_of<A: Allocator + Clone>(
     ensures value { IfOk result (λ report. report ≡ plans.value piece.now) }
     ensures memory { IfErr result (λ fault. fault ≡ Memory) }
 {
+    let Piece {
+        id, epoch, channel, ..
+    } = piece;
     let findings = findings_of(alloc.clone()?, events)?;
     let calls = calls_of(alloc, events)?;
     let octets = data_octets(events);
     let segments = data_segments(events);
     Ok(PieceReport {
-        id: piece.id,
-        epoch: piece.epoch,
-        channel: piece.channel,
+        id: *id,
+        epoch: *epoch,
+        channel: *channel,
         findings,
         calls,
         octets,
