@@ -9,3 +9,5 @@ pub mod Reporting
 pub mod Settings
 pub mod Steps
 pub mod Taking
+pub mod Machines
+pub mod Runs

@@ -5,3 +5,4 @@ pub mod Messages
 pub mod Transfers
 pub mod Channels
 pub mod Decisions
+pub mod Run

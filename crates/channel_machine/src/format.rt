@@ -1,6 +1,6 @@
 //! The header, the user data and the faults of the packets of a channel (X.25 clause 5).
 
-ghost use Rattle.std.specs.Prelude.{◌≡◌, ◌+◌, ◌*◌, ◌%◌, ◌<◌, ◌≤◌, [], ◌∷◌, nat_lt, length, drop, unwrap_or, Some, None};
+ghost use Rattle.std.specs.Prelude.{◌^◌, ◌≡◌, ◌+◌, ◌*◌, ◌%◌, ◌<◌, ◌≤◌, [], ◌∷◌, nat_lt, length, drop, unwrap_or, Some, None};
 ghost use Rattle.line_model.specs.Channels.{Channel};
 ghost use Rattle.line_model.specs.Octets.{octet};
 ghost use Rattle.line_model.specs.Choice.{first_fault};
@@ -113,7 +113,7 @@ impl<A: Allocator + Clone> PlainChannel<A> {
     #[tactic(auto, using(crate::proofs::Steps::first_fault_is))]
     pub(crate) fn packet_fault(&self, side: Side, class: Class, octets: &[u8]) -> Option<u8>
         requires class { class_of self.now.terms.interface octets.now ≡ class }
-        requires short { length octets.now ≤ 4200 }
+        requires short { length octets.now ≤ 2 ^ 31 }
         ensures { (c : Channel) → Stands self.now c → result ≡ packet_fault self.now.terms.interface self.now.channel c side class octets.now }
     {
         match self.direction_fault(side, class) {
@@ -142,7 +142,7 @@ impl<A: Allocator + Clone> PlainChannel<A> {
     #[tactic(auto, using(crate::proofs::InForce::size_stands, crate::proofs::InForce::fast_stands))]
     fn format_fault(&self, side: Side, class: Class, octets: &[u8]) -> Option<u8>
         requires class { class_of self.now.terms.interface octets.now ≡ class }
-        requires short { length octets.now ≤ 4200 }
+        requires short { length octets.now ≤ 2 ^ 31 }
         ensures { (c : Channel) → Stands self.now c → result ≡ format_fault self.now.terms.interface c side class octets.now }
     {
         let interface = &self.terms.interface;

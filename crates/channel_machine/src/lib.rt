@@ -7,6 +7,8 @@ mod format;
 mod judging;
 mod messages;
 mod moves;
+mod plain;
+pub mod run;
 mod step;
 mod terms;
 #[cfg(test)]

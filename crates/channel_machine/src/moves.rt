@@ -91,34 +91,6 @@ fn opened(out: bool, fields: &CallFields<'_>) -> Opened
 }
 
 impl<A: Allocator + Clone> PlainChannel<A> {
-    /// A fresh channel of an epoch: p1, or d1 where it is a permanent virtual circuit, and unknown in epoch 1 where the
-    /// trace begins in the middle. It takes no memory.
-    pub fn fresh(alloc: A, interface: &Interface, channel: u16, epoch: u32) -> Self
-        ensures interface { interface_of result ≡ interface.now }
-        ensures number { number_of result ≡ channel }
-        ensures stands { Stands result (fresh interface.now epoch channel) }
-    {
-        PlainChannel {
-            channel,
-            state: interface.fresh_state(epoch, channel),
-            owed: false,
-            terms: Terms::new(*interface),
-            transfer: Transfer {
-                flow: Flow::new(interface.modulus, interface.window, interface.window),
-                assembler: Assembler::new(alloc, interface.size, interface.size),
-                settings_t: Settings::new(Side::T),
-                settings_n: Settings::new(Side::N),
-            },
-        }
-    }
-
-    /// The state of the channel.
-    pub fn state(&self) -> ChannelState
-        ensures { (c : Channel) → Stands self.now c → result ≡ c.state }
-    {
-        self.state
-    }
-
     /// Enters a state, where a call is opened.
     pub(crate) fn open(
         &mut self,

@@ -1,13 +1,13 @@
 //! What a packet does to its channel.
 
-ghost use Rattle.std.specs.Prelude.{◌≡◌, ◌≤◌, length, ℕ, false, Some, None, IfOk, IfErr, OnErr};
+ghost use Rattle.std.specs.Prelude.{◌^◌, ◌≡◌, ◌≤◌, length, ℕ, false, Some, None, IfOk, IfErr, OnErr};
 ghost use Rattle.line_model.specs.declared.fault.Fault.TheVariants.{Memory};
 ghost use Rattle.line_model.specs.Channels.{Channel, is_permanent};
 ghost use Rattle.line_model.specs.Classes.{class_of};
 ghost use Rattle.line_model.specs.Formats.{packet_fault};
 ghost use Rattle.line_model.specs.ChannelStep.{moving, changing, call_change, entering, transferring, verdict_step, judged, channel_step};
 ghost use Rattle.packet_decode.specs.CallFaults.{IsCallPacket};
-ghost use Rattle.channel_machine.specs.Channels.{Stands, Does, IsChange, interface_of, number_of};
+ghost use Rattle.channel_machine.specs.Channels.{Stands, Does, IsChange};
 ghost use Rattle.channel_machine.specs.Decisions.{IsDecided, IsUnfaulted};
 
 use crate::channel::PlainChannel;
@@ -18,10 +18,8 @@ use crate::moves::change_of;
 use line_model::event::Event;
 use line_model::fault::Fault;
 use line_model::packet::Class;
-use line_model::row::Row;
 use line_model::state::{Side, StateName};
 use line_model::verdict::{CallChange, Verdict};
-use packet_decode::decode::class_of;
 use packet_decode::fields::call_fields;
 use std::alloc::Allocator;
 
@@ -35,7 +33,7 @@ impl<A: Allocator + Clone> PlainChannel<A> {
         octets: &[u8],
         report: &mut Vec<Event, A>,
     ) -> Result<(), Fault>
-        requires short { length octets.now ≤ 4200 }
+        requires short { length octets.now ≤ 2 ^ 31 }
         ensures does { (c : Channel) → Stands self.old c → IfOk result (λ _. Does stamp self.old self.new report.old.items report.new.items (transferring self.old.terms.interface side state Class.Data octets.now c)) }
         ensures unchanged { OnErr result ((self.new ≡ self.old) × (report.new.items ≡ report.old.items)) }
         ensures memory { IfErr result (λ fault. fault ≡ Memory) }
@@ -161,7 +159,7 @@ impl<A: Allocator + Clone> PlainChannel<A> {
         octets: &[u8],
         report: &mut Vec<Event, A>,
     ) -> Result<(), Fault>
-        requires short { length octets.now ≤ 4200 }
+        requires short { length octets.now ≤ 2 ^ 31 }
         ensures does { (c : Channel) → Stands self.old c → IfOk result (λ _. Does stamp self.old self.new report.old.items report.new.items (transferring self.old.terms.interface side state class octets.now c)) }
         ensures unchanged { OnErr result ((self.new ≡ self.old) × (report.new.items ≡ report.old.items)) }
         ensures memory { IfErr result (λ fault. fault ≡ Memory) }
@@ -178,7 +176,7 @@ impl<A: Allocator + Clone> PlainChannel<A> {
     #[tactic(auto, using(crate::proofs::Steps::decided))]
     fn decide(&self, side: Side, class: Class, octets: &[u8]) -> (StateName, Verdict)
         requires class { class_of self.now.terms.interface octets.now ≡ class }
-        requires short { length octets.now ≤ 4200 }
+        requires short { length octets.now ≤ 2 ^ 31 }
         ensures { (c : Channel) → Stands self.now c → IsDecided result.0 result.1 (judged (is_permanent self.now.terms.interface self.now.channel) side c.state c.owed class) (packet_fault self.now.terms.interface self.now.channel c side class octets.now) }
     {
         let (state, entry) = judged(
@@ -204,7 +202,7 @@ impl<A: Allocator + Clone> PlainChannel<A> {
         report: &mut Vec<Event, A>,
     ) -> Result<(), Fault>
         requires class { class_of self.old.terms.interface octets.now ≡ class }
-        requires short { length octets.now ≤ 4200 }
+        requires short { length octets.now ≤ 2 ^ 31 }
         ensures does { (c : Channel) → IsUnfaulted verdict (packet_fault self.old.terms.interface self.old.channel c side class octets.now) → Stands self.old c → IfOk result (λ _. Does stamp self.old self.new report.old.items report.new.items (verdict_step self.old.terms.interface side state class octets.now verdict c)) }
         ensures unchanged { OnErr result ((self.new ≡ self.old) × (report.new.items ≡ report.old.items)) }
         ensures memory { IfErr result (λ fault. fault ≡ Memory) }
@@ -221,40 +219,21 @@ impl<A: Allocator + Clone> PlainChannel<A> {
         }
     }
 
-    /// Takes the row of a packet on the channel and appends its events.
-    pub fn step(
-        &mut self,
-        epoch: u32,
-        row: &Row<A>,
-        report: &mut Vec<Event, A>,
-    ) -> Result<(), Fault>
-        requires short { length row.now.octets ≤ 4200 }
-        ensures does { (c : Channel) → Stands self.old c → IfOk result (λ _. Does (record { epoch = epoch; channel = number_of self.old; packet = row.now.number }) self.old self.new report.old.items report.new.items (channel_step (interface_of self.old) (number_of self.old) c row.now)) }
-        ensures unchanged { OnErr result ((self.new ≡ self.old) × (report.new.items ≡ report.old.items)) }
-        ensures memory { IfErr result (λ fault. fault ≡ Memory) }
-    {
-        let stamp = Stamp {
-            epoch,
-            channel: self.channel,
-            packet: row.number,
-        };
-        self.take(stamp, row.side, &row.octets, report)
-    }
-
     /// Takes the octets of a packet of a side.
-    fn take(
+    pub(crate) fn take(
         &mut self,
         stamp: Stamp,
         side: Side,
+        class: Class,
         octets: &[u8],
         report: &mut Vec<Event, A>,
     ) -> Result<(), Fault>
-        requires short { length octets.now ≤ 4200 }
+        requires class { class_of self.old.terms.interface octets.now ≡ class }
+        requires short { length octets.now ≤ 2 ^ 31 }
         ensures does { (c : Channel) → Stands self.old c → IfOk result (λ _. Does stamp self.old self.new report.old.items report.new.items (channel_step self.old.terms.interface self.old.channel c (record { number = stamp.packet; side = side; octets = octets.now }))) }
         ensures unchanged { OnErr result ((self.new ≡ self.old) × (report.new.items ≡ report.old.items)) }
         ensures memory { IfErr result (λ fault. fault ≡ Memory) }
     {
-        let class = class_of(&self.terms.interface, octets);
         let (state, verdict) = self.decide(side, class, octets);
         self.act(stamp, side, state, class, octets, verdict, report)
     }

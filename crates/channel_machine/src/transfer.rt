@@ -1,6 +1,6 @@
 //! What a channel keeps of data transfer: the windows and interrupts, the sequences begun, and the settings of both PADs.
 
-ghost use Rattle.std.specs.Prelude.{◌≡◌, ◌≤◌, ◌&&◌, length, IfOk, IfErr, OnErr, OnSome};
+ghost use Rattle.std.specs.Prelude.{◌^◌, ◌≡◌, ◌≤◌, ◌&&◌, length, IfOk, IfErr, OnErr, OnSome};
 ghost use Rattle.line_model.specs.declared.interface.Interface.{Interface};
 ghost use Rattle.line_model.specs.Channels.{Channel};
 ghost use Rattle.line_model.specs.FlowControl.{count_receive, count_interrupt, count_confirm};
@@ -66,7 +66,7 @@ impl<A: Allocator + Clone> Transfer<A> {
         pad_call: bool,
         report: &mut Vec<Event, A>,
     ) -> Result<Option<u8>, Fault>
-        requires short { length user_data.now ≤ 4200 }
+        requires short { length user_data.now ≤ 2 ^ 31 }
         ensures heard { (i : Interface) (c : Channel) → StandsFor i self.old c → pad_call ≡ is_pad_call c → IfOk result (λ o. IsHeard o i stamp self.old self.new report.old.items report.new.items side (packet side header.now user_data.now) (counted_in_force i side header.now.send header.now.receive c) c) }
         ensures faulted { IfOk result (λ o. OnSome o ((self.new ≡ self.old) × (report.new.items ≡ report.old.items))) }
         ensures unchanged { OnErr result ((self.new ≡ self.old) × (report.new.items ≡ report.old.items)) }

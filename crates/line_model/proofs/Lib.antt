@@ -35,3 +35,5 @@ pub mod CallRecords
 pub mod PieceCalls
 pub mod PeakOfCalls
 pub mod InOrder
+pub mod DataLengths
+pub mod ValueBounds

@@ -1,0 +1,19 @@
+-- The events of a row on a channel.
+use Rattle.std.specs.Prelude.{ℕ, Bool, List, [], ◌∷◌, ◌++◌, Option, Some, None, map}
+use Rattle.line_model.specs.declared.interface.Interface.{Interface}
+use Rattle.line_model.specs.declared.event.Event.{Event}
+use Rattle.line_model.specs.Records.{Row}
+use Rattle.line_model.specs.Channels.{Channel}
+use Rattle.line_model.specs.ChannelStep.{channel_step}
+use Rattle.line_model.specs.MachineEvents.{stamp}
+use Rattle.line_model.specs.Observer.{event_of, restart_end_if}
+use Rattle.line_model.specs.Plans.{row_numbered}
+
+-- the events of a row on a channel in an epoch
+abbrev pub row_events : Interface → (epoch channel : ℕ) → Channel → Row → List Event
+row_events i e k c r = map event_of (stamp e (Some k) r (channel_step i k c r).reported)
+
+-- the events with which a restart ends the epoch of a channel, by the number of its row
+abbrev pub end_events : (epoch channel : ℕ) → (end : Option ℕ) → (open_call : Bool) → List Event
+end_events e k None b = []
+end_events e k (Some n) b = map event_of (stamp e (Some k) (row_numbered n) (restart_end_if b))
