@@ -36,3 +36,4 @@ pub mod CallRecords
 pub mod PieceCalls
 pub mod PeakOfCalls
 pub mod InOrder
+pub mod RowsSoFar
