@@ -24,6 +24,7 @@ pub fn cut<A: Allocator + Copy>(
     ensures pieces { IfOk result (λ cut. cut.pieces.items ≡ plan interface.now rows.items) }
     ensures line { IfOk result (λ cut. cut.line.items ≡ line_findings interface.now rows.items) }
     ensures packets { IfOk result (λ cut. cut.packets ≡ length rows.items) }
+    ensures few { IfOk result (λ cut. length cut.pieces.items ≤ cut.packets) }
     ensures refused { IfErr result (λ fault. fault ≡ Memory) }
 {
     let mut cutter = Cutter::new(*rows.allocator(), interface);

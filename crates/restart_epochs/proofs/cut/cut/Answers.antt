@@ -1,11 +1,11 @@
-use Rattle.std.proofs.Common.{◌≡◌, ◌∙◌, ◌++◌, ◌∷◌, ap, subst, sym, refl, List, [], length, true, arith, rules}
+use Rattle.std.proofs.Common.{◌≡◌, ◌∙◌, ◌++◌, ◌∷◌, ◌+◌, length-append, ap, subst, sym, refl, List, [], length, true, arith, rules}
 use Rattle.std.specs.Vec.Iter.{into_iter_items}
 use Rattle.std.proofs.lemmas.List.{map-id}
 use Rattle.std.proofs.lemmas.Iterator.Adapters.{YieldsList-from_vec}
 use Rattle.std.proofs.lemmas.Iterator.Consumers.{YieldsList-end}
 use Rattle.line_model.specs.Classes.{packet_of}
 use Rattle.line_model.specs.Plans.{plan, line_findings}
-use Rattle.line_model.specs.Records.{Row}
+use Rattle.line_model.specs.Records.{Row, Piece}
 use Rattle.restart_epochs.specs.Cutting.{given_of}
 use Rattle.restart_epochs.proofs.Growth.{ends_nothing, given_pieces}
 use Rattle.restart_epochs.proofs.Whole.{MayCome, all_may_come, rest_may_come}
@@ -51,11 +51,16 @@ all_yielded g c =
     let t = YieldsList-end (YieldsList-from_vec {s = c.into_iter-row-iterator.result} c.args.rows.items given.0 (given.1 ∙ c.args.rows.ok.0)) c.loop-row.yielded c.loop-row.row-iterator c.loop-row.yielded_by c.next.result c.next.new.self c.in-None.is c.next.ensures.steps in
     sym (map-id c.loop-row.yielded) ∙ t.0
 
-pub returns-clause-pieces : goal.returns-clause-pieces
-returns-clause-pieces g c =
+-- the pieces that were given out on the way, and behind them those of the open epoch
+appended : (g : Over) (c : goal.After-drop-open-2 g) → c.append.new.self.items ≡ given_of c.args.interface.now c.loop-row.yielded ++ c.in_ok-open.field-0.pieces.items
+appended g c =
     let open_is : c.in_ok-open.open.items ≡ c.in_ok-open.field-0.pieces.items = ap (λ v. v.items) (sym c.in_ok-open.open-is) in
     let more : c.append.new.self.items ≡ c.loop-row.pieces.items ++ c.in_ok-open.open.items = search rules in
     more ∙ (λ j. c.loop-row.invariant.given j ++ open_is j)
+
+pub returns-clause-pieces : goal.returns-clause-pieces
+returns-clause-pieces g c =
+    appended g c
     ∙ c.in_ok-open.ensures.pieces c.args.interface.now c.loop-row.yielded c.loop-row.invariant.stands ∙ ap (plan c.args.interface.now) (all_yielded g c)
 
 pub returns-clause-line : goal.returns-clause-line
@@ -65,3 +70,8 @@ returns-clause-line g c =
 pub returns-clause-packets : goal.returns-clause-packets
 returns-clause-packets g c =
     c.in_ok-open.ensures.packets c.args.interface.now c.loop-row.yielded c.loop-row.invariant.stands ∙ ap (λ (rs : List Row). length rs) (all_yielded g c)
+
+pub returns-clause-few : goal.returns-clause-few
+returns-clause-few g c =
+    let all = ap (λ (l : List Piece). length l) (appended g c) ∙ length-append (given_of c.args.interface.now c.loop-row.yielded) c.in_ok-open.field-0.pieces.items in
+    omega (arith, all, c.in_ok-open.ensures.few c.args.interface.now c.loop-row.yielded c.loop-row.invariant.stands)
