@@ -37,3 +37,4 @@ pub mod PeakOfCalls
 pub mod InOrder
 pub mod DataLengths
 pub mod ValueBounds
+pub mod RowsSoFar

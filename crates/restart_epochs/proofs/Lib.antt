@@ -10,3 +10,4 @@ pub mod Pushes
 pub mod GivenOut
 pub mod Bounds
 pub mod Taken
+pub mod Whole

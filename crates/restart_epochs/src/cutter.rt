@@ -303,6 +303,7 @@ impl<A: Allocator + Copy> Cutter<A> {
         ensures pieces { (i : AnyInterface) (rows : List records.Row) → StandsFor i rows self → IfOk result (λ cut. given_of i rows ++ cut.pieces.items ≡ plan i rows) }
         ensures line { (i : AnyInterface) (rows : List records.Row) → StandsFor i rows self → IfOk result (λ cut. cut.line.items ≡ line_findings i rows) }
         ensures packets { (i : AnyInterface) (rows : List records.Row) → StandsFor i rows self → IfOk result (λ cut. cut.packets ≡ length rows) }
+        ensures few { (i : AnyInterface) (rows : List records.Row) → StandsFor i rows self → IfOk result (λ cut. length (given_of i rows) + length cut.pieces.items ≤ cut.packets) }
         ensures refused { IfErr result (λ fault. fault ≡ Memory) }
     {
         let Cutter {

@@ -1,6 +1,7 @@
 //! The restart machine, and the epochs and pieces that it cuts a trace into.
 #![tactic(auto)]
 
+pub mod cut;
 pub mod cutter;
 pub mod giving;
 pub mod open_epoch;

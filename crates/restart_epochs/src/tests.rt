@@ -1,7 +1,9 @@
 //! The restart packets of worked traces, and the rows of an epoch by channel.
 
-ghost use Rattle.std.specs.Prelude.{◌≡◌};
+ghost use Rattle.std.specs.Prelude.{◌≡◌, ◌≤◌, ◌∷◌, ◌^◌, All, IfOk, length, map, sum_by};
+ghost use Rattle.std.specs.List.Sorted.{IsStrictlyIncreasing};
 
+use crate::cut::cut;
 use crate::cutter::Cutter;
 use crate::open_epoch::OpenEpoch;
 use crate::restart::{Restart, Route};
@@ -295,5 +297,94 @@ fn row_that_leaves_r1_gives_out_its_epoch(rt: HostRuntime) -> Result<(), Fail> {
     assert!(rt; shape(rest) == (2, 2, 2, 1, None));
     assert_eq!(rt; finding.packet, 8);
     assert!(rt; finding.code == Code::Number(17));
+    Ok(())
+}
+
+/// The rows of a trace, which count from 1.
+fn rows_of(alloc: Global, packets: &[(Side, &[u8])]) -> Result<Vec<Row>, Fail>
+    ensures rising { IfOk result (λ rows. IsStrictlyIncreasing (0 ∷ map (λ r. r.number) rows.items)) }
+    ensures numbers { IfOk result (λ rows. All (λ r. r.number ≤ 999999999) rows.items) }
+    ensures octets { IfOk result (λ rows. sum_by (λ r. length r.octets) rows.items ≤ 2 ^ 31) }
+{
+    let mut rows = Vec::new(alloc);
+    let mut number = 0;
+    for (side, octets) in packets {
+        if number >= 1000 || octets.len() > 1000 {
+            return Err("more rows than a test has")?;
+        }
+        number += 1;
+        rows.push(Row {
+            number,
+            side: *side,
+            octets: octets.to_vec(alloc)?,
+        })?;
+    }
+    Ok(rows)
+}
+
+/// A data packet on each channel, and a restart that is confirmed.
+const EPOCH: [(Side, &[u8]); 6] = [
+    (Side::T, b"\x10\x01\x00\xaa"),
+    (Side::T, b"\x10\x02\x00\xaa"),
+    (Side::T, b"\x10\x03\x00\xaa"),
+    (Side::T, b"\x10\x04\x00\xaa"),
+    (Side::T, b"\x10\x00\xfb\x00\x00"),
+    (Side::N, b"\x10\x00\xff"),
+];
+
+#[test]
+fn three_epochs_have_a_piece_for_each_channel(rt: HostRuntime) -> Result<(), Fail> {
+    let mut packets = Vec::new(rt.alloc());
+    packets.extend_from_slice(&EPOCH)?;
+    packets.extend_from_slice(&EPOCH)?;
+    packets.extend_from_slice(&EPOCH[..4])?;
+    let rows = rows_of(rt.alloc(), packets.as_slice())?;
+    let cut = cut(&PLAIN, rows)?;
+    assert_eq!(rt; cut.packets, 16);
+    assert!(rt; cut.line.is_empty());
+    assert_eq!(rt; cut.pieces.len(), 12);
+    for (piece, wanted) in cut.pieces.iter().zip(PIECES) {
+        assert!(rt; shape(piece) == wanted, "{wanted:?}");
+    }
+    Ok(())
+}
+
+/// The pieces of three epochs.
+const PIECES: [(u32, u32, u16, usize, Option<u32>); 12] = [
+    (0, 1, 1, 1, Some(5)),
+    (1, 1, 2, 1, Some(5)),
+    (2, 1, 3, 1, Some(5)),
+    (3, 1, 4, 1, Some(5)),
+    (4, 2, 1, 1, Some(11)),
+    (5, 2, 2, 1, Some(11)),
+    (6, 2, 3, 1, Some(11)),
+    (7, 2, 4, 1, Some(11)),
+    (8, 3, 1, 1, None),
+    (9, 3, 2, 1, None),
+    (10, 3, 3, 1, None),
+    (11, 3, 4, 1, None),
+];
+
+#[test]
+fn findings_of_the_restart_machine_are_all_told(rt: HostRuntime) -> Result<(), Fail> {
+    let rows = rows_of(
+        rt.alloc(),
+        &[
+            (Side::T, b"\x10\x00\xff".as_slice()),
+            (Side::N, b"\x10\x00\xff".as_slice()),
+            (Side::T, b"\x10\x00\xff".as_slice()),
+            (Side::N, b"\x10\x00\xff".as_slice()),
+        ],
+    )?;
+    let cut = cut(&PLAIN, rows)?;
+    assert_eq!(rt; cut.packets, 4);
+    assert!(rt; cut.pieces.is_empty());
+    let [first, last] = cut.line.as_slice() else {
+        return Err("two rows have findings")?;
+    };
+    assert_eq!(rt; first.packet, 1);
+    assert!(rt; first.code == Code::Number(17));
+    assert_eq!(rt; last.packet, 4);
+    assert!(rt; last.code == Code::Number(17));
     Ok(())
 }

@@ -1,8 +1,9 @@
-use Rattle.std.proofs.Common.{◌≡◌, ◌∙◌, ap, ◌++◌, [], rules, None}
+use Rattle.std.proofs.Common.{◌≡◌, ◌∙◌, ap, ◌++◌, [], List, length, rules, None, arith}
+use Rattle.line_model.specs.Records.{Piece}
 use Rattle.restart_epochs.specs.OpenRows.{rows_of}
 use Rattle.restart_epochs.specs.Cutting.{given_of, pieces_out}
 use Rattle.restart_epochs.proofs.Bounds.{lane_piece}
-use Rattle.restart_epochs.proofs.Pushes.{rest_open}
+use Rattle.restart_epochs.proofs.Pushes.{rest_open, out-length}
 use Rattle.restart_epochs.proofs.cutter.Cutter.end.Goals as goal
 
 pub give_out-requires-clause-pieces : goal.give_out-requires-clause-pieces
@@ -16,3 +17,13 @@ returns-clause-pieces g c i rows s =
     ∙ ap (λ l. l ++ pieces_out c.self.inside.interface c.self.inside.epoch None (rows_of c.self.inside.open_rows) c.self.inside.given c.self.inside.open_rows.channels) nothing
     ∙ ap (λ v. pieces_out v.interface v.epoch None (rows_of v.open_rows) v.given v.open_rows.channels) c.self.view_is)
     ∙ rest_open i rows c.args.self s
+
+pub returns-clause-few : goal.returns-clause-few
+returns-clause-few g c i rows s =
+    let inside = c.self.inside in
+    let nothing : c.reserve.new.self.items ≡ [] = search rules in
+    let open_channels : length c.give_out.new.out.items ≡ length inside.open_rows.channels =
+    ap (λ (l : List Piece). length l) (c.give_out.ensures.given ∙ ap (λ l. l ++ pieces_out inside.interface inside.epoch None (rows_of inside.open_rows) inside.given inside.open_rows.channels) nothing)
+    ∙ out-length inside.interface inside.epoch None (rows_of inside.open_rows) inside.given inside.open_rows.channels in
+    let given : inside.given ≡ length (given_of i rows) = ap (λ v. v.given) c.self.view_is ∙ s.given in
+    omega (arith, c.self.invariant.ids, open_channels, given)

@@ -1,0 +1,30 @@
+-- The rows that a cutter has not taken yet.
+use Rattle.std.proofs.Common.{◌≡◌, ◌∙◌, sym, ap, subst, refl, ℕ, suc, ◌+◌, ◌-◌, ◌<◌, ◌≤◌, ◌^◌, List, [], ◌∷◌, map, length, Some, arith}
+use Rattle.std.specs.Prelude.{All, sum_by, slice_get}
+use Rattle.std.specs.List.{AllByRecursion}
+use Rattle.std.specs.List.Sorted.{IsStrictlyIncreasing}
+use Rattle.std.proofs.lemmas.List.Sums.{sum_by-cons}
+use Rattle.line_model.specs.Records.{Row}
+use Rattle.line_model.proofs.Rising.{RisesFrom, rises-from_index}
+use Rattle.restart_epochs.specs.Cutting.{Cutting, IsCounted}
+
+-- rows that the cutter may take, one after the other
+pub record MayCome (c : Cutting) (rs : List Row) : Type 0 where
+  pub rising : RisesFrom c.last (map (λ r. r.number) rs)
+  pub numbers : All (λ r. r.number ≤ 999999999) rs
+  pub octets : c.octets + sum_by (λ r. length r.octets) rs ≤ 2 ^ 31
+
+pub all_may_come : (c : Cutting) (rs : List Row) → c.last ≡ 0 → c.octets ≡ 0 → IsStrictlyIncreasing (0 ∷ map (λ r. r.number) rs)
+    → All (λ r. r.number ≤ 999999999) rs → sum_by (λ r. length r.octets) rs ≤ 2 ^ 31 → MayCome c rs
+all_may_come c rs last octets rising numbers few = record {
+  rising = subst (λ n. RisesFrom n (map (λ r. r.number) rs)) (sym last) (rises-from_index (0 ∷ map (λ r. r.number) rs) rising);
+  numbers = numbers;
+  octets = omega (arith, octets, few);
+}
+
+pub rest_may_come : (before after : Cutting) (r : Row) (rs : List Row) → MayCome before (r ∷ rs) → IsCounted r before after → MayCome after rs
+rest_may_come before after r rs m counted = record {
+  rising = subst (λ n. RisesFrom n (map (λ x. x.number) rs)) (sym counted.last) m.rising.1;
+  numbers = λ k x lt. m.numbers (suc k) x (omega arith);
+  octets = let all = m.octets in omega (arith, counted.octets, all, sum_by-cons (λ (x : Row). length x.octets) r rs);
+}

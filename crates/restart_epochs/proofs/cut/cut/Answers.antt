@@ -1,0 +1,77 @@
+use Rattle.std.proofs.Common.{◌≡◌, ◌∙◌, ◌++◌, ◌∷◌, ◌+◌, length-append, ap, subst, sym, refl, List, [], length, true, arith, rules}
+use Rattle.std.specs.Vec.Iter.{into_iter_items}
+use Rattle.std.proofs.lemmas.List.{map-id}
+use Rattle.std.proofs.lemmas.Iterator.Adapters.{YieldsList-from_vec}
+use Rattle.std.proofs.lemmas.Iterator.Consumers.{YieldsList-end}
+use Rattle.line_model.specs.Classes.{packet_of}
+use Rattle.line_model.specs.Plans.{plan, line_findings}
+use Rattle.line_model.specs.Records.{Row, Piece}
+use Rattle.restart_epochs.specs.Cutting.{given_of}
+use Rattle.restart_epochs.proofs.Growth.{ends_nothing, given_pieces}
+use Rattle.restart_epochs.proofs.Whole.{MayCome, all_may_come, rest_may_come}
+use Rattle.restart_epochs.proofs.cut.cut.Given.{Over}
+use Rattle.restart_epochs.proofs.cut.cut.Goals as goal
+
+pub loop-row-init : goal.loop-row-init
+loop-row-init g c = record {
+  stands = c.new-cutter.ensures.stands;
+  given = c.new-pieces.ensures.items ∙ sym (given_pieces c.args.interface.now [] true ends_nothing);
+  left = subst (MayCome c.new-cutter.result) (sym c.into_iter-row-iterator.ensures.into_iter_gives.0)
+      (all_may_come c.new-cutter.result c.args.rows.items c.new-cutter.ensures.last c.new-cutter.ensures.octets c.requires.rising c.requires.numbers c.requires.octets);
+}
+
+pub push-requires-clause-packet : goal.push-requires-clause-packet
+push-requires-clause-packet g c =
+    let octets : c.as_slice.result.now ≡ c.in-Some.row.octets = c.as_slice.ensures.value ∙ ap (λ r. r.octets) c.row.view_is in
+    c.decode-packet.ensures ∙ (λ j. packet_of (sym c.loop-row.invariant.stands.interface j) (octets j))
+
+pub push-requires-clause-rising : goal.push-requires-clause-rising
+push-requires-clause-rising g c =
+    let left : MayCome c.loop-row.cutter (c.in-Some.row ∷ into_iter_items c.next.new.self) = subst (MayCome c.loop-row.cutter) c.in-Some.ensures.steps.0 c.loop-row.invariant.left in
+    left.rising.0
+
+pub push-requires-clause-number : goal.push-requires-clause-number
+push-requires-clause-number g c =
+    let left : MayCome c.loop-row.cutter (c.in-Some.row ∷ into_iter_items c.next.new.self) = subst (MayCome c.loop-row.cutter) c.in-Some.ensures.steps.0 c.loop-row.invariant.left in
+    left.numbers 0 c.in-Some.row (omega arith)
+
+pub loop-row-preserved : goal.loop-row-preserved
+loop-row-preserved g c =
+    let inv = c.loop-row.invariant in
+    let left : MayCome c.loop-row.cutter (c.in-Some.row ∷ into_iter_items c.next.new.self) = subst (MayCome c.loop-row.cutter) c.in-Some.ensures.steps.0 inv.left in
+    record {
+      stands = c.in-Ok.ensures.stands c.args.interface.now c.loop-row.yielded inv.stands;
+      given = c.in-Ok.ensures.given c.args.interface.now c.loop-row.yielded [] inv.stands inv.given;
+      left = rest_may_come c.loop-row.cutter c.push.new.self c.in-Some.row (into_iter_items c.next.new.self) left c.in-Ok.ensures.counted;
+    }
+
+all_yielded : (g : Over) (c : goal.After-drop-open-2 g) → c.loop-row.yielded ≡ c.args.rows.items
+all_yielded g c =
+    let given = c.into_iter-row-iterator.ensures.into_iter_gives in
+    let t = YieldsList-end (YieldsList-from_vec {s = c.into_iter-row-iterator.result} c.args.rows.items given.0 (given.1 ∙ c.args.rows.ok.0)) c.loop-row.yielded c.loop-row.row-iterator c.loop-row.yielded_by c.next.result c.next.new.self c.in-None.is c.next.ensures.steps in
+    sym (map-id c.loop-row.yielded) ∙ t.0
+
+-- the pieces that were given out on the way, and behind them those of the open epoch
+appended : (g : Over) (c : goal.After-drop-open-2 g) → c.append.new.self.items ≡ given_of c.args.interface.now c.loop-row.yielded ++ c.in_ok-open.field-0.pieces.items
+appended g c =
+    let open_is : c.in_ok-open.open.items ≡ c.in_ok-open.field-0.pieces.items = ap (λ v. v.items) (sym c.in_ok-open.open-is) in
+    let more : c.append.new.self.items ≡ c.loop-row.pieces.items ++ c.in_ok-open.open.items = search rules in
+    more ∙ (λ j. c.loop-row.invariant.given j ++ open_is j)
+
+pub returns-clause-pieces : goal.returns-clause-pieces
+returns-clause-pieces g c =
+    appended g c
+    ∙ c.in_ok-open.ensures.pieces c.args.interface.now c.loop-row.yielded c.loop-row.invariant.stands ∙ ap (plan c.args.interface.now) (all_yielded g c)
+
+pub returns-clause-line : goal.returns-clause-line
+returns-clause-line g c =
+    c.in_ok-open.ensures.line c.args.interface.now c.loop-row.yielded c.loop-row.invariant.stands ∙ ap (line_findings c.args.interface.now) (all_yielded g c)
+
+pub returns-clause-packets : goal.returns-clause-packets
+returns-clause-packets g c =
+    c.in_ok-open.ensures.packets c.args.interface.now c.loop-row.yielded c.loop-row.invariant.stands ∙ ap (λ (rs : List Row). length rs) (all_yielded g c)
+
+pub returns-clause-few : goal.returns-clause-few
+returns-clause-few g c =
+    let all = ap (λ (l : List Piece). length l) (appended g c) ∙ length-append (given_of c.args.interface.now c.loop-row.yielded) c.in_ok-open.field-0.pieces.items in
+    omega (arith, all, c.in_ok-open.ensures.few c.args.interface.now c.loop-row.yielded c.loop-row.invariant.stands)

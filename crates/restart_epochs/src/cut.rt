@@ -1,0 +1,50 @@
+//! A whole trace that falls into pieces.
+
+ghost use Rattle.std.specs.Prelude.{◌≡◌, ◌≤◌, ◌∷◌, ◌^◌, All, IfErr, IfOk, length, map, sum_by};
+ghost use Rattle.std.specs.List.Sorted.{IsStrictlyIncreasing};
+ghost use Rattle.line_model.specs.Plans.{plan, line_findings};
+ghost use Rattle.line_model.specs.declared.fault.Fault.TheVariants.{Memory};
+
+use crate::cutter::{Cut, Cutter};
+use line_model::fault::Fault;
+use line_model::interface::Interface;
+use line_model::row::{Item, Row};
+use packet_decode::decode::decode;
+use std::alloc::Allocator;
+
+/// Cuts the rows of a trace into pieces by epoch and logical channel (profile). The rows go into the pieces, with the
+/// packets that their octets are. Refuses for want of memory alone.
+pub fn cut<A: Allocator + Copy>(
+    interface: &Interface,
+    rows: Vec<Row<A>, A>,
+) -> Result<Cut<A>, Fault>
+    requires rising { IsStrictlyIncreasing (0 ∷ map (λ r. r.number) rows.items) }
+    requires numbers { All (λ r. r.number ≤ 999999999) rows.items }
+    requires octets { sum_by (λ r. length r.octets) rows.items ≤ 2 ^ 31 }
+    ensures pieces { IfOk result (λ cut. cut.pieces.items ≡ plan interface.now rows.items) }
+    ensures line { IfOk result (λ cut. cut.line.items ≡ line_findings interface.now rows.items) }
+    ensures packets { IfOk result (λ cut. cut.packets ≡ length rows.items) }
+    ensures few { IfOk result (λ cut. length cut.pieces.items ≤ cut.packets) }
+    ensures refused { IfErr result (λ fault. fault ≡ Memory) }
+{
+    let mut cutter = Cutter::new(*rows.allocator(), interface);
+    let mut pieces = Vec::new(*rows.allocator());
+    for row in rows {
+        let packet = decode(interface, row.octets.as_slice());
+        match cutter.push(Item { row, packet }, &mut pieces) {
+            Ok(()) => {}
+            Err(_) => return Err(Fault::Memory),
+        }
+    }
+    let Cut {
+        pieces: mut open,
+        line,
+        packets,
+    } = cutter.end()?;
+    pieces.append(&mut open)?;
+    Ok(Cut {
+        pieces,
+        line,
+        packets,
+    })
+}
