@@ -1,5 +1,6 @@
 pub mod ReadingLemmas
+pub mod RowsOfText
+pub mod WritingLemmas
 pub mod ScanLemmas
 pub mod StatusLemmas
-pub mod WritingLemmas
 mod WorkedWords

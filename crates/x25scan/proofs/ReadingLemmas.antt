@@ -7,7 +7,7 @@ use Rattle.line_model.specs.declared.interface.Interface.{Interface}
 use Rattle.line_model.specs.declared.fault.Fault.{Fault}
 use Rattle.line_model.specs.declared.fault.Fault.TheVariants.{Memory, Trace, Read}
 use Rattle.trace_text.specs.StandsFor.{IsFaultOf, IsTold, IsTextFault}
-use Rattle.x25scan.specs.Scan.{IsEarlyRefusal, IsReadingFault, IsRefusal, IsRefusedBy}
+use Rattle.x25scan.specs.Scan.{IsEarlyRefusal, IsRead, IsReadingFault, IsRefusal, IsRefusedBy}
 
 -- the reader was fed the first bytes of the text, and the source has the others
 pub record Reached (left : Option (List ℕ)) (stands : List ℕ → Type 0) (told : List ℕ → Type 0) (text : List ℕ) : Type 0 where
@@ -27,6 +27,10 @@ early_refusal given rest _ h = absurd h
 pub end_ok : (r : Result Interface Fault) (text : List ℕ) (out : List Row) → IfOk r (λ interface. (fault text ≡ None) × (head text ≡ Some interface)) → IsTold r out [] (rows text) → (L : Type 0) → L → IfOk r (λ interface. (fault text ≡ None) × (head text ≡ Some interface) × (out ≡ rows text) × L)
 end_ok (Ok interface) text out h told L l = (h.0, h.1, told, l)
 end_ok (Err f) text out h told L l = tt
+
+pub end_read : (r : Result Interface Fault) (text : List ℕ) (out : List Row) → IfOk r (λ interface. (fault text ≡ None) × (head text ≡ Some interface)) → IsTold r out [] (rows text) → IfOk r (λ interface. IsRead interface out)
+end_read (Ok interface) text out h told = record { text = text; sound = h.0; header = h.1; rows_are = told }
+end_read (Err f) text out h told = tt
 
 at_end : (text : List ℕ) (f : Fault) → IsFaultOf (fault text) f → IsRefusal text [] f
 at_end text Memory h = tt

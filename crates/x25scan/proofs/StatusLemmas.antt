@@ -7,7 +7,7 @@ use Rattle.line_model.specs.declared.fault.Fault.{Fault}
 use Rattle.line_model.specs.declared.fault.Fault.TheVariants.{Trace, Write}
 use Rattle.x25scan.specs.Program.{IsStatus, fault_status, summary_status}
 use Rattle.x25scan.specs.Scan.{IsRefusal, IsRefusedBy, IsReported, IsTaken}
-use Rattle.x25scan.specs.Thin.{report, summary}
+use Rattle.line_model.specs.Traces.{trace_report, trace_summary}
 
 with_more-nothing : (o : Option (List ℕ)) → o ≡ with_more o []
 with_more-nothing None = refl
@@ -16,7 +16,7 @@ with_more-nothing (Some xs) = ap Some (sym (append-nil xs))
 some_status : (m : ℕ) → cond {A = ℕ} (suc m == 0) 0 1 ≡ 1
 some_status m = grind (arith, nat_tests)
 
-counted : (text : List ℕ) (left before after : Option (List ℕ)) (n status : ℕ) → IsReported text before after (summary text) → n ≡ (summary text).findings → status ≡ summary_status (summary text) → IsStatus text left before after status
+counted : (text : List ℕ) (left before after : Option (List ℕ)) (n status : ℕ) → IsReported text before after (trace_summary text) → n ≡ (trace_summary text).findings → status ≡ summary_status (trace_summary text) → IsStatus text left before after status
 counted text left before after zero status r n s = record {
   clean = λ e. (r, sym n);
   found = λ e. absurd (let is : status ≡ 0 = rw (← n) at s in omega (arith, is, e));
@@ -34,10 +34,10 @@ counted text left before after (suc m) status r n s = record {
 
 pub reported_status : (text : List ℕ) (left before after : Option (List ℕ)) (sums : Summary) (status : ℕ) → IsReported text before after sums → status ≡ summary_status sums → IsStatus text left before after status
 reported_status text left before after sums status r s =
-    let whole : IsReported text before after (summary text) = record { sound = r.sound; taken = r.taken; counted = refl } in
-    counted text left before after (summary text).findings status whole refl (s ∙ ap summary_status r.counted)
+    let whole : IsReported text before after (trace_summary text) = record { sound = r.sound; taken = r.taken; counted = refl } in
+    counted text left before after (trace_summary text).findings status whole refl (s ∙ ap summary_status r.counted)
 
-other_status : (text : List ℕ) (left before after : Option (List ℕ)) (status : ℕ) → status ≡ 3 → ((n : ℕ) × (after ≡ with_more before (take n (report text)))) → IsStatus text left before after status
+other_status : (text : List ℕ) (left before after : Option (List ℕ)) (status : ℕ) → status ≡ 3 → ((n : ℕ) × (after ≡ with_more before (take n (trace_report text)))) → IsStatus text left before after status
 other_status text left before after status s part = record {
   clean = λ e. absurd (omega (arith, e, s));
   found = λ e. absurd (omega (arith, e, s));
@@ -46,7 +46,7 @@ other_status text left before after status s part = record {
   range = omega (arith, s);
 }
 
-pub refused_status : (text : List ℕ) (left before after : Option (List ℕ)) (f : Fault) (status : ℕ) → IsRefusedBy IsRefusal text left f → IsTaken before after (report text) f → status ≡ fault_status f → IsStatus text left before after status
+pub refused_status : (text : List ℕ) (left before after : Option (List ℕ)) (f : Fault) (status : ℕ) → IsRefusedBy IsRefusal text left f → IsTaken before after (trace_report text) f → status ≡ fault_status f → IsStatus text left before after status
 refused_status text left before after (Trace line kind) status r taken s = record {
   clean = λ e. absurd (omega (arith, e, s));
   found = λ e. absurd (omega (arith, e, s));

@@ -1,4 +1,3 @@
 pub mod Options
 pub mod Program
 pub mod Scan
-pub mod Thin

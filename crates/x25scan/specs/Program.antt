@@ -9,7 +9,7 @@ use Rattle.line_model.specs.declared.fault.Fault.{Fault}
 use Rattle.line_model.specs.declared.fault.Fault.TheVariants.{Trace}
 use Rattle.line_model.specs.declared.totals.Summary.{Summary}
 use Rattle.x25scan.specs.Scan.{IsRefusal, IsRefusedBy, IsReported}
-use Rattle.x25scan.specs.Thin.{report, summary}
+use Rattle.line_model.specs.Traces.{trace_report, trace_summary}
 
 -- 0 without findings, else 1
 abbrev pub summary_status : Summary → ℕ
@@ -38,10 +38,10 @@ pub record IsFaulty (text : List ℕ) (after : Option (List ℕ)) : Type 0 where
 
 -- what the status says of a text, of which the source has `left`: the sink had `before` and has `after`
 pub record IsStatus (text : List ℕ) (left before after : Option (List ℕ)) (status : ℕ) : Type 0 where
-  pub clean : status ≡ 0 → IsReported text before after (summary text) × ((summary text).findings ≡ 0)
-  pub found : status ≡ 1 → IsReported text before after (summary text) × (0 < (summary text).findings)
+  pub clean : status ≡ 0 → IsReported text before after (trace_summary text) × ((trace_summary text).findings ≡ 0)
+  pub found : status ≡ 1 → IsReported text before after (trace_summary text) × (0 < (trace_summary text).findings)
   pub faulty : status ≡ 2 → IsFaulty text left × (after ≡ before)
-  pub other : status ≡ 3 → (n : ℕ) × (after ≡ with_more before (take n (report text)))
+  pub other : status ≡ 3 → (n : ℕ) × (after ≡ with_more before (take n (trace_report text)))
   pub range : status < 4
 
 -- memory ran out before the trace was read: source and sink were not asked

@@ -1,11 +1,13 @@
 -- What a scan answers, and what it wrote.
 use Rattle.std.specs.Prelude.{◌≡◌, ℕ, ◌⊎◌, List, [], ◌++◌, Option, Some, None, take}
 use Rattle.line_model.specs.Device.{with_more}
-use Rattle.line_model.specs.Text.{early, fault}
+use Rattle.line_model.specs.Records.{Row}
+use Rattle.line_model.specs.Text.{early, fault, head, rows}
+use Rattle.line_model.specs.declared.interface.Interface.{Interface}
 use Rattle.line_model.specs.declared.fault.Fault.{Fault}
 use Rattle.line_model.specs.declared.fault.Fault.TheVariants.{Memory, Trace, Read, Write}
 use Rattle.line_model.specs.declared.totals.Summary.{Summary}
-use Rattle.x25scan.specs.Thin.{report, summary}
+use Rattle.line_model.specs.Traces.{trace_report, trace_summary}
 
 -- what a refusal while the text is read says of the bytes that were given
 abbrev pub IsEarlyRefusal : (given rest : List ℕ) → Fault → Type 0
@@ -30,6 +32,13 @@ pub record IsRefusedBy (why : List ℕ → List ℕ → Fault → Type 0) (text 
   pub left : after ≡ Some rest
   pub refusal : why given rest told
 
+-- a text without a fault has this header and these rows
+pub record IsRead (i : Interface) (rs : List Row) : Type 0 where
+  pub text : List ℕ
+  pub sound : fault text ≡ None
+  pub header : head text ≡ Some i
+  pub rows_are : rs ≡ rows text
+
 -- the faults that reading a text may meet
 abbrev pub IsReadingFault : Fault → Type 0
 IsReadingFault Memory = Unit {0}
@@ -48,8 +57,8 @@ IsScanFault _ = ⊥
 -- the text has no fault, the sink took exactly its report, and the sums are those of its last line
 pub record IsReported (text : List ℕ) (before after : Option (List ℕ)) (sums : Summary) : Type 0 where
   pub sound : fault text ≡ None
-  pub taken : after ≡ with_more before (report text)
-  pub counted : sums ≡ summary text
+  pub taken : after ≡ with_more before (trace_report text)
+  pub counted : sums ≡ trace_summary text
 
 -- nothing was taken, or where the sink failed a first part of the report
 abbrev pub IsTaken : Option (List ℕ) → Option (List ℕ) → List ℕ → Fault → Type 0

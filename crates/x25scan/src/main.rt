@@ -3,14 +3,15 @@
 
 ghost use Rattle.std.specs.Prelude.{◌≡◌, ◌<◌};
 
+mod observing;
 mod options;
+mod piece_run;
 mod program;
 mod reading;
 mod scan;
 mod streams;
 #[cfg(test)]
 mod tests;
-mod thin;
 mod writing;
 
 use crate::program::{OTHER_FAULT, USAGE, program};

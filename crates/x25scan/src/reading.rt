@@ -3,7 +3,7 @@
 ghost use Rattle.std.specs.Prelude.{◌≡◌, ℕ, ◌+◌, ◌<◌, ◌≤◌, ◌^◌, [], List, Some, None, Err, IfOk, IfErr, OnOk};
 ghost use Rattle.line_model.specs.Text.{early_rows, fault, head, rows};
 ghost use Rattle.trace_text.specs.StandsFor.{StandsFor};
-ghost use Rattle.x25scan.specs.Scan.{IsEarlyRefusal, IsReadingFault, IsRefusal, IsRefusedBy};
+ghost use Rattle.x25scan.specs.Scan.{IsEarlyRefusal, IsRead, IsReadingFault, IsRefusal, IsRefusedBy};
 
 use line_model::device::Source;
 use line_model::fault::Fault;
@@ -24,6 +24,7 @@ fn feed_all<A: Allocator + Clone, S: Source>(
     requires { StandsFor lines.old [] }
     ensures stands { (text : List ℕ) → S.left source.old ≡ Some text → OnOk result (StandsFor lines.new text × (S.left source.new ≡ Some [])) }
     ensures told { (text : List ℕ) → S.left source.old ≡ Some text → out.old.items ≡ [] → OnOk result (out.new.items ≡ early_rows text) }
+    ensures fed { out.old.items ≡ [] → OnOk result ((text : List ℕ) × StandsFor lines.new text × (out.new.items ≡ early_rows text)) }
     ensures kinds { IfErr result IsReadingFault }
     ensures refused { (text : List ℕ) → S.left source.old ≡ Some text → IfErr result (IsRefusedBy IsEarlyRefusal text (S.left source.new)) }
     ensures read_failed { result ≡ Err Fault.Read → S.failures source.old < S.failures source.new }
@@ -52,6 +53,8 @@ pub fn read_rows<A: Allocator + Clone, S: Source>(
     requires { out.old.items ≡ [] }
     // The source gave all of a text without a fault.
     ensures read { (text : List ℕ) → S.left source.old ≡ Some text → IfOk result (λ interface. (fault text ≡ None) × (head text ≡ Some interface) × (out.new.items ≡ rows text) × (S.left source.new ≡ Some [])) }
+    // So it is with a source that does not tell its bytes.
+    ensures of_text { IfOk result (λ interface. IsRead interface out.new.items) }
     ensures kinds { IfErr result IsReadingFault }
     // A refusal by the bytes that were given.
     ensures refused { (text : List ℕ) → S.left source.old ≡ Some text → IfErr result (IsRefusedBy IsRefusal text (S.left source.new)) }

@@ -9,6 +9,7 @@ loop-n-init g c = record {
   calls = omega arith;
   room = omega (arith, c.requires.start, ap (λ (xs : List ℕ). length xs) c.requires.begun);
   failures = omega arith;
+  fed = λ none. ([], c.requires, none ∙ sym early_rows-nothing);
   given = λ text told. record { fed = []; rest = text; whole = refl; source = told; reader = c.requires; sound = early-nothing; rows = λ none. none ∙ sym early_rows-nothing };
 }
 
@@ -17,6 +18,9 @@ loop-n-preserved g c = record {
   calls = grind (arith, common_steps);
   room = c.in-Ok-feed.ensures.limit;
   failures = grind (arith, common_steps);
+  fed = λ none.
+      let f = c.loop-n.invariant.fed none in
+      (f.0 ++ _, c.in-Ok-feed.ensures.ok f.0 f.1, c.in-Ok-feed.ensures.told f.0 [] f.1 f.2);
   given = λ text told.
       let r = c.loop-n.invariant.given text told in
       let more = c.in-Ok.ensures.given.told r.rest r.source in

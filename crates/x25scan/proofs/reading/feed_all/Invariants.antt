@@ -11,6 +11,7 @@ invariant-loop-n g l =
       calls : g.S.Source.calls l.source ≤ g.S.Source.calls l.fn.source + bytes_fed l.lines;
       room : bytes_fed l.lines ≤ 1073741824;
       failures : g.S.Source.failures l.fn.source ≤ g.S.Source.failures l.source;
+      fed : l.fn.out.items ≡ [] → (text : List ℕ) × StandsFor l.lines text × (l.out.items ≡ early_rows text);
       given : (text : List ℕ) → g.S.Source.left l.fn.source ≡ Some text →
           Reached (g.S.Source.left l.source) (StandsFor l.lines) (λ fed. l.fn.out.items ≡ [] → l.out.items ≡ early_rows fed) text;
     }

@@ -1,5 +1,5 @@
 use Rattle.std.proofs.Common.{[]}
-use Rattle.x25scan.proofs.ReadingLemmas.{end_ok, end_refused, refused_early, end_kinds}
+use Rattle.x25scan.proofs.ReadingLemmas.{end_ok, end_read, end_refused, refused_early, end_kinds}
 use Rattle.x25scan.proofs.reading.read_rows.Goals as goal
 
 pub returns-in-Ok-clause-read : goal.returns-in-Ok-clause-read
@@ -18,3 +18,8 @@ returns-in-Err-clause-refused g c text told = refused_early text (g.S.Source.lef
 
 pub returns-in-Ok-clause-kinds : goal.returns-in-Ok-clause-kinds
 returns-in-Ok-clause-kinds g c = end_kinds c.end.result c.end.ensures.kinds
+
+pub returns-in-Ok-clause-of_text : goal.returns-in-Ok-clause-of_text
+returns-in-Ok-clause-of_text g c =
+    let fed = c.in-Ok.ensures.fed c.requires in
+    end_read c.end.result fed.0 c.end.new.out.items (c.end.ensures.ok fed.0 fed.1) (c.end.ensures.told fed.0 [] fed.1 fed.2)
