@@ -5,7 +5,6 @@ ghost use Rattle.std.specs.Prelude.{◌≡◌, ◌<◌};
 
 mod observing;
 mod options;
-mod piece_run;
 mod program;
 mod reading;
 mod scan;

@@ -6,7 +6,8 @@ ghost use Rattle.line_model.specs.Plans.{value};
 ghost use Rattle.line_model.specs.Report.{report_of};
 ghost use Rattle.line_model.specs.declared.fault.Fault.TheVariants.{Memory};
 
-use crate::piece_run::run_piece;
+use channel_machine::channel::PlainChannel;
+use channel_machine::run::run_piece;
 use line_model::fault::Fault;
 use line_model::interface::Interface;
 use line_model::piece::{Piece, PieceReport};
@@ -27,7 +28,7 @@ fn run_pieces<A: Allocator + Copy>(
 {
     let mut reports = Vec::new(alloc);
     for piece in pieces {
-        let report = run_piece(alloc, &piece)?;
+        let report = run_piece::<A, PlainChannel<A>>(alloc, &piece)?;
         reports.push(report)?;
     }
     Ok(reports)
