@@ -137,7 +137,10 @@ fn report_of<A: Allocator + Clone>(
     ensures memory { IfErr result (λ fault. fault ≡ Memory) }
 {
     let Piece {
-        id, epoch, channel, ..
+        id,
+        epoch,
+        channel,
+        ..
     } = piece;
     let findings = findings_of(alloc.clone()?, events)?;
     let calls = calls_of(alloc, events)?;
