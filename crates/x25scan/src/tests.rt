@@ -2,10 +2,18 @@
 
 mod devices;
 mod runs;
+mod worked;
 
 use crate::options::parse;
 use crate::tests::runs::{Cuts, run, scan};
+use crate::tests::worked::Worked;
+use crate::tests::worked::channels::CHANNELS;
+use crate::tests::worked::epochs::EPOCHS;
+use crate::tests::worked::messages::MESSAGES;
+use crate::tests::worked::refused::REFUSED;
 use line_model::fault::{Fault, Kind};
+use std::alloc::Global;
+use std::process::Abort;
 use std::test::Fail;
 
 /// A header.
@@ -21,22 +29,88 @@ fn memory_is_not_always_refused(rt: HostRuntime) -> Result<(), Fail> {
     Ok(())
 }
 
+/// Scans worked traces, as their sources and sinks cut them.
+fn check(rt: &impl Abort, alloc: Global, traces: &[Worked]) -> Result<(), Fail> {
+    for worked in traces {
+        for step in STEPS {
+            let scanned = scan(alloc, worked.text, Cuts::of_steps(step, step));
+            assert_eq!(rt;
+                scanned.answer.err(),
+                worked.fault,
+                "{} by {step}",
+                worked.name
+            );
+            assert_eq!(rt;
+                scanned.taken.as_slice(),
+                worked.report,
+                "{} by {step}",
+                worked.name
+            );
+        }
+    }
+    Ok(())
+}
+
 #[test]
-fn packets_outside_the_state_machines_are_reported(rt: HostRuntime) -> Result<(), Fail> {
-    for (rows, findings, report) in [
-        ("", 0, "Z 0 0 0 0 0\n"),
-        ("1 T -\n", 1, "F 1 T - 38\nZ 1 1 0 0 0\n"),
-        ("1 T -", 1, "F 1 T - 38\nZ 1 1 0 0 0\n"),
-        ("1 T 20010B0000\n", 1, "F 1 T - 40\nZ 1 1 0 0 0\n"),
+fn calls_and_windows_are_reported(rt: HostRuntime) -> Result<(), Fail> {
+    check(&rt, rt.alloc(), CHANNELS.as_slice())
+}
+
+#[test]
+fn epochs_are_reported(rt: HostRuntime) -> Result<(), Fail> {
+    check(&rt, rt.alloc(), EPOCHS.as_slice())
+}
+
+#[test]
+fn pad_messages_are_reported(rt: HostRuntime) -> Result<(), Fail> {
+    check(&rt, rt.alloc(), MESSAGES.as_slice())
+}
+
+#[test]
+fn long_messages_are_reported(rt: HostRuntime) -> Result<(), Fail> {
+    for (octets, report) in [
         (
-            "1 T 10050B0000\n2 T 10040B0000\n",
-            1,
-            "F 1 T - 36\nZ 2 1 0 0 0\n",
+            1023,
+            "F 3 N d1 X3\nC 1 1 1 out - - 1 2 - open 0 0 1 1023 16\nS 1 T 2 asked 2\nA - 1 16\nP 1 2\nZ 3 1 1 1023 16\n",
         ),
         (
+            1024,
+            "F 3 N d1 X2\nC 1 1 1 out - - 1 2 - open 0 0 1 1024 16\nA - 1 16\nP 1 2\nZ 3 1 1 1024 16\n",
+        ),
+        (
+            1025,
+            "F 3 N d1 XL\nC 1 1 1 out - - 1 2 - open 0 0 1 1025 17\nA - 1 17\nP 1 2\nZ 3 1 1 1025 17\n",
+        ),
+    ] {
+        let mut text = Vec::new(rt.alloc());
+        text.extend_from_slice(b"X25 1 MOD 8 WIN 2 SIZE 2048 PVC 0 SVC 4\n")?;
+        text.extend_from_slice(b"1 T 10010B000001000000\n2 N 10010F\n3 N 900100")?;
+        for _ in 0..octets {
+            text.extend_from_slice(b"02")?;
+        }
+        text.push(b'\n')?;
+        for step in STEPS {
+            let scanned = scan(rt.alloc(), text.as_slice(), Cuts::of_steps(step, step));
+            assert_eq!(rt;
+                scanned.taken.as_slice(),
+                report.as_bytes(),
+                "{octets} octets by {step}"
+            );
+        }
+    }
+    Ok(())
+}
+
+#[test]
+fn rows_are_counted_in_any_form(rt: HostRuntime) -> Result<(), Fail> {
+    for (rows, packets, report) in [
+        ("", 0, "P 0 -\nZ 0 0 0 0 0\n"),
+        ("1 T -\n", 1, "F 1 T - 38\nP 0 -\nZ 1 1 0 0 0\n"),
+        ("1 T -", 1, "F 1 T - 38\nP 0 -\nZ 1 1 0 0 0\n"),
+        (
             "# both sides\n7 T 1000F101\n8 N 1000F101\n9 T 1000F3\n12 N 10\n",
-            2,
-            "F 7 T - 36\nF 12 N - 38\nZ 4 2 0 0 0\n",
+            4,
+            "F 7 T - 36\nF 12 N - 38\nP 0 -\nZ 4 2 0 0 0\n",
         ),
     ] {
         let text = format!(in rt.alloc(); "{HEADER}{rows}")?;
@@ -50,10 +124,15 @@ fn packets_outside_the_state_machines_are_reported(rt: HostRuntime) -> Result<()
             let Ok(summary) = scanned.answer else {
                 return Err(Fail::new("refused"));
             };
-            assert_eq!(rt; summary.findings, findings, "at {rows} by {step}");
+            assert_eq!(rt; summary.packets, packets, "at {rows} by {step}");
         }
     }
     Ok(())
+}
+
+#[test]
+fn faulty_texts_are_refused(rt: HostRuntime) -> Result<(), Fail> {
+    check(&rt, rt.alloc(), REFUSED.as_slice())
 }
 
 #[test]
@@ -167,8 +246,8 @@ fn a_failing_source_hides_no_faulty_line(rt: HostRuntime) {
 
 #[test]
 fn a_failing_sink_took_the_first_bytes(rt: HostRuntime) {
-    let report = b"Z 0 0 0 0 0\n";
-    for good_writes in 0..14 {
+    let report = b"P 0 -\nZ 0 0 0 0 0\n";
+    for good_writes in 0..20 {
         let cuts = Cuts {
             good_writes,
             ..Cuts::of_steps(1, 1)
@@ -196,8 +275,8 @@ fn the_status_follows_the_scan(rt: HostRuntime) -> Result<(), Fail> {
         ..whole
     };
     for (rows, cuts, status, report, told) in [
-        ("", whole, 0, "Z 0 0 0 0 0\n", ""),
-        ("1 T -\n", whole, 1, "F 1 T - 38\nZ 1 1 0 0 0\n", ""),
+        ("", whole, 0, "P 0 -\nZ 0 0 0 0 0\n", ""),
+        ("1 T -\n", whole, 1, "F 1 T - 38\nP 0 -\nZ 1 1 0 0 0\n", ""),
         ("5 T -\n5 T -\n", whole, 2, "", "x25scan: line 3: kind 25\n"),
         ("", unread, 3, "", "x25scan: read failed\n"),
         ("", unwritten, 3, "", "x25scan: write failed\n"),
