@@ -1,5 +1,5 @@
 -- The report of a text, from its header and its rows.
-use Rattle.std.proofs.Common.{◌≡◌, ◌∙◌, sym, ap, refl, ℕ, List, [], Some, None, Option, ◌++◌, length, take, append-nil}
+use Rattle.std.proofs.Common.{◌≡◌, ◌∙◌, sym, ap, refl, ℕ, List, [], Some, None, Option, ◌++◌, length, append-nil}
 use Rattle.line_model.specs.Device.{with_more}
 use Rattle.line_model.specs.Text.{head, rows, fault}
 use Rattle.line_model.specs.Records.{Row, Report}

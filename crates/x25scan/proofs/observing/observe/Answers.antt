@@ -1,8 +1,8 @@
-use Rattle.std.proofs.Common.{◌≡◌, ◌∙◌, ap, subst, sym, List, length, map, arith}
+use Rattle.std.proofs.Common.{◌∙◌, ap, subst, sym, List, length, map}
 use Rattle.std.specs.List.Sorted.{IsPermutation}
 use Rattle.std.proofs.lemmas.List.Sorted.{IsPermutation-refl}
 use Rattle.std.proofs.lemmas.Result.{IfOk-weaker, IfErr-weaker}
-use Rattle.line_model.specs.Records.{Row, Piece}
+use Rattle.line_model.specs.Records.{Piece}
 use Rattle.line_model.specs.Plans.{plan, value}
 use Rattle.report_merge.specs.Merged.{IsOfWalk}
 use Rattle.x25scan.proofs.observing.observe.Given.{Over}

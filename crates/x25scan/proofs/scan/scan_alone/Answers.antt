@@ -1,8 +1,7 @@
-use Rattle.std.proofs.Common.{◌≡◌, ◌∙◌, ◌∷◌, ◌≤◌, ◌^◌, ap, subst, sym, length, map, sum_by, Some}
+use Rattle.std.proofs.Common.{◌∙◌, ◌∷◌, ◌≤◌, ◌^◌, ap, subst, sym, length, map, sum_by}
 use Rattle.std.specs.Prelude.{All}
 use Rattle.std.specs.List.Sorted.{IsStrictlyIncreasing}
-use Rattle.line_model.specs.Report.{report_of, text_of}
-use Rattle.line_model.specs.Records.{Row}
+use Rattle.line_model.specs.Report.{text_of}
 use Rattle.line_model.specs.Traces.{trace_report}
 use Rattle.x25scan.proofs.RowsOfText.{text_rises, text_numbers, text_octets}
 use Rattle.x25scan.proofs.ScanLemmas.{all_reported, memory_refused, report_rows, write_refused, write_taken}
