@@ -11,3 +11,4 @@ pub mod GivenOut
 pub mod Bounds
 pub mod Taken
 pub mod Whole
+pub mod Heads
