@@ -36,5 +36,6 @@ pub mod CallRecords
 pub mod PieceCalls
 pub mod PeakOfCalls
 pub mod InOrder
+pub mod EventWeights
 pub mod DataLengths
 pub mod ValueBounds
