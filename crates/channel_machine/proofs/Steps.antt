@@ -1,6 +1,6 @@
 -- What a packet does to a channel.
-use Rattle.std.proofs.Common.{◌≡◌, ℕ, Bool, true≢false, refl, sym, ◌∙◌, ap, subst, List, [], ◌∷◌, ◌++◌, Option, Some, None}
-use Rattle.std.specs.Prelude.{is_none, unwrap_or}
+use Rattle.std.proofs.Common.{◌≡◌, ℕ, Bool, true≢false, refl, sym, ◌∙◌, ap, subst, List, Option, Some, None}
+use Rattle.std.specs.Prelude.{is_none}
 use Rattle.line_model.specs.declared.interface.Interface.{Interface}
 use Rattle.line_model.specs.declared.packet.Class.{Class}
 use Rattle.line_model.specs.declared.packet.Class.TheVariants.{Call, Accepted}

@@ -1,4 +1,4 @@
-use Rattle.std.proofs.Common.{◌≡◌, refl, sym, ◌∙◌, ap, Some}
+use Rattle.std.proofs.Common.{sym, ◌∙◌, ap}
 use Rattle.channel_machine.specs.Transfers.{packet}
 use Rattle.channel_machine.proofs.InForce.{pad_stands}
 use Rattle.channel_machine.proofs.Taking.{unchanged_between, heard_by}
