@@ -1,13 +1,12 @@
 //! What a packet does to its channel.
 
-ghost use Rattle.std.specs.Prelude.{◌^◌, ◌≡◌, ◌≤◌, length, ℕ, false, Some, None, IfOk, IfErr, OnErr};
+ghost use Rattle.std.specs.Prelude.{◌^◌, ◌≡◌, ◌≤◌, length, false, Some, None, IfOk, IfErr, OnErr};
 ghost use Rattle.line_model.specs.declared.fault.Fault.TheVariants.{Memory};
 ghost use Rattle.line_model.specs.Channels.{Channel, is_permanent};
 ghost use Rattle.line_model.specs.Classes.{class_of};
 ghost use Rattle.line_model.specs.Formats.{packet_fault};
-ghost use Rattle.line_model.specs.ChannelStep.{moving, changing, call_change, entering, transferring, verdict_step, judged, channel_step};
-ghost use Rattle.packet_decode.specs.CallFaults.{IsCallPacket};
-ghost use Rattle.channel_machine.specs.Channels.{Stands, Does, IsChange};
+ghost use Rattle.line_model.specs.ChannelStep.{moving, transferring, verdict_step, judged, channel_step};
+ghost use Rattle.channel_machine.specs.Channels.{Stands, Does};
 ghost use Rattle.channel_machine.specs.Decisions.{IsDecided, IsUnfaulted};
 
 use crate::channel::PlainChannel;
