@@ -13,4 +13,4 @@ pub returns-in-Ok-clause-does : goal.returns-in-Ok-clause-does
 returns-in-Ok-clause-does g c k s =
     let answer = c.in-Ok.ensures.counts c.args.self.now.terms.interface k s.transfer in
     counted c.args.stamp c.args.self.now c.acknowledge.new.self c.args.report.now.items c.args.side c.args.state k _ answer.0
-    (ap (λ n. count_receive c.args.self.now.terms.interface.modulus (counts_of k) c.args.side n) (sym c.receive_number-receive.ensures) ∙ answer.1) s answer.2
+    (ap (λ n. count_receive c.args.self.now.terms.interface.modulus (counts_of k) c.args.side n) (sym c.requires.receive) ∙ answer.1) s answer.2
