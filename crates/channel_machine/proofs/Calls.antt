@@ -1,12 +1,12 @@
 -- The call of a channel.
-use Rattle.std.proofs.Common.{◌≡◌, ℕ, Bool, true, false, true≢false, refl, sym, ◌∙◌, ap, subst, List, [], ◌∷◌, ◌++◌, Option, Some, None}
+use Rattle.std.proofs.Common.{◌≡◌, ℕ, true, false, true≢false, refl, sym, ◌∙◌, ap, subst, List, [], ◌∷◌, Option, Some, None}
 use Rattle.std.specs.Prelude.{option_map, is_none, unwrap_or, IfSome, ◌≤◌, ◌<◌}
 use Rattle.channel_machine.specs.Terms.{IsWindow, IsBelow}
 use Rattle.line_model.specs.declared.event.How.{How}
 use Rattle.line_model.specs.declared.event.Event.{Event}
 use Rattle.line_model.specs.declared.event.What.{What}
 use Rattle.line_model.specs.declared.event.What.TheVariants.{End}
-use Rattle.line_model.specs.ChannelStep.{Outcome, report_nothing, ending, and_then, entering, after_error}
+use Rattle.line_model.specs.ChannelStep.{Outcome, ending, and_then, entering, after_error}
 use Rattle.line_model.specs.declared.state.StateName.{StateName}
 use Rattle.line_model.specs.declared.state.StateName.TheVariants.{Dash, R1, R2, R3, P1, P2, P3, P4, P5, P6, P7, D1, D2, D3}
 use Rattle.line_model.specs.declared.event.How as how
@@ -16,7 +16,7 @@ use Rattle.channel_machine.specs.declared.channel.PlainChannel.{PlainChannel}
 use Rattle.channel_machine.specs.declared.events.Stamp.{Stamp}
 use Rattle.channel_machine.specs.TermsStand.{opened_of}
 use Rattle.channel_machine.specs.Events.{Reports}
-use Rattle.channel_machine.specs.Channels.{Stands, Does}
+use Rattle.channel_machine.specs.Channels.{Does}
 use Rattle.channel_machine.proofs.Reporting.{more}
 
 -- a channel whose call has ended

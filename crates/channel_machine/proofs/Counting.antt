@@ -3,9 +3,8 @@ use Rattle.std.proofs.Common.{◌≡◌, ◌+◌, ℕ, Bool, true, false, refl, 
 use Rattle.line_model.specs.declared.interface.Interface.{Interface}
 use Rattle.line_model.specs.declared.state.Side.{Side}
 use Rattle.line_model.specs.declared.state.Side.TheVariants.{T, N}
-use Rattle.line_model.specs.Channels.{Channel, Heard, Sides, of_side, with_side, other}
+use Rattle.line_model.specs.Channels.{Channel, Heard, of_side, with_side, other}
 use Rattle.line_model.specs.FlowControl.{Counts, is_side, packets_of, sent, sent_by, is_send_valid, count_acknowledged, count_data, count_receive, count_interrupt, count_confirm}
-use Rattle.line_model.specs.Formats.{window_in_force}
 use Rattle.line_model.specs.ChannelStep.{counts_of}
 use Rattle.window_check.specs.Kept.{Kept, Stands, Answers}
 use Rattle.mbit_assembly.proofs.SequenceLemmas.{packets_of-same, packets_of-other}

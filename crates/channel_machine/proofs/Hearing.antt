@@ -1,23 +1,21 @@
 -- What a data packet does to a channel.
-use Rattle.std.proofs.Common.{◌≡◌, ◌+◌, ℕ, Bool, true, false, refl, sym, ◌∙◌, ap, subst, List, [], ◌∷◌, ◌++◌, length, Option, Some, None, Result, Ok, Err}
+use Rattle.std.proofs.Common.{◌≡◌, ◌+◌, ℕ, Bool, true, false, refl, sym, ◌∙◌, ap, subst, List, [], ◌∷◌, ◌++◌, Option, Some, None, Result, Ok, Err}
 use Rattle.std.specs.Prelude.{◌&&◌}
 use Rattle.line_model.specs.declared.interface.Interface.{Interface}
 use Rattle.line_model.specs.declared.state.Side.{Side}
 use Rattle.line_model.specs.declared.state.Side.TheVariants.{T, N}
-use Rattle.line_model.specs.declared.state.StateName.{StateName}
 use Rattle.line_model.specs.declared.event.Event.{Event}
-use Rattle.line_model.specs.declared.event.What.TheVariants.{Data as DataHeard}
-use Rattle.line_model.specs.Channels.{Channel, Heard, Told, of_side, with_side}
+use Rattle.line_model.specs.Channels.{Channel, Heard, of_side, with_side}
 use Rattle.line_model.specs.FlowControl.{Counts, sent_by, count_data}
 use Rattle.line_model.specs.Sequences.{is_alike, begun, is_category_a, sequence_octets}
 use Rattle.line_model.specs.Formats.{window_in_force, size_in_force, is_pad_call}
-use Rattle.line_model.specs.ChannelStep.{Outcome, counts_of, data_counted, data_alike, hearing, failing, completed_message, told_after}
+use Rattle.line_model.specs.ChannelStep.{counts_of, data_counted, data_alike, hearing, completed_message, told_after}
 use Rattle.window_check.specs.Kept.{Kept, Stands, Answers}
 use Rattle.mbit_assembly.specs.Assembler as assembly
 use Rattle.channel_machine.specs.declared.events.Stamp.{Stamp}
 use Rattle.channel_machine.specs.declared.transfer.Transfer.{Transfer}
-use Rattle.channel_machine.specs.Events.{stamped, Reports}
-use Rattle.channel_machine.specs.Messages.{SettingsStand, told_reports}
+use Rattle.channel_machine.specs.Events.{Reports}
+use Rattle.channel_machine.specs.Messages.{SettingsStand}
 use Rattle.channel_machine.specs.Transfers.{StandsFor, IsHeard, counted_in_force}
 use Rattle.channel_machine.proofs.Counting.{answered_ok, answered_err, data_counts, sent_more}
 

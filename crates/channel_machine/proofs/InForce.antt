@@ -1,5 +1,5 @@
 -- The values in force of terms, and those of a channel.
-use Rattle.std.proofs.Common.{◌≡◌, ℕ, Bool, false, refl, sym, ◌∙◌, ap, subst, List, [], Option, Some, None}
+use Rattle.std.proofs.Common.{◌≡◌, ℕ, false, refl, sym, ◌∙◌, ap, subst, List, [], Option, Some, None}
 use Rattle.std.specs.Prelude.{option_map, option_and_then}
 use Rattle.std.specs.Option.{option_map_or}
 use Rattle.std.specs.Prelude.{◌==◌}
@@ -11,7 +11,7 @@ use Rattle.line_model.specs.declared.state.Side.TheVariants.{T, N}
 use Rattle.line_model.specs.Channels.{Channel, Opening}
 use Rattle.line_model.specs.Formats.{was_fast, is_pad_call, window_in_force, size_in_force, or_other, for_side}
 use Rattle.line_model.specs.FlowControl.{no_counts}
-use Rattle.window_check.specs.Kept.{Kept, Stands}
+use Rattle.window_check.specs.Kept.{Stands}
 use Rattle.mbit_assembly.specs.Assembler as assembly
 use Rattle.channel_machine.specs.declared.transfer.Transfer.{Transfer}
 use Rattle.channel_machine.specs.declared.terms.Terms.{Terms}

@@ -1,22 +1,19 @@
 -- A message by its first 1,025 octets.
-use Rattle.std.proofs.Common.{◌≡◌, ◌≤◌, ◌<◌, ◌+◌, ℕ, Bool, true, false, refl, arith, sym, ◌∙◌, ap, subst, inl, inr, List, [], ◌∷◌, length, take, Option, Some, None, nat_lt}
+use Rattle.std.proofs.Common.{◌≡◌, ◌≤◌, ◌<◌, ℕ, Bool, true, false, refl, arith, sym, ◌∙◌, ap, inl, inr, List, [], ◌∷◌, length, take, Option, Some, None, nat_lt}
 use Rattle.std.specs.Prelude.{◌==◌, ◌||◌, ◌&&◌, not, min, map, filter}
 use Rattle.std.proofs.lemmas.List.{length-take, take_all}
 use Rattle.std.proofs.lemmas.Bool.{cases_lt}
 use Rattle.line_model.specs.declared.state.Side.{Side}
-use Rattle.line_model.specs.declared.event.What.{What}
 use Rattle.line_model.specs.declared.finding.Xcode.{Xcode}
 use Rattle.line_model.specs.declared.finding.Xcode.TheVariants.{X1, X2, X3, X4, XL}
-use Rattle.line_model.specs.Octets.{octet, bits}
+use Rattle.line_model.specs.Octets.{bits}
 use Rattle.line_model.specs.Channels.{Told, other}
-use Rattle.line_model.specs.Pad.{form_fault, set_told, asked, message_code, is_unknown_message, is_too_long, is_badly_formed, settings_of, settings_after, message_fault, is_indication, is_set, was_asked, is_refusable, standard_pairs, is_parameter}
+use Rattle.line_model.specs.Pad.{form_fault, set_told, asked, is_unknown_message, is_too_long, is_badly_formed, settings_of, settings_after, message_fault, is_indication, is_set, was_asked, is_refusable, standard_pairs, is_parameter}
 use Rattle.x29_messages.specs.Codes.{octets_of}
 use Rattle.x29_messages.specs.declared.message.MessageCode.{MessageCode}
 use Rattle.x29_messages.specs.declared.message.MessageCode.TheVariants.{Indication, Set, SetAndRead}
-use Rattle.x3_parameters.specs.Effects.{all_indicated, all_asked}
+use Rattle.x3_parameters.specs.Effects.{all_indicated}
 use Rattle.x3_parameters.specs.Told.{set_events, set_events_by}
-use Rattle.line_model.specs.declared.event.What.TheVariants.{Setting, Initial}
-use Rattle.line_model.specs.declared.event.Entry.TheVariants.{Asked}
 use Rattle.std.specs.List.{list_any}
 use Rattle.x29_messages.specs.Pairs.{pairs_before}
 

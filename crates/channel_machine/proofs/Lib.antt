@@ -11,3 +11,4 @@ pub mod Steps
 pub mod Taking
 pub mod Machines
 pub mod Runs
+pub mod Carried

@@ -1,5 +1,5 @@
 -- How many pairs a message has.
-use Rattle.std.proofs.Common.{◌≡◌, ◌≤◌, ◌+◌, ℕ, Bool, true, false, cond, refl, arith, ap, List, [], ◌∷◌, length}
+use Rattle.std.proofs.Common.{◌≡◌, ◌≤◌, ◌+◌, ℕ, Bool, true, false, cond, arith, ap, List, [], ◌∷◌, length}
 use Rattle.std.specs.Prelude.{not, take_while}
 use Rattle.std.proofs.lemmas.List.Sums.{take_while-cons}
 use Rattle.line_model.specs.Pad.{Pair, pairs_of, is_separator}

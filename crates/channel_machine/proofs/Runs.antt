@@ -1,5 +1,5 @@
 -- The run over the rows of a piece.
-use Rattle.std.proofs.Common.{◌≡◌, ◌+◌, ◌≤◌, ◌<◌, ◌^◌, ℕ, Bool, List, [], ◌∷◌, ◌++◌, length, drop, get_or, sum, map, Option, Some, None, refl, sym, ◌∙◌, ap, subst, arith, append_assoc}
+use Rattle.std.proofs.Common.{◌≡◌, ◌+◌, ◌≤◌, ◌<◌, ℕ, Bool, List, [], ◌∷◌, ◌++◌, length, drop, get_or, sum, map, Option, Some, None, refl, sym, ◌∙◌, ap, subst, append_assoc}
 use Rattle.std.specs.Prelude.{option_map}
 use Rattle.std.proofs.lemmas.List.{map-append, drop_more, drop_all}
 use Rattle.line_model.specs.declared.interface.Interface.{Interface}
@@ -8,7 +8,6 @@ use Rattle.line_model.specs.declared.finding.Finding.{Finding}
 use Rattle.line_model.specs.Records.{Row, Item, Piece, CallRecord}
 use Rattle.line_model.specs.Channels.{Channel, is_open}
 use Rattle.line_model.specs.ChannelStep.{channel_step}
-use Rattle.line_model.specs.MachineEvents.{stamp}
 use Rattle.line_model.specs.Pieces.{piece_value}
 use Rattle.line_model.specs.Observer.{x25, event_of}
 use Rattle.line_model.specs.Plans.{row_numbered, piece_events}

@@ -1,6 +1,6 @@
 -- What a packet does to a channel.
-use Rattle.std.proofs.Common.{◌≡◌, ℕ, Bool, true≢false, refl, sym, ◌∙◌, ap, subst, List, [], ◌∷◌, ◌++◌, Option, Some, None}
-use Rattle.std.specs.Prelude.{is_none, unwrap_or}
+use Rattle.std.proofs.Common.{◌≡◌, ℕ, Bool, true≢false, refl, sym, ◌∙◌, ap, subst, List, Option, Some, None}
+use Rattle.std.specs.Prelude.{is_none}
 use Rattle.line_model.specs.declared.interface.Interface.{Interface}
 use Rattle.line_model.specs.declared.packet.Class.{Class}
 use Rattle.line_model.specs.declared.packet.Class.TheVariants.{Call, Accepted}
@@ -8,8 +8,10 @@ use Rattle.line_model.specs.declared.state.Side.{Side}
 use Rattle.line_model.specs.declared.state.StateName.{StateName}
 use Rattle.line_model.specs.Facilities.{accepted_fault}
 use Rattle.line_model.specs.Formats.{format_fault, packet_fault, direction_fault, or_other, was_fast}
-use Rattle.line_model.specs.ChannelStep.{Judged, verdict}
-use Rattle.line_model.specs.Channels.{Channel}
+use Rattle.line_model.specs.Records.{Row}
+use Rattle.line_model.specs.Classes.{class_of}
+use Rattle.line_model.specs.ChannelStep.{Judged, judged, verdict, verdict_step, channel_step}
+use Rattle.line_model.specs.Channels.{Channel, is_permanent}
 use Rattle.packet_decode.specs.CallFaults.{fault_by_class}
 use Rattle.channel_machine.specs.Decisions.{IsDecided, IsUnfaulted}
 use Rattle.line_model.specs.declared.verdict.Verdict.{Verdict}
@@ -63,3 +65,12 @@ decided s a v f j fault judged_is fault_is verdict_is = record {
   verdict_is = verdict_is ∙ ap (λ k. verdict k f) judged_is ∙ ap (λ o. verdict j o) fault_is;
   unfaulted = subst (λ w. IsUnfaulted w fault) (sym (verdict_is ∙ ap (λ o. verdict (record { state = s; entry = a }) o) fault_is)) (unfaulted_by s a fault);
 }
+
+-- what was decided is the step of the row
+pub stepped : (i : Interface) (n : ℕ) (c : Channel) (r : Row) (s : StateName) (v : Verdict) (k : Class) → class_of i r.octets ≡ k →
+    IsDecided s v (judged (is_permanent i n) r.side c.state c.owed k) (packet_fault i n c r.side k r.octets) →
+    verdict_step i r.side s k r.octets v c ≡ channel_step i n c r
+stepped i n c r s v k e d =
+    (λ j. verdict_step i r.side (d.column j) k r.octets (d.verdict_is j) c)
+    ∙ (λ j. verdict_step i r.side (judged (is_permanent i n) r.side c.state c.owed (sym e j)).state (sym e j) r.octets
+    (verdict (judged (is_permanent i n) r.side c.state c.owed (sym e j)) (packet_fault i n c r.side (sym e j) r.octets)) c)

@@ -1,5 +1,5 @@
 -- What a packet of data transfer does to a channel.
-use Rattle.std.proofs.Common.{◌≡◌, ℕ, refl, sym, ◌∙◌, ap, subst, List, append-nil, Option, Some, None, Result, Ok, Err}
+use Rattle.std.proofs.Common.{◌≡◌, ℕ, refl, sym, ◌∙◌, ap, subst, List, append-nil, Option, Some, None, Result, Ok}
 use Rattle.std.specs.Prelude.{IfOk, OnErr}
 use Rattle.line_model.specs.declared.event.Event.{Event}
 use Rattle.line_model.specs.declared.fault.Fault.{Fault}
@@ -8,7 +8,7 @@ use Rattle.line_model.specs.declared.packet.DataHeader.{DataHeader}
 use Rattle.line_model.specs.declared.packet.Class.TheVariants.{Data}
 use Rattle.line_model.specs.declared.state.Side.{Side}
 use Rattle.line_model.specs.declared.state.StateName.{StateName}
-use Rattle.line_model.specs.Channels.{Channel, Heard}
+use Rattle.line_model.specs.Channels.{Channel}
 use Rattle.line_model.specs.Classes.{data_header}
 use Rattle.line_model.specs.FlowControl.{Counts}
 use Rattle.line_model.specs.ChannelStep.{Outcome, counting, data_step, heard_of, hearing, transferring}

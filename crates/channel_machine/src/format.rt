@@ -1,69 +1,45 @@
 //! The header, the user data and the faults of the packets of a channel (X.25 clause 5).
 
-ghost use Rattle.std.specs.Prelude.{◌^◌, ◌≡◌, ◌+◌, ◌*◌, ◌%◌, ◌<◌, ◌≤◌, [], ◌∷◌, nat_lt, length, drop, unwrap_or, Some, None};
+ghost use Rattle.std.specs.Prelude.{◌^◌, ◌≡◌, ◌+◌, ◌*◌, ◌<◌, ◌≤◌, [], ◌∷◌, nat_lt, length, drop, unwrap_or, Some, None};
 ghost use Rattle.line_model.specs.Channels.{Channel};
 ghost use Rattle.line_model.specs.Octets.{octet};
 ghost use Rattle.line_model.specs.Choice.{first_fault};
-ghost use Rattle.line_model.specs.Classes.{class_of, data_header, receive_number, header_length};
+ghost use Rattle.line_model.specs.Classes.{class_of, header_length};
 ghost use Rattle.line_model.specs.Formats.{format_fault, direction_fault, packet_fault};
 ghost use Rattle.packet_decode.specs.CallFaults.{IsCallPacket, fault_by_class};
+ghost use Rattle.channel_machine.specs.Decisions.{header_in, receive_in};
 ghost use Rattle.channel_machine.specs.Channels.{Stands};
 
 use crate::channel::PlainChannel;
 use line_model::interface::Interface;
-use line_model::packet::{Class, DataHeader};
+use line_model::packet::{Class, DataHeader, Kind, Packet};
 use line_model::state::Side;
 use packet_decode::fields::call_fields;
 use std::alloc::Allocator;
 
-/// The octet at a place, counted from 0; 0 past the end.
-fn octet_at(octets: &[u8], k: usize) -> u8
-    ensures { result ≡ octet (k + 1) octets.now }
+/// The header of a data packet, `None` of any other packet.
+pub(crate) fn header_of(packet: &Packet) -> Option<DataHeader>
+    ensures { result ≡ header_in packet.now }
 {
-    match octets.get(k) {
-        Some(octet) => *octet,
-        None => 0,
+    match packet {
+        Packet::Channel {
+            kind: Kind::Data(header),
+            ..
+        } => *header,
+        _ => None,
     }
 }
 
-/// The header of a data packet.
-pub(crate) fn data_header(interface: &Interface, octets: &[u8]) -> Option<DataHeader>
-    ensures { result ≡ data_header interface.now octets.now }
+/// P(R) of RR and RNR, 0 where it is cut and of any other packet.
+pub(crate) fn receive_of(packet: &Packet) -> u8
+    ensures { result ≡ unwrap_or (receive_in packet.now) 0 }
 {
-    let first = octet_at(octets, 0);
-    let third = octet_at(octets, 2);
-    let fourth = octet_at(octets, 3);
-    if interface.modulus == 8 {
-        return Some(DataHeader {
-            send: third / 2 % 8,
-            receive: third / 32 % 8,
-            more: third / 16 % 2 == 1,
-            delivery: first / 64 % 2 == 1,
-            qualified: first / 128 % 2 == 1,
-        });
-    }
-    if octets.len() < 4 {
-        return None;
-    }
-    Some(DataHeader {
-        send: third / 2 % 128,
-        receive: fourth / 2 % 128,
-        more: fourth % 2 == 1,
-        delivery: first / 64 % 2 == 1,
-        qualified: first / 128 % 2 == 1,
-    })
-}
-
-/// P(R) of RR and RNR, 0 where it is cut.
-pub(crate) fn receive_number(interface: &Interface, octets: &[u8]) -> u8
-    ensures { result ≡ unwrap_or (receive_number interface.now octets.now) 0 }
-{
-    if interface.modulus == 8 {
-        octet_at(octets, 2) / 32 % 8
-    } else if octets.len() < 4 {
-        0
-    } else {
-        octet_at(octets, 3) / 2 % 128
+    match packet {
+        Packet::Channel {
+            kind: Kind::Rr(receive) | Kind::Rnr(receive),
+            ..
+        } => receive.unwrap_or(0),
+        _ => 0,
     }
 }
 

@@ -1,32 +1,25 @@
 //! The moves of a channel through the states, and what they do to its call.
 
-ghost use Rattle.std.specs.Prelude.{◌≡◌, ◌+◌, ◌<◌, ◌≤◌, ◌==◌, [], ◌∷◌, List, ℕ, vec_len, vec_capacity, Some, None, IfOk, false, true, IfErr, OnErr};
+ghost use Rattle.std.specs.Prelude.{◌≡◌, ◌+◌, ◌<◌, ◌==◌, [], List, ℕ, Some, IfOk, false, true, IfErr, OnErr};
 ghost use Rattle.line_model.specs.declared.fault.Fault.TheVariants.{Memory};
-ghost use Rattle.line_model.specs.Channels.{Channel, fresh};
+ghost use Rattle.line_model.specs.Channels.{Channel};
 ghost use Rattle.line_model.specs.Octets.{octet};
 ghost use Rattle.line_model.specs.Facilities.{fields_of};
-ghost use Rattle.line_model.specs.ChannelStep.{entering, ending, opening, changing, call_change, moving};
+ghost use Rattle.line_model.specs.ChannelStep.{entering, opening, changing, call_change};
 ghost use Rattle.packet_decode.specs.Shown.{shown, IsUsable};
-ghost use Rattle.channel_machine.specs.Transfers.{StandsFor};
-ghost use Rattle.channel_machine.specs.TermsStand.{opened_of, values_of, TermsStand};
-ghost use Rattle.channel_machine.specs.Terms.{IsWindow};
-ghost use Rattle.channel_machine.specs.Channels.{Stands, Does, IsChange, interface_of, number_of};
+ghost use Rattle.channel_machine.specs.TermsStand.{opened_of};
+ghost use Rattle.channel_machine.specs.Channels.{Stands, Does, IsChange};
 
 use crate::channel::PlainChannel;
 use crate::events::Stamp;
 use crate::terms::{Opened, Terms, Values};
-use crate::transfer::Transfer;
 use line_model::event::{Event, How, What};
 use line_model::fault::Fault;
-use line_model::interface::Interface;
 use line_model::packet::Class;
-use line_model::state::{ChannelState, Side, StateName};
+use line_model::state::{Side, StateName};
 use line_model::verdict::CallChange;
-use mbit_assembly::assembler::Assembler;
 use packet_decode::fields::CallFields;
 use std::alloc::Allocator;
-use window_check::flow::Flow;
-use x3_parameters::settings::Settings;
 
 /// What a move of a class does to the call.
 pub(crate) fn change_of(side: Side, class: Class, to: StateName) -> CallChange

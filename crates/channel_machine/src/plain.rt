@@ -60,6 +60,6 @@ impl<A: Allocator + Clone> Channel<A> for PlainChannel<A> {
             channel: self.channel,
             packet: row.number,
         };
-        self.take(stamp, row.side, packet.class(), &row.octets, events)
+        self.take(stamp, row.side, packet, &row.octets, events)
     }
 }

@@ -1,23 +1,22 @@
 //! What a packet does to its channel.
 
-ghost use Rattle.std.specs.Prelude.{◌^◌, ◌≡◌, ◌≤◌, length, ℕ, false, Some, None, IfOk, IfErr, OnErr};
+ghost use Rattle.std.specs.Prelude.{◌^◌, ◌≡◌, ◌≤◌, length, false, true, Some, None, unwrap_or, IfOk, IfErr, OnErr};
 ghost use Rattle.line_model.specs.declared.fault.Fault.TheVariants.{Memory};
 ghost use Rattle.line_model.specs.Channels.{Channel, is_permanent};
-ghost use Rattle.line_model.specs.Classes.{class_of};
+ghost use Rattle.line_model.specs.Classes.{class_of, packet_of, data_header, receive_number};
 ghost use Rattle.line_model.specs.Formats.{packet_fault};
-ghost use Rattle.line_model.specs.ChannelStep.{moving, changing, call_change, entering, transferring, verdict_step, judged, channel_step};
-ghost use Rattle.packet_decode.specs.CallFaults.{IsCallPacket};
-ghost use Rattle.channel_machine.specs.Channels.{Stands, Does, IsChange};
-ghost use Rattle.channel_machine.specs.Decisions.{IsDecided, IsUnfaulted};
+ghost use Rattle.line_model.specs.ChannelStep.{moving, transferring, verdict_step, judged, channel_step};
+ghost use Rattle.channel_machine.specs.Channels.{Stands, Does};
+ghost use Rattle.channel_machine.specs.Decisions.{IsDecided, IsUnfaulted, is_carried, IsCarried};
 
 use crate::channel::PlainChannel;
 use crate::events::Stamp;
-use crate::format::{data_header, receive_number, user_data};
+use crate::format::{header_of, receive_of, user_data};
 use crate::judging::{judged, weigh};
 use crate::moves::change_of;
 use line_model::event::Event;
 use line_model::fault::Fault;
-use line_model::packet::Class;
+use line_model::packet::{Class, DataHeader, Packet};
 use line_model::state::{Side, StateName};
 use line_model::verdict::{CallChange, Verdict};
 use packet_decode::fields::call_fields;
@@ -30,20 +29,21 @@ impl<A: Allocator + Clone> PlainChannel<A> {
         stamp: Stamp,
         side: Side,
         state: StateName,
+        header: Option<DataHeader>,
         octets: &[u8],
         report: &mut Vec<Event, A>,
     ) -> Result<(), Fault>
+        requires header { header ≡ data_header self.old.terms.interface octets.now }
         requires short { length octets.now ≤ 2 ^ 31 }
         ensures does { (c : Channel) → Stands self.old c → IfOk result (λ _. Does stamp self.old self.new report.old.items report.new.items (transferring self.old.terms.interface side state Class.Data octets.now c)) }
         ensures unchanged { OnErr result ((self.new ≡ self.old) × (report.new.items ≡ report.old.items)) }
         ensures memory { IfErr result (λ fault. fault ≡ Memory) }
     {
-        let interface = self.terms.interface;
-        let Some(header) = data_header(&interface, octets) else {
+        let Some(header) = header else {
             return Ok(());
         };
         let pad_call = self.terms.is_pad_call();
-        let field = user_data(&interface, octets);
+        let field = user_data(&self.terms.interface, octets);
         match self
             .transfer
             .hear(stamp, side, &header, field, pad_call, report)?
@@ -97,15 +97,15 @@ impl<A: Allocator + Clone> PlainChannel<A> {
         stamp: Stamp,
         side: Side,
         state: StateName,
+        receive: u8,
         octets: &[u8],
         report: &mut Vec<Event, A>,
     ) -> Result<(), Fault>
+        requires receive { receive ≡ unwrap_or (receive_number self.old.terms.interface octets.now) 0 }
         ensures does { (c : Channel) → Stands self.old c → IfOk result (λ _. Does stamp self.old self.new report.old.items report.new.items (transferring self.old.terms.interface side state Class.Rr octets.now c)) }
         ensures unchanged { OnErr result ((self.new ≡ self.old) × (report.new.items ≡ report.old.items)) }
         ensures memory { IfErr result (λ fault. fault ≡ Memory) }
     {
-        let interface = self.terms.interface;
-        let receive = receive_number(&interface, octets);
         match self.transfer.acknowledge(side, receive) {
             Err(code) => self.fail(stamp, side, state, code, report),
             Ok(()) => Ok(()),
@@ -156,28 +156,33 @@ impl<A: Allocator + Clone> PlainChannel<A> {
         side: Side,
         state: StateName,
         class: Class,
+        packet: &Packet,
         octets: &[u8],
         report: &mut Vec<Event, A>,
     ) -> Result<(), Fault>
+        requires class { class_of self.old.terms.interface octets.now ≡ class }
+        requires packet { packet.now ≡ packet_of self.old.terms.interface octets.now }
+        requires carried { is_carried class ≡ true }
         requires short { length octets.now ≤ 2 ^ 31 }
         ensures does { (c : Channel) → Stands self.old c → IfOk result (λ _. Does stamp self.old self.new report.old.items report.new.items (transferring self.old.terms.interface side state class octets.now c)) }
         ensures unchanged { OnErr result ((self.new ≡ self.old) × (report.new.items ≡ report.old.items)) }
         ensures memory { IfErr result (λ fault. fault ≡ Memory) }
     {
         match class {
-            Class::Data => self.take_data(stamp, side, state, octets, report),
+            Class::Data => { self.take_data(stamp, side, state, header_of(packet), octets, report) }
             Class::Interrupt => self.take_interrupt(stamp, side, state, octets, report),
             Class::InterruptConfirm => self.take_confirmation(stamp, side, state, octets, report),
-            _ => self.take_ready(stamp, side, state, octets, report),
+            _ => self.take_ready(stamp, side, state, receive_of(packet), octets, report),
         }
     }
 
     /// The state in whose column a packet stands, and what the packet comes to.
-    #[tactic(auto, using(crate::proofs::Steps::decided))]
+    #[tactic(auto, using(crate::proofs::Steps::decided, crate::proofs::Carried::carried))]
     fn decide(&self, side: Side, class: Class, octets: &[u8]) -> (StateName, Verdict)
         requires class { class_of self.now.terms.interface octets.now ≡ class }
         requires short { length octets.now ≤ 2 ^ 31 }
-        ensures { (c : Channel) → Stands self.now c → IsDecided result.0 result.1 (judged (is_permanent self.now.terms.interface self.now.channel) side c.state c.owed class) (packet_fault self.now.terms.interface self.now.channel c side class octets.now) }
+        ensures carried { IsCarried result.1 class }
+        ensures decided { (c : Channel) → Stands self.now c → IsDecided result.0 result.1 (judged (is_permanent self.now.terms.interface self.now.channel) side c.state c.owed class) (packet_fault self.now.terms.interface self.now.channel c side class octets.now) }
     {
         let (state, entry) = judged(
             self.terms.interface.is_permanent(self.channel),
@@ -197,11 +202,14 @@ impl<A: Allocator + Clone> PlainChannel<A> {
         side: Side,
         state: StateName,
         class: Class,
+        packet: &Packet,
         octets: &[u8],
         verdict: Verdict,
         report: &mut Vec<Event, A>,
     ) -> Result<(), Fault>
         requires class { class_of self.old.terms.interface octets.now ≡ class }
+        requires packet { packet.now ≡ packet_of self.old.terms.interface octets.now }
+        requires carried { IsCarried verdict class }
         requires short { length octets.now ≤ 2 ^ 31 }
         ensures does { (c : Channel) → IsUnfaulted verdict (packet_fault self.old.terms.interface self.old.channel c side class octets.now) → Stands self.old c → IfOk result (λ _. Does stamp self.old self.new report.old.items report.new.items (verdict_step self.old.terms.interface side state class octets.now verdict c)) }
         ensures unchanged { OnErr result ((self.new ≡ self.old) × (report.new.items ≡ report.old.items)) }
@@ -210,7 +218,7 @@ impl<A: Allocator + Clone> PlainChannel<A> {
         match verdict {
             Verdict::Fails(column, code) => self.fail(stamp, side, column, code, report),
             Verdict::Moves(to) => self.go(stamp, side, class, octets, to, report),
-            Verdict::Transfers => self.carry(stamp, side, state, class, octets, report),
+            Verdict::Transfers => self.carry(stamp, side, state, class, packet, octets, report),
             Verdict::EndsOwed => {
                 self.owed = false;
                 Ok(())
@@ -224,17 +232,18 @@ impl<A: Allocator + Clone> PlainChannel<A> {
         &mut self,
         stamp: Stamp,
         side: Side,
-        class: Class,
+        packet: &Packet,
         octets: &[u8],
         report: &mut Vec<Event, A>,
     ) -> Result<(), Fault>
-        requires class { class_of self.old.terms.interface octets.now ≡ class }
+        requires packet { packet.now ≡ packet_of self.old.terms.interface octets.now }
         requires short { length octets.now ≤ 2 ^ 31 }
         ensures does { (c : Channel) → Stands self.old c → IfOk result (λ _. Does stamp self.old self.new report.old.items report.new.items (channel_step self.old.terms.interface self.old.channel c (record { number = stamp.packet; side = side; octets = octets.now }))) }
         ensures unchanged { OnErr result ((self.new ≡ self.old) × (report.new.items ≡ report.old.items)) }
         ensures memory { IfErr result (λ fault. fault ≡ Memory) }
     {
+        let class = packet.class();
         let (state, verdict) = self.decide(side, class, octets);
-        self.act(stamp, side, state, class, octets, verdict, report)
+        self.act(stamp, side, state, class, packet, octets, verdict, report)
     }
 }

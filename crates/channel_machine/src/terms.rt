@@ -1,7 +1,6 @@
 //! What was agreed on a channel: its call, and the packet sizes and windows in force.
 
-ghost use Rattle.std.specs.Prelude.{◌≡◌, ◌≤◌, ◌<◌, ◌⊎◌, None, IfSome};
-ghost use Rattle.line_model.specs.Formats.{for_side};
+ghost use Rattle.std.specs.Prelude.{◌≡◌, ◌<◌, None};
 ghost use Rattle.channel_machine.specs.Terms.{AreUsable, IsWindow, IsBelow};
 
 use line_model::interface::Interface;

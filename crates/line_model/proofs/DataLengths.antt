@@ -1,7 +1,6 @@
 -- How much data the events of a row tell: no more than the octets of the row.
-use Rattle.std.proofs.Common.{◌≡◌, ℕ, ◌+◌, ◌≤◌, Bool, true, false, eqb, Option, Some, None, List, [], ◌∷◌, ◌++◌, length, drop, map, refl, sym, ◌∙◌, ap, arith}
+use Rattle.std.proofs.Common.{◌≡◌, ℕ, ◌+◌, ◌≤◌, Bool, true, false, eqb, Option, Some, None, List, [], ◌∷◌, length, map, refl, ◌∙◌, ap, arith}
 use Rattle.std.specs.Prelude.{Result, Ok, Err, option_to_list}
-use Rattle.std.specs.List.{filter}
 use Rattle.std.proofs.lemmas.List.{length-drop}
 use Rattle.line_model.specs.declared.interface.Interface.{Interface}
 use Rattle.line_model.specs.declared.packet.Class.{Class}
@@ -29,16 +28,11 @@ use Rattle.line_model.specs.Sequences.{begun, is_alike}
 use Rattle.line_model.specs.Formats.{packet_fault, size_in_force, window_in_force}
 use Rattle.line_model.specs.Classes.{class_of, data_header, header_length}
 use Rattle.line_model.specs.ChannelStep.{heard_of, completed_message, call_change, judged, verdict, ending_open, after_error, failing, changing, entering, telling, option_found, data_alike, data_counted, data_step, counting, transferring, verdict_step, channel_step, counts_of}
-use Rattle.line_model.proofs.BookTotals.{total, total-append}
-
--- the weight of a data packet by its octets, and none of other contents
-abbrev pub heard_by : (ℕ → ℕ) → What → ℕ
-heard_by q (DataHeard x n) = q n
-heard_by q w = 0
+use Rattle.line_model.proofs.EventWeights.{total, total-append, heard_by, octets_by}
 
 -- the octets that contents tell
 abbrev pub octets_told : List What → ℕ
-octets_told ws = total (heard_by (λ n. n)) ws
+octets_told ws = total (heard_by octets_by) ws
 
 ending_none : (h : How) (o : Option Opening) (c : Channel) → octets_told (ending_open h o c).reported ≡ 0
 ending_none h None c = refl
@@ -55,16 +49,16 @@ failing_none T s n c = let none = error_none s c in omega arith
 failing_none N s n c = refl
 
 changing_none : (xs : List ℕ) (g : CallChange) (c : Channel) → octets_told (changing xs g c).reported ≡ 0
-changing_none xs (Opens out) c = total-append (heard_by (λ n. n)) (ending_open _ c.opening c).reported _ ∙ ap (λ n. n + 0) (ending_none _ c.opening c)
+changing_none xs (Opens out) c = total-append (heard_by octets_by) (ending_open _ c.opening c).reported _ ∙ ap (λ n. n + 0) (ending_none _ c.opening c)
 changing_none xs GoesUp c = refl
 changing_none xs (Ends h) c = ending_none h c.opening c
 changing_none xs Keeps c = refl
 
-indicated_none : (b : Bool) (pad : Side) (p : Pair) → heard_by (λ n. n) (indicated_by b pad p) ≡ 0
+indicated_none : (b : Bool) (pad : Side) (p : Pair) → heard_by octets_by (indicated_by b pad p) ≡ 0
 indicated_none true pad p = refl
 indicated_none false pad p = refl
 
-map_none : (f : Pair → What) → ((p : Pair) → heard_by (λ n. n) (f p) ≡ 0) → (ps : List Pair) → octets_told (map f ps) ≡ 0
+map_none : (f : Pair → What) → ((p : Pair) → heard_by octets_by (f p) ≡ 0) → (ps : List Pair) → octets_told (map f ps) ≡ 0
 map_none f h [] = refl
 map_none f h (p ∷ ps) = let more = map_none f h ps in let none = h p in omega arith
 
@@ -91,7 +85,7 @@ telling_data x p told None = omega arith
 telling_data x p told (Some m) =
     let f = message_fault x told m in
     let later : List What = settings_after f x m in
-    let parts = total-append (heard_by (λ n. n)) (option_to_list (option_found x f)) (DataHeard x (length p.octets) ∷ later) in
+    let parts = total-append (heard_by octets_by) (option_to_list (option_found x f)) (DataHeard x (length p.octets) ∷ later) in
     let front = found_none x f in
     let behind = after_none f x m in
     omega arith

@@ -35,6 +35,8 @@ pub mod CallRecords
 pub mod PieceCalls
 pub mod PeakOfCalls
 pub mod InOrder
+pub mod PacketClass
+pub mod EventWeights
 pub mod DataLengths
 pub mod ValueBounds
 pub mod RowsSoFar

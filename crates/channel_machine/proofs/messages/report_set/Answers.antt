@@ -1,6 +1,5 @@
-use Rattle.std.proofs.Common.{◌≡◌, ◌+◌, ◌≤◌, ◌∙◌, ◌++◌, sym, ap, arith, List, false, length}
-use Rattle.std.specs.Prelude.{map, ◌==◌, flat_map}
-use Rattle.line_model.specs.declared.event.What.{What}
+use Rattle.std.proofs.Common.{◌≡◌, ◌∙◌, ◌++◌, ap, arith, false}
+use Rattle.std.specs.Prelude.{map, flat_map}
 use Rattle.x3_parameters.specs.Effects.{asked_one}
 use Rattle.x3_parameters.specs.Told.{set_events, set_events_by}
 use Rattle.channel_machine.specs.Events.{stamped}

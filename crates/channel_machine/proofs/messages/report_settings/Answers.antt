@@ -1,6 +1,5 @@
-use Rattle.std.proofs.Common.{◌≡◌, ◌+◌, ◌≤◌, ◌++◌, ◌∙◌, sym, ap, arith, List, length, true}
+use Rattle.std.proofs.Common.{◌++◌, ◌∙◌, sym, ap, arith, true}
 use Rattle.std.specs.Prelude.{map}
-use Rattle.line_model.specs.declared.event.What.{What}
 use Rattle.x3_parameters.specs.Told.{set_events}
 use Rattle.channel_machine.specs.Events.{stamped}
 use Rattle.channel_machine.proofs.PairCounts.{few_pairs}

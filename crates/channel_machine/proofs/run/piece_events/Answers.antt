@@ -1,4 +1,4 @@
-use Rattle.std.proofs.Common.{◌∙◌, sym, ap, arith}
+use Rattle.std.proofs.Common.{◌∙◌, ap, arith}
 use Rattle.channel_machine.proofs.Runs.{runs_on, run_ends}
 use Rattle.channel_machine.proofs.run.piece_events.Goals as goal
 

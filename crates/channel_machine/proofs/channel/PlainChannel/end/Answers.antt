@@ -1,6 +1,6 @@
-use Rattle.std.proofs.Common.{◌≡◌, ◌∙◌, ap, subst, [], ◌∷◌, ◌++◌, None}
+use Rattle.std.proofs.Common.{◌∙◌, ap, subst, [], ◌∷◌, ◌++◌, None}
 use Rattle.line_model.specs.ChannelStep.{entering}
-use Rattle.channel_machine.specs.Channels.{Stands, Does}
+use Rattle.channel_machine.specs.Channels.{Does}
 use Rattle.channel_machine.proofs.Calls.{ends, ended}
 use Rattle.channel_machine.proofs.channel.PlainChannel.end.Goals as goal
 

@@ -1,10 +1,10 @@
-use Rattle.std.proofs.Common.{◌≡◌, ◌∙◌, ap, subst, sym, refl, [], ◌∷◌, ◌++◌}
+use Rattle.std.proofs.Common.{◌∙◌, ap, subst, sym, refl, [], ◌∷◌, ◌++◌}
 use Rattle.line_model.specs.declared.event.What.TheVariants.{Found}
 use Rattle.line_model.specs.declared.finding.Code.TheVariants.{Number}
 use Rattle.line_model.specs.declared.state.Side.TheVariants.{T}
 use Rattle.line_model.specs.ChannelStep.{after_error, failing}
 use Rattle.channel_machine.specs.Events.{Reports, stamped}
-use Rattle.channel_machine.specs.Channels.{Stands, Does}
+use Rattle.channel_machine.specs.Channels.{Does}
 use Rattle.channel_machine.proofs.Calls.{after_events}
 use Rattle.channel_machine.proofs.channel.PlainChannel.fail.Goals as goal
 

@@ -1,4 +1,4 @@
-use Rattle.std.proofs.Common.{◌≡◌, subst}
+use Rattle.std.proofs.Common.{subst}
 use Rattle.channel_machine.specs.Channels.{Does}
 use Rattle.channel_machine.proofs.Calls.{gives_up}
 use Rattle.channel_machine.proofs.channel.PlainChannel.give_up.Goals as goal

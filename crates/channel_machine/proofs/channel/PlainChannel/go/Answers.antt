@@ -1,4 +1,4 @@
-use Rattle.std.proofs.Common.{◌≡◌, ◌∙◌, ap, sym, subst, false, append-nil}
+use Rattle.std.proofs.Common.{◌∙◌, sym, subst, false, append-nil}
 use Rattle.std.specs.Prelude.{IfOk}
 use Rattle.line_model.specs.ChannelStep.{entering, changing}
 use Rattle.line_model.specs.Classes.{class_of}

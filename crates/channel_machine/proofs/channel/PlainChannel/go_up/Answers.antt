@@ -1,4 +1,4 @@
-use Rattle.std.proofs.Common.{◌≡◌, ◌∙◌, ap, [], ◌∷◌, ◌++◌, Some}
+use Rattle.std.proofs.Common.{◌∙◌, ap, [], ◌∷◌, ◌++◌, Some}
 use Rattle.channel_machine.proofs.channel.PlainChannel.go_up.Goals as goal
 
 pub returns-clause-does : goal.returns-clause-does

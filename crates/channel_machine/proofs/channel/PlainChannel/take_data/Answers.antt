@@ -1,4 +1,4 @@
-use Rattle.std.proofs.Common.{◌≡◌, refl, sym, ◌∙◌, ap, Some}
+use Rattle.std.proofs.Common.{sym, ◌∙◌, ap}
 use Rattle.channel_machine.specs.Transfers.{packet}
 use Rattle.channel_machine.proofs.InForce.{pad_stands}
 use Rattle.channel_machine.proofs.Taking.{unchanged_between, heard_by}
@@ -12,5 +12,5 @@ returns-in-Some-2-clause-unchanged g c =
 pub returns-in-None-clause-does : goal.returns-in-None-clause-does
 returns-in-None-clause-does g c k s =
     heard_by c.args.stamp c.args.self.now c.hear.new.self c.args.report.now.items c.hear.new.report.items c.args.side c.args.state c.args.octets.now c.user_data-field.result.now c.in-Some.header k
-    s (sym c.data_header.ensures ∙ c.in-Some.is) (ap (λ l. packet c.args.side c.in-Some.header l) c.user_data-field.ensures.data)
+    s (sym c.requires.header ∙ c.in-Some.is) (ap (λ l. packet c.args.side c.in-Some.header l) c.user_data-field.ensures.data)
     _ c.in-None.is (c.in_ok-code.ensures.heard c.args.self.now.terms.interface k s.transfer (c.is_pad_call-pad_call.ensures ∙ pad_stands c.args.self.now.terms k s.terms))

@@ -1,8 +1,6 @@
-use Rattle.std.proofs.Common.{◌≡◌, refl, sym, ◌∙◌, ap, subst, Ok, None, Some}
-use Rattle.std.specs.Prelude.{IfOk, unwrap_or}
-use Rattle.line_model.specs.FlowControl.{count_receive, count_interrupt, count_confirm}
+use Rattle.std.proofs.Common.{sym, ap}
+use Rattle.line_model.specs.FlowControl.{count_interrupt}
 use Rattle.line_model.specs.ChannelStep.{counts_of, counting, failing}
-use Rattle.channel_machine.specs.Channels.{Does}
 use Rattle.channel_machine.proofs.Taking.{refusing, unchanged_through, counted}
 use Rattle.channel_machine.proofs.channel.PlainChannel.take_interrupt.Goals as goal
 

@@ -1,4 +1,4 @@
-use Rattle.std.proofs.Common.{◌≡◌, true, false, refl, sym, ◌∙◌, ap, subst, List, ℕ, [], ◌∷◌, ◌++◌, Ok, Err, None, Some}
+use Rattle.std.proofs.Common.{◌≡◌, true, refl, sym, ◌∙◌, ap, subst, List, ℕ, [], ◌∷◌, ◌++◌, Ok, Err, None, Some}
 use Rattle.std.specs.Prelude.{◌&&◌, map, length}
 use Rattle.line_model.specs.Channels.{Heard}
 use Rattle.line_model.specs.Sequences.{sequence_octets}
@@ -10,7 +10,6 @@ use Rattle.mbit_assembly.specs.declared.sequence.Put.TheVariants.{Going, Complet
 use Rattle.channel_machine.specs.Events.{stamped}
 use Rattle.channel_machine.specs.Messages.{SettingsStand, told_reports}
 use Rattle.channel_machine.specs.Transfers.{packet, counted_in_force}
-use Rattle.channel_machine.specs.declared.transfer.Transfer.{Transfer}
 use Rattle.channel_machine.proofs.Hearing.{in_force, refused, mixed, accepted, going_is, untold_is, told_is}
 use Rattle.channel_machine.proofs.transfer.Transfer.hear.Goals as goal
 

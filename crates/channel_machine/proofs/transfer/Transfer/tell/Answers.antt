@@ -1,10 +1,9 @@
-use Rattle.std.proofs.Common.{◌≡◌, ◌++◌, ◌∷◌, ℕ, Some, None, refl, sym, ◌∙◌, ap, subst, List, [], append-nil, false, Option}
+use Rattle.std.proofs.Common.{◌≡◌, ◌++◌, ◌∷◌, Some, sym, ◌∙◌, ap, subst, List, [], append-nil, false, Option}
 use Rattle.std.specs.Prelude.{option_to_list, is_none}
 use Rattle.line_model.specs.declared.event.What.{What}
 use Rattle.line_model.specs.declared.event.What.TheVariants.{Data}
 use Rattle.line_model.specs.declared.finding.Xcode.{Xcode}
 use Rattle.line_model.specs.ChannelStep.{option_found}
-use Rattle.line_model.specs.Channels.{Told}
 use Rattle.line_model.specs.Pad.{form_fault, message_fault, settings_after}
 use Rattle.x3_parameters.proofs.Applied.{faulty}
 use Rattle.channel_machine.specs.Events.{Reports, stamped}

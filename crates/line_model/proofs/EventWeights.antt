@@ -1,0 +1,95 @@
+-- Sums over events, by their contents.
+use Rattle.std.proofs.Common.{◌≡◌, ℕ, ◌+◌, ◌/◌, ◌≤◌, cond, List, [], ◌∷◌, ◌++◌, length, map, refl, ap, arith}
+use Rattle.std.specs.Prelude.{sum, sum_by}
+use Rattle.std.proofs.lemmas.List.Sums.{sum_by-cons}
+use Rattle.line_model.specs.declared.state.Side.TheVariants.{T, N}
+use Rattle.line_model.specs.declared.event.What.{What}
+use Rattle.line_model.specs.declared.event.What.TheVariants.{Found, Data}
+use Rattle.line_model.specs.declared.event.Event.{Event}
+use Rattle.line_model.specs.Records.{Row}
+use Rattle.line_model.specs.MachineEvents.{RowEvent}
+use Rattle.line_model.specs.Observer.{event_of}
+use Rattle.line_model.specs.Calls.{lengths_from, all_lengths, segments_of}
+use Rattle.line_model.specs.Report.{findings_of, is_finding}
+
+abbrev pub total : {X : Type 0} → (X → ℕ) → List X → ℕ
+total f [] = 0
+total f (x ∷ xs) = f x + total f xs
+
+pub total-append : {X : Type 0} (f : X → ℕ) (xs ys : List X) → total f (xs ++ ys) ≡ total f xs + total f ys
+total-append f [] ys = omega arith
+total-append f (x ∷ xs) ys = let more = total-append f xs ys in omega arith
+
+pub total-sum_by : {X : Type 0} (f : X → ℕ) (xs : List X) → sum_by f xs ≡ total f xs
+total-sum_by f [] = refl
+total-sum_by f (x ∷ xs) = omega (arith, sum_by-cons f x xs, total-sum_by f xs)
+
+-- the weight of a finding, and of a data packet by its octets
+abbrev pub found_by : What → ℕ
+found_by w = cond (is_finding w) 1 0
+
+abbrev pub heard_by : (ℕ → ℕ) → What → ℕ
+heard_by q (Data x n) = q n
+heard_by q w = 0
+
+abbrev pub octets_by : ℕ → ℕ
+octets_by n = n
+
+abbrev pub segments_by : ℕ → ℕ
+segments_by n = (n + 63) / 64
+
+-- the weight of events
+abbrev pub weight : (What → ℕ) → List Event → ℕ
+weight f es = total (λ e. f e.what) es
+
+-- events of rows, and as they are told
+pub row_weight : (f : What → ℕ) (vs : List (RowEvent Row What)) → weight f (map event_of vs) ≡ total (λ v. f v.what) vs
+row_weight f [] = refl
+row_weight f (v ∷ vs) = ap (λ n. f v.what + n) (row_weight f vs)
+
+pub findings_weight : (es : List Event) → length (findings_of es) ≡ weight found_by es
+findings_weight [] = refl
+findings_weight (e ∷ es) = at e.what (findings_weight es)
+  where
+    at : (w : What) → length (findings_of es) ≡ weight found_by es
+        → length (findings_of (record { epoch = e.epoch; channel = e.channel; packet = e.packet; what = w } ∷ es)) ≡ found_by w + weight found_by es
+    at (Found x s c) h = omega arith
+    at w h = omega arith
+
+pub octets_weight : (es : List Event) → sum (all_lengths es) ≡ weight (heard_by octets_by) es
+octets_weight [] = refl
+octets_weight (e ∷ es) = at e.what (octets_weight es)
+  where
+    at : (w : What) → sum (all_lengths es) ≡ weight (heard_by octets_by) es
+        → sum (all_lengths (record { epoch = e.epoch; channel = e.channel; packet = e.packet; what = w } ∷ es)) ≡ heard_by octets_by w + weight (heard_by octets_by) es
+    at (Data x n) h = omega (arith, sum_by-cons (λ (k : ℕ). k) n (all_lengths es))
+    at w h = omega arith
+
+pub segments_weight : (es : List Event) → segments_of (all_lengths es) ≡ weight (heard_by segments_by) es
+segments_weight [] = refl
+segments_weight (e ∷ es) = at e.what (segments_weight es)
+  where
+    at : (w : What) → segments_of (all_lengths es) ≡ weight (heard_by segments_by) es
+        → segments_of (all_lengths (record { epoch = e.epoch; channel = e.channel; packet = e.packet; what = w } ∷ es)) ≡ heard_by segments_by w + weight (heard_by segments_by) es
+    at (Data x n) h = omega (arith, sum_by-cons (λ (k : ℕ). k) ((n + 63) / 64) (map (λ k. (k + 63) / 64) (all_lengths es)))
+    at w h = omega arith
+
+pub sides_weight : (es : List Event) → sum (lengths_from T es) + sum (lengths_from N es) ≡ weight (heard_by octets_by) es
+sides_weight [] = refl
+sides_weight (e ∷ es) = at e.what (sides_weight es)
+  where
+    at : (w : What) → sum (lengths_from T es) + sum (lengths_from N es) ≡ weight (heard_by octets_by) es
+        → sum (lengths_from T (record { epoch = e.epoch; channel = e.channel; packet = e.packet; what = w } ∷ es)) + sum (lengths_from N (record { epoch = e.epoch; channel = e.channel; packet = e.packet; what = w } ∷ es))
+        ≡ heard_by octets_by w + weight (heard_by octets_by) es
+    at (Data T n) h = omega (arith, sum_by-cons (λ (k : ℕ). k) n (lengths_from T es))
+    at (Data N n) h = omega (arith, sum_by-cons (λ (k : ℕ). k) n (lengths_from N es))
+    at w h = omega arith
+
+-- a segment has an octet at least
+pub fewer_segments : (es : List Event) → weight (heard_by segments_by) es ≤ weight (heard_by octets_by) es
+fewer_segments [] = omega arith
+fewer_segments (e ∷ es) = at e.what (fewer_segments es)
+  where
+    at : (w : What) → weight (heard_by segments_by) es ≤ weight (heard_by octets_by) es → heard_by segments_by w + weight (heard_by segments_by) es ≤ heard_by octets_by w + weight (heard_by octets_by) es
+    at (Data x n) h = omega arith
+    at w h = omega arith
