@@ -1,7 +1,6 @@
 -- The rows that a cutter has not taken yet.
-use Rattle.std.proofs.Common.{◌≡◌, ◌∙◌, sym, ap, subst, refl, ℕ, suc, ◌+◌, ◌-◌, ◌<◌, ◌≤◌, ◌^◌, List, [], ◌∷◌, map, length, Some, arith}
-use Rattle.std.specs.Prelude.{All, sum_by, slice_get}
-use Rattle.std.specs.List.{AllByRecursion}
+use Rattle.std.proofs.Common.{◌≡◌, sym, subst, suc, ◌+◌, ◌≤◌, ◌^◌, List, ◌∷◌, map, length, arith}
+use Rattle.std.specs.Prelude.{All, sum_by}
 use Rattle.std.specs.List.Sorted.{IsStrictlyIncreasing}
 use Rattle.std.proofs.lemmas.List.Sums.{sum_by-cons}
 use Rattle.line_model.specs.Records.{Row}
