@@ -1,0 +1,24 @@
+-- What a worker starts with, and what it hands back.
+use Rattle.std.specs.Prelude.{◌≡◌, length, true, false, [], MatchOption}
+use Rattle.piece_queue.specs.Passes.{QueueId}
+use Rattle.piece_queue.specs.Rule.{worker}
+use Rattle.line_model.specs.declared.fault.Fault.TheVariants.{Memory}
+use Rattle.line_model.specs.declared.totals.Totals.{Totals}
+use Rattle.workers.specs.declared.worker.Done.{Done}
+use Rattle.workers.specs.declared.worker.Seat.{Seat}
+
+-- a share of nothing
+abbrev pub nothing : Totals
+nothing = record { posts = 0; findings = 0; octets = 0; segments = 0 }
+
+-- a new pass of this queue, and a share of nothing
+pub record IsSeat {N F O S A : Type 0} (id : QueueId) (s : Seat N F O S A) : Type 0 where
+  pub queue : s.pass.queue ≡ id
+  pub fresh : s.pass.record_of ≡ worker [] false 0
+  pub share : s.share ≡ nothing
+
+-- its pass, of this queue, has its end. Without a fault each piece that it took was posted; else memory ran out
+pub record IsDone {N F O S A : Type 0} (id : QueueId) (d : Done N F O S A) : Type 0 where
+  pub queue : d.pass.queue ≡ id
+  pub finished : d.pass.record_of.finished ≡ true
+  pub fault : MatchOption d.fault (d.share.posts ≡ length d.pass.record_of.taken) (λ f. f ≡ Memory)
