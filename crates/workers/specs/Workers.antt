@@ -1,11 +1,12 @@
 -- What a worker starts with, and what it hands back.
 use Rattle.std.specs.Prelude.{◌≡◌, length, true, false, [], MatchOption}
 use Rattle.piece_queue.specs.Passes.{QueueId}
-use Rattle.piece_queue.specs.Rule.{worker}
+use Rattle.piece_queue.specs.Rule.{feeder, worker}
+use Rattle.piece_queue.specs.declared.rule.Record.{Record}
 use Rattle.line_model.specs.declared.fault.Fault.TheVariants.{Memory}
 use Rattle.line_model.specs.declared.totals.Totals.{Totals}
 use Rattle.workers.specs.declared.worker.Done.{Done}
-use Rattle.workers.specs.declared.worker.Seat.{Seat}
+use Rattle.workers.specs.declared.starting.Seat.{Seat}
 
 -- a share of nothing
 abbrev pub nothing : Totals
@@ -22,3 +23,7 @@ pub record IsDone {N F O S A : Type 0} (id : QueueId) (d : Done N F O S A) : Typ
   pub queue : d.pass.queue ≡ id
   pub finished : d.pass.record_of.finished ≡ true
   pub fault : MatchOption d.fault (d.share.posts ≡ length d.pass.record_of.taken) (λ f. f ≡ Memory)
+
+-- the feeder's record of the first where more pieces were fed, and no end
+abbrev pub HasFed : Record → Record → Type 0
+HasFed v w = w ≡ feeder w.fed 0 v.pending v.done v.taken

@@ -1,8 +1,12 @@
 //! Workers over the queue of pieces and the book of reports, each in a thread of its own.
 #![tactic(auto)]
 
+mod feeding;
 mod gate;
+mod joining;
+mod run;
+mod starting;
 mod worker;
 
+pub use feeding::{Feed, feed_piece};
 pub use gate::Gate;
-pub use worker::{Done, Finishes, Seat, start, work_on};

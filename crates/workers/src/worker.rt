@@ -3,7 +3,7 @@
 ghost use Rattle.std.specs.Prelude.{◌≡◌, ◌+◌, [], false, None, OnOk, IfErr, IfSome, IfNone};
 ghost use Rattle.line_model.specs.Book.{IsPlanned};
 ghost use Rattle.piece_queue.specs.Rule.{worker};
-ghost use Rattle.workers.specs.Workers.{IsDone, IsSeat, nothing};
+ghost use Rattle.workers.specs.Workers.{IsDone, nothing};
 
 use crate::gate::Gate;
 use findings_book::{Desk, Share};
@@ -14,14 +14,7 @@ use std::alloc::{Allocator, Global};
 use std::sync::Wait;
 use std::sync::ledger::Ledger;
 use std::thread;
-use std::thread::{Promise, PromisedHandle, Scope};
-
-/// What a worker starts with.
-#[derive(Drop)]
-pub struct Seat<N: Ledger, F: Ledger, O: Ledger, S: Ledger, A: Allocator = Global> {
-    pub pass: WorkerPass<A>,
-    pub share: Share<N, F, O, S>,
-}
+use std::thread::Promise;
 
 /// What a worker hands back: its pass, which has its end, its share, and its fault where memory ran out.
 #[derive(Drop)]
@@ -141,39 +134,4 @@ pub fn work_on<
         }
     }
     unreachable!()
-}
-
-/// Starts a worker, where a thread can be made.
-pub fn start<
-    's,
-    'e: 's,
-    P: Plan + Send + Sync,
-    N: Ledger + Sync,
-    F: Ledger + Sync,
-    O: Ledger + Sync,
-    S: Ledger + Sync,
-    A: Allocator + Copy + Send + Sync,
-    G: Gate,
-    R: Wait + Sync,
->(
-    scope: &'s Scope<'s, &'e ()>,
-    rt: &'s R,
-    alloc: A,
-    work: &'s Work<P, A>,
-    desk: &'s Desk<P, N, F, O, S, A>,
-    gate: &'s G,
-    seat: Seat<N, F, O, S, A>,
-) -> Option<PromisedHandle<Done<N, F, O, S, A>, Finishes<'s, P, A>>>
-    requires seat { IsSeat work.now.queue seat }
-    ensures promise { IfSome result (λ h. h.promise.work.now.queue ≡ work.now.queue) }
-{
-    let Seat { pass, share } = seat;
-    let started = scope.spawn_with(
-        Finishes { work },
-        move || -> Done<N, F, O, S, A>
-            requires { (pass.queue ≡ work.now.queue) × (pass.record_of ≡ worker [] false 0) × (share ≡ nothing) }
-            ensures { IsDone work.entry.now.queue result }
-        { work_on(rt, alloc, work, desk, gate, pass, share) },
-    );
-    started.ok()
 }

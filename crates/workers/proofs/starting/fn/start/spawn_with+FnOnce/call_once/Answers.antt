@@ -1,4 +1,4 @@
-use Rattle.workers.proofs.worker.fn.start.spawn_with+FnOnce.call_once.Goals as goal
+use Rattle.workers.proofs.starting.fn.start.spawn_with+FnOnce.call_once.Goals as goal
 
 pub spawn_with-requires : goal.spawn_with-requires
 spawn_with-requires g c =

@@ -1,0 +1,22 @@
+-- What is known once the workers were joined.
+use Rattle.std.specs.Prelude.{◌≡◌, ℕ, ◌-◌, ◌<◌, length, sum_by, vec_len, MatchOption}
+use Rattle.line_model.specs.declared.fault.Fault.TheVariants.{Memory}
+use Rattle.piece_queue.specs.Passes.{QueueId}
+use Rattle.piece_queue.specs.Rule.{IsAccounted}
+use Rattle.piece_queue.specs.declared.rule.Record.{Record}
+use Rattle.workers.specs.declared.joining.Joined.{Joined}
+use Rattle.workers.specs.declared.run.Run.{Run}
+
+-- so many passes were joined to the feeder's. Without a fault the shares have as many posts as its record has takes
+pub record IsJoined {N F O S A : Type 0} (id : QueueId) (count : ℕ) (v : Record) (j : Joined N F O S A) : Type 0 where
+  pub queue : j.pass.queue ≡ id
+  pub pending : j.pass.record_of.pending ≡ v.pending - count
+  pub done : j.pass.record_of.done ≡ count
+  pub fed : j.pass.record_of.fed ≡ v.fed
+  pub shares : vec_len j.shares ≡ count
+  pub fault : MatchOption j.fault (sum_by (λ s. s.posts) j.shares.items ≡ length j.pass.record_of.taken) (λ f. f ≡ Memory)
+  pub all : 0 < count → IsAccounted j.pass.record_of
+
+-- so many pieces were fed, of which the task made this. Without a fault there are so many shares, with a post for each piece; else memory ran out
+abbrev pub HasRun : {U N F O S A : Type 0} → (ℕ → U → Type 0) → ℕ → Run U N F O S A → Type 0
+HasRun gives count r = (fed : ℕ) × gives fed r.output × MatchOption r.fault ((vec_len r.shares ≡ count) × (sum_by (λ s. s.posts) r.shares.items ≡ fed)) (λ f. f ≡ Memory)

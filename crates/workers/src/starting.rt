@@ -1,0 +1,129 @@
+//! How the workers are started.
+
+ghost use Rattle.std.specs.Prelude.{◌≡◌, ◌≤◌, [], false, All, IsTrue, IfOk, IfErr, IfSome, vec_len, vec_capacity};
+ghost use Rattle.piece_queue.specs.Rule.{feeder, worker};
+ghost use Rattle.workers.specs.Workers.{IsDone, IsSeat, nothing};
+
+use crate::gate::Gate;
+use crate::worker::{Done, Finishes, work_on};
+use findings_book::{Book, Desk, Share};
+use line_model::fault::Fault;
+use line_model::piece::Plan;
+use piece_queue::{FeederPass, Work, WorkerPass};
+use std::alloc::{Allocator, Global};
+use std::sync::Wait;
+use std::sync::ledger::Ledger;
+use std::thread::{PromisedHandle, Scope};
+
+/// What a worker starts with.
+#[derive(Drop)]
+pub struct Seat<N: Ledger, F: Ledger, O: Ledger, S: Ledger, A: Allocator = Global> {
+    pub pass: WorkerPass<A>,
+    pub share: Share<N, F, O, S>,
+}
+
+/// A worker that runs.
+pub type Running<'w, P, N, F, O, S, A> = PromisedHandle<Done<N, F, O, S, A>, Finishes<'w, P, A>>;
+
+/// A seat for each worker, or want of memory.
+pub fn seats_for<P: Plan, N: Ledger, F: Ledger, O: Ledger, S: Ledger, A: Allocator + Copy>(
+    alloc: A,
+    work: &Work<P, A>,
+    book: &mut Book<P, N, F, O, S, A>,
+    pass: &mut FeederPass<A>,
+    workers: usize,
+) -> Result<Vec<Seat<N, F, O, S, A>, A>, Fault>
+    requires queue { pass.old.queue ≡ work.now.queue }
+    requires fresh { pass.old.record_of ≡ feeder 0 0 0 0 [] }
+    requires few { workers ≤ 64 }
+    requires shares { book.old ≡ 0 }
+    ensures count { IfOk result (λ v. vec_len v ≡ workers) }
+    ensures given { IfOk result (λ v. book.new ≡ workers) }
+    ensures seats { IfOk result (λ v. All (IsSeat work.now.queue) v.items) }
+    ensures queue { pass.new.queue ≡ pass.old.queue }
+    ensures split { IfOk result (λ v. pass.new.record_of ≡ feeder 0 0 workers 0 []) }
+    ensures refused { IfErr result (λ fault. fault ≡ Fault.Memory) }
+{
+    let mut seats = Vec::new(alloc);
+    for _worker in 0..workers {
+        seats.reserve(1)?;
+        seats.push_reserved(Seat {
+            pass: work.split(pass),
+            share: book.share(),
+        });
+    }
+    Ok(seats)
+}
+
+/// Starts a worker, where a thread can be made.
+fn start<
+    's,
+    'e: 's,
+    P: Plan + Send + Sync,
+    N: Ledger + Sync,
+    F: Ledger + Sync,
+    O: Ledger + Sync,
+    S: Ledger + Sync,
+    A: Allocator + Copy + Send + Sync,
+    G: Gate,
+    R: Wait + Sync,
+>(
+    scope: &'s Scope<'s, &'e ()>,
+    rt: &'s R,
+    alloc: A,
+    work: &'s Work<P, A>,
+    desk: &'s Desk<P, N, F, O, S, A>,
+    gate: &'s G,
+    seat: Seat<N, F, O, S, A>,
+) -> Option<Running<'s, P, N, F, O, S, A>>
+    requires seat { IsSeat work.now.queue seat }
+    ensures promise { IfSome result (λ h. h.promise.work.now.queue ≡ work.now.queue) }
+{
+    let Seat { pass, share } = seat;
+    let started = scope.spawn_with(
+        Finishes { work },
+        move || -> Done<N, F, O, S, A>
+            requires { (pass.queue ≡ work.now.queue) × (pass.record_of ≡ worker [] false 0) × (share ≡ nothing) }
+            ensures { IsDone work.entry.now.queue result }
+        { work_on(rt, alloc, work, desk, gate, pass, share) },
+    );
+    started.ok()
+}
+
+/// Starts the workers, and says whether each has its thread.
+pub fn start_all<
+    's,
+    'e: 's,
+    P: Plan + Send + Sync,
+    N: Ledger + Sync,
+    F: Ledger + Sync,
+    O: Ledger + Sync,
+    S: Ledger + Sync,
+    A: Allocator + Copy + Send + Sync,
+    G: Gate,
+    R: Wait + Sync,
+>(
+    scope: &'s Scope<'s, &'e ()>,
+    rt: &'s R,
+    alloc: A,
+    work: &'s Work<P, A>,
+    desk: &'s Desk<P, N, F, O, S, A>,
+    gate: &'s G,
+    seats: Vec<Seat<N, F, O, S, A>, A>,
+    running: &mut Vec<Running<'s, P, N, F, O, S, A>, A>,
+) -> bool
+    requires seats { All (IsSeat work.now.queue) seats.items }
+    requires none { vec_len running.old ≡ 0 }
+    requires room { vec_len seats ≤ vec_capacity running.old }
+    ensures all { IsTrue result → vec_len running.new ≡ vec_len seats }
+    ensures most { vec_len running.new ≤ vec_len seats }
+    ensures promised { All (λ h. h.promise.work.now.queue ≡ work.now.queue) running.new.items }
+{
+    for seat in seats {
+        match start(scope, rt, alloc, work, desk, gate, seat) {
+            Some(one) => running.push_reserved(one),
+            None => return false,
+        }
+    }
+    true
+}
