@@ -5,7 +5,7 @@ use Rattle.piece_queue.specs.Passes.{QueueId}
 use Rattle.piece_queue.specs.Rule.{IsAccounted}
 use Rattle.piece_queue.specs.declared.rule.Record.{Record}
 use Rattle.workers.specs.declared.joining.Joined.{Joined}
-use Rattle.workers.specs.declared.run.Run.{Run}
+use Rattle.workers.specs.declared.run.Ran.{Ran}
 
 -- so many passes were joined to the feeder's. Without a fault the shares have as many posts as its record has takes
 pub record IsJoined {N F O S A : Type 0} (id : QueueId) (count : ℕ) (v : Record) (j : Joined N F O S A) : Type 0 where
@@ -17,6 +17,6 @@ pub record IsJoined {N F O S A : Type 0} (id : QueueId) (count : ℕ) (v : Recor
   pub fault : MatchOption j.fault (sum_by (λ s. s.posts) j.shares.items ≡ length j.pass.record_of.taken) (λ f. f ≡ Memory)
   pub all : 0 < count → IsAccounted j.pass.record_of
 
--- so many pieces were fed, of which the task made this. Without a fault there are so many shares, with a post for each piece; else memory ran out
-abbrev pub HasRun : {U N F O S A : Type 0} → (ℕ → U → Type 0) → ℕ → Run U N F O S A → Type 0
-HasRun gives count r = (fed : ℕ) × gives fed r.output × MatchOption r.fault ((vec_len r.shares ≡ count) × (sum_by (λ s. s.posts) r.shares.items ≡ fed)) (λ f. f ≡ Memory)
+-- so many pieces were fed, by which the task became this. Without a fault there are so many shares, with a post for each piece; else memory ran out
+abbrev pub HasRan : {T N F O S A : Type 0} → (ℕ → T → Type 0) → ℕ → Ran T N F O S A → Type 0
+HasRan gives count r = (fed : ℕ) × gives fed r.task × MatchOption r.fault ((vec_len r.shares ≡ count) × (sum_by (λ s. s.posts) r.shares.items ≡ fed)) (λ f. f ≡ Memory)

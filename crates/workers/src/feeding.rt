@@ -13,16 +13,13 @@ use std::thread;
 
 /// What the reading thread does while the workers run: it feeds the first pieces of the plan, in order.
 pub trait Feed<P: Plan, A: Allocator> {
-    /// What it makes.
-    type Output;
-
     /// What it wants.
     ghost can_feed: { Self → Type 0 };
 
-    /// What it makes where so many pieces were fed.
-    ghost feed_gives: { Self → ℕ → Self.Output → Type 0 };
+    /// What becomes of it where so many pieces were fed.
+    ghost feed_gives: { Self → ℕ → Self → Type 0 };
 
-    fn feed<R: Wait>(self, rt: &R, work: &Work<P, A>, pass: &mut FeederPass<A>) -> Self::Output
+    fn feed<R: Wait>(self, rt: &R, work: &Work<P, A>, pass: &mut FeederPass<A>) -> Self
         requires able { can_feed self }
         requires queue { pass.old.queue ≡ work.now.queue }
         requires first { (pass.old.record_of.fed ≡ 0) × (pass.old.record_of.ends ≡ 0) }

@@ -11,6 +11,7 @@ use line_model::fault::Fault;
 use line_model::piece::Plan;
 use piece_queue::{FeederPass, Work, WorkerPass};
 use std::alloc::{Allocator, Global};
+use std::marker::Model;
 use std::sync::Wait;
 use std::sync::ledger::Ledger;
 use std::thread::{PromisedHandle, Scope};
@@ -25,34 +26,55 @@ pub struct Seat<N: Ledger, F: Ledger, O: Ledger, S: Ledger, A: Allocator = Globa
 /// A worker that runs.
 pub type Running<'w, P, N, F, O, S, A> = PromisedHandle<Done<N, F, O, S, A>, Finishes<'w, P, A>>;
 
-/// A seat for each worker, or want of memory.
-pub fn seats_for<P: Plan, N: Ledger, F: Ledger, O: Ledger, S: Ledger, A: Allocator + Copy>(
-    alloc: A,
-    work: &Work<P, A>,
-    book: &mut Book<P, N, F, O, S, A>,
-    pass: &mut FeederPass<A>,
-    workers: usize,
-) -> Result<Vec<Seat<N, F, O, S, A>, A>, Fault>
-    requires queue { pass.old.queue ≡ work.now.queue }
-    requires fresh { pass.old.record_of ≡ feeder 0 0 0 0 [] }
-    requires few { workers ≤ 64 }
-    requires shares { book.old ≡ 0 }
-    ensures count { IfOk result (λ v. vec_len v ≡ workers) }
-    ensures given { IfOk result (λ v. book.new ≡ workers) }
-    ensures seats { IfOk result (λ v. All (IsSeat work.now.queue) v.items) }
-    ensures queue { pass.new.queue ≡ pass.old.queue }
-    ensures split { IfOk result (λ v. pass.new.record_of ≡ feeder 0 0 workers 0 []) }
-    ensures refused { IfErr result (λ fault. fault ≡ Fault.Memory) }
-{
-    let mut seats = Vec::new(alloc);
-    for _worker in 0..workers {
-        seats.reserve(1)?;
-        seats.push_reserved(Seat {
-            pass: work.split(pass),
-            share: book.share(),
-        });
+/// The pass of the feeder, and a seat for each worker. Contracts see of which queue it is, and how many seats it has.
+#[derive(Drop)]
+pub struct Crew<N: Ledger, F: Ledger, O: Ledger, S: Ledger, A: Allocator = Global> {
+    pub(crate) pass: FeederPass<A>,
+    pub(crate) seats: Vec<Seat<N, F, O, S, A>, A>,
+}
+
+impl<N: Ledger, F: Ledger, O: Ledger, S: Ledger, A: Allocator> Model for Crew<N, F, O, S, A> {
+    ghost use Rattle.std.specs.Prelude.{◌≡◌, [], All, vec_len};
+    ghost use Rattle.piece_queue.specs.Rule.{feeder};
+    ghost use Rattle.workers.specs.Workers.{IsSeat};
+    ghost use Rattle.workers.specs.Crews as crews;
+
+    ghost Value = { crews.Crew };
+
+    ghost view = { λ c. record { queue = c.pass.queue; count = vec_len c.seats } };
+
+    ghost invariant = { λ c. (c.pass.record_of ≡ feeder 0 0 (vec_len c.seats) 0 []) × All (IsSeat c.pass.queue) c.seats.items };
+}
+
+impl<N: Ledger, F: Ledger, O: Ledger, S: Ledger, A: Allocator + Copy> Crew<N, F, O, S, A> {
+    /// A seat for each of so many workers, or want of memory.
+    pub fn new<P: Plan>(
+        alloc: A,
+        work: &Work<P, A>,
+        book: &mut Book<P, N, F, O, S, A>,
+        pass: FeederPass<A>,
+        workers: usize,
+    ) -> Result<Crew<N, F, O, S, A>, Fault>
+        requires queue { pass.queue ≡ work.now.queue }
+        requires fresh { pass.record_of ≡ feeder 0 0 0 0 [] }
+        requires few { workers ≤ 64 }
+        requires shares { book.old ≡ 0 }
+        ensures queue { IfOk result (λ crew. crew.queue ≡ work.now.queue) }
+        ensures count { IfOk result (λ crew. crew.count ≡ workers) }
+        ensures given { IfOk result (λ crew. book.new ≡ workers) }
+        ensures refused { IfErr result (λ fault. fault ≡ Fault.Memory) }
+    {
+        let mut pass = pass;
+        let mut seats = Vec::new(alloc);
+        for _worker in 0..workers {
+            seats.reserve(1)?;
+            seats.push_reserved(Seat {
+                pass: work.split(&mut pass),
+                share: book.share(),
+            });
+        }
+        Ok(Crew { pass, seats })
     }
-    Ok(seats)
 }
 
 /// Starts a worker, where a thread can be made.

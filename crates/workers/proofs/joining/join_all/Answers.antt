@@ -40,7 +40,8 @@ loop-one-preserved g c =
     }
 
 pub loop-one-init : goal.loop-one-init
-loop-one-init g c = record {
+loop-one-init g c =
+    let none : length c.args.shares.items ≡ 0 = search rules in record {
   promised = search rules;
   count = search rules;
   room = search rules;
@@ -48,6 +49,6 @@ loop-one-init g c = record {
   pending = search rules;
   done = search rules;
   fed = search rules;
-  fault = sum-of-none (λ (s : Totals). s.posts) c.args.shares.items c.requires.room.0 ∙ sym c.requires.fresh.1;
+  fault = sum-of-none (λ (s : Totals). s.posts) c.args.shares.items none ∙ sym c.requires.fresh.1;
   all = search rules;
 }

@@ -1,7 +1,7 @@
 use Rattle.std.specs.Prelude.{◌≡◌, [], All, vec_len}
 use Rattle.piece_queue.specs.Rule.{feeder}
 use Rattle.workers.specs.Workers.{IsSeat}
-use Rattle.workers.proofs.starting.seats_for.Given as goal
+use Rattle.workers.proofs.starting.Crew.new.Given as goal
 
 abbrev pub invariant-loop-worker : goal.invariant-loop-worker
 invariant-loop-worker g l = record {
