@@ -3,20 +3,19 @@
 ghost use Rattle.std.specs.Prelude.{◌≡◌, ◌≤◌, All, length, vec_len, vec_capacity};
 ghost use Rattle.workers.specs.Runs.{IsJoined};
 
+use crate::handler::Posted;
 use crate::starting::Running;
-use findings_book::Share;
 use line_model::fault::Fault;
 use line_model::piece::Plan;
 use piece_queue::{FeederPass, Work};
 use std::alloc::{Allocator, Global};
-use std::sync::ledger::Ledger;
 use std::thread::Threads;
 
 /// What all workers handed back: the feeder's pass with theirs, their shares, and the first of their faults.
 #[derive(Drop)]
-pub struct Joined<N: Ledger, F: Ledger, O: Ledger, S: Ledger, A: Allocator = Global> {
+pub struct Joined<H, A: Allocator = Global> {
     pub pass: FeederPass<A>,
-    pub shares: Vec<Share<N, F, O, S>, A>,
+    pub shares: Vec<H, A>,
     pub fault: Option<Fault>,
 }
 
@@ -24,24 +23,21 @@ pub struct Joined<N: Ledger, F: Ledger, O: Ledger, S: Ledger, A: Allocator = Glo
 pub fn join_all<
     'w,
     P: Plan,
-    N: Ledger,
-    F: Ledger,
-    O: Ledger,
-    S: Ledger,
+    H: Posted + Drop,
     A: Allocator,
     R: Threads,
 >(
     rt: &R,
     work: &Work<P, A>,
     mut pass: FeederPass<A>,
-    running: Vec<Running<'w, P, N, F, O, S, A>, A>,
-    mut shares: Vec<Share<N, F, O, S>, A>,
-) -> Joined<N, F, O, S, A>
+    running: Vec<Running<'w, P, H, A>, A>,
+    mut shares: Vec<H, A>,
+) -> Joined<H, A>
     requires queue { pass.queue ≡ work.now.queue }
     requires promised { All (λ h. h.promise.work.now.queue ≡ work.now.queue) running.items }
     requires fresh { (pass.record_of.done ≡ 0) × (length pass.record_of.taken ≡ 0) }
     requires room { (vec_len shares ≡ 0) × (vec_len running ≤ vec_capacity shares) }
-    ensures joined { IsJoined work.now.queue (vec_len running.entry) pass.record_of result }
+    ensures joined { IsJoined H.posts work.now.queue (vec_len running.entry) pass.record_of result }
 {
     let mut fault = None;
     for one in running {

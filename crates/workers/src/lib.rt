@@ -3,6 +3,7 @@
 
 mod feeding;
 mod gate;
+mod handler;
 mod joining;
 mod run;
 mod starting;
@@ -10,3 +11,4 @@ mod worker;
 
 pub use feeding::{Feed, feed_piece};
 pub use gate::Gate;
+pub use handler::{Handler, Posted, Posting};

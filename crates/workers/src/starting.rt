@@ -2,11 +2,11 @@
 
 ghost use Rattle.std.specs.Prelude.{◌≡◌, ◌≤◌, [], false, All, IsTrue, IfOk, IfErr, IfSome, vec_len, vec_capacity};
 ghost use Rattle.piece_queue.specs.Rule.{feeder, worker};
-ghost use Rattle.workers.specs.Workers.{IsDone, IsSeat, nothing};
+ghost use Rattle.workers.specs.Workers.{IsDone, IsSeat};
 
-use crate::gate::Gate;
+use crate::handler::{Handler, Posted};
 use crate::worker::{Done, Finishes, work_on};
-use findings_book::{Book, Desk, Share};
+use findings_book::{Book, Share};
 use line_model::fault::Fault;
 use line_model::piece::Plan;
 use piece_queue::{FeederPass, Work, WorkerPass};
@@ -18,22 +18,22 @@ use std::thread::{PromisedHandle, Scope};
 
 /// What a worker starts with.
 #[derive(Drop)]
-pub struct Seat<N: Ledger, F: Ledger, O: Ledger, S: Ledger, A: Allocator = Global> {
+pub struct Seat<H, A: Allocator = Global> {
     pub pass: WorkerPass<A>,
-    pub share: Share<N, F, O, S>,
+    pub share: H,
 }
 
 /// A worker that runs.
-pub type Running<'w, P, N, F, O, S, A> = PromisedHandle<Done<N, F, O, S, A>, Finishes<'w, P, A>>;
+pub type Running<'w, P, H, A> = PromisedHandle<Done<H, A>, Finishes<'w, P, A>>;
 
 /// The pass of the feeder, and a seat for each worker. Contracts see of which queue it is, and how many seats it has.
 #[derive(Drop)]
-pub struct Crew<N: Ledger, F: Ledger, O: Ledger, S: Ledger, A: Allocator = Global> {
+pub struct Crew<H: Posted, A: Allocator = Global> {
     pub(crate) pass: FeederPass<A>,
-    pub(crate) seats: Vec<Seat<N, F, O, S, A>, A>,
+    pub(crate) seats: Vec<Seat<H, A>, A>,
 }
 
-impl<N: Ledger, F: Ledger, O: Ledger, S: Ledger, A: Allocator> Model for Crew<N, F, O, S, A> {
+impl<H: Posted, A: Allocator> Model for Crew<H, A> {
     ghost use Rattle.std.specs.Prelude.{◌≡◌, [], All, vec_len};
     ghost use Rattle.piece_queue.specs.Rule.{feeder};
     ghost use Rattle.workers.specs.Workers.{IsSeat};
@@ -43,38 +43,36 @@ impl<N: Ledger, F: Ledger, O: Ledger, S: Ledger, A: Allocator> Model for Crew<N,
 
     ghost view = { λ c. record { queue = c.pass.queue; count = vec_len c.seats } };
 
-    ghost invariant = { λ c. (c.pass.record_of ≡ feeder 0 0 (vec_len c.seats) 0 []) × All (IsSeat c.pass.queue) c.seats.items };
+    ghost invariant = { λ c. (c.pass.record_of ≡ feeder 0 0 (vec_len c.seats) 0 []) × All (IsSeat H.posts c.pass.queue) c.seats.items };
 }
 
-impl<N: Ledger, F: Ledger, O: Ledger, S: Ledger, A: Allocator + Copy> Crew<N, F, O, S, A> {
-    /// A seat for each of so many workers, or want of memory.
-    pub fn new<P: Plan>(
-        alloc: A,
-        work: &Work<P, A>,
-        book: &mut Book<P, N, F, O, S, A>,
-        pass: FeederPass<A>,
-        workers: usize,
-    ) -> Result<Crew<N, F, O, S, A>, Fault>
-        requires queue { pass.queue ≡ work.now.queue }
-        requires fresh { pass.record_of ≡ feeder 0 0 0 0 [] }
-        requires few { workers ≤ 64 }
-        requires shares { book.old ≡ 0 }
-        ensures queue { IfOk result (λ crew. crew.queue ≡ work.now.queue) }
-        ensures count { IfOk result (λ crew. crew.count ≡ workers) }
-        ensures given { IfOk result (λ crew. book.new ≡ workers) }
-        ensures refused { IfErr result (λ fault. fault ≡ Fault.Memory) }
-    {
-        let mut pass = pass;
-        let mut seats = Vec::new(alloc);
-        for _worker in 0..workers {
-            seats.reserve(1)?;
-            seats.push_reserved(Seat {
-                pass: work.split(&mut pass),
-                share: book.share(),
-            });
-        }
-        Ok(Crew { pass, seats })
+/// A seat for each of so many workers, or want of memory.
+pub fn crew_for<P: Plan, N: Ledger, F: Ledger, O: Ledger, S: Ledger, A: Allocator + Copy>(
+    alloc: A,
+    work: &Work<P, A>,
+    book: &mut Book<P, N, F, O, S, A>,
+    pass: FeederPass<A>,
+    workers: usize,
+) -> Result<Crew<Share<N, F, O, S>, A>, Fault>
+    requires queue { pass.queue ≡ work.now.queue }
+    requires fresh { pass.record_of ≡ feeder 0 0 0 0 [] }
+    requires few { workers ≤ 64 }
+    requires shares { book.old ≡ 0 }
+    ensures queue { IfOk result (λ crew. crew.queue ≡ work.now.queue) }
+    ensures count { IfOk result (λ crew. crew.count ≡ workers) }
+    ensures given { IfOk result (λ crew. book.new ≡ workers) }
+    ensures refused { IfErr result (λ fault. fault ≡ Fault.Memory) }
+{
+    let mut pass = pass;
+    let mut seats = Vec::new(alloc);
+    for _worker in 0..workers {
+        seats.reserve(1)?;
+        seats.push_reserved(Seat {
+            pass: work.split(&mut pass),
+            share: book.share(),
+        });
     }
+    Ok(Crew { pass, seats })
 }
 
 /// Starts a worker, where a thread can be made.
@@ -82,32 +80,28 @@ fn start<
     's,
     'e: 's,
     P: Plan + Send + Sync,
-    N: Ledger + Sync,
-    F: Ledger + Sync,
-    O: Ledger + Sync,
-    S: Ledger + Sync,
+    H: Posted + Send + Drop + 's,
     A: Allocator + Copy + Send + Sync,
-    G: Gate,
+    W: Handler<P, A, H> + Sync,
     R: Wait + Sync,
 >(
     scope: &'s Scope<'s, &'e ()>,
     rt: &'s R,
     alloc: A,
     work: &'s Work<P, A>,
-    desk: &'s Desk<P, N, F, O, S, A>,
-    gate: &'s G,
-    seat: Seat<N, F, O, S, A>,
-) -> Option<Running<'s, P, N, F, O, S, A>>
-    requires seat { IsSeat work.now.queue seat }
+    handler: &'s W,
+    seat: Seat<H, A>,
+) -> Option<Running<'s, P, H, A>>
+    requires seat { IsSeat H.posts work.now.queue seat }
     ensures promise { IfSome result (λ h. h.promise.work.now.queue ≡ work.now.queue) }
 {
     let Seat { pass, share } = seat;
     let started = scope.spawn_with(
         Finishes { work },
-        move || -> Done<N, F, O, S, A>
-            requires { (pass.queue ≡ work.now.queue) × (pass.record_of ≡ worker [] false 0) × (share ≡ nothing) }
-            ensures { IsDone work.entry.now.queue result }
-        { work_on(rt, alloc, work, desk, gate, pass, share) },
+        move || -> Done<H, A>
+            requires { (pass.queue ≡ work.now.queue) × (pass.record_of ≡ worker [] false 0) × (H.posts share ≡ 0) }
+            ensures { IsDone H.posts work.entry.now.queue result }
+        { work_on(rt, alloc, work, handler, pass, share) },
     );
     started.ok()
 }
@@ -117,24 +111,20 @@ pub fn start_all<
     's,
     'e: 's,
     P: Plan + Send + Sync,
-    N: Ledger + Sync,
-    F: Ledger + Sync,
-    O: Ledger + Sync,
-    S: Ledger + Sync,
+    H: Posted + Send + Drop + 's,
     A: Allocator + Copy + Send + Sync,
-    G: Gate,
+    W: Handler<P, A, H> + Sync,
     R: Wait + Sync,
 >(
     scope: &'s Scope<'s, &'e ()>,
     rt: &'s R,
     alloc: A,
     work: &'s Work<P, A>,
-    desk: &'s Desk<P, N, F, O, S, A>,
-    gate: &'s G,
-    seats: Vec<Seat<N, F, O, S, A>, A>,
-    running: &mut Vec<Running<'s, P, N, F, O, S, A>, A>,
+    handler: &'s W,
+    seats: Vec<Seat<H, A>, A>,
+    running: &mut Vec<Running<'s, P, H, A>, A>,
 ) -> bool
-    requires seats { All (IsSeat work.now.queue) seats.items }
+    requires seats { All (IsSeat H.posts work.now.queue) seats.items }
     requires none { vec_len running.old ≡ 0 }
     requires room { vec_len seats ≤ vec_capacity running.old }
     ensures all { IsTrue result → vec_len running.new ≡ vec_len seats }
@@ -142,7 +132,7 @@ pub fn start_all<
     ensures promised { All (λ h. h.promise.work.now.queue ≡ work.now.queue) running.new.items }
 {
     for seat in seats {
-        match start(scope, rt, alloc, work, desk, gate, seat) {
+        match start(scope, rt, alloc, work, handler, seat) {
             Some(one) => running.push_reserved(one),
             None => return false,
         }

@@ -1,6 +1,5 @@
 use Rattle.std.proofs.Common.{◌≡◌, ◌+◌, ◌-◌, ◌≤◌, ◌<◌, length, List, true, arith, rules, ap, sym, ◌∙◌, subst}
 use Rattle.std.specs.Prelude.{sum_by, MatchOption, vec_len, if◌then◌else◌}
-use Rattle.line_model.specs.declared.totals.Totals.{Totals}
 use Rattle.std.proofs.lemmas.List.Sums.{sum_by_push}
 use Rattle.std.proofs.Common.{length-append}
 use Rattle.workers.proofs.Lists.{All-rest, sum-of-none}
@@ -19,7 +18,7 @@ loop-one-preserved-then-is_none g c =
       done = ap (λ v. v.done) rec ∙ (ap (λ b. if b then c.loop-one.pass.record_of.done + 1 else c.loop-one.pass.record_of.done) c.join-done.ensures.finished ∙ omega (arith, i.done, c.push_reserved.ensures.len));
       fed = ap (λ v. v.fed) rec ∙ i.fed;
       fault = fault_then c.join-done.result.fault c.loop-one.fault _ _ _ _ c.if-is_none.ensures i.fault
-          (λ old new. ap (λ l. sum_by (λ (s : Totals). s.posts) l) c.push_reserved.ensures.items ∙ (sum_by_push (λ (s : Totals). s.posts) c.loop-one.shares.items c.join-done.result.share ∙ omega (arith, old, new, length-append c.loop-one.pass.record_of.taken c.join-done.result.pass.record_of.taken, ap (λ v. length v.taken) rec)))
+          (λ old new. ap (sum_by g.H.Posted.posts) c.push_reserved.ensures.items ∙ (sum_by_push g.H.Posted.posts c.loop-one.shares.items c.join-done.result.share ∙ omega (arith, old, new, length-append c.loop-one.pass.record_of.taken c.join-done.result.pass.record_of.taken, ap (λ v. length v.taken) rec)))
           c.join-done.ensures.fault;
       all = λ _. c.join.ensures.all;
     }
@@ -49,6 +48,6 @@ loop-one-init g c =
   pending = search rules;
   done = search rules;
   fed = search rules;
-  fault = sum-of-none (λ (s : Totals). s.posts) c.args.shares.items none ∙ sym c.requires.fresh.1;
+  fault = sum-of-none g.H.Posted.posts c.args.shares.items none ∙ sym c.requires.fresh.1;
   all = search rules;
 }

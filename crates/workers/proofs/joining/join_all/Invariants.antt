@@ -13,6 +13,6 @@ invariant-loop-one g l = record {
   pending : l.pass.record_of.pending ≡ l.initial.pass.record_of.pending - vec_len l.shares;
   done : l.pass.record_of.done ≡ vec_len l.shares;
   fed : l.pass.record_of.fed ≡ l.initial.pass.record_of.fed;
-  fault : MatchOption l.fault (sum_by (λ s. s.posts) l.shares.items ≡ length l.pass.record_of.taken) (λ f. f ≡ Memory);
+  fault : MatchOption l.fault (sum_by g.H.Posted.posts l.shares.items ≡ length l.pass.record_of.taken) (λ f. f ≡ Memory);
   all : 0 < vec_len l.shares → IsAccounted l.pass.record_of;
 }

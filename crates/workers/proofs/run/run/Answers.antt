@@ -10,4 +10,4 @@ returns-clause-ran g c =
     let same : vec_len c.start_all.new.running ≡ c.args.crew.count = search rules in
     let pending : v.pending ≡ vec_len c.start_all.new.running = search rules in
     let some : 0 < vec_len c.start_all.new.running = omega (arith, same, c.requires.some) in
-    (fed.fed, c.feed-task.ensures.gives, ended _ _ _ fed.fed v c.join_all-joined.result c.join_all-joined.ensures.joined pending some c.feed_ends-2.ensures.fed same)
+    (fed.fed, c.feed-task.ensures.gives, ended _ _ _ _ fed.fed v c.join_all-joined.result c.join_all-joined.ensures.joined pending some c.feed_ends-2.ensures.fed same)

@@ -1,7 +1,7 @@
 use Rattle.std.specs.Prelude.{◌≡◌, [], All, vec_len}
 use Rattle.piece_queue.specs.Rule.{feeder}
 use Rattle.workers.specs.Workers.{IsSeat}
-use Rattle.workers.proofs.starting.Crew.new.Given as goal
+use Rattle.workers.proofs.starting.crew_for.Given as goal
 
 abbrev pub invariant-loop-worker : goal.invariant-loop-worker
 invariant-loop-worker g l = record {
@@ -9,5 +9,5 @@ invariant-loop-worker g l = record {
   given : l.book ≡ l._worker;
   queue : l.pass.queue ≡ l.work.queue;
   pass : l.pass.record_of ≡ feeder 0 0 l._worker 0 [];
-  seats : All (IsSeat l.work.queue) l.seats.items;
+  seats : All (IsSeat (λ s. s.posts) l.work.queue) l.seats.items;
 }
