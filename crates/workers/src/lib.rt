@@ -3,12 +3,15 @@
 
 mod feeding;
 mod gate;
+mod gathering;
 mod handler;
 mod joining;
 mod run;
 mod starting;
+mod whole;
 mod worker;
 
 pub use feeding::{Feed, feed_piece};
 pub use gate::Gate;
+pub use gathering::Gathered;
 pub use handler::{Handler, Posted, Posting};
