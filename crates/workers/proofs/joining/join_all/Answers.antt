@@ -1,0 +1,53 @@
+use Rattle.std.proofs.Common.{◌≡◌, ◌+◌, ◌-◌, ◌≤◌, ◌<◌, length, List, true, arith, rules, ap, sym, ◌∙◌, subst}
+use Rattle.std.specs.Prelude.{sum_by, MatchOption, vec_len, if◌then◌else◌}
+use Rattle.std.proofs.lemmas.List.Sums.{sum_by_push}
+use Rattle.std.proofs.Common.{length-append}
+use Rattle.workers.proofs.Lists.{All-rest, sum-of-none}
+use Rattle.workers.proofs.Faults.{fault_then, fault_kept}
+use Rattle.workers.proofs.joining.join_all.Goals as goal
+
+pub loop-one-preserved-then-is_none : goal.loop-one-preserved-then-is_none
+loop-one-preserved-then-is_none g c =
+    let i = c.loop-one.invariant in
+    let rec = c.join.ensures.joined in record {
+      promised = All-rest (λ h. h.promise.work.now.queue ≡ c.args.work.now.queue) _ _ _ c.in-Some.ensures.steps.0 i.promised;
+      count = search rules;
+      room = search rules;
+      queue = search rules;
+      pending = omega (arith, ap (λ v. v.pending) rec, i.pending, c.push_reserved.ensures.len);
+      done = ap (λ v. v.done) rec ∙ (ap (λ b. if b then c.loop-one.pass.record_of.done + 1 else c.loop-one.pass.record_of.done) c.join-done.ensures.finished ∙ omega (arith, i.done, c.push_reserved.ensures.len));
+      fed = ap (λ v. v.fed) rec ∙ i.fed;
+      fault = fault_then c.join-done.result.fault c.loop-one.fault _ _ _ _ c.if-is_none.ensures i.fault
+          (λ old new. ap (sum_by g.H.Posted.posts) c.push_reserved.ensures.items ∙ (sum_by_push g.H.Posted.posts c.loop-one.shares.items c.join-done.result.share ∙ omega (arith, old, new, length-append c.loop-one.pass.record_of.taken c.join-done.result.pass.record_of.taken, ap (λ v. length v.taken) rec)))
+          c.join-done.ensures.fault;
+      all = λ _. c.join.ensures.all;
+    }
+
+pub loop-one-preserved : goal.loop-one-preserved
+loop-one-preserved g c =
+    let i = c.loop-one.invariant in
+    let rec = c.join.ensures.joined in record {
+      promised = All-rest (λ h. h.promise.work.now.queue ≡ c.args.work.now.queue) _ _ _ c.in-Some.ensures.steps.0 i.promised;
+      count = search rules;
+      room = search rules;
+      queue = search rules;
+      pending = omega (arith, ap (λ v. v.pending) rec, i.pending, c.push_reserved.ensures.len);
+      done = ap (λ v. v.done) rec ∙ (ap (λ b. if b then c.loop-one.pass.record_of.done + 1 else c.loop-one.pass.record_of.done) c.join-done.ensures.finished ∙ omega (arith, i.done, c.push_reserved.ensures.len));
+      fed = ap (λ v. v.fed) rec ∙ i.fed;
+      fault = fault_kept c.loop-one.fault _ _ _ c.if-is_none.ensures i.fault;
+      all = λ _. c.join.ensures.all;
+    }
+
+pub loop-one-init : goal.loop-one-init
+loop-one-init g c =
+    let none : length c.args.shares.items ≡ 0 = search rules in record {
+  promised = search rules;
+  count = search rules;
+  room = search rules;
+  queue = search rules;
+  pending = search rules;
+  done = search rules;
+  fed = search rules;
+  fault = sum-of-none g.H.Posted.posts c.args.shares.items none ∙ sym c.requires.fresh.1;
+  all = search rules;
+}

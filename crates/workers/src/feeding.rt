@@ -1,0 +1,91 @@
+//! What the reading thread feeds.
+
+ghost use Rattle.std.specs.Prelude.{◌≡◌, ◌+◌, ℕ};
+ghost use Rattle.line_model.specs.Book.{IsPlanned};
+ghost use Rattle.piece_queue.specs.Rule.{feeder};
+ghost use Rattle.workers.specs.Workers.{HasFed};
+
+use line_model::piece::{Piece, Plan};
+use piece_queue::{FeederPass, Work};
+use std::alloc::Allocator;
+use std::sync::Wait;
+use std::thread;
+
+/// What the reading thread does while the workers run: it feeds the first pieces of the plan, in order.
+pub trait Feed<P: Plan, A: Allocator> {
+    /// What it wants.
+    ghost can_feed: { Self → Type 0 };
+
+    /// What becomes of it where so many pieces were fed.
+    ghost feed_gives: { Self → ℕ → Self → Type 0 };
+
+    fn feed<R: Wait>(self, rt: &R, work: &Work<P, A>, pass: &mut FeederPass<A>) -> Self
+        requires able { can_feed self }
+        requires queue { pass.old.queue ≡ work.now.queue }
+        requires first { (pass.old.record_of.fed ≡ 0) × (pass.old.record_of.ends ≡ 0) }
+        ensures queue { pass.new.queue ≡ pass.old.queue }
+        ensures fed { HasFed pass.old.record_of pass.new.record_of }
+        ensures gives { feed_gives self pass.new.record_of.fed result };
+}
+
+/// Feeds a piece, again while the queue is full.
+pub fn feed_piece<P: Plan, A: Allocator, R: Wait>(
+    rt: &R,
+    work: &Work<P, A>,
+    piece: Piece<A>,
+    pass: &mut FeederPass<A>,
+)
+    requires queue { pass.old.queue ≡ work.now.queue }
+    requires next { IsPlanned P.pieces pass.old.record_of.fed piece }
+    requires open { pass.old.record_of.ends ≡ 0 }
+    ensures queue { pass.new.queue ≡ pass.old.queue }
+    ensures fed { pass.new.record_of ≡ feeder (pass.old.record_of.fed + 1) pass.old.record_of.ends pass.old.record_of.pending pass.old.record_of.done pass.old.record_of.taken }
+{
+    let mut piece = piece;
+    for _ in rt.forever() {
+        match work.feed(rt, piece, pass) {
+            Ok(()) => return,
+            Err(back) => piece = back,
+        }
+        thread::yield_now();
+    }
+    unreachable!()
+}
+
+/// Feeds an end, again while the queue is full.
+fn feed_end<P: Plan, A: Allocator, R: Wait>(
+    rt: &R,
+    work: &Work<P, A>,
+    pass: &mut FeederPass<A>,
+)
+    requires queue { pass.old.queue ≡ work.now.queue }
+    ensures queue { pass.new.queue ≡ pass.old.queue }
+    ensures fed { pass.new.record_of ≡ feeder pass.old.record_of.fed (pass.old.record_of.ends + 1) pass.old.record_of.pending pass.old.record_of.done pass.old.record_of.taken }
+{
+    for _ in rt.forever() {
+        if work.feed_end(rt, pass).is_ok() {
+            return;
+        }
+        thread::yield_now();
+    }
+    unreachable!()
+}
+
+/// Feeds so many ends.
+pub fn feed_ends<P: Plan, A: Allocator, R: Wait>(
+    rt: &R,
+    work: &Work<P, A>,
+    count: usize,
+    pass: &mut FeederPass<A>,
+)
+    requires queue { pass.old.queue ≡ work.now.queue }
+    ensures queue { pass.new.queue ≡ pass.old.queue }
+    ensures fed { pass.new.record_of.fed ≡ pass.old.record_of.fed }
+    ensures pending { pass.new.record_of.pending ≡ pass.old.record_of.pending }
+    ensures done { pass.new.record_of.done ≡ pass.old.record_of.done }
+    ensures taken { pass.new.record_of.taken ≡ pass.old.record_of.taken }
+{
+    for _end in 0..count {
+        feed_end(rt, work, pass);
+    }
+}

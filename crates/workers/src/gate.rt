@@ -1,0 +1,16 @@
+//! How a worker runs a piece.
+
+ghost use Rattle.std.specs.Prelude.{◌≡◌, MatchResult};
+ghost use Rattle.line_model.specs.Plans.{value};
+ghost use Rattle.line_model.specs.declared.fault.Fault.TheVariants.{Memory};
+
+use line_model::fault::Fault;
+use line_model::piece::{Piece, PieceReport};
+use std::alloc::Allocator;
+
+/// Runs pieces, and is shared by all workers.
+pub trait Gate: Sync {
+    /// The value of the piece, or want of memory.
+    fn run<A: Allocator + Copy>(&self, alloc: A, piece: &Piece<A>) -> Result<PieceReport<A>, Fault>
+        ensures value { MatchResult result (λ r. r ≡ value piece.now) (λ fault. fault ≡ Memory) };
+}

@@ -1,0 +1,78 @@
+//! What a worker does with a piece.
+
+ghost use Rattle.std.specs.Prelude.{◌≡◌, ◌+◌, ℕ, OnOk, IfErr};
+ghost use Rattle.line_model.specs.Book.{IsPlanned};
+
+use crate::gate::Gate;
+use findings_book::{Desk, Share};
+use line_model::fault::Fault;
+use line_model::piece::{Piece, Plan};
+use std::alloc::{Allocator, Global};
+use std::sync::Wait;
+use std::sync::ledger::Ledger;
+
+/// What one worker has posted.
+pub trait Posted {
+    /// How many reports.
+    ghost posts: { Self → ℕ };
+}
+
+impl<N: Ledger, F: Ledger, O: Ledger, S: Ledger> Posted for Share<N, F, O, S> {
+    ghost posts = { λ share. share.posts };
+}
+
+/// Handles the pieces of all workers, each with a share of its own.
+pub trait Handler<P: Plan, A: Allocator, H: Posted> {
+    /// Runs a piece and posts its report, or wants memory.
+    fn handle<R: Wait>(
+        &self,
+        rt: &R,
+        alloc: A,
+        piece: &Piece<A>,
+        share: &mut H,
+    ) -> Result<(), Fault>
+        requires planned { IsPlanned P.pieces piece.now.id piece.now }
+        ensures posted { OnOk result (H.posts share.new ≡ H.posts share.old + 1) }
+        ensures refused { IfErr result (λ fault. fault ≡ Fault.Memory) };
+}
+
+/// Runs pieces by a gate, and posts their reports at the desk of a book.
+#[derive(Drop)]
+pub struct Posting<
+    'a,
+    P: Plan,
+    N: Ledger,
+    F: Ledger,
+    O: Ledger,
+    S: Ledger,
+    A: Allocator,
+    G,
+> {
+    pub desk: &'a Desk<P, N, F, O, S, A>,
+    pub gate: &'a G,
+}
+
+impl<'a, P: Plan, N: Ledger, F: Ledger, O: Ledger, S: Ledger, A: Allocator + Copy, G: Gate> Handler<
+    P,
+    A,
+    Share<N, F, O, S>,
+> for Posting<'a, P, N, F, O, S, A, G> {
+    fn handle<R: Wait>(
+        &self,
+        rt: &R,
+        alloc: A,
+        piece: &Piece<A>,
+        share: &mut Share<N, F, O, S>,
+    ) -> Result<(), Fault> {
+        let mut report = self.gate.run(alloc, piece)?;
+        for _ in rt.forever() {
+            // A report that is answered as posted twice is posted again.
+            match self.desk.post(rt, report, share) {
+                Ok(()) => return Ok(()),
+                Err((_, Fault::Memory)) => return Err(Fault::Memory),
+                Err((back, _)) => report = back,
+            }
+        }
+        unreachable!()
+    }
+}

@@ -1,0 +1,17 @@
+//! Workers over the queue of pieces and the book of reports, each in a thread of its own.
+#![tactic(auto)]
+
+mod feeding;
+mod gate;
+mod gathering;
+mod handler;
+mod joining;
+mod run;
+mod starting;
+mod whole;
+mod worker;
+
+pub use feeding::{Feed, feed_piece};
+pub use gate::Gate;
+pub use gathering::Gathered;
+pub use handler::{Handler, Posted, Posting};

@@ -1,0 +1,105 @@
+//! Reading and working side by side.
+
+ghost use Rattle.std.specs.Prelude.{◌≡◌, ◌<◌, ◌⊎◌, IfOk, IfErr};
+ghost use Rattle.workers.specs.Runs.{HasRan};
+
+use crate::feeding::{Feed, feed_ends};
+use crate::handler::{Handler, Posted};
+use crate::joining::join_all;
+use crate::starting::{Crew, start_all};
+use line_model::fault::Fault;
+use line_model::piece::Plan;
+use piece_queue::Work;
+use std::alloc::{Allocator, Global};
+use std::sync::Wait;
+use std::thread;
+use std::thread::{Scope, Threads};
+
+/// What became of the task, the shares of all workers, and the first of the workers' faults.
+#[derive(Drop)]
+pub struct Ran<T, H, A: Allocator = Global> {
+    pub task: T,
+    pub shares: Vec<H, A>,
+    pub fault: Option<Fault>,
+}
+
+/// Starts the workers, lets the task feed, feeds an end for each worker, and joins them. Where a thread is refused,
+/// those that were started are given their ends and joined, and the task comes back.
+fn run<
+    's,
+    'e: 's,
+    P: Plan + Send + Sync,
+    H: Posted + Send + Drop + 's,
+    A: Allocator + Copy + Send + Sync,
+    W: Handler<P, A, H> + Sync,
+    R: Threads + Wait + Sync,
+    T: Feed<P, A>,
+>(
+    scope: &'s Scope<'s, &'e ()>,
+    rt: &'s R,
+    alloc: A,
+    work: &'s Work<P, A>,
+    handler: &'s W,
+    crew: Crew<H, A>,
+    task: T,
+) -> Result<Ran<T, H, A>, (T, Fault)>
+    requires queue { crew.queue ≡ work.now.queue }
+    requires some { 0 < crew.count }
+    requires able { T.can_feed task }
+    ensures ran { IfOk result (HasRan H.posts (T.feed_gives task) crew.count) }
+    ensures refused { IfErr result (λ e. (e.0 ≡ task) × ((e.1 ≡ Fault.Memory) ⊎ (e.1 ≡ Fault.Start))) }
+{
+    let Crew { mut pass, seats } = crew;
+    let count = seats.len();
+    let Ok(mut running) = Vec::with_capacity(alloc, count) else {
+        return Err((task, Fault::Memory));
+    };
+    let Ok(shares) = Vec::with_capacity(alloc, count) else {
+        return Err((task, Fault::Memory));
+    };
+    if !start_all(scope, rt, alloc, work, handler, seats, &mut running) {
+        feed_ends(rt, work, running.len(), &mut pass);
+        join_all(rt, work, pass, running, shares);
+        return Err((task, Fault::Start));
+    }
+    let task = task.feed(rt, work, &mut pass);
+    feed_ends(rt, work, running.len(), &mut pass);
+    let joined = join_all(rt, work, pass, running, shares);
+    Ok(Ran {
+        task,
+        shares: joined.shares,
+        fault: joined.fault,
+    })
+}
+
+/// Runs the workers and the task in a scope of threads.
+pub fn run_scoped<
+    P: Plan + Send + Sync,
+    H: Posted + Send + Drop,
+    A: Allocator + Copy + Send + Sync,
+    W: Handler<P, A, H> + Sync,
+    R: Threads + Wait + Sync,
+    T: Feed<P, A> + Drop,
+>(
+    rt: &R,
+    alloc: A,
+    work: &Work<P, A>,
+    handler: &W,
+    crew: Crew<H, A>,
+    task: T,
+) -> Result<Ran<T, H, A>, (T, Fault)>
+    requires queue { crew.queue ≡ work.now.queue }
+    requires some { 0 < crew.count }
+    requires able { T.can_feed task }
+    ensures ran { IfOk result (HasRan H.posts (T.feed_gives task) crew.count) }
+    ensures refused { IfErr result (λ e. (e.0 ≡ task) × ((e.1 ≡ Fault.Memory) ⊎ (e.1 ≡ Fault.Start))) }
+{
+    thread::scope(
+        thread::scope_env(),
+        rt,
+        move |scope| -> Result<Ran<T, H, A>, (T, Fault)>
+            requires { (crew.queue ≡ work.now.queue) × (0 < crew.count) × T.can_feed task }
+            ensures { IfOk result (HasRan H.posts (T.feed_gives task) crew.count) × IfErr result (λ e. (e.0 ≡ task) × ((e.1 ≡ Fault.Memory) ⊎ (e.1 ≡ Fault.Start))) }
+        { run(scope, rt, alloc, work, handler, crew, task) },
+    )
+}

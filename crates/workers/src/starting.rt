@@ -1,0 +1,141 @@
+//! How the workers are started.
+
+ghost use Rattle.std.specs.Prelude.{◌≡◌, ◌≤◌, [], false, All, IsTrue, IfOk, IfErr, IfSome, vec_len, vec_capacity};
+ghost use Rattle.piece_queue.specs.Rule.{feeder, worker};
+ghost use Rattle.workers.specs.Workers.{IsDone, IsSeat};
+
+use crate::handler::{Handler, Posted};
+use crate::worker::{Done, Finishes, work_on};
+use findings_book::{Book, Share};
+use line_model::fault::Fault;
+use line_model::piece::Plan;
+use piece_queue::{FeederPass, Work, WorkerPass};
+use std::alloc::{Allocator, Global};
+use std::marker::Model;
+use std::sync::Wait;
+use std::sync::ledger::Ledger;
+use std::thread::{PromisedHandle, Scope};
+
+/// What a worker starts with.
+#[derive(Drop)]
+pub struct Seat<H, A: Allocator = Global> {
+    pub pass: WorkerPass<A>,
+    pub share: H,
+}
+
+/// A worker that runs.
+pub type Running<'w, P, H, A> = PromisedHandle<Done<H, A>, Finishes<'w, P, A>>;
+
+/// The pass of the feeder, and a seat for each worker. Contracts see of which queue it is, and how many seats it has.
+#[derive(Drop)]
+pub struct Crew<H: Posted, A: Allocator = Global> {
+    pub(crate) pass: FeederPass<A>,
+    pub(crate) seats: Vec<Seat<H, A>, A>,
+}
+
+impl<H: Posted, A: Allocator> Model for Crew<H, A> {
+    ghost use Rattle.std.specs.Prelude.{◌≡◌, [], All, vec_len};
+    ghost use Rattle.piece_queue.specs.Rule.{feeder};
+    ghost use Rattle.workers.specs.Workers.{IsSeat};
+    ghost use Rattle.workers.specs.Crews as crews;
+
+    ghost Value = { crews.Crew };
+
+    ghost view = { λ c. record { queue = c.pass.queue; count = vec_len c.seats } };
+
+    ghost invariant = { λ c. (c.pass.record_of ≡ feeder 0 0 (vec_len c.seats) 0 []) × All (IsSeat H.posts c.pass.queue) c.seats.items };
+}
+
+/// A seat for each of so many workers, or want of memory.
+pub fn crew_for<P: Plan, N: Ledger, F: Ledger, O: Ledger, S: Ledger, A: Allocator + Copy>(
+    alloc: A,
+    work: &Work<P, A>,
+    book: &mut Book<P, N, F, O, S, A>,
+    pass: FeederPass<A>,
+    workers: usize,
+) -> Result<Crew<Share<N, F, O, S>, A>, Fault>
+    requires queue { pass.queue ≡ work.now.queue }
+    requires fresh { pass.record_of ≡ feeder 0 0 0 0 [] }
+    requires few { workers ≤ 64 }
+    requires shares { book.old ≡ 0 }
+    ensures queue { IfOk result (λ crew. crew.queue ≡ work.now.queue) }
+    ensures count { IfOk result (λ crew. crew.count ≡ workers) }
+    ensures given { IfOk result (λ crew. book.new ≡ workers) }
+    ensures refused { IfErr result (λ fault. fault ≡ Fault.Memory) }
+{
+    let mut pass = pass;
+    let mut seats = Vec::new(alloc);
+    for _worker in 0..workers {
+        seats.reserve(1)?;
+        seats.push_reserved(Seat {
+            pass: work.split(&mut pass),
+            share: book.share(),
+        });
+    }
+    Ok(Crew { pass, seats })
+}
+
+/// Starts a worker, where a thread can be made.
+fn start<
+    's,
+    'e: 's,
+    P: Plan + Send + Sync,
+    H: Posted + Send + Drop + 's,
+    A: Allocator + Copy + Send + Sync,
+    W: Handler<P, A, H> + Sync,
+    R: Wait + Sync,
+>(
+    scope: &'s Scope<'s, &'e ()>,
+    rt: &'s R,
+    alloc: A,
+    work: &'s Work<P, A>,
+    handler: &'s W,
+    seat: Seat<H, A>,
+) -> Option<Running<'s, P, H, A>>
+    requires seat { IsSeat H.posts work.now.queue seat }
+    ensures promise { IfSome result (λ h. h.promise.work.now.queue ≡ work.now.queue) }
+{
+    let Seat { pass, share } = seat;
+    let started = scope.spawn_with(
+        Finishes { work },
+        move || -> Done<H, A>
+            requires { (pass.queue ≡ work.now.queue) × (pass.record_of ≡ worker [] false 0) × (H.posts share ≡ 0) }
+            ensures { IsDone H.posts work.entry.now.queue result }
+        { work_on(rt, alloc, work, handler, pass, share) },
+    );
+    started.ok()
+}
+
+/// Starts the workers, and says whether each has its thread.
+pub fn start_all<
+    's,
+    'e: 's,
+    P: Plan + Send + Sync,
+    H: Posted + Send + Drop + 's,
+    A: Allocator + Copy + Send + Sync,
+    W: Handler<P, A, H> + Sync,
+    R: Wait + Sync,
+>(
+    scope: &'s Scope<'s, &'e ()>,
+    rt: &'s R,
+    alloc: A,
+    work: &'s Work<P, A>,
+    handler: &'s W,
+    seats: Vec<Seat<H, A>, A>,
+    running: &mut Vec<Running<'s, P, H, A>, A>,
+) -> bool
+    requires seats { All (IsSeat H.posts work.now.queue) seats.items }
+    requires none { vec_len running.old ≡ 0 }
+    requires room { vec_len seats ≤ vec_capacity running.old }
+    ensures all { IsTrue result → vec_len running.new ≡ vec_len seats }
+    ensures most { vec_len running.new ≤ vec_len seats }
+    ensures promised { All (λ h. h.promise.work.now.queue ≡ work.now.queue) running.new.items }
+{
+    for seat in seats {
+        match start(scope, rt, alloc, work, handler, seat) {
+            Some(one) => running.push_reserved(one),
+            None => return false,
+        }
+    }
+    true
+}

@@ -1,0 +1,79 @@
+//! A plan that is fed by one thread and worked through by others.
+
+ghost use Rattle.std.specs.Prelude.{◌≡◌, ◌<◌, ◌≤◌, ◌⊎◌, IfOk, IfErr};
+ghost use Rattle.workers.specs.Gathers.{HasWorked};
+
+use crate::feeding::Feed;
+use crate::gate::Gate;
+use crate::gathering::{Gathered, gather};
+use crate::handler::Posting;
+use crate::run::{Ran, run_scoped};
+use crate::starting::crew_for;
+use findings_book::Book;
+use line_model::fault::Fault;
+use line_model::piece::Plan;
+use piece_queue::Work;
+use std::alloc::{Allocator, Global};
+use std::sync::Wait;
+use std::sync::ledger::{Blank, Ledger};
+use std::thread::Threads;
+
+/// What became of the task, and what the workers made, or want of memory.
+#[derive(Drop)]
+pub struct Worked<T, A: Allocator = Global> {
+    pub task: T,
+    pub gathered: Result<Gathered<A>, Fault>,
+}
+
+fn work_in<
+    P: Plan + Send + Sync,
+    N: Ledger + Sync,
+    F: Ledger + Sync,
+    O: Ledger + Sync,
+    S: Ledger + Sync,
+    A: Allocator + Copy + Send + Sync,
+    G: Gate,
+    R: Threads + Wait + Sync,
+    T: Feed<P, A> + Drop,
+>(
+    rt: &R,
+    alloc: A,
+    blanks: (Blank, Blank, Blank, Blank),
+    workers: usize,
+    capacity: usize,
+    gate: &G,
+    task: T,
+) -> Result<Worked<T, A>, (T, Fault)>
+    requires posts { (blanks.0.name ≡ N.name) × (blanks.0.parts ≡ N.parts) × (N.parts ≡ 4096) }
+    requires findings { (blanks.1.name ≡ F.name) × (blanks.1.parts ≡ F.parts) × (F.parts ≡ 4096) }
+    requires octets { (blanks.2.name ≡ O.name) × (blanks.2.parts ≡ O.parts) × (O.parts ≡ 4096) }
+    requires segments { (blanks.3.name ≡ S.name) × (blanks.3.parts ≡ S.parts) × (S.parts ≡ 4096) }
+    requires workers { (0 < workers) × (workers ≤ 64) }
+    requires capacity { (0 < capacity) × (capacity ≤ 4096) }
+    requires able { T.can_feed task }
+    ensures worked { IfOk result (HasWorked P.pieces (T.feed_gives task) workers) }
+    ensures refused { IfErr result (λ e. (e.0 ≡ task) × ((e.1 ≡ Fault.Memory) ⊎ (e.1 ≡ Fault.Start))) }
+{
+    let (posts, findings, octets, segments) = blanks;
+    let Ok((work, pass)) = Work::<P, A>::new(alloc, capacity) else {
+        return Err((task, Fault::Memory));
+    };
+    let mut book = Book::<P, N, F, O, S, A>::new(alloc, posts, findings, octets, segments);
+    let Ok(crew) = crew_for(alloc, &work, &mut book, pass, workers) else {
+        return Err((task, Fault::Memory));
+    };
+    let posting = Posting {
+        desk: book.desk(),
+        gate,
+    };
+    let Ran {
+        task,
+        shares,
+        fault,
+    } = run_scoped(rt, alloc, &work, &posting, crew, task)?;
+    let gathered = match fault {
+        Some(fault) => Err(fault),
+        None => gather(alloc, book, shares),
+    };
+    Ok(Worked { task, gathered })
+}

@@ -1,0 +1,92 @@
+//! What one worker does.
+
+ghost use Rattle.std.specs.Prelude.{◌≡◌, ◌+◌, [], false, None, IfSome, IfNone};
+ghost use Rattle.line_model.specs.Book.{IsPlanned};
+ghost use Rattle.piece_queue.specs.Rule.{worker};
+ghost use Rattle.workers.specs.Workers.{IsDone};
+
+use crate::handler::{Handler, Posted};
+use line_model::fault::Fault;
+use line_model::piece::{Piece, Plan};
+use piece_queue::{Taken, Work, WorkerPass};
+use std::alloc::{Allocator, Global};
+use std::sync::Wait;
+use std::thread;
+use std::thread::Promise;
+
+/// What a worker hands back: its pass, which has its end, its share, and its fault where memory ran out.
+#[derive(Drop)]
+pub struct Done<H, A: Allocator = Global> {
+    pub pass: WorkerPass<A>,
+    pub share: H,
+    pub fault: Option<Fault>,
+}
+
+/// The promise of a worker of this queue.
+#[derive(Clone, Copy)]
+pub struct Finishes<'a, P: Plan, A: Allocator> {
+    pub work: &'a Work<P, A>,
+}
+
+impl<'a, P: Plan, H: Posted, A: Allocator> Promise<Done<H, A>> for Finishes<'a, P, A> {
+    ghost kept_by = { λ p r. IsDone H.posts p.work.now.queue r };
+}
+
+/// Handles a piece, unless memory ran out before.
+fn handle_unless<
+    P: Plan,
+    H: Posted + Drop,
+    A: Allocator + Copy,
+    W: Handler<P, A, H>,
+    R: Wait,
+>(
+    rt: &R,
+    alloc: A,
+    handler: &W,
+    piece: Piece<A>,
+    share: &mut H,
+    fault: Option<Fault>,
+) -> Option<Fault>
+    requires planned { IsPlanned P.pieces piece.id piece }
+    requires memory { IfSome fault (λ f. f ≡ Fault.Memory) }
+    ensures posted { IfNone result ((fault ≡ None) × (H.posts share.new ≡ H.posts share.old + 1)) }
+    ensures memory { IfSome result (λ f. f ≡ Fault.Memory) }
+{
+    match fault {
+        Some(fault) => Some(fault),
+        None => handler.handle(rt, alloc, &piece, share).err(),
+    }
+}
+
+/// Takes pieces, runs them and posts their reports, until the end of this worker comes. Where memory ran out it keeps
+/// that fault, and drops the pieces that it takes from then on.
+pub fn work_on<
+    P: Plan,
+    H: Posted + Drop,
+    A: Allocator + Copy,
+    W: Handler<P, A, H>,
+    R: Wait,
+>(
+    rt: &R,
+    alloc: A,
+    work: &Work<P, A>,
+    handler: &W,
+    mut pass: WorkerPass<A>,
+    mut share: H,
+) -> Done<H, A>
+    requires pass { (pass.queue ≡ work.now.queue) × (pass.record_of ≡ worker [] false 0) }
+    requires share { H.posts share ≡ 0 }
+    ensures done { IsDone H.posts work.now.queue result }
+{
+    let mut fault = None;
+    for _ in rt.forever() {
+        match work.take(rt, &mut pass) {
+            Taken::Got(piece) => {
+                fault = handle_unless(rt, alloc, handler, piece, &mut share, fault);
+            }
+            Taken::Finish => return Done { pass, share, fault },
+            Taken::Empty => thread::yield_now(),
+        }
+    }
+    unreachable!()
+}
