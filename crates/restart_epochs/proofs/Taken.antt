@@ -3,48 +3,22 @@ use Rattle.std.proofs.Common.{◌≡◌, ◌∙◌, sym, ap, subst, refl, ℕ, �
 use Rattle.line_model.specs.declared.interface.Interface.{Interface}
 use Rattle.line_model.specs.declared.finding.Finding.{Finding}
 use Rattle.line_model.specs.declared.packet.Packet.{Packet}
-use Rattle.line_model.specs.declared.packet.Class.{Class}
-use Rattle.line_model.specs.declared.packet.Class.TheVariants.{Short, WrongFormat, Unassigned, Restart, RestartConfirm, Diagnostic, Registration, TwoOctets, RestartHere, Call, Accepted, Clear, ClearConfirm, Interrupt, InterruptConfirm, Reset, ResetConfirm, Data, Rr, Rnr, Rej, Undefined}
 use Rattle.line_model.specs.declared.verdict.Route.TheVariants.{Leave, Enter}
 use Rattle.line_model.specs.Records.{Row, Item, Piece}
 use Rattle.line_model.specs.Octets.{channel_of}
-use Rattle.line_model.specs.Classes.{class_of, packet_of, packet_with, packet_class}
+use Rattle.line_model.specs.Classes.{class_of, packet_of, packet_class}
 use Rattle.line_model.specs.RestartMachine.{LineState, Routing, line_step}
 use Rattle.line_model.specs.Plans.{item_of}
 use Rattle.line_model.specs.Observer.{routing, is_ready}
+use Rattle.line_model.proofs.PacketClass.{class_is}
 use Rattle.restart_epochs.specs.OpenRows.{rows_of}
 use Rattle.restart_epochs.specs.Cutting.{Cutting, StandsFor, route_finding, pieces_out, IsKeptOn, IsStepped, IsLeft, IsTaken, IsCounted, given_of}
 use Rattle.restart_epochs.proofs.Routes.{is_to_channel, fits, fits_route, leaves_at, enters_at, is_quiet, quiet_at, quiet_line}
 use Rattle.restart_epochs.proofs.Pushes.{Pushed, pushed_on_channel, pushed_quietly, pushed_entering, pushed_leaving}
 
--- decoding keeps the class
-class_kept : (i : Interface) (xs : List ℕ) (k : Class) → packet_class (packet_with i xs k) ≡ k
-class_kept i xs Short = refl
-class_kept i xs WrongFormat = refl
-class_kept i xs Unassigned = refl
-class_kept i xs Restart = refl
-class_kept i xs RestartConfirm = refl
-class_kept i xs Diagnostic = refl
-class_kept i xs Registration = refl
-class_kept i xs TwoOctets = refl
-class_kept i xs RestartHere = refl
-class_kept i xs Call = refl
-class_kept i xs Accepted = refl
-class_kept i xs Clear = refl
-class_kept i xs ClearConfirm = refl
-class_kept i xs Interrupt = refl
-class_kept i xs InterruptConfirm = refl
-class_kept i xs Reset = refl
-class_kept i xs ResetConfirm = refl
-class_kept i xs Data = refl
-class_kept i xs Rr = refl
-class_kept i xs Rnr = refl
-class_kept i xs Rej = refl
-class_kept i xs Undefined = refl
-
 -- a step of the restart machine on a packet, as the walk has it
 as_routed : (i : Interface) (l : LineState) (r : Row) (p : Packet) (step : Routing) → p ≡ packet_of i r.octets → step ≡ line_step l r.side (packet_class p) (length r.octets) → step ≡ routing i l r
-as_routed i l r p step e h = h ∙ ap (λ k. line_step l r.side k (length r.octets)) (ap packet_class e ∙ class_kept i r.octets (class_of i r.octets))
+as_routed i l r p step e h = h ∙ ap (λ k. line_step l r.side k (length r.octets)) (sym (class_is i r.octets p e))
 
 fits_here : (i : Interface) (l : LineState) (r : Row) (step : Routing) → step ≡ routing i l r → fits_route (is_ready l) (is_ready step.after) step.route ≡ true
 fits_here i l r step h = ap (λ s. fits_route (is_ready l) (is_ready s.after) s.route) h ∙ fits l r.side (class_of i r.octets) (length r.octets)
