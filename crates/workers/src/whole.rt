@@ -71,9 +71,12 @@ fn work_in<
         shares,
         fault,
     } = run_scoped(rt, alloc, &work, &posting, crew, task)?;
-    let gathered = match fault {
-        Some(fault) => Err(fault),
-        None => gather(alloc, book, shares),
-    };
+    if let Some(fault) = fault {
+        return Ok(Worked {
+            task,
+            gathered: Err(fault),
+        });
+    }
+    let gathered = gather(alloc, book, shares);
     Ok(Worked { task, gathered })
 }
