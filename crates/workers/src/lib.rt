@@ -14,4 +14,4 @@ mod worker;
 pub use feeding::{Feed, feed_piece};
 pub use gate::Gate;
 pub use gathering::Gathered;
-pub use handler::{Handler, Posted, Posting};
+pub use whole::{Worked, work_through};
