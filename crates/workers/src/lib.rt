@@ -15,3 +15,6 @@ pub use feeding::{Feed, feed_piece};
 pub use gate::Gate;
 pub use gathering::Gathered;
 pub use whole::{Worked, work_through};
+
+#[cfg(test)]
+mod tests;
