@@ -53,11 +53,7 @@ pub fn feed_piece<P: Plan, A: Allocator, R: Wait>(
 }
 
 /// Feeds an end, again while the queue is full.
-fn feed_end<P: Plan, A: Allocator, R: Wait>(
-    rt: &R,
-    work: &Work<P, A>,
-    pass: &mut FeederPass<A>,
-)
+fn feed_end<P: Plan, A: Allocator, R: Wait>(rt: &R, work: &Work<P, A>, pass: &mut FeederPass<A>)
     requires queue { pass.old.queue ≡ work.now.queue }
     ensures queue { pass.new.queue ≡ pass.old.queue }
     ensures fed { pass.new.record_of ≡ feeder pass.old.record_of.fed (pass.old.record_of.ends + 1) pass.old.record_of.pending pass.old.record_of.done pass.old.record_of.taken }

@@ -30,7 +30,11 @@ const PLAIN: Interface = Interface {
 struct EmptyPieces;
 
 impl Gate for EmptyPieces {
-    fn run<A: Allocator + Copy>(&self, alloc: A, piece: &Piece<A>) -> Result<PieceReport<A>, Fault> {
+    fn run<A: Allocator + Copy>(
+        &self,
+        alloc: A,
+        piece: &Piece<A>,
+    ) -> Result<PieceReport<A>, Fault> {
         if !piece.items.is_empty() || piece.end.is_some() {
             return Err(Fault::Memory);
         }
@@ -50,7 +54,11 @@ impl Gate for EmptyPieces {
 struct NoMemory;
 
 impl Gate for NoMemory {
-    fn run<A: Allocator + Copy>(&self, _alloc: A, _piece: &Piece<A>) -> Result<PieceReport<A>, Fault> {
+    fn run<A: Allocator + Copy>(
+        &self,
+        _alloc: A,
+        _piece: &Piece<A>,
+    ) -> Result<PieceReport<A>, Fault> {
         Err(Fault::Memory)
     }
 }
@@ -90,10 +98,19 @@ impl Feed<Brand, Global> for Twelve {
 #[test]
 fn each_piece_is_posted_once_by_any_number_of_workers(rt: HostRuntime) -> Result<(), Fail> {
     for (workers, capacity) in [(1, 1), (1, 64), (2, 1), (2, 64), (64, 1), (64, 64)] {
-        let Ok(Worked {
-            gathered: Ok(gathered),
-            ..
-        }) = work_through(&rt, rt.alloc(), workers, capacity, &EmptyPieces, Twelve { alloc: rt.alloc() })
+        let Ok(
+            Worked {
+                gathered: Ok(gathered),
+                ..
+            },
+        ) = work_through(
+            &rt,
+            rt.alloc(),
+            workers,
+            capacity,
+            &EmptyPieces,
+            Twelve { alloc: rt.alloc() },
+        )
         else {
             return Err("refused")?;
         };
@@ -106,7 +123,14 @@ fn each_piece_is_posted_once_by_any_number_of_workers(rt: HostRuntime) -> Result
 
 #[test]
 fn a_worker_without_memory_stops_at_its_end(rt: HostRuntime) -> Result<(), Fail> {
-    let Ok(worked) = work_through(&rt, rt.alloc(), 2, 1, &NoMemory, Twelve { alloc: rt.alloc() }) else {
+    let Ok(worked) = work_through(
+        &rt,
+        rt.alloc(),
+        2,
+        1,
+        &NoMemory,
+        Twelve { alloc: rt.alloc() },
+    ) else {
         return Err("refused")?;
     };
     assert!(rt; matches!(worked.gathered, Err(Fault::Memory)));
