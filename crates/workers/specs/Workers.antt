@@ -1,8 +1,10 @@
 -- What a worker starts with, and what it hands back.
-use Rattle.std.specs.Prelude.{◌≡◌, ℕ, length, true, false, [], MatchOption}
+use Rattle.std.specs.Prelude.{◌≡◌, ℕ, ◌+◌, List, Some, slice_get, length, true, false, [], MatchOption}
 use Rattle.piece_queue.specs.Passes.{QueueId}
 use Rattle.piece_queue.specs.Rule.{worker}
 use Rattle.piece_queue.specs.declared.rule.Record.{Record}
+use Rattle.line_model.specs.Records.{Piece}
+use Rattle.line_model.specs.Book.{KnownPlan, IsPlanned}
 use Rattle.line_model.specs.declared.fault.Fault.TheVariants.{Memory}
 use Rattle.workers.specs.declared.worker.Done.{Done}
 use Rattle.workers.specs.declared.starting.Seat.{Seat}
@@ -25,3 +27,7 @@ pub record HasFed (v w : Record) : Type 0 where
   pub pending : w.pending ≡ v.pending
   pub done : w.done ≡ v.done
   pub taken : w.taken ≡ v.taken
+
+-- these are the pieces of the plan from this place on
+abbrev pub ArePlanned : KnownPlan → ℕ → List Piece → Type 0
+ArePlanned plan first ps = (k : ℕ) (p : Piece) → slice_get ps k ≡ Some p → IsPlanned plan (first + k) p
