@@ -1,5 +1,5 @@
 -- What a run gives, once all were joined.
-use Rattle.std.proofs.Common.{◌≡◌, ℕ, ◌+◌, ◌-◌, ◌<◌, length, Option, Some, None, ap, sym, ◌∙◌, subst, arith}
+use Rattle.std.proofs.Common.{◌≡◌, ℕ, ◌<◌, length, Option, Some, None, sym, ◌∙◌, subst, arith}
 use Rattle.std.specs.Prelude.{MatchOption, sum_by, vec_len}
 use Rattle.line_model.proofs.Counting.{length-once}
 use Rattle.line_model.specs.declared.fault.Fault.TheVariants.{Memory}

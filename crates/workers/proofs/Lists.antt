@@ -1,5 +1,5 @@
 -- Facts on lists, at a loop's step.
-use Rattle.std.proofs.Common.{◌≡◌, ℕ, suc, refl, ◌<◌, List, [], ◌∷◌, ◌++◌, length, sym, subst, arith}
+use Rattle.std.proofs.Common.{◌≡◌, ℕ, suc, refl, List, [], ◌∷◌, ◌++◌, length, sym, subst, arith}
 use Rattle.std.specs.Prelude.{All, sum_by}
 use Rattle.std.proofs.lemmas.List.Elements.{All-push}
 

@@ -1,8 +1,10 @@
 -- What a worker starts with, and what it hands back.
-use Rattle.std.specs.Prelude.{◌≡◌, ℕ, length, true, false, [], MatchOption}
+use Rattle.std.specs.Prelude.{◌≡◌, ℕ, ◌+◌, List, Some, slice_get, length, true, false, [], MatchOption}
 use Rattle.piece_queue.specs.Passes.{QueueId}
-use Rattle.piece_queue.specs.Rule.{feeder, worker}
+use Rattle.piece_queue.specs.Rule.{worker}
 use Rattle.piece_queue.specs.declared.rule.Record.{Record}
+use Rattle.line_model.specs.Records.{Piece}
+use Rattle.line_model.specs.Book.{KnownPlan, IsPlanned}
 use Rattle.line_model.specs.declared.fault.Fault.TheVariants.{Memory}
 use Rattle.workers.specs.declared.worker.Done.{Done}
 use Rattle.workers.specs.declared.starting.Seat.{Seat}
@@ -19,6 +21,13 @@ pub record IsDone {H A : Type 0} (posts : H → ℕ) (id : QueueId) (d : Done H 
   pub finished : d.pass.record_of.finished ≡ true
   pub fault : MatchOption d.fault (posts d.share ≡ length d.pass.record_of.taken) (λ f. f ≡ Memory)
 
--- the feeder's record of the first where more pieces were fed, and no end
-abbrev pub HasFed : Record → Record → Type 0
-HasFed v w = w ≡ feeder w.fed 0 v.pending v.done v.taken
+-- more pieces may have been fed, and no end; nothing was split or joined
+pub record HasFed (v w : Record) : Type 0 where
+  pub ends : w.ends ≡ 0
+  pub pending : w.pending ≡ v.pending
+  pub done : w.done ≡ v.done
+  pub taken : w.taken ≡ v.taken
+
+-- these are the pieces of the plan from this place on
+abbrev pub ArePlanned : KnownPlan → ℕ → List Piece → Type 0
+ArePlanned plan first ps = (k : ℕ) (p : Piece) → slice_get ps k ≡ Some p → IsPlanned plan (first + k) p

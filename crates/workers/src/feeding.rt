@@ -1,9 +1,9 @@
 //! What the reading thread feeds.
 
-ghost use Rattle.std.specs.Prelude.{◌≡◌, ◌+◌, ℕ};
+ghost use Rattle.std.specs.Prelude.{◌≡◌, ◌+◌, ℕ, vec_len};
 ghost use Rattle.line_model.specs.Book.{IsPlanned};
 ghost use Rattle.piece_queue.specs.Rule.{feeder};
-ghost use Rattle.workers.specs.Workers.{HasFed};
+ghost use Rattle.workers.specs.Workers.{ArePlanned, HasFed};
 
 use line_model::piece::{Piece, Plan};
 use piece_queue::{FeederPass, Work};
@@ -52,12 +52,27 @@ pub fn feed_piece<P: Plan, A: Allocator, R: Wait>(
     unreachable!()
 }
 
-/// Feeds an end, again while the queue is full.
-fn feed_end<P: Plan, A: Allocator, R: Wait>(
+/// Feeds the plan's next pieces, in order.
+pub fn feed_pieces<P: Plan, A: Allocator, R: Wait>(
     rt: &R,
     work: &Work<P, A>,
+    pieces: Vec<Piece<A>, A>,
     pass: &mut FeederPass<A>,
 )
+    requires queue { pass.old.queue ≡ work.now.queue }
+    requires next { ArePlanned P.pieces pass.old.record_of.fed pieces.items }
+    requires open { pass.old.record_of.ends ≡ 0 }
+    ensures queue { pass.new.queue ≡ pass.old.queue }
+    ensures fed { pass.new.record_of.fed ≡ pass.old.record_of.fed + vec_len pieces }
+    ensures kept { HasFed pass.old.record_of pass.new.record_of }
+{
+    for piece in pieces {
+        feed_piece(rt, work, piece, pass);
+    }
+}
+
+/// Feeds an end, again while the queue is full.
+fn feed_end<P: Plan, A: Allocator, R: Wait>(rt: &R, work: &Work<P, A>, pass: &mut FeederPass<A>)
     requires queue { pass.old.queue ≡ work.now.queue }
     ensures queue { pass.new.queue ≡ pass.old.queue }
     ensures fed { pass.new.record_of ≡ feeder pass.old.record_of.fed (pass.old.record_of.ends + 1) pass.old.record_of.pending pass.old.record_of.done pass.old.record_of.taken }

@@ -38,16 +38,7 @@ pub trait Handler<P: Plan, A: Allocator, H: Posted> {
 
 /// Runs pieces by a gate, and posts their reports at the desk of a book.
 #[derive(Drop)]
-pub struct Posting<
-    'a,
-    P: Plan,
-    N: Ledger,
-    F: Ledger,
-    O: Ledger,
-    S: Ledger,
-    A: Allocator,
-    G,
-> {
+pub struct Posting<'a, P: Plan, N: Ledger, F: Ledger, O: Ledger, S: Ledger, A: Allocator, G> {
     pub desk: &'a Desk<P, N, F, O, S, A>,
     pub gate: &'a G,
 }

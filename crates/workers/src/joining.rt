@@ -20,13 +20,7 @@ pub struct Joined<H, A: Allocator = Global> {
 }
 
 /// Joins the threads and their passes.
-pub fn join_all<
-    'w,
-    P: Plan,
-    H: Posted + Drop,
-    A: Allocator,
-    R: Threads,
->(
+pub fn join_all<'w, P: Plan, H: Posted + Drop, A: Allocator, R: Threads>(
     rt: &R,
     work: &Work<P, A>,
     mut pass: FeederPass<A>,

@@ -11,7 +11,10 @@ mod starting;
 mod whole;
 mod worker;
 
-pub use feeding::{Feed, feed_piece};
+pub use feeding::{Feed, feed_piece, feed_pieces};
 pub use gate::Gate;
 pub use gathering::Gathered;
-pub use handler::{Handler, Posted, Posting};
+pub use whole::{Worked, work_through};
+
+#[cfg(test)]
+mod tests;

@@ -9,11 +9,12 @@ use crate::gathering::{Gathered, gather};
 use crate::handler::Posting;
 use crate::run::{Ran, run_scoped};
 use crate::starting::crew_for;
-use findings_book::Book;
+use findings_book::{Book, MOST_SHARES};
 use line_model::fault::Fault;
 use line_model::piece::Plan;
 use piece_queue::Work;
 use std::alloc::{Allocator, Global};
+use std::marker::Brand;
 use std::sync::Wait;
 use std::sync::ledger::{Blank, Ledger};
 use std::thread::Threads;
@@ -25,6 +26,7 @@ pub struct Worked<T, A: Allocator = Global> {
     pub gathered: Result<Gathered<A>, Fault>,
 }
 
+/// As `work_through`, over the four ledgers of these blanks.
 fn work_in<
     P: Plan + Send + Sync,
     N: Ledger + Sync,
@@ -71,9 +73,45 @@ fn work_in<
         shares,
         fault,
     } = run_scoped(rt, alloc, &work, &posting, crew, task)?;
-    let gathered = match fault {
-        Some(fault) => Err(fault),
-        None => gather(alloc, book, shares),
-    };
+    if let Some(fault) = fault {
+        return Ok(Worked {
+            task,
+            gathered: Err(fault),
+        });
+    }
+    let gathered = gather(alloc, book, shares);
     Ok(Worked { task, gathered })
+}
+
+/// Works through the pieces that the task feeds, with 1 to 64 workers and a queue of 1 to 4,096 entries. Where memory
+/// ran out or a thread was refused before the task had its turn, it comes back as it was.
+pub fn work_through<
+    P: Plan + Send + Sync,
+    A: Allocator + Copy + Send + Sync,
+    G: Gate,
+    R: Threads + Wait + Sync,
+    T: Feed<P, A> + Drop,
+>(
+    rt: &R,
+    alloc: A,
+    workers: usize,
+    capacity: usize,
+    gate: &G,
+    task: T,
+) -> Result<Worked<T, A>, (T, Fault)>
+    requires workers { (0 < workers) × (workers ≤ 64) }
+    requires capacity { (0 < capacity) × (capacity ≤ 4096) }
+    requires able { T.can_feed task }
+    ensures worked { IfOk result (HasWorked P.pieces (T.feed_gives task) workers) }
+    ensures refused { IfErr result (λ e. (e.0 ≡ task) × ((e.1 ≡ Fault.Memory) ⊎ (e.1 ≡ Fault.Start))) }
+{
+    let blanks = (
+        Blank::new(MOST_SHARES),
+        Blank::new(MOST_SHARES),
+        Blank::new(MOST_SHARES),
+        Blank::new(MOST_SHARES),
+    );
+    work_in::<P, Brand, Brand, Brand, Brand, A, G, R, T>(
+        rt, alloc, blanks, workers, capacity, gate, task,
+    )
 }

@@ -33,13 +33,7 @@ impl<'a, P: Plan, H: Posted, A: Allocator> Promise<Done<H, A>> for Finishes<'a, 
 }
 
 /// Handles a piece, unless memory ran out before.
-fn handle_unless<
-    P: Plan,
-    H: Posted + Drop,
-    A: Allocator + Copy,
-    W: Handler<P, A, H>,
-    R: Wait,
->(
+fn handle_unless<P: Plan, H: Posted + Drop, A: Allocator + Copy, W: Handler<P, A, H>, R: Wait>(
     rt: &R,
     alloc: A,
     handler: &W,
@@ -60,13 +54,7 @@ fn handle_unless<
 
 /// Takes pieces, runs them and posts their reports, until the end of this worker comes. Where memory ran out it keeps
 /// that fault, and drops the pieces that it takes from then on.
-pub fn work_on<
-    P: Plan,
-    H: Posted + Drop,
-    A: Allocator + Copy,
-    W: Handler<P, A, H>,
-    R: Wait,
->(
+pub fn work_on<P: Plan, H: Posted + Drop, A: Allocator + Copy, W: Handler<P, A, H>, R: Wait>(
     rt: &R,
     alloc: A,
     work: &Work<P, A>,

@@ -1,5 +1,4 @@
 use Rattle.std.specs.Prelude.{◌≡◌}
-use Rattle.line_model.specs.Book.{IsPlanned}
 use Rattle.workers.proofs.feeding.feed_piece.Given as goal
 
 abbrev pub invariant-loop : goal.invariant-loop

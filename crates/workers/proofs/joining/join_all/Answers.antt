@@ -1,5 +1,5 @@
-use Rattle.std.proofs.Common.{◌≡◌, ◌+◌, ◌-◌, ◌≤◌, ◌<◌, length, List, true, arith, rules, ap, sym, ◌∙◌, subst}
-use Rattle.std.specs.Prelude.{sum_by, MatchOption, vec_len, if◌then◌else◌}
+use Rattle.std.proofs.Common.{◌≡◌, ◌+◌, length, arith, rules, ap, sym, ◌∙◌}
+use Rattle.std.specs.Prelude.{sum_by, if◌then◌else◌}
 use Rattle.std.proofs.lemmas.List.Sums.{sum_by_push}
 use Rattle.std.proofs.Common.{length-append}
 use Rattle.workers.proofs.Lists.{All-rest, sum-of-none}
@@ -41,13 +41,13 @@ loop-one-preserved g c =
 pub loop-one-init : goal.loop-one-init
 loop-one-init g c =
     let none : length c.args.shares.items ≡ 0 = search rules in record {
-  promised = search rules;
-  count = search rules;
-  room = search rules;
-  queue = search rules;
-  pending = search rules;
-  done = search rules;
-  fed = search rules;
-  fault = sum-of-none g.H.Posted.posts c.args.shares.items none ∙ sym c.requires.fresh.1;
-  all = search rules;
-}
+      promised = search rules;
+      count = search rules;
+      room = search rules;
+      queue = search rules;
+      pending = search rules;
+      done = search rules;
+      fed = search rules;
+      fault = sum-of-none g.H.Posted.posts c.args.shares.items none ∙ sym c.requires.fresh.1;
+      all = search rules;
+    }

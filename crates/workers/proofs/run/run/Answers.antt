@@ -1,4 +1,4 @@
-use Rattle.std.proofs.Common.{◌≡◌, ◌<◌, rules, arith, ap, sym, ◌∙◌, subst}
+use Rattle.std.proofs.Common.{◌≡◌, ◌<◌, rules, arith}
 use Rattle.std.specs.Prelude.{vec_len}
 use Rattle.workers.proofs.Ends.{ended}
 use Rattle.workers.proofs.run.run.Goals as goal

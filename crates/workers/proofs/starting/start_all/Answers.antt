@@ -1,5 +1,4 @@
 use Rattle.std.proofs.Common.{◌≡◌, rules}
-use Rattle.std.specs.Vec.Iter.{into_iter_items}
 use Rattle.workers.specs.Workers.{IsSeat}
 use Rattle.workers.proofs.Lists.{All-rest, All-more}
 use Rattle.workers.proofs.starting.start_all.Goals as goal
