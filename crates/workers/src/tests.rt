@@ -1,8 +1,9 @@
 //! Pieces without rows, through any number of workers.
 
-ghost use Rattle.std.specs.Prelude.{◌≡◌, ◌<◌, ◌≤◌, ℕ};
+ghost use Rattle.std.specs.Prelude.{◌≡◌, ◌<◌, ◌≤◌, ℕ, None, vec_len};
+ghost use Rattle.workers.specs.Workers.{ArePlanned};
 
-use crate::{Feed, Gate, Worked, feed_piece, work_through};
+use crate::{Feed, Gate, Worked, feed_piece, feed_pieces, work_through};
 use line_model::fault::Fault;
 use line_model::interface::Interface;
 use line_model::piece::{Piece, PieceReport};
@@ -25,6 +26,20 @@ const PLAIN: Interface = Interface {
     svc: 4,
     join: false,
 };
+
+/// A piece without rows.
+fn piece(alloc: Global, id: u32) -> Piece
+    ensures { result.id ≡ id }
+{
+    Piece {
+        id,
+        interface: PLAIN,
+        epoch: 1,
+        channel: 1,
+        items: Vec::new(alloc),
+        end: None,
+    }
+}
 
 /// Runs pieces without rows, and wants memory for all others.
 struct EmptyPieces;
@@ -81,17 +96,36 @@ impl Feed<Brand, Global> for Twelve {
         pass: &mut FeederPass<Global>,
     ) -> Twelve {
         for id in 0..PIECES {
-            let piece = Piece {
-                id,
-                interface: PLAIN,
-                epoch: 1,
-                channel: 1,
-                items: Vec::new(self.alloc),
-                end: None,
-            };
-            feed_piece(rt, work, piece, pass);
+            feed_piece(rt, work, piece(self.alloc, id), pass);
         }
         self
+    }
+}
+
+/// Feeds the pieces of a list at once.
+#[derive(Drop)]
+struct Batch {
+    alloc: Global,
+    pieces: Vec<Piece>,
+}
+
+impl Feed<Brand, Global> for Batch {
+    ghost can_feed = { λ task. ArePlanned None 0 task.pieces.items };
+
+    ghost feed_gives = { λ task fed after. fed ≡ vec_len task.pieces };
+
+    fn feed<R: Wait>(
+        self,
+        rt: &R,
+        work: &Work<Brand, Global>,
+        pass: &mut FeederPass<Global>,
+    ) -> Batch {
+        let Batch { alloc, pieces } = self;
+        feed_pieces(rt, work, pieces, pass);
+        Batch {
+            alloc,
+            pieces: Vec::new(alloc),
+        }
     }
 }
 
@@ -134,5 +168,21 @@ fn a_worker_without_memory_stops_at_its_end(rt: HostRuntime) -> Result<(), Fail>
         return Err("refused")?;
     };
     assert!(rt; matches!(worked.gathered, Err(Fault::Memory)));
+    Ok(())
+}
+
+#[test]
+fn a_list_of_pieces_is_posted(rt: HostRuntime) -> Result<(), Fail> {
+    let alloc = rt.alloc();
+    let pieces = vec![in alloc; piece(alloc, 0)]?;
+    let Ok(worked) = work_through(&rt, alloc, 4, 2, &EmptyPieces, Batch { alloc, pieces }) else {
+        return Err("refused")?;
+    };
+    let Worked { task: _, gathered } = worked;
+    let Ok(gathered) = gathered else {
+        return Err("a worker wanted memory")?;
+    };
+    assert_eq!(rt; gathered.totals.posts, 1);
+    assert!(rt; gathered.reports.iter().map(|report| report.id).eq([0]));
     Ok(())
 }

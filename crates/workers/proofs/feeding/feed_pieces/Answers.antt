@@ -1,6 +1,5 @@
 use Rattle.std.proofs.Common.{◌≡◌, ◌+◌, ◌∙◌, ap, sym, rules}
 use Rattle.std.specs.Prelude.{slice_get}
-use Rattle.workers.specs.Workers.{ArePlanned}
 use Rattle.workers.proofs.Pieces.{planned-next, planned-rest}
 use Rattle.workers.proofs.feeding.feed_pieces.Goals as goal
 
