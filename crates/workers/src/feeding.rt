@@ -19,6 +19,14 @@ pub trait Feed<P: Plan, A: Allocator> {
     /// What becomes of it where so many pieces were fed.
     ghost feed_gives: { Self → ℕ → Self → Type 0 };
 
+    /// What is known of it where its turn does not come.
+    ghost unfed: { Self → Self → Type 0 };
+
+    /// It comes back without a turn.
+    fn back(self) -> Self
+        ensures { unfed self result };
+
+    /// Takes its turn.
     fn feed<R: Wait>(self, rt: &R, work: &Work<P, A>, pass: &mut FeederPass<A>) -> Self
         requires able { can_feed self }
         requires queue { pass.old.queue ≡ work.now.queue }

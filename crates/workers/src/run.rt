@@ -47,20 +47,20 @@ fn run<
     requires some { 0 < crew.count }
     requires able { T.can_feed task }
     ensures ran { IfOk result (HasRan H.posts (T.feed_gives task) crew.count) }
-    ensures refused { IfErr result (λ e. (e.0 ≡ task) × ((e.1 ≡ Fault.Memory) ⊎ (e.1 ≡ Fault.Start))) }
+    ensures refused { IfErr result (λ e. T.unfed task e.0 × ((e.1 ≡ Fault.Memory) ⊎ (e.1 ≡ Fault.Start))) }
 {
     let Crew { mut pass, seats } = crew;
     let count = seats.len();
     let Ok(mut running) = Vec::with_capacity(alloc, count) else {
-        return Err((task, Fault::Memory));
+        return Err((task.back(), Fault::Memory));
     };
     let Ok(shares) = Vec::with_capacity(alloc, count) else {
-        return Err((task, Fault::Memory));
+        return Err((task.back(), Fault::Memory));
     };
     if !start_all(scope, rt, alloc, work, handler, seats, &mut running) {
         feed_ends(rt, work, running.len(), &mut pass);
         join_all(rt, work, pass, running, shares);
-        return Err((task, Fault::Start));
+        return Err((task.back(), Fault::Start));
     }
     let task = task.feed(rt, work, &mut pass);
     feed_ends(rt, work, running.len(), &mut pass);
@@ -92,14 +92,14 @@ pub fn run_scoped<
     requires some { 0 < crew.count }
     requires able { T.can_feed task }
     ensures ran { IfOk result (HasRan H.posts (T.feed_gives task) crew.count) }
-    ensures refused { IfErr result (λ e. (e.0 ≡ task) × ((e.1 ≡ Fault.Memory) ⊎ (e.1 ≡ Fault.Start))) }
+    ensures refused { IfErr result (λ e. T.unfed task e.0 × ((e.1 ≡ Fault.Memory) ⊎ (e.1 ≡ Fault.Start))) }
 {
     thread::scope(
         thread::scope_env(),
         rt,
         move |scope| -> Result<Ran<T, H, A>, (T, Fault)>
             requires { (crew.queue ≡ work.now.queue) × (0 < crew.count) × T.can_feed task }
-            ensures { IfOk result (HasRan H.posts (T.feed_gives task) crew.count) × IfErr result (λ e. (e.0 ≡ task) × ((e.1 ≡ Fault.Memory) ⊎ (e.1 ≡ Fault.Start))) }
+            ensures { IfOk result (HasRan H.posts (T.feed_gives task) crew.count) × IfErr result (λ e. T.unfed task e.0 × ((e.1 ≡ Fault.Memory) ⊎ (e.1 ≡ Fault.Start))) }
         { run(scope, rt, alloc, work, handler, crew, task) },
     )
 }

@@ -89,6 +89,12 @@ impl Feed<Brand, Global> for Twelve {
 
     ghost feed_gives = { λ task fed after. fed ≡ 12 };
 
+    ghost unfed = { λ task after. Unit {0} };
+
+    fn back(self) -> Twelve {
+        self
+    }
+
     fn feed<R: Wait>(
         self,
         rt: &R,
@@ -113,6 +119,12 @@ impl Feed<Brand, Global> for Batch {
     ghost can_feed = { λ task. ArePlanned None 0 task.pieces.items };
 
     ghost feed_gives = { λ task fed after. fed ≡ vec_len task.pieces };
+
+    ghost unfed = { λ task after. Unit {0} };
+
+    fn back(self) -> Batch {
+        self
+    }
 
     fn feed<R: Wait>(
         self,

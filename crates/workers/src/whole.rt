@@ -54,15 +54,15 @@ fn work_in<
     requires capacity { (0 < capacity) × (capacity ≤ 4096) }
     requires able { T.can_feed task }
     ensures worked { IfOk result (HasWorked P.pieces (T.feed_gives task) workers) }
-    ensures refused { IfErr result (λ e. (e.0 ≡ task) × ((e.1 ≡ Fault.Memory) ⊎ (e.1 ≡ Fault.Start))) }
+    ensures refused { IfErr result (λ e. T.unfed task e.0 × ((e.1 ≡ Fault.Memory) ⊎ (e.1 ≡ Fault.Start))) }
 {
     let (posts, findings, octets, segments) = blanks;
     let Ok((work, pass)) = Work::<P, A>::new(alloc, capacity) else {
-        return Err((task, Fault::Memory));
+        return Err((task.back(), Fault::Memory));
     };
     let mut book = Book::<P, N, F, O, S, A>::new(alloc, posts, findings, octets, segments);
     let Ok(crew) = crew_for(alloc, &work, &mut book, pass, workers) else {
-        return Err((task, Fault::Memory));
+        return Err((task.back(), Fault::Memory));
     };
     let posting = Posting {
         desk: book.desk(),
@@ -84,7 +84,7 @@ fn work_in<
 }
 
 /// Works through the pieces that the task feeds, with 1 to 64 workers and a queue of 1 to 4,096 entries. Where memory
-/// ran out or a thread was refused before the task had its turn, it comes back as it was.
+/// ran out or a thread was refused before the task had its turn, it comes back without it.
 pub fn work_through<
     P: Plan + Send + Sync,
     A: Allocator + Copy + Send + Sync,
@@ -103,7 +103,7 @@ pub fn work_through<
     requires capacity { (0 < capacity) × (capacity ≤ 4096) }
     requires able { T.can_feed task }
     ensures worked { IfOk result (HasWorked P.pieces (T.feed_gives task) workers) }
-    ensures refused { IfErr result (λ e. (e.0 ≡ task) × ((e.1 ≡ Fault.Memory) ⊎ (e.1 ≡ Fault.Start))) }
+    ensures refused { IfErr result (λ e. T.unfed task e.0 × ((e.1 ≡ Fault.Memory) ⊎ (e.1 ≡ Fault.Start))) }
 {
     let blanks = (
         Blank::new(MOST_SHARES),
