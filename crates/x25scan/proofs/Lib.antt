@@ -4,3 +4,4 @@ pub mod WritingLemmas
 pub mod ScanLemmas
 pub mod StatusLemmas
 mod WorkedWords
+pub mod ThreadedLemmas

@@ -5,7 +5,7 @@ use Rattle.line_model.specs.Records.{Row}
 use Rattle.line_model.specs.Text.{early, fault, head, rows}
 use Rattle.line_model.specs.declared.interface.Interface.{Interface}
 use Rattle.line_model.specs.declared.fault.Fault.{Fault}
-use Rattle.line_model.specs.declared.fault.Fault.TheVariants.{Memory, Trace, Read, Write}
+use Rattle.line_model.specs.declared.fault.Fault.TheVariants.{Memory, Trace, Read, Write, Start}
 use Rattle.line_model.specs.declared.totals.Summary.{Summary}
 use Rattle.line_model.specs.Traces.{trace_report, trace_summary}
 
@@ -22,6 +22,7 @@ IsRefusal given rest Memory = Unit {0}
 IsRefusal given rest (Trace line kind) = (early given ≡ Some (line, kind)) ⊎ ((rest ≡ []) × (fault given ≡ Some (line, kind)))
 IsRefusal given rest Read = early given ≡ None
 IsRefusal given rest Write = (rest ≡ []) × (fault given ≡ None)
+IsRefusal given rest Start = given ≡ []
 IsRefusal given rest _ = ⊥
 
 -- a refusal by the first bytes of a text, which the source gave; the others are left

@@ -7,7 +7,10 @@ mod observing;
 mod options;
 mod program;
 mod reading;
+mod gate;
 mod scan;
+mod stand_in;
+mod threaded;
 mod streams;
 #[cfg(test)]
 mod tests;
