@@ -1,6 +1,6 @@
-use Rattle.std.proofs.Common.{◌≡◌, ◌∙◌, sym, ap, refl, ℕ, List, length, [], ◌++◌, arith, rules}
+use Rattle.std.proofs.Common.{◌≡◌, ◌∙◌, sym, ap, refl, ℕ, List, length, [], ◌++◌, ◌<◌, take, subst, arith, rules}
 use Rattle.std.proofs.lemmas.Grind.{common_steps}
-use Rattle.piece_feed.proofs.Courses.{course_begun, fed_none, fed_on, gave_all, gave_more, has_failed, has_read, has_refused, plan_so_far, plan_whole}
+use Rattle.piece_feed.proofs.Courses.{Gave, course_begun, fed_none, fed_on, gave_all, gave_more, has_failed, has_read, has_refused, plan_so_far, plan_whole}
 use Rattle.piece_feed.proofs.reading.read_all.Goals as goal
 
 pub loop-lines-init : goal.loop-lines-init
@@ -45,3 +45,32 @@ returns-in-Err-take_bytes-clause-read g c =
     let source = gave_more (g.S.Source.left c.args.source.now) (g.S.Source.left c.loop-lines.source) (g.S.Source.left c.read.new.self) course.text _ _ course.source c.in-Ok.ensures.given in
     has_refused (g.S.Source.left c.args.source.now) (g.S.Source.left c.read.new.self) _ (course.text ++ _) c.take_bytes.new.pass.record_of.fed c.in-Err-take_bytes.fault source
     (c.in-Err-take_bytes.ensures.refused course.text course.reader) c.in-Err-take_bytes.ensures.kinds
+
+pub finish-requires-clause-ready : goal.finish-requires-clause-ready
+finish-requires-clause-ready g c =
+    let course = c.loop-lines.invariant.course in
+    let before = g.S.Source.left c.args.source.now in
+    let after = g.S.Source.left c.read.new.self in
+    let some : 0 < length c.loop-lines.buffer = search rules in
+    let all = gave_all before (g.S.Source.left c.loop-lines.source) after course.text _ _ course.source c.in-Ok-eq0.ensures.given some (ap (λ n. take n c.read.new.buffer) c.in-Ok-eq0.field-0-test) in
+    (course.text, record { reader = course.reader; front_of = course.cut; planned = plan_whole g.P.Plan.pieces before after course.text c.requires.plan all })
+
+pub returns-in-Ok-eq0-clause-read : goal.returns-in-Ok-eq0-clause-read
+returns-in-Ok-eq0-clause-read g c =
+    let course = c.loop-lines.invariant.course in
+    let before = g.S.Source.left c.args.source.now in
+    let after = g.S.Source.left c.read.new.self in
+    let some : 0 < length c.loop-lines.buffer = search rules in
+    let all = gave_all before (g.S.Source.left c.loop-lines.source) after course.text _ _ course.source c.in-Ok-eq0.ensures.given some (ap (λ n. take n c.read.new.buffer) c.in-Ok-eq0.field-0-test) in
+    has_read before after _ course.text c.finish.new.pass.record_of.fed c.finish.result all (c.finish.ensures.read course.text course.reader course.cut) (c.finish.ensures.refused course.text course.reader) c.finish.ensures.kinds
+
+pub returns-in-Ok-eq0-clause-kept : goal.returns-in-Ok-eq0-clause-kept
+returns-in-Ok-eq0-clause-kept g c = fed_on c.args.pass.now.record_of c.loop-lines.pass.record_of c.finish.new.pass.record_of c.loop-lines.invariant.kept c.finish.ensures.kept
+
+pub returns-in-Err-clause-read : goal.returns-in-Err-clause-read
+returns-in-Err-clause-read g c =
+    let inv = c.loop-lines.invariant in
+    let course = inv.course in
+    let before = g.S.Source.left c.args.source.now in
+    has_failed before (g.S.Source.left c.read.new.self) _ course.text c.loop-lines.pass.record_of.fed (subst (λ o. Gave before o course.text) (sym c.in-Err.ensures.failed) course.source) course.reader.sound
+    (omega (arith, inv.failures, c.in-Err.ensures.failures))
