@@ -1,0 +1,73 @@
+-- A batch of rows that goes through a cutter.
+use Rattle.std.proofs.Common.{◌≡◌, ◌∙◌, sym, ap, subst, refl, ℕ, zero, suc, ◌+◌, ◌<◌, ◌≤◌, List, [], ◌∷◌, ◌++◌, map, length, arith, append_assoc}
+use Rattle.std.specs.Prelude.{All, sum_by}
+use Rattle.std.proofs.lemmas.List.{map-append}
+use Rattle.std.proofs.lemmas.List.Sums.{sum_by_push, sum_by-cons, sum_by-append}
+use Rattle.line_model.specs.Records.{Row, Item}
+use Rattle.line_model.specs.declared.interface.Interface.{Interface}
+use Rattle.line_model.specs.Classes.{packet_of}
+use Rattle.line_model.specs.Plans.{item_of}
+use Rattle.line_model.specs.Text.{last_or}
+use Rattle.line_model.proofs.Rising.{RisesFrom, rises-from_index}
+use Rattle.line_model.proofs.InOrder.{index-from_rises}
+use Rattle.restart_epochs.specs.Cutting.{Cutting, IsCounted}
+use Rattle.restart_epochs.proofs.Whole.{MayCome}
+use Rattle.piece_feed.specs.Fronts.{CanFollow, IsCounting, IsTrace}
+
+-- the rows of some items
+abbrev pub rows_in : List Item → List Row
+rows_in items = map (λ item. item.row) items
+
+pub one_more : (before : List Row) (items : List Item) (item : Item) → (before ++ rows_in items) ++ item.row ∷ [] ≡ before ++ rows_in (items ++ item ∷ [])
+one_more before items item = append_assoc before (rows_in items) (item.row ∷ []) ∙ ap (λ l. before ++ l) (sym (map-append (λ (x : Item). x.row) items (item ∷ [])))
+
+last_or-push : (d n : ℕ) (ns : List ℕ) → last_or d (ns ++ n ∷ []) ≡ n
+last_or-push d n [] = refl
+last_or-push d n (m ∷ ns) = last_or-push m n ns
+
+pub counts_one : (rs : List Row) (r : Row) (c c' : Cutting) → IsCounting rs c → IsCounted r c c' → IsCounting (rs ++ r ∷ []) c'
+counts_one rs r c c' h counted =
+    let octets = h.octets in
+    record {
+      last = counted.last ∙ sym (ap (last_or 0) (map-append (λ (x : Row). x.number) rs (r ∷ [])) ∙ last_or-push 0 r.number (map (λ x. x.number) rs));
+      octets = omega (arith, counted.octets, octets, sum_by_push (λ (x : Row). length x.octets) rs r);
+    }
+
+pub follows : (c : Cutting) (rs : List Row) → CanFollow c rs → MayCome c rs
+follows c rs h = record { rising = rises-from_index (c.last ∷ map (λ r. r.number) rs) h.rising; numbers = h.numbers; octets = h.octets }
+
+pub next_octets : (c : Cutting) (r : Row) (rs : List Row) → MayCome c (r ∷ rs) → c.octets + length r.octets ≤ 2147483648
+next_octets c r rs m = let all = m.octets in omega (arith, all, sum_by-cons (λ (x : Row). length x.octets) r rs)
+
+pub all_but_first : {X : Type 0} (P : X → Type 0) (x : X) (xs : List X) → All P (x ∷ xs) → All P xs
+all_but_first P x xs h k y lt = h (suc k) y (omega arith)
+
+pub rows_of_items : (i : Interface) (rs : List Row) → rows_in (map (item_of i) rs) ≡ rs
+rows_of_items i [] = refl
+rows_of_items i (r ∷ rs) = ap (λ l. r ∷ l) (rows_of_items i rs)
+
+pub packets_of_items : (i : Interface) (rs : List Row) → All (λ item. item.packet ≡ packet_of i item.row.octets) (map (item_of i) rs)
+packets_of_items i [] k d lt = absurd (omega (arith, lt))
+packets_of_items i (r ∷ rs) zero d lt = refl
+packets_of_items i (r ∷ rs) (suc k) d lt = packets_of_items i rs k d (omega (arith, lt))
+
+rises_after : (b : ℕ) (xs ys : List ℕ) → RisesFrom b (xs ++ ys) → RisesFrom (last_or b xs) ys
+rises_after b [] ys h = h
+rises_after b (x ∷ xs) ys h = rises_after x xs ys h.1
+
+all_behind : {X : Type 0} (P : X → Type 0) (xs ys : List X) → All P (xs ++ ys) → All P ys
+all_behind P [] ys h = h
+all_behind P (x ∷ xs) ys h = all_behind P xs ys (all_but_first P x (xs ++ ys) h)
+
+pub may_follow : (c : Cutting) (before rs : List Row) → IsCounting before c → IsTrace (before ++ rs) → CanFollow c rs
+may_follow c before rs counting trace =
+    let rises : RisesFrom 0 (map (λ (r : Row). r.number) before ++ map (λ (r : Row). r.number) rs) =
+    subst (RisesFrom 0) (map-append (λ (r : Row). r.number) before rs) (rises-from_index (0 ∷ map (λ (r : Row). r.number) (before ++ rs)) trace.rising) in
+    let octets = counting.octets in
+    let few = trace.octets in
+    record {
+      rising = index-from_rises (c.last ∷ map (λ (r : Row). r.number) rs)
+          (subst (λ n. RisesFrom n (map (λ (r : Row). r.number) rs)) (sym counting.last) (rises_after 0 (map (λ (r : Row). r.number) before) (map (λ (r : Row). r.number) rs) rises));
+      numbers = all_behind (λ r. r.number ≤ 999999999) before rs trace.numbers;
+      octets = omega (arith, octets, few, sum_by-append (λ (r : Row). length r.octets) before rs);
+    }

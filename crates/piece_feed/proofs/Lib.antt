@@ -1,0 +1,4 @@
+pub mod Batches
+pub mod Nexts
+pub mod Texts
+pub mod Courses

@@ -1,0 +1,63 @@
+use Rattle.std.proofs.Common.{◌≡◌, ◌∙◌, ◌+◌, ◌≤◌, ◌++◌, ap, subst, sym, List, length, map, arith, length-append}
+use Rattle.std.specs.Prelude.{All}
+use Rattle.line_model.specs.Classes.{packet_of}
+use Rattle.line_model.specs.Plans.{item_of}
+use Rattle.line_model.specs.Records.{Row, Piece}
+use Rattle.restart_epochs.specs.Cutting.{StandsFor, given_of}
+use Rattle.piece_feed.specs.Fronts.{CanFollow, IsCounting}
+use Rattle.piece_feed.proofs.Batches.{rows_in, rows_of_items, packets_of_items, may_follow}
+use Rattle.piece_feed.proofs.Nexts.{given_next}
+use Rattle.piece_feed.proofs.taking.take_rows.Given.{Over}
+use Rattle.piece_feed.proofs.taking.take_rows.Goals as goal
+
+pub push_items-requires-clause-packets : goal.push_items-requires-clause-packets
+push_items-requires-clause-packets g c =
+    let interface = c.requires.ready.1.cut.stands.interface in
+    subst (λ i. All (λ item. item.packet ≡ packet_of i item.row.octets) c.in_ok-items.items.items) (sym interface)
+    (subst (All (λ item. item.packet ≡ packet_of c.args.front.interface item.row.octets)) (sym c.in_ok-items.ensures.items) (packets_of_items c.args.front.interface c.args.rows.items))
+
+pub push_items-requires-clause-follow : goal.push_items-requires-clause-follow
+push_items-requires-clause-follow g c =
+    let r = c.requires.ready.1 in
+    let same : rows_in c.in_ok-items.items.items ≡ c.args.rows.items = ap rows_in c.in_ok-items.ensures.items ∙ rows_of_items c.args.front.interface c.args.rows.items in
+    subst (CanFollow c.args.front.cutter) (sym same) (may_follow c.args.front.cutter c.requires.ready.0 c.args.rows.items r.cut.counting r.trace)
+
+-- the pieces are no more than the rows
+few : (g : Over) (c : goal.After-len g) → c.args.front.fed + c.len.result ≤ 999999999
+few g c =
+    let r = c.requires.ready.1 in
+    let i = c.args.front.interface in
+    let stands = c.in_ok-pieces.ensures.stands i c.requires.ready.0 r.cut.stands in
+    let whole = sym (length-append (given_of i c.requires.ready.0) c.in_ok-pieces.pieces.items) ∙ ap (λ (l : List Piece). length l) (c.in_ok-pieces.ensures.given i c.requires.ready.0 r.cut.stands) in
+    let given = ap (λ v. v.given) c.cutter-2.view_is ∙ stands.given in
+    let inside = c.cutter-2.invariant in
+    omega (arith, inside.ids, inside.rows, inside.last, whole, given, r.cut.count, r.cut.all, c.len.ensures, c.in_ok-pieces.pieces.ok.0)
+
+pub overflow_cast-fed : goal.overflow_cast-fed
+overflow_cast-fed g c = let least = few g c in omega (arith, least)
+
+pub overflow_add-fed : goal.overflow_add-fed
+overflow_add-fed g c = let least = few g c in omega (arith, least)
+
+pub feed_pieces-requires-clause-next : goal.feed_pieces-requires-clause-next
+feed_pieces-requires-clause-next g c =
+    let r = c.requires.ready.1 in
+    let i = c.args.front.interface in
+    let same : rows_in c.in_ok-items.items.items ≡ c.args.rows.items = ap rows_in c.in_ok-items.ensures.items ∙ rows_of_items i c.args.rows.items in
+    given_next g.P.Plan.pieces i (c.requires.ready.0 ++ c.args.rows.items) (given_of i c.requires.ready.0) c.in_ok-pieces.pieces.items c.args.pass.now.record_of.fed
+    r.cut.all (c.in_ok-pieces.ensures.given i c.requires.ready.0 r.cut.stands ∙ ap (λ rs. given_of i (c.requires.ready.0 ++ rs)) same) r.planned
+
+pub returns-clause-cut : goal.returns-clause-cut
+returns-clause-cut g c before h =
+    let i = c.args.front.interface in
+    let same : rows_in c.in_ok-items.items.items ≡ c.args.rows.items = ap rows_in c.in_ok-items.ensures.items ∙ rows_of_items i c.args.rows.items in
+    let given = c.in_ok-pieces.ensures.given i before h.stands ∙ ap (λ rs. given_of i (before ++ rs)) same in
+    let whole = sym (length-append (given_of i before) c.in_ok-pieces.pieces.items) ∙ ap (λ (l : List Piece). length l) given in
+    let all = h.all in
+    let count = h.count in
+    record {
+      stands = subst (λ rs. StandsFor i (before ++ rs) c.push_items.new.cutter) same (c.in_ok-pieces.ensures.stands i before h.stands);
+      counting = subst (λ rs. IsCounting (before ++ rs) c.push_items.new.cutter) same (c.in_ok-pieces.ensures.counted before h.counting);
+      count = omega (arith, c.len.ensures, c.in_ok-pieces.pieces.ok.0, c.feed_pieces.ensures.fed, count);
+      all = omega (arith, whole, all, c.in_ok-pieces.pieces.ok.0, c.feed_pieces.ensures.fed);
+    }

@@ -1,0 +1,58 @@
+-- What was read of a source.
+use Rattle.std.specs.Prelude.{◌≡◌, ℕ, ◌<◌, ◌⊎◌, List, [], ◌++◌, length, Option, Some, None, Result, Err, IfOk, IfErr, MatchOption}
+use Rattle.line_model.specs.Records.{Row}
+use Rattle.line_model.specs.declared.interface.Interface.{Interface}
+use Rattle.line_model.specs.Text.{early, fault, head, rows}
+use Rattle.line_model.specs.Plans.{plan, line_findings}
+use Rattle.line_model.specs.declared.fault.Fault.{Fault}
+use Rattle.line_model.specs.declared.fault.Fault.TheVariants.{Memory, Trace, Read as ReadFailed, Write}
+use Rattle.piece_feed.specs.declared.reading.Read.{Read}
+
+-- this is what the rows of an interface say, and all pieces of their plan were fed
+pub record IsCutOf {A : Type 0} (i : Interface) (rs : List Row) (fed : ℕ) (r : Read A) : Type 0 where
+  pub interface : r.interface ≡ i
+  pub all : fed ≡ length (plan i rs)
+  pub line : r.line.items ≡ line_findings i rs
+  pub packets : r.packets ≡ length rs
+  pub pieces : r.pieces ≡ fed
+
+-- the text has no fault, and this was read of it
+pub record IsReadOf {A : Type 0} (text : List ℕ) (fed : ℕ) (r : Read A) : Type 0 where
+  pub sound : fault text ≡ None
+  pub header : head text ≡ Some r.interface
+  pub cut : IsCutOf r.interface (rows text) fed r
+
+-- what a refusal says of the bytes that were given: a faulty line is told as soon as it is known, else at the end of the text
+abbrev pub IsRefusal : (given rest : List ℕ) → Fault → Type 0
+IsRefusal given rest Memory = Unit {0}
+IsRefusal given rest (Trace line kind) = (early given ≡ Some (line, kind)) ⊎ ((rest ≡ []) × (fault given ≡ Some (line, kind)))
+IsRefusal given rest ReadFailed = early given ≡ None
+IsRefusal given rest Write = (rest ≡ []) × (fault given ≡ None)
+IsRefusal given rest _ = ⊥
+
+-- a refusal by the first bytes of a text, which the source gave; the others are left
+pub record IsRefusedBy (why : List ℕ → List ℕ → Fault → Type 0) (text : List ℕ) (after : Option (List ℕ)) (told : Fault) : Type 0 where
+  pub given : List ℕ
+  pub rest : List ℕ
+  pub whole : text ≡ given ++ rest
+  pub left : after ≡ Some rest
+  pub refusal : why given rest told
+
+-- the faults that reading a text may meet
+abbrev pub IsReadingFault : Fault → Type 0
+IsReadingFault Memory = Unit {0}
+IsReadingFault (Trace line kind) = Unit {0}
+IsReadingFault ReadFailed = Unit {0}
+IsReadingFault _ = ⊥
+
+-- so many pieces were fed, by which all of a text was read, or it was refused
+pub record HasRead {A : Type 0} (before after : Option (List ℕ)) (failed : Type 0) (fed : ℕ) (r : Result (Read A) Fault) : Type 0 where
+  pub told : (text : List ℕ) → before ≡ Some text → IfOk r (λ read. IsReadOf text fed read × (after ≡ Some []))
+  pub of_text : IfOk r (λ read. (text : List ℕ) × IsReadOf text fed read)
+  pub kinds : IfErr r IsReadingFault
+  pub refused : (text : List ℕ) → before ≡ Some text → IfErr r (IsRefusedBy IsRefusal text after)
+  pub read_failed : r ≡ Err ReadFailed → failed
+
+-- the source was read
+abbrev pub IsOutcome : {A : Type 0} → (before after : Option (List ℕ)) → (failed : Type 0) → ℕ → Option (Result (Read A) Fault) → Type 0
+IsOutcome before after failed fed outcome = MatchOption outcome ⊥ (HasRead before after failed fed)

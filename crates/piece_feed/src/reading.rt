@@ -1,0 +1,160 @@
+//! A source that is read to its end while the pieces of its trace are fed.
+
+ghost use Rattle.std.specs.Prelude.{◌≡◌, ℕ, ◌+◌, ◌<◌, ◌≤◌, ◌^◌, List, IfErr, IfOk, IfSome};
+ghost use Rattle.std.specs.Option.{option_map};
+ghost use Rattle.line_model.specs.Text.{fault};
+ghost use Rattle.line_model.specs.Traces.{trace_plan};
+ghost use Rattle.line_model.specs.declared.fault.Fault.TheVariants.{Memory};
+ghost use Rattle.line_model.specs.Plans.{plan};
+ghost use Rattle.line_model.specs.Records as records;
+ghost use Rattle.trace_text.specs.StandsFor.{StandsFor, IsFaultOf, IsTextFault};
+ghost use Rattle.workers.specs.Workers.{HasFed};
+ghost use Rattle.piece_feed.specs.Fronts.{HasCut, IsFedTo, IsEndReady};
+ghost use Rattle.piece_feed.specs.Readings.{HasRead, IsCutOf, IsOutcome, IsReadOf};
+
+use crate::fresh::last_rows;
+use crate::taking::{Front, front_of, take_bytes, take_rows};
+use line_model::device::Source;
+use line_model::fault::Fault;
+use line_model::finding::Finding;
+use line_model::interface::Interface;
+use line_model::piece::Plan;
+use piece_queue::{FeederPass, Work};
+use restart_epochs::cutter::Cut;
+use std::alloc::{Allocator, Global};
+use std::sync::Wait;
+use trace_text::lines::Lines;
+use workers::{Feed, feed_pieces};
+
+/// The bytes that are asked for at once.
+const PIECE: usize = 1 << 16;
+
+/// What was read: the header of the trace, the findings of the restart machine, and how many rows and pieces there are.
+#[derive(Drop)]
+pub struct Read<A: Allocator = Global> {
+    pub interface: Interface,
+    pub line: Vec<Finding, A>,
+    pub packets: u32,
+    pub pieces: u32,
+}
+
+/// The trace has ended: the pieces of the epoch that is open are fed.
+fn end_front<P: Plan, A: Allocator + Copy, R: Wait>(
+    rt: &R,
+    front: Front<A>,
+    work: &Work<P, A>,
+    pass: &mut FeederPass<A>,
+) -> Result<Read<A>, Fault>
+    requires queue { pass.old.queue ≡ work.now.queue }
+    requires open { pass.old.record_of.ends ≡ 0 }
+    requires ready { (rows : List records.Row) × HasCut rows pass.old.record_of.fed front × IfSome P.pieces (λ ps. ps ≡ plan front.interface rows) }
+    ensures queue { pass.new.queue ≡ pass.old.queue }
+    ensures kept { HasFed pass.old.record_of pass.new.record_of }
+    ensures cut { (rows : List records.Row) → HasCut rows pass.old.record_of.fed front → IfOk result (IsCutOf front.interface rows pass.new.record_of.fed) }
+    ensures memory { IfErr result (λ fault. fault ≡ Memory) }
+{
+    let Front {
+        interface,
+        cutter,
+        fed,
+    } = front;
+    let Cut {
+        pieces,
+        line,
+        packets,
+    } = cutter.end()?;
+    let fed = fed + pieces.len() as u32;
+    feed_pieces(rt, work, pieces, pass);
+    Ok(Read {
+        interface,
+        line,
+        packets,
+        pieces: fed,
+    })
+}
+
+/// The text has ended: the row of its last line, and the pieces that were not fed yet.
+fn finish<P: Plan, A: Allocator + Copy, R: Wait>(
+    rt: &R,
+    alloc: A,
+    lines: Lines<A>,
+    front: Option<Front<A>>,
+    work: &Work<P, A>,
+    pass: &mut FeederPass<A>,
+) -> Result<Read<A>, Fault>
+    requires queue { pass.old.queue ≡ work.now.queue }
+    requires open { pass.old.record_of.ends ≡ 0 }
+    requires ready { (text : List ℕ) × IsEndReady P.pieces text lines pass.old.record_of.fed front }
+    ensures queue { pass.new.queue ≡ pass.old.queue }
+    ensures kept { HasFed pass.old.record_of pass.new.record_of }
+    ensures read { (text : List ℕ) → StandsFor lines text → IsFedTo text pass.old.record_of.fed front → IfOk result (IsReadOf text pass.new.record_of.fed) }
+    ensures refused { (text : List ℕ) → StandsFor lines text → IfErr result (IsFaultOf (fault text)) }
+    ensures kinds { IfErr result IsTextFault }
+{
+    let (interface, rows) = match last_rows(alloc, lines) {
+        Ok(end) => end,
+        Err(fault) => return Err(fault),
+    };
+    let front = front_of(alloc, &interface, front);
+    let front = match take_rows(rt, alloc, rows, front, work, pass) {
+        Ok(front) => front,
+        Err(fault) => return Err(fault),
+    };
+    end_front(rt, front, work, pass)
+}
+
+/// Reads a source to its end. The pieces of its trace are fed as soon as they are known whole.
+fn read_all<P: Plan, A: Allocator + Copy, S: Source, R: Wait>(
+    rt: &R,
+    alloc: A,
+    source: &mut S,
+    work: &Work<P, A>,
+    pass: &mut FeederPass<A>,
+) -> Result<Read<A>, Fault>
+    requires queue { pass.old.queue ≡ work.now.queue }
+    requires first { (pass.old.record_of.fed ≡ 0) × (pass.old.record_of.ends ≡ 0) }
+    requires plan { P.pieces ≡ option_map trace_plan (S.left source.old) }
+    ensures queue { pass.new.queue ≡ pass.old.queue }
+    ensures kept { HasFed pass.old.record_of pass.new.record_of }
+    ensures read { HasRead (S.left source.old) (S.left source.new) (S.failures source.old < S.failures source.new) pass.new.record_of.fed result }
+    ensures asked { S.calls source.new ≤ S.calls source.old + (2 ^ 30 + 1) }
+{
+    let mut buffer = [0; PIECE];
+    let mut lines = Lines::new(alloc);
+    let mut front = None;
+    loop {
+        match source.read(&mut buffer) {
+            Ok(0) => return finish(rt, alloc, lines, front, work, pass),
+            Ok(n) => match take_bytes(rt, alloc, &buffer[..n], &mut lines, front, work, pass) {
+                Ok(more) => front = more,
+                Err(fault) => return Err(fault),
+            },
+            Err(()) => return Err(Fault::Read),
+        }
+    }
+}
+
+/// The reading thread's part of a scan with threads: a source, and what became of reading it: nothing before.
+#[derive(Drop)]
+pub struct Reading<'a, A: Allocator, S> {
+    pub source: &'a mut S,
+    pub alloc: A,
+    pub outcome: Option<Result<Read<A>, Fault>>,
+}
+
+impl<'a, P: Plan, A: Allocator + Copy, S: Source> Feed<P, A> for Reading<'a, A, S> {
+    // The plan is that of the bytes that the source tells.
+    ghost can_feed = { λ task. P.pieces ≡ option_map trace_plan (S.left task.source.now) };
+
+    ghost feed_gives = { λ task fed after. (after.source.ghost_name ≡ task.source.ghost_name) × IsOutcome (S.left task.source.now) (S.left after.source.now) (S.failures task.source.now < S.failures after.source.now) fed after.outcome × (S.calls after.source.now ≤ S.calls task.source.now + (2 ^ 30 + 1)) };
+
+    fn feed<R: Wait>(self, rt: &R, work: &Work<P, A>, pass: &mut FeederPass<A>) -> Self {
+        let Reading { source, alloc, .. } = self;
+        let outcome = Some(read_all(rt, alloc, source, work, pass));
+        Reading {
+            source,
+            alloc,
+            outcome,
+        }
+    }
+}
