@@ -5,7 +5,7 @@ use Rattle.line_model.specs.declared.interface.Interface.{Interface}
 use Rattle.line_model.specs.Text.{early, fault, head, rows}
 use Rattle.line_model.specs.Plans.{plan, line_findings}
 use Rattle.line_model.specs.declared.fault.Fault.{Fault}
-use Rattle.line_model.specs.declared.fault.Fault.TheVariants.{Memory, Trace, Read as ReadFailed, Write}
+use Rattle.line_model.specs.declared.fault.Fault.TheVariants.{Memory, Trace, Read as ReadFailed, Write, Start}
 use Rattle.piece_feed.specs.declared.reading.Read.{Read}
 
 -- this is what the rows of an interface say, and all pieces of their plan were fed
@@ -22,12 +22,14 @@ pub record IsReadOf {A : Type 0} (text : List ℕ) (fed : ℕ) (r : Read A) : Ty
   pub header : head text ≡ Some r.interface
   pub cut : IsCutOf r.interface (rows text) fed r
 
--- what a refusal says of the bytes that were given: a faulty line is told as soon as it is known, else at the end of the text
+-- what a refusal says of the bytes that were given: a faulty line is told as soon as it is known, else at the end of the text; where no
+-- thread was made, none was given
 abbrev pub IsRefusal : (given rest : List ℕ) → Fault → Type 0
 IsRefusal given rest Memory = Unit {0}
 IsRefusal given rest (Trace line kind) = (early given ≡ Some (line, kind)) ⊎ ((rest ≡ []) × (fault given ≡ Some (line, kind)))
 IsRefusal given rest ReadFailed = early given ≡ None
 IsRefusal given rest Write = (rest ≡ []) × (fault given ≡ None)
+IsRefusal given rest Start = given ≡ []
 IsRefusal given rest _ = ⊥
 
 -- a refusal by the first bytes of a text, which the source gave; the others are left

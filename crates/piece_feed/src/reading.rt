@@ -148,6 +148,12 @@ impl<'a, P: Plan, A: Allocator + Copy, S: Source> Feed<P, A> for Reading<'a, A, 
 
     ghost feed_gives = { λ task fed after. (after.source.ghost_name ≡ task.source.ghost_name) × IsOutcome (S.left task.source.now) (S.left after.source.now) (S.failures task.source.now < S.failures after.source.now) fed after.outcome × (S.calls after.source.now ≤ S.calls task.source.now + (2 ^ 30 + 1)) };
 
+    ghost unfed = { λ task after. (after.source.ghost_name ≡ task.source.ghost_name) × (after.source.now ≡ task.source.now) };
+
+    fn back(self) -> Self {
+        self
+    }
+
     fn feed<R: Wait>(self, rt: &R, work: &Work<P, A>, pass: &mut FeederPass<A>) -> Self {
         let Reading { source, alloc, .. } = self;
         let outcome = Some(read_all(rt, alloc, source, work, pass));

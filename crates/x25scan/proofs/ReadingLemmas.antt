@@ -7,7 +7,8 @@ use Rattle.line_model.specs.declared.interface.Interface.{Interface}
 use Rattle.line_model.specs.declared.fault.Fault.{Fault}
 use Rattle.line_model.specs.declared.fault.Fault.TheVariants.{Memory, Trace, Read}
 use Rattle.trace_text.specs.StandsFor.{IsFaultOf, IsTold, IsTextFault}
-use Rattle.x25scan.specs.Scan.{IsEarlyRefusal, IsRead, IsReadingFault, IsRefusal, IsRefusedBy}
+use Rattle.piece_feed.specs.Readings.{IsReadingFault, IsRefusal, IsRefusedBy}
+use Rattle.x25scan.specs.Scan.{IsEarlyRefusal, IsRead}
 
 -- the reader was fed the first bytes of the text, and the source has the others
 pub record Reached (left : Option (List ℕ)) (stands : List ℕ → Type 0) (told : List ℕ → Type 0) (text : List ℕ) : Type 0 where

@@ -9,7 +9,8 @@ use Rattle.line_model.specs.declared.interface.Interface.{Interface}
 use Rattle.line_model.specs.declared.totals.Summary.{Summary}
 use Rattle.line_model.specs.declared.fault.Fault.{Fault}
 use Rattle.line_model.specs.declared.fault.Fault.TheVariants.{Memory, Write}
-use Rattle.x25scan.specs.Scan.{IsRefusal, IsRefusedBy, IsReported, IsTaken}
+use Rattle.piece_feed.specs.Readings.{IsRefusal, IsRefusedBy}
+use Rattle.x25scan.specs.Scan.{IsReported, IsTaken}
 use Rattle.x25scan.proofs.WritingLemmas.{front_of}
 
 pub report_rows : (text : List ℕ) (i : Interface) (rs : List Row) → head text ≡ Some i → rs ≡ rows text → text_of (report_of i rs) ≡ trace_report text

@@ -6,7 +6,8 @@ use Rattle.line_model.specs.declared.totals.Summary.{Summary}
 use Rattle.line_model.specs.declared.fault.Fault.{Fault}
 use Rattle.line_model.specs.declared.fault.Fault.TheVariants.{Trace, Write}
 use Rattle.x25scan.specs.Program.{IsStatus, fault_status, summary_status}
-use Rattle.x25scan.specs.Scan.{IsRefusal, IsRefusedBy, IsReported, IsTaken}
+use Rattle.piece_feed.specs.Readings.{IsRefusal, IsRefusedBy}
+use Rattle.x25scan.specs.Scan.{IsReported, IsTaken}
 use Rattle.line_model.specs.Traces.{trace_report, trace_summary}
 
 with_more-nothing : (o : Option (List ℕ)) → o ≡ with_more o []

@@ -3,9 +3,9 @@ use Rattle.std.proofs.Common.{◌≡◌, sym, ap, subst, refl, ℕ, Bool, true, 
 use Rattle.std.specs.Prelude.{IfErr, IfSome, MatchResult, is_some, is_ok}
 use Rattle.line_model.specs.declared.fault.Fault.{Fault}
 use Rattle.line_model.specs.declared.fault.Fault.TheVariants.{Memory, Trace, Read as ReadFailed}
-use Rattle.x25scan.specs.declared.stand_in.Read.{Read}
-use Rattle.x25scan.specs.Scan.{IsReadingFault, IsRefusal, IsRefusedBy}
-use Rattle.x25scan.specs.Readings.{HasRead}
+use Rattle.piece_feed.specs.declared.reading.Read.{Read}
+use Rattle.piece_feed.specs.Readings.{IsReadingFault, IsRefusal, IsRefusedBy}
+use Rattle.piece_feed.specs.Readings.{HasRead}
 use Rattle.x25scan.specs.Threaded.{IsStopFault, IsStopped}
 use Rattle.x25scan.proofs.ScanLemmas.{memory_refused}
 

@@ -8,7 +8,8 @@ use Rattle.line_model.specs.declared.fault.Kind.{Kind}
 use Rattle.line_model.specs.declared.fault.Fault.{Fault}
 use Rattle.line_model.specs.declared.fault.Fault.TheVariants.{Trace}
 use Rattle.line_model.specs.declared.totals.Summary.{Summary}
-use Rattle.x25scan.specs.Scan.{IsRefusal, IsRefusedBy, IsReported}
+use Rattle.piece_feed.specs.Readings.{IsRefusal, IsRefusedBy}
+use Rattle.x25scan.specs.Scan.{IsReported}
 use Rattle.line_model.specs.Traces.{trace_report, trace_summary}
 
 -- 0 without findings, else 1

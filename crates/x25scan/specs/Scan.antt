@@ -5,7 +5,7 @@ use Rattle.line_model.specs.Records.{Row}
 use Rattle.line_model.specs.Text.{early, fault, head, rows}
 use Rattle.line_model.specs.declared.interface.Interface.{Interface}
 use Rattle.line_model.specs.declared.fault.Fault.{Fault}
-use Rattle.line_model.specs.declared.fault.Fault.TheVariants.{Memory, Trace, Read, Write, Start}
+use Rattle.line_model.specs.declared.fault.Fault.TheVariants.{Memory, Trace, Read, Write}
 use Rattle.line_model.specs.declared.totals.Summary.{Summary}
 use Rattle.line_model.specs.Traces.{trace_report, trace_summary}
 
@@ -16,36 +16,12 @@ IsEarlyRefusal given rest (Trace line kind) = early given ≡ Some (line, kind)
 IsEarlyRefusal given rest Read = early given ≡ None
 IsEarlyRefusal given rest _ = ⊥
 
--- the same of any refusal of a scan: a faulty line is told as soon as it is known, else at the end of the text
-abbrev pub IsRefusal : (given rest : List ℕ) → Fault → Type 0
-IsRefusal given rest Memory = Unit {0}
-IsRefusal given rest (Trace line kind) = (early given ≡ Some (line, kind)) ⊎ ((rest ≡ []) × (fault given ≡ Some (line, kind)))
-IsRefusal given rest Read = early given ≡ None
-IsRefusal given rest Write = (rest ≡ []) × (fault given ≡ None)
-IsRefusal given rest Start = given ≡ []
-IsRefusal given rest _ = ⊥
-
--- a refusal by the first bytes of a text, which the source gave; the others are left
-pub record IsRefusedBy (why : List ℕ → List ℕ → Fault → Type 0) (text : List ℕ) (after : Option (List ℕ)) (told : Fault) : Type 0 where
-  pub given : List ℕ
-  pub rest : List ℕ
-  pub whole : text ≡ given ++ rest
-  pub left : after ≡ Some rest
-  pub refusal : why given rest told
-
 -- a text without a fault has this header and these rows
 pub record IsRead (i : Interface) (rs : List Row) : Type 0 where
   pub text : List ℕ
   pub sound : fault text ≡ None
   pub header : head text ≡ Some i
   pub rows_are : rs ≡ rows text
-
--- the faults that reading a text may meet
-abbrev pub IsReadingFault : Fault → Type 0
-IsReadingFault Memory = Unit {0}
-IsReadingFault (Trace line kind) = Unit {0}
-IsReadingFault Read = Unit {0}
-IsReadingFault _ = ⊥
 
 -- the faults that a scan of one thread may meet
 abbrev pub IsScanFault : Fault → Type 0

@@ -4,8 +4,8 @@ use Rattle.line_model.specs.declared.fault.Fault.{Fault}
 use Rattle.line_model.specs.declared.fault.Fault.TheVariants.{Memory, Trace, Read, Start}
 use Rattle.line_model.specs.Book.{KnownPlan}
 use Rattle.workers.specs.Gathers.{IsWhole}
-use Rattle.x25scan.specs.Scan.{IsRefusal, IsRefusedBy}
-use Rattle.x25scan.specs.Readings.{IsReadOf}
+use Rattle.piece_feed.specs.Readings.{IsRefusal, IsRefusedBy}
+use Rattle.piece_feed.specs.Readings.{IsReadOf}
 use Rattle.x25scan.specs.declared.threaded.Together.{Together}
 
 -- a text was read, the one that the source tells if it does, and each of its pieces was run and posted once

@@ -9,7 +9,6 @@ mod program;
 mod reading;
 mod gate;
 mod scan;
-mod stand_in;
 mod threaded;
 mod streams;
 #[cfg(test)]

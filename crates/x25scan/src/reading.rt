@@ -3,7 +3,8 @@
 ghost use Rattle.std.specs.Prelude.{◌≡◌, ℕ, ◌+◌, ◌<◌, ◌≤◌, ◌^◌, [], List, Some, None, Err, IfOk, IfErr, OnOk};
 ghost use Rattle.line_model.specs.Text.{early_rows, fault, head, rows};
 ghost use Rattle.trace_text.specs.StandsFor.{StandsFor};
-ghost use Rattle.x25scan.specs.Scan.{IsEarlyRefusal, IsRead, IsReadingFault, IsRefusal, IsRefusedBy};
+ghost use Rattle.piece_feed.specs.Readings.{IsReadingFault, IsRefusal, IsRefusedBy};
+ghost use Rattle.x25scan.specs.Scan.{IsEarlyRefusal, IsRead};
 
 use line_model::device::Source;
 use line_model::fault::Fault;

@@ -1,7 +1,8 @@
 //! A scan of one thread.
 
 ghost use Rattle.std.specs.Prelude.{◌≡◌, ◌≢◌, ℕ, ◌+◌, ◌<◌, ◌≤◌, ◌^◌, List, Some, Err, IfOk, IfErr};
-ghost use Rattle.x25scan.specs.Scan.{IsRefusal, IsRefusedBy, IsReported, IsScanFault, IsTaken};
+ghost use Rattle.piece_feed.specs.Readings.{IsRefusal, IsRefusedBy};
+ghost use Rattle.x25scan.specs.Scan.{IsReported, IsScanFault, IsTaken};
 ghost use Rattle.line_model.specs.Traces.{trace_report};
 
 use crate::observing::observe;

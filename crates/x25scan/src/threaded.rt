@@ -5,10 +5,10 @@ ghost use Rattle.std.specs.Option.{option_map};
 ghost use Rattle.line_model.specs.Traces.{trace_plan};
 ghost use Rattle.x25scan.specs.Threaded.{IsTogether, IsStopped};
 
-use crate::stand_in::{Read, Reading};
 use line_model::device::Source;
 use line_model::fault::Fault;
 use line_model::piece::Plan;
+use piece_feed::{Read, Reading};
 use std::alloc::{Allocator, Global};
 use std::sync::Wait;
 use std::thread::Threads;
