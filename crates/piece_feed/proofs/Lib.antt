@@ -2,3 +2,4 @@ pub mod Batches
 pub mod Nexts
 pub mod Texts
 pub mod Courses
+pub mod Appended

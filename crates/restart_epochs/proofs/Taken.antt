@@ -74,6 +74,7 @@ taken : (item : Item) (c c' : Cutting) (new out out' : List Piece) → ((i : Int
 taken item c c' new out out' h e counted = record {
   stands = λ i rs s. (h i rs s).stands;
   given = λ i rs ps s was. e ∙ ap (λ l. l ++ new) was ∙ append_assoc ps (given_of i rs) new ∙ ap (λ l. ps ++ l) (sym (h i rs s).given);
+  appended = λ i rs s. record { more = new; out_has = e; known_has = (h i rs s).given };
   counted = counted;
 }
 

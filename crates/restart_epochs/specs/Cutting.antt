@@ -155,9 +155,16 @@ pub record IsLeft (r : Row) (machine : LineState) (found : List Finding) (before
   pub channels : after.open_rows.channels ≡ []
   pub emptied : IsEmptied before.open_rows after.open_rows
 
+-- the same pieces were appended to both lists
+pub record HasAppended (out out_after known known_after : List Piece) : Type 0 where
+  pub more : List Piece
+  pub out_has : out_after ≡ out ++ more
+  pub known_has : known_after ≡ known ++ more
+
 -- a row was taken: of any rows that were taken before, the cutter stands for them and this one, and the pieces that are
 -- known whole came to stand behind those that were
 pub record IsTaken (item : Item) (before after : Cutting) (out out_after : List Piece) : Type 0 where
   pub stands : (i : Interface) (rs : List Row) → StandsFor i rs before → StandsFor i (rs ++ item.row ∷ []) after
   pub given : (i : Interface) (rs : List Row) (ps : List Piece) → StandsFor i rs before → out ≡ ps ++ given_of i rs → out_after ≡ ps ++ given_of i (rs ++ item.row ∷ [])
+  pub appended : (i : Interface) (rs : List Row) → StandsFor i rs before → HasAppended out out_after (given_of i rs) (given_of i (rs ++ item.row ∷ []))
   pub counted : IsCounted item.row before after

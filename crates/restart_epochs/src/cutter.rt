@@ -136,7 +136,7 @@ impl<A: Allocator + Copy> Cutter<A> {
     ghost use Rattle.line_model.specs.Records as records;
     ghost use Rattle.line_model.specs.declared.interface.Interface.{Interface as AnyInterface};
     ghost use Rattle.line_model.specs.declared.fault.Fault.TheVariants.{Memory};
-    ghost use Rattle.restart_epochs.specs.Cutting.{StandsFor, IsCounted, IsKeptOn, IsStepped, IsLeft, IsTaken, given_of};
+    ghost use Rattle.restart_epochs.specs.Cutting.{StandsFor, IsCounted, IsKeptOn, IsStepped, IsLeft, IsTaken, HasAppended, given_of};
 
     /// A cutter before the first row. It takes no memory.
     pub fn new(alloc: A, interface: &Interface) -> Self
@@ -289,6 +289,8 @@ impl<A: Allocator + Copy> Cutter<A> {
         ensures stands { (i : AnyInterface) (rows : List records.Row) → StandsFor i rows self.old → OnOk result (StandsFor i (rows ++ item.row ∷ []) self.new) }
         // The pieces that are known whole came to stand behind those that were.
         ensures given { (i : AnyInterface) (rows : List records.Row) (pieces : List records.Piece) → StandsFor i rows self.old → out.old.items ≡ pieces ++ given_of i rows → OnOk result (out.new.items ≡ pieces ++ given_of i (rows ++ item.row ∷ [])) }
+        // Whatever else was taken out of the list: the pieces that came to be known whole are appended.
+        ensures appended { (i : AnyInterface) (rows : List records.Row) → StandsFor i rows self.old → OnOk result (HasAppended out.old.items out.new.items (given_of i rows) (given_of i (rows ++ item.row ∷ []))) }
         ensures counted { OnOk result (IsCounted item.row self.old self.new) }
         ensures refused { IfErr result (λ back. (back.0 ≡ item) × (back.1 ≡ Memory) × IsUnchanged self.old self.new × (out.new.items ≡ out.old.items)) }
     {

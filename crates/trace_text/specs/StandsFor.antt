@@ -30,6 +30,12 @@ abbrev pub IsTold : {T : Type 0} → Result T Fault → List Row → List Row �
 IsTold (Err Memory) out rows more = (n : ℕ) × (out ≡ rows ++ take n more)
 IsTold _ out rows more = out ≡ rows ++ more
 
+-- the same rows were appended to both lists
+pub record HasAppended (out out_after known known_after : List Row) : Type 0 where
+  pub more : List Row
+  pub out_has : out_after ≡ out ++ more
+  pub known_has : known_after ≡ known ++ more
+
 -- the interface that is kept is the text's, or where memory ran out perhaps none yet
 abbrev pub IsHeadKept : {T : Type 0} → Result T Fault → Option Interface → Option Interface → Type 0
 IsHeadKept (Err Memory) kept head = (kept ≡ None) ⊎ (kept ≡ head)

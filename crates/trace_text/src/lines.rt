@@ -76,7 +76,7 @@ impl<A: Allocator + Clone> Lines<A> {
     ghost use Rattle.line_model.specs.Records as records;
     ghost use Rattle.trace_text.specs.StandsFor.{StandsFor};
     ghost use Rattle.trace_text.specs.Progress.{Progress, bytes_fed};
-    ghost use Rattle.trace_text.specs.StandsFor.{IsFaultOf, IsTold, IsHeadKept, IsAtLine, IsTextFault, EndsText};
+    ghost use Rattle.trace_text.specs.StandsFor.{IsFaultOf, IsTold, HasAppended, IsHeadKept, IsAtLine, IsTextFault, EndsText};
     ghost use Rattle.trace_text.specs.Cuts.{Lacks};
     ghost use Rattle.line_model.specs.declared.fault.Fault.{Fault};
     ghost use Rattle.trace_text.specs.Steps.{RefusedBy, EndsLine, ended_kind, after_content, after_line, rows_of};
@@ -190,6 +190,7 @@ impl<A: Allocator + Clone> Lines<A> {
         ensures ok { OnOk result ((text : List ℕ) → StandsFor self.old text → StandsFor self.new (text ++ piece.now)) }
         ensures refused { (text : List ℕ) → StandsFor self.old text → IfErr result (IsFaultOf (early (text ++ piece.now))) }
         ensures told { (text : List ℕ) (rows : List records.Row) → StandsFor self.old text → out.old.items ≡ rows ++ early_rows text → IsTold result out.new.items rows (early_rows (text ++ piece.now)) }
+        ensures appended { (text : List ℕ) → StandsFor self.old text → OnOk result (HasAppended out.old.items out.new.items (early_rows text) (early_rows (text ++ piece.now))) }
         ensures header { (text : List ℕ) → StandsFor self.old text → IsHeadKept result self.new.interface (early_head (text ++ piece.now)) }
         ensures size { OnOk result (bytes_fed self.new ≡ bytes_fed self.old + length piece.now) }
         ensures kinds { IfErr result IsTextFault }
@@ -210,6 +211,7 @@ impl<A: Allocator + Clone> Lines<A> {
         ensures ok { OnOk result ((text : List ℕ) → StandsFor self.old text → StandsFor self.new (text ++ front.now ++ 10 ∷ [])) }
         ensures refused { (text more : List ℕ) → StandsFor self.old text → IfErr result (IsFaultOf (early (text ++ front.now ++ 10 ∷ more))) }
         ensures told { (text : List ℕ) (rows : List records.Row) → StandsFor self.old text → out.old.items ≡ rows ++ early_rows text → OnOk result (out.new.items ≡ rows ++ early_rows (text ++ front.now ++ 10 ∷ [])) }
+        ensures appended { (text : List ℕ) → StandsFor self.old text → OnOk result (HasAppended out.old.items out.new.items (early_rows text) (early_rows (text ++ front.now ++ 10 ∷ []))) }
         ensures same { OnErr result (out.new.items ≡ out.old.items) }
         ensures kept { OnErr result (self.new.interface ≡ self.old.interface) }
         ensures line { IfErr result (IsAtLine (self.old.ended + 1)) }
@@ -228,6 +230,8 @@ impl<A: Allocator + Clone> Lines<A> {
         // Else it answers the fault of the first line that is faulty however the text goes on, or want of memory.
         ensures refused { (text : List ℕ) → StandsFor self.old text → IfErr result (IsFaultOf (early (text ++ piece.now))) }
         ensures told { (text : List ℕ) (rows : List records.Row) → StandsFor self.old text → out.old.items ≡ rows ++ early_rows text → IsTold result out.new.items rows (early_rows (text ++ piece.now)) }
+        // Whatever else was taken out of the list: the rows that came are appended.
+        ensures appended { (text : List ℕ) → StandsFor self.old text → OnOk result (HasAppended out.old.items out.new.items (early_rows text) (early_rows (text ++ piece.now))) }
         ensures header { (text : List ℕ) → StandsFor self.old text → IsHeadKept result self.new.interface (early_head (text ++ piece.now)) }
 
         // It was fed at most 2^30 bytes.
@@ -256,6 +260,7 @@ impl<A: Allocator + Clone> Lines<A> {
         ensures few { IfOk result (λ count. count ≤ 2 ^ 30 + 1) }
         ensures refused { (text : List ℕ) → StandsFor self.old text → IfErr result (IsFaultOf (fault text)) }
         ensures told { (text : List ℕ) (rows : List records.Row) → StandsFor self.old text → out.old.items ≡ rows ++ early_rows text → OnOk result (out.new.items ≡ rows ++ rows_in (lines_of text)) }
+        ensures appended { (text : List ℕ) → StandsFor self.old text → OnOk result (HasAppended out.old.items out.new.items (early_rows text) (rows_in (lines_of text))) }
         ensures same { OnErr result (out.new.items ≡ out.old.items) }
         ensures line { IfErr result (IsAtLine (self.old.ended + 1)) }
     {
@@ -277,6 +282,7 @@ impl<A: Allocator + Clone> Lines<A> {
         ensures ok { (text : List ℕ) → StandsFor self text → IfOk result (λ interface. (fault text ≡ None) × (head text ≡ Some interface)) }
         ensures refused { (text : List ℕ) → StandsFor self text → IfErr result (IsFaultOf (fault text)) }
         ensures told { (text : List ℕ) (rows : List records.Row) → StandsFor self text → out.old.items ≡ rows ++ early_rows text → IsTold result out.new.items rows (rows_of_text text) }
+        ensures appended { (text : List ℕ) → StandsFor self text → OnOk result (HasAppended out.old.items out.new.items (early_rows text) (rows_of_text text)) }
         ensures kinds { IfErr result IsTextFault }
         ensures again { (fault : Fault) → self.refused ≡ Some fault → (result ≡ Err fault) × (out.new.items ≡ out.old.items) }
     {

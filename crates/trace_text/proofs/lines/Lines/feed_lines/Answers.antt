@@ -1,13 +1,17 @@
 use Rattle.std.proofs.Common.{◌∙◌, sym, ap, ℕ, List, ◌++◌, ◌∷◌, append_assoc, arith, length, length-append}
+use Rattle.line_model.specs.Text.{early_rows}
 use Rattle.trace_text.specs.Progress.{bytes_fed}
 use Rattle.trace_text.proofs.RefusalLemmas.{stopped, begun-told-or-stopped, head_stopped, begun-head}
-use Rattle.trace_text.proofs.FeedLemmas.{on_ok, refused-line, line-kinds, whole_piece, whole_piece_lf, begin-refused-all, fed-more, on_ok_both, on_err, begun-stands}
+use Rattle.trace_text.proofs.FeedLemmas.{appended-on, begun-appended, fed-none, on_ok, refused-line, line-kinds, whole_piece, whole_piece_lf, begin-refused-all, fed-more, on_ok_both, on_err, begun-stands}
 use Rattle.trace_text.proofs.lines.Lines.feed_lines.Goals as goal
+
+pub loop-front-init : goal.loop-front-init
+loop-front-init g c = fed-none c.args.self.now c.args.out.now.items c.args.piece.now
 
 pub loop-front-preserved : goal.loop-front-preserved
 loop-front-preserved g c =
     fed-more c.args.self.now c.loop-front.self c.end_with.new.self c.args.out.now.items c.loop-front.out.items c.end_with.new.out.items c.args.piece.now c.loop-front.rest.now c.in-Some.front.now c.in-Some.back.now
-    c.loop-front.invariant c.in-Some.ensures.0 c.in-Ok.ensures.ok c.in-Ok.ensures.told c.in-Ok.ensures.size
+    c.loop-front.invariant c.in-Some.ensures.0 c.in-Ok.ensures.ok c.in-Ok.ensures.told c.in-Ok.ensures.appended c.in-Ok.ensures.size
 
 pub returns-in-Err-clause-refused : goal.returns-in-Err-clause-refused
 returns-in-Err-clause-refused g c text s =
@@ -75,3 +79,12 @@ returns-clause-header g c text s =
     (on_err c.begin.result _ _ c.begin.ensures.refused (λ fault r. refused-line _ _ fault r))
     (on_err c.begin.result _ _ c.begin.ensures.refused (λ fault r. begin-refused-all c.loop-front.self (text ++ f.fed) c.loop-front.rest.now fault (f.stands text s) c.in_default.ensures r))
     c.begin.ensures.same)
+
+pub returns-clause-appended : goal.returns-clause-appended
+returns-clause-appended g c text s =
+    let f = c.loop-front.invariant in
+    on_ok_both c.begin.result _ _ _ c.begin.ensures.ok c.begin.ensures.sound (λ e k.
+    rw (whole_piece text f.fed c.loop-front.rest.now c.args.piece.now f.whole)
+    at (appended-on c.args.out.now.items c.loop-front.out.items c.loop-front.out.items (early_rows text) (early_rows (text ++ f.fed)) (early_rows ((text ++ f.fed) ++ c.loop-front.rest.now)) (f.appended text s)
+    (begun-appended c.loop-front.self c.begin.new.self (text ++ f.fed) c.loop-front.rest.now c.loop-front.out.items (f.stands text s)
+    (begun-stands c.loop-front.self c.begin.new.self (text ++ f.fed) c.loop-front.rest.now e (f.stands text s) c.in_default.ensures k) c.in_default.ensures)))
