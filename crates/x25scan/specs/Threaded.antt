@@ -3,10 +3,17 @@ use Rattle.std.specs.Prelude.{◌≡◌, ℕ, List, [], ◌++◌, length, vec_le
 use Rattle.line_model.specs.declared.fault.Fault.{Fault}
 use Rattle.line_model.specs.declared.fault.Fault.TheVariants.{Memory, Trace, Read, Start}
 use Rattle.line_model.specs.Book.{KnownPlan}
+use Rattle.line_model.specs.Plans.{channel_totals}
+use Rattle.line_model.specs.Text.{head, rows}
+use Rattle.line_model.specs.declared.totals.Totals.{Totals}
 use Rattle.workers.specs.Gathers.{IsWhole}
 use Rattle.piece_feed.specs.Readings.{IsRefusal, IsRefusedBy}
 use Rattle.piece_feed.specs.Readings.{IsReadOf}
 use Rattle.x25scan.specs.declared.threaded.Together.{Together}
+
+-- the totals over the channels of a text, those of nothing where it has no header
+abbrev pub trace_totals : List ℕ → Totals
+trace_totals x = elim (head x) [ None ↦ record { posts = 0; findings = 0; octets = 0; segments = 0 } | Some i ↦ channel_totals i (rows x) ]
 
 -- a text was read, the one that the source tells if it does, and each of its pieces was run and posted once
 pub record IsTogether {A : Type 0} (plan : KnownPlan) (workers : ℕ) (before after : Option (List ℕ)) (t : Together A) : Type 0 where
