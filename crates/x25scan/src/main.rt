@@ -3,16 +3,16 @@
 
 ghost use Rattle.std.specs.Prelude.{◌≡◌, ◌<◌};
 
+mod gate;
 mod observing;
 mod options;
 mod program;
 mod reading;
-mod gate;
 mod scan;
-mod threaded;
 mod streams;
 #[cfg(test)]
 mod tests;
+mod threaded;
 mod writing;
 
 use crate::program::{OTHER_FAULT, USAGE, program};
@@ -22,11 +22,14 @@ use std::env;
 use std::io::ErrorKind;
 use std::marker::Brand;
 use std::process::ExitCode;
+use std::sync::Wait;
 use std::sync::ledger::{Blank, Ledger};
+use std::thread::Threads;
 
 /// Runs the program over the streams of the process.
-fn run_streams<C: Ledger, F: Ledger, K: Ledger, E: Ledger>(
+fn run_streams<C: Ledger, F: Ledger, K: Ledger, E: Ledger, R: Threads + Wait + Sync>(
     rt: &HostRuntime,
+    threads: &R,
     words: &[&str],
     calls: Blank,
     read_failures: Blank,
@@ -53,7 +56,14 @@ fn run_streams<C: Ledger, F: Ledger, K: Ledger, E: Ledger>(
     );
     let mut sink = WriteSink::new(rt.stdout(), Count::<K>::open(write_failures));
     let mut errors = WriteSink::new(rt.stderr(), Count::<E>::open(tell_failures));
-    program(rt.alloc(), words, &mut source, &mut sink, &mut errors)
+    program(
+        threads,
+        rt.alloc(),
+        words,
+        &mut source,
+        &mut sink,
+        &mut errors,
+    )
 }
 
 /// The words of the process; else the status: 64 where they are no text, 3 where memory ran out.
@@ -66,15 +76,16 @@ fn process_words(rt: &HostRuntime) -> Result<Vec<String>, u8> {
 }
 
 /// Runs the program over the words and the streams of the process.
-fn run_process(rt: &HostRuntime) -> Result<u8, u8> {
+fn run_process<R: Threads + Wait + Sync>(rt: &HostRuntime, threads: &R) -> Result<u8, u8> {
     let words = process_words(rt)?;
     let names: Vec<&str> = words
         .iter()
         .map(|word| word.as_str())
         .collect(rt.alloc())
         .map_err(|_| OTHER_FAULT)?;
-    Ok(run_streams::<Brand, Brand, Brand, Brand>(
+    Ok(run_streams::<Brand, Brand, Brand, Brand, R>(
         rt,
+        threads,
         names.as_slice(),
         Blank::new(1),
         Blank::new(1),
@@ -84,7 +95,7 @@ fn run_process(rt: &HostRuntime) -> Result<u8, u8> {
 }
 
 fn main(rt: HostRuntime) -> ExitCode {
-    let status = match run_process(&rt) {
+    let status = match run_process(&rt, &rt) {
         Ok(status) => status,
         Err(status) => {
             let text = if status == USAGE {

@@ -6,8 +6,10 @@ ghost use Rattle.clap.specs.declared.error.kind.ErrorKind.TheVariants.{DisplayHe
 ghost use Rattle.x25scan.specs.Options.{words_fault};
 ghost use Rattle.x25scan.specs.Program.{IsStatus, IsUnread, IsWordsStatus, fault_status, summary_status, words_status};
 
-use crate::options::parse;
+use crate::gate::OpenGate;
+use crate::options::{Options, parse};
 use crate::scan::scan_alone;
+use crate::threaded::scan_with;
 use crate::writing::write_all;
 use clap::Error;
 use clap::error::ErrorKind;
@@ -15,12 +17,17 @@ use line_model::device::{Sink, Source};
 use line_model::fault::Fault;
 use line_model::totals::Summary;
 use std::alloc::Global;
+use std::sync::Wait;
+use std::thread::Threads;
 
 /// The exit status where the words are refused.
 pub const USAGE: u8 = 64;
 
 /// The exit status of a fault that is not the trace's.
 pub const OTHER_FAULT: u8 = 3;
+
+/// How many pieces wait for the workers at the most.
+const WAITING: usize = 64;
 
 /// Tells a fault, as far as it can be told.
 fn tell_fault<E: Sink>(alloc: Global, errors: &mut E, fault: Fault) {
@@ -51,8 +58,16 @@ fn fault_status(fault: Fault) -> u8
     }
 }
 
-/// Scans the trace, and answers the exit status.
-fn run<S: Source, K: Sink, E: Sink>(
+/// Tells a fault, and answers the exit status.
+fn refuse<E: Sink>(alloc: Global, errors: &mut E, fault: Fault) -> u8
+    ensures { result ≡ fault_status fault }
+{
+    tell_fault(alloc, errors, fault);
+    fault_status(fault)
+}
+
+/// Scans the trace in one thread, and answers the exit status.
+fn run_alone<S: Source, K: Sink, E: Sink>(
     alloc: Global,
     source: &mut S,
     sink: &mut K,
@@ -64,10 +79,55 @@ fn run<S: Source, K: Sink, E: Sink>(
 {
     match scan_alone(alloc, source, sink) {
         Ok(summary) => summary_status(&summary),
-        Err(fault) => {
-            tell_fault(alloc, errors, fault);
-            fault_status(fault)
-        }
+        Err(fault) => refuse(alloc, errors, fault),
+    }
+}
+
+/// Scans the trace with workers, and answers the exit status.
+fn run_with<S: Source, K: Sink, E: Sink, R: Threads + Wait + Sync>(
+    rt: &R,
+    alloc: Global,
+    workers: u8,
+    source: &mut S,
+    sink: &mut K,
+    errors: &mut E,
+) -> u8
+    requires workers { (0 < workers) × (workers ≤ 64) }
+    ensures status { (text : List ℕ) → S.left source.old ≡ Some text → IsStatus text (S.left source.new) (K.taken sink.old) (K.taken sink.new) result }
+    ensures range { result < 4 }
+    ensures asked { S.calls source.new ≤ S.calls source.old + (2 ^ 30 + 1) }
+{
+    match scan_with(
+        rt,
+        alloc,
+        source,
+        sink,
+        usize::from(workers),
+        WAITING,
+        &OpenGate,
+    ) {
+        Ok(scan) => summary_status(&scan.summary),
+        Err(fault) => refuse(alloc, errors, fault),
+    }
+}
+
+/// Scans the trace as the options ask, and answers the exit status.
+fn run<S: Source, K: Sink, E: Sink, R: Threads + Wait + Sync>(
+    rt: &R,
+    alloc: Global,
+    options: Options,
+    source: &mut S,
+    sink: &mut K,
+    errors: &mut E,
+) -> u8
+    ensures status { (text : List ℕ) → S.left source.old ≡ Some text → IsStatus text (S.left source.new) (K.taken sink.old) (K.taken sink.new) result }
+    ensures range { result < 4 }
+    ensures asked { S.calls source.new ≤ S.calls source.old + (2 ^ 30 + 1) }
+{
+    if options.alone {
+        run_alone(alloc, source, sink, errors)
+    } else {
+        run_with(rt, alloc, options.workers, source, sink, errors)
     }
 }
 
@@ -94,7 +154,8 @@ fn refuse_words<K: Sink, E: Sink>(alloc: Global, error: Error, sink: &mut K, err
 
 /// The program over its words, of which the first is its name. Answers the exit status (profile): 0 without findings
 /// or where help was asked for, 1 with findings, 2 where the trace was refused, 3 at another fault, 64 for wrong words.
-pub fn program<S: Source, K: Sink, E: Sink>(
+pub fn program<S: Source, K: Sink, E: Sink, R: Threads + Wait + Sync>(
+    rt: &R,
     alloc: Global,
     words: &[&str],
     source: &mut S,
@@ -110,7 +171,7 @@ pub fn program<S: Source, K: Sink, E: Sink>(
     ensures asked { S.calls source.new ≤ S.calls source.old + (2 ^ 30 + 1) }
 {
     match parse(alloc, words) {
-        Ok(_) => run(alloc, source, sink, errors),
+        Ok(options) => run(rt, alloc, options, source, sink, errors),
         Err(error) => refuse_words(alloc, error, sink, errors),
     }
 }

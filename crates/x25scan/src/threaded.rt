@@ -53,7 +53,13 @@ fn both<A: Allocator>(
 }
 
 /// Reads a trace and works through its pieces.
-fn work_on_trace<P: Plan + Send + Sync, A: Allocator + Copy + Send + Sync, S: Source, G: Gate, R: Threads + Wait + Sync>(
+fn work_on_trace<
+    P: Plan + Send + Sync,
+    A: Allocator + Copy + Send + Sync,
+    S: Source,
+    G: Gate,
+    R: Threads + Wait + Sync,
+>(
     rt: &R,
     alloc: A,
     source: &mut S,
@@ -70,16 +76,28 @@ fn work_on_trace<P: Plan + Send + Sync, A: Allocator + Copy + Send + Sync, S: So
     ensures start { result ≡ Err Fault.Start → source.new ≡ source.old }
     ensures asked { S.calls source.new ≤ S.calls source.old + (2 ^ 30 + 1) }
 {
-    let reading = Reading { source, alloc, outcome: None };
+    let reading = Reading {
+        source,
+        alloc,
+        outcome: None,
+    };
     match work_through::<P, A, G, R, Reading<A, S>>(rt, alloc, workers, capacity, gate, reading) {
         Ok(worked) => {
             let Worked { task, gathered } = worked;
-            let Reading { source, outcome, .. } = task;
+            let Reading {
+                source,
+                outcome,
+                ..
+            } = task;
             take_back(source);
             both(outcome, gathered)
         }
         Err((reading, fault)) => {
-            let Reading { source, outcome, .. } = reading;
+            let Reading {
+                source,
+                outcome,
+                ..
+            } = reading;
             take_back(source);
             drop(outcome);
             Err(fault)
@@ -135,8 +153,9 @@ fn scan_in<
     ensures taken { (text : List ℕ) → S.left source.old ≡ Some text → IfErr result (IsTaken (K.taken sink.old) (K.taken sink.new) (trace_report text)) }
     ensures asked { S.calls source.new ≤ S.calls source.old + (2 ^ 30 + 1) }
 {
-    let together = match work_on_trace::<P, A, S, G, R>(rt, alloc, source, workers, capacity, gate)
-    {
+    let together = match work_on_trace::<P, A, S, G, R>(
+        rt, alloc, source, workers, capacity, gate,
+    ) {
         Ok(together) => together,
         Err(fault) => return Err(fault),
     };

@@ -140,7 +140,7 @@ fn run_on<C: Ledger, F: Ledger, K: Ledger, E: Ledger>(
         good_calls: usize::MAX,
         failures: Count::<E>::open(tell_failures),
     };
-    let status = program(alloc, words, &mut source, &mut sink, &mut errors);
+    let status = program(rt, alloc, words, &mut source, &mut sink, &mut errors);
     Ran {
         status,
         taken: sink.taken,

@@ -1,5 +1,5 @@
 use Rattle.x25scan.proofs.StatusLemmas.{reported_status, refused_status, status_range}
-use Rattle.x25scan.proofs.program.run.Goals as goal
+use Rattle.x25scan.proofs.program.run_alone.Goals as goal
 
 pub returns-in-Ok-clause-status : goal.returns-in-Ok-clause-status
 returns-in-Ok-clause-status g c text told =
@@ -7,7 +7,7 @@ returns-in-Ok-clause-status g c text told =
 
 pub returns-in-Err-clause-status : goal.returns-in-Err-clause-status
 returns-in-Err-clause-status g c text told =
-    refused_status text (g.S.Source.left c.scan_alone.new.source) (g.K.Sink.taken c.args.sink.now) (g.K.Sink.taken c.scan_alone.new.sink) c.in-Err.fault c.fault_status.result (c.in-Err.ensures.refused text told) (c.in-Err.ensures.taken text told) c.fault_status.ensures
+    refused_status text (g.S.Source.left c.scan_alone.new.source) (g.K.Sink.taken c.args.sink.now) (g.K.Sink.taken c.scan_alone.new.sink) c.in-Err.fault c.refuse.result (c.in-Err.ensures.refused text told) (c.in-Err.ensures.taken text told) c.refuse.ensures
 
 pub returns-in-Err-clause-range : goal.returns-in-Err-clause-range
-returns-in-Err-clause-range g c = status_range c.in-Err.fault c.fault_status.result c.fault_status.ensures
+returns-in-Err-clause-range g c = status_range c.in-Err.fault c.refuse.result c.refuse.ensures
