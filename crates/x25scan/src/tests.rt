@@ -3,6 +3,7 @@
 mod devices;
 mod runs;
 mod worked;
+mod workers;
 
 use crate::options::parse;
 use crate::tests::runs::{Cuts, run, scan};
@@ -288,7 +289,7 @@ fn the_status_follows_the_scan(rt: HostRuntime) -> Result<(), Fail> {
             ["x25scan", "--workers", "1"].as_slice(),
             ["x25scan", "--alone", "--workers=64"].as_slice(),
         ] {
-            let ran = run(rt.alloc(), words, text.as_bytes(), cuts);
+            let ran = run(&rt, rt.alloc(), words, text.as_bytes(), cuts);
             assert_eq!(rt; ran.status, status, "at {rows}");
             assert_eq!(rt; ran.taken.as_slice(), report.as_bytes());
             assert_eq!(rt; ran.told.as_slice(), told.as_bytes());
@@ -325,7 +326,7 @@ fn other_words_are_usage(rt: HostRuntime) {
         ["x25scan", "--threads"].as_slice(),
         ["x25scan", "trace.txt"].as_slice(),
     ] {
-        let ran = run(rt.alloc(), words, b"", Cuts::of_steps(1, 1));
+        let ran = run(&rt, rt.alloc(), words, b"", Cuts::of_steps(1, 1));
         assert_eq!(rt; ran.status, 64);
         assert!(rt; ran.taken.is_empty());
         assert!(rt; ran.told.starts_with(b"error: "));
@@ -340,6 +341,7 @@ fn help_goes_to_the_sink(rt: HostRuntime) {
         ["x25scan", "--alone", "--help"].as_slice(),
     ] {
         let ran = run(
+            &rt,
             rt.alloc(),
             words,
             b"",

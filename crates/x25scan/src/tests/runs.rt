@@ -10,7 +10,9 @@ use line_model::fault::Fault;
 use line_model::totals::Summary;
 use std::alloc::Global;
 use std::marker::Brand;
+use std::sync::Wait;
 use std::sync::ledger::{Blank, Ledger};
+use std::thread::Threads;
 
 /// How a source and a sink cut, and where they fail.
 #[derive(Clone, Copy)]
@@ -98,7 +100,8 @@ pub fn scan(alloc: Global, text: &[u8], cuts: Cuts) -> Scanned {
     )
 }
 
-fn run_on<C: Ledger, F: Ledger, K: Ledger, E: Ledger>(
+fn run_on<C: Ledger, F: Ledger, K: Ledger, E: Ledger, R: Threads + Wait + Sync>(
+    rt: &R,
     alloc: Global,
     words: &[&str],
     text: &[u8],
@@ -149,8 +152,15 @@ fn run_on<C: Ledger, F: Ledger, K: Ledger, E: Ledger>(
 }
 
 /// Runs the program on its words and a text.
-pub fn run(alloc: Global, words: &[&str], text: &[u8], cuts: Cuts) -> Ran {
-    run_on::<Brand, Brand, Brand, Brand>(
+pub fn run<R: Threads + Wait + Sync>(
+    rt: &R,
+    alloc: Global,
+    words: &[&str],
+    text: &[u8],
+    cuts: Cuts,
+) -> Ran {
+    run_on::<Brand, Brand, Brand, Brand, R>(
+        rt,
         alloc,
         words,
         text,
