@@ -8,3 +8,6 @@ mod taking;
 
 pub use decoding::decode_rows;
 pub use reading::{Read, Reading};
+
+#[cfg(test)]
+mod tests;

@@ -1,4 +1,4 @@
-use Rattle.std.proofs.Common.{◌≡◌, ◌∙◌, sym, ◌++◌}
+use Rattle.std.proofs.Common.{◌∙◌, ◌++◌}
 use Rattle.std.proofs.lemmas.Result.{IfOk-weaker, IfErr-weaker}
 use Rattle.line_model.specs.Text.{early_head, early_rows, fault}
 use Rattle.piece_feed.proofs.Texts.{memory_fault, plan_is, read_of, ready_end, whole_head}
@@ -10,10 +10,12 @@ take_rows-requires-clause-ready g c =
     let r = c.requires.ready.1 in
     let end = c.in-Ok.ensures.ok text r.reader in
     let fed = c.args.pass.now.record_of.fed in
-    let same = whole_head text c.in-Ok.end.0 r.reader.sound end.1 in
-    (early_rows text, ready_end g.P.Plan.pieces text c.in-Ok.end.0 c.in-Ok.end.1.items fed c.front_of-front.result end.0 end.1
-        (c.front_of-front.ensures.interface (early_head text) (early_rows text) fed r.front_of same)
-        (c.front_of-front.ensures.cut (early_head text) (early_rows text) fed r.front_of same) end.2 r.planned)
+    let same = whole_head text c.in-Ok.end.0 r.reader.sound end.1 in (
+      early_rows text,
+      ready_end g.P.Plan.pieces text c.in-Ok.end.0 c.in-Ok.end.1.items fed c.front_of-front.result end.0 end.1
+          (c.front_of-front.ensures.interface (early_head text) (early_rows text) fed r.front_of same)
+          (c.front_of-front.ensures.cut (early_head text) (early_rows text) fed r.front_of same) end.2 r.planned,
+    )
 
 pub end_front-requires-clause-ready : goal.end_front-requires-clause-ready
 end_front-requires-clause-ready g c =

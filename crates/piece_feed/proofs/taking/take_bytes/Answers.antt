@@ -1,4 +1,4 @@
-use Rattle.std.proofs.Common.{◌≡◌, ◌∙◌, sym, ap, subst, ◌++◌, Some}
+use Rattle.std.proofs.Common.{◌∙◌, sym, ap, subst, ◌++◌, Some}
 use Rattle.line_model.specs.Text.{early_head, early_rows}
 use Rattle.piece_feed.specs.Fronts.{HasCut}
 use Rattle.piece_feed.proofs.Texts.{no_front, ready_on, same_head}
@@ -16,10 +16,12 @@ take_rows-requires-clause-ready g c =
     let after = c.in-Ok.ensures.ok text r.reader in
     let fed = c.args.pass.now.record_of.fed in
     let header = sym (c.interface.ensures.head (text ++ c.args.bytes.now) after) ∙ c.in-Some.is in
-    let same = same_head text c.args.bytes.now c.in-Some.interface r.reader.sound header in
-    (early_rows text, ready_on g.P.Plan.pieces c.next_rows.new.lines text c.args.bytes.now c.in-Some.interface c.in-Ok.rows.items fed c.front_of-front.result after header
-        (c.front_of-front.ensures.interface (early_head text) (early_rows text) fed r.front_of same)
-        (c.front_of-front.ensures.cut (early_head text) (early_rows text) fed r.front_of same) (c.in-Ok.ensures.rows text r.reader) r.planned)
+    let same = same_head text c.args.bytes.now c.in-Some.interface r.reader.sound header in (
+      early_rows text,
+      ready_on g.P.Plan.pieces c.next_rows.new.lines text c.args.bytes.now c.in-Some.interface c.in-Ok.rows.items fed c.front_of-front.result after header
+          (c.front_of-front.ensures.interface (early_head text) (early_rows text) fed r.front_of same)
+          (c.front_of-front.ensures.cut (early_head text) (early_rows text) fed r.front_of same) (c.in-Ok.ensures.rows text r.reader) r.planned,
+    )
 
 pub returns-in-Ok-take_rows-clause-fed : goal.returns-in-Ok-take_rows-clause-fed
 returns-in-Ok-take_rows-clause-fed g c text s fed =

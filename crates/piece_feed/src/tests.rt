@@ -1,0 +1,232 @@
+//! Worked traces that are read in steps of any size while workers take their pieces.
+
+ghost use Rattle.std.specs.Prelude.{◌≡◌, ◌<◌, Some};
+ghost use Rattle.line_model.specs.Traces.{trace_plan};
+
+use crate::{Read, Reading, decode_rows};
+use line_model::count::Count;
+use line_model::device::Source;
+use line_model::fault::{Fault, Kind};
+use line_model::interface::Interface;
+use line_model::packet::Packet;
+use line_model::piece::{Piece, PieceReport, Plan};
+use line_model::row::Row;
+use line_model::state::Side;
+use std::alloc::{Allocator, Global};
+use std::marker::Brand;
+use std::sync::Wait;
+use std::sync::ledger::{Blank, Ledger};
+use std::test::Fail;
+use std::thread::Threads;
+use workers::{Gate, Worked, work_through};
+
+/// How many bytes a source gives at once.
+const STEPS: [usize; 3] = [1, 7, usize::MAX];
+
+/// Gives the bytes of a slice, at most `step` a call, and fails once `good` of them were given.
+#[derive(Drop)]
+struct CutSource<'a, C: Ledger, F: Ledger> {
+    rest: &'a [u8],
+    step: usize,
+    good: usize,
+    calls: Count<C>,
+    failures: Count<F>,
+}
+
+impl<C: Ledger, F: Ledger> Source for CutSource<'_, C, F> {
+    ghost use Rattle.std.specs.Prelude.{Some};
+
+    ghost left = { λ s. Some s.rest.now };
+
+    ghost calls = { λ s. s.calls };
+
+    ghost failures = { λ s. s.failures };
+
+    fn read(&mut self, buffer: &mut [u8]) -> Result<usize, ()> {
+        self.calls.add_one();
+        if self.good == 0 {
+            self.failures.add_one();
+            return Err(());
+        }
+        let most = self.rest.len().min(buffer.len());
+        let n = most.min(self.step.max(1)).min(self.good);
+        let (front, back) = self.rest.split_at(n);
+        buffer[..n].copy_from_slice(front);
+        self.rest = back;
+        self.good -= n;
+        Ok(n)
+    }
+}
+
+/// Wants memory for each piece, so that only the feeding counts.
+struct NoMemory;
+
+impl Gate for NoMemory {
+    fn run<A: Allocator + Copy>(
+        &self,
+        _alloc: A,
+        _piece: &Piece<A>,
+    ) -> Result<PieceReport<A>, Fault> {
+        Err(Fault::Memory)
+    }
+}
+
+fn read_on<P: Plan + Send + Sync, C: Ledger, F: Ledger, R: Threads + Wait + Sync>(
+    rt: &R,
+    alloc: Global,
+    text: &[u8],
+    step: usize,
+    good: usize,
+    calls: Blank,
+    failures: Blank,
+) -> Option<Result<Read, Fault>>
+    requires plan { P.pieces ≡ Some (trace_plan text.now) }
+    requires calls_name { calls.name ≡ C.name }
+    requires calls_parts { calls.parts ≡ C.parts }
+    requires calls_shared { 0 < C.parts }
+    requires failures_name { failures.name ≡ F.name }
+    requires failures_parts { failures.parts ≡ F.parts }
+    requires failures_shared { 0 < F.parts }
+{
+    let mut source = CutSource {
+        rest: text,
+        step,
+        good,
+        calls: Count::<C>::open(calls),
+        failures: Count::<F>::open(failures),
+    };
+    let reading = Reading {
+        source: &mut source,
+        alloc,
+        outcome: None,
+    };
+    match work_through::<P, _, _, _, _>(rt, alloc, 2, 1, &NoMemory, reading) {
+        Ok(Worked { task, .. }) => task.outcome,
+        Err(_) => None,
+    }
+}
+
+/// Reads a text in such steps, from a source that fails after so many bytes.
+fn read<R: Threads + Wait + Sync>(
+    rt: &R,
+    alloc: Global,
+    text: &[u8],
+    step: usize,
+    good: usize,
+) -> Option<Result<Read, Fault>> {
+    read_on::<Brand, Brand, Brand, R>(rt, alloc, text, step, good, Blank::new(1), Blank::new(1))
+}
+
+#[test]
+fn all_pieces_are_fed(rt: HostRuntime) -> Result<(), Fail> {
+    for (text, packets, pieces, findings) in [
+        ("", 0, 0, 0),
+        ("1 T 100100AA\n", 1, 1, 0),
+        (
+            "1 T 10010B0000\n2 N 10010F\n3 T 1000FB0000\n4 N 1000FF",
+            4,
+            1,
+            0,
+        ),
+        (
+            "1 T 1000FF\n2 N 1000FF\n3 N 1000FB0000\n4 N 1000FF\n5 T 1000FF\n",
+            5,
+            0,
+            2,
+        ),
+        (
+            "1 T 100100AA\n2 T 100200AA\n3 T 100300AA\n4 T 100400AA\n5 T 1000FB0000\n6 N 1000FF\n7 T 100100AA\n8 T 100200AA\n9 T 100300AA\n10 T 100400AA\n11 T 1000FB0000\n12 N 1000FF\n13 T 100100AA\n14 T 100200AA\n15 T 100300AA\n16 T 100400AA\n",
+            16,
+            12,
+            0,
+        ),
+    ] {
+        let whole = format!(in rt.alloc(); "X25 1 MOD 8 WIN 2 SIZE 128 PVC 0 SVC 4\n{text}")?;
+        for step in STEPS {
+            let Some(Ok(read)) = read(&rt, rt.alloc(), whole.as_bytes(), step, usize::MAX) else {
+                return Err("refused")?;
+            };
+            assert_eq!(rt; read.packets, packets, "{text} by {step}");
+            assert_eq!(rt; read.pieces, pieces, "{text} by {step}");
+            assert_eq!(rt; read.line.len(), findings, "{text} by {step}");
+            assert_eq!(rt; read.interface.svc, 4);
+        }
+    }
+    Ok(())
+}
+
+#[test]
+fn a_faulty_text_is_refused_by_its_first_faulty_line(rt: HostRuntime) -> Result<(), Fail> {
+    for (text, line, kind) in [
+        ("", 1, Kind::HeaderMissing),
+        (
+            "X25 2 MOD 8 WIN 2 SIZE 128 PVC 0 SVC 4\n",
+            1,
+            Kind::HeaderForm,
+        ),
+        (
+            "X25 1 MOD 8 WIN 2 SIZE 128 PVC 0 SVC 4\n1 T 1000FB0000\n2 X 1000FF\n3 T 5\n",
+            3,
+            Kind::Side,
+        ),
+        (
+            "X25 1 MOD 8 WIN 2 SIZE 128 PVC 0 SVC 4\n5 T -\n5 T -",
+            3,
+            Kind::Number,
+        ),
+    ] {
+        for step in STEPS {
+            let Some(Err(fault)) = read(&rt, rt.alloc(), text.as_bytes(), step, usize::MAX) else {
+                return Err("accepted")?;
+            };
+            assert_eq!(rt; fault, Fault::Trace(line, kind), "{text} by {step}");
+        }
+    }
+    Ok(())
+}
+
+#[test]
+fn a_source_that_fails_is_told(rt: HostRuntime) -> Result<(), Fail> {
+    let text = "X25 1 MOD 8 WIN 2 SIZE 128 PVC 0 SVC 4\n1 T 100100AA\n2 T 1000FB0000\n3 N 1000FF\n";
+    for step in STEPS {
+        let Some(Err(fault)) = read(&rt, rt.alloc(), text.as_bytes(), step, 70) else {
+            return Err("read")?;
+        };
+        assert_eq!(rt; fault, Fault::Read, "by {step}");
+    }
+    Ok(())
+}
+
+#[test]
+fn rows_have_the_packets_of_their_octets(rt: HostRuntime) -> Result<(), Fail> {
+    let interface = Interface {
+        modulus: 8,
+        window: 2,
+        size: 128,
+        pvc: 0,
+        incoming: 0,
+        two_way: 4,
+        svc: 4,
+        join: false,
+    };
+    let mut rows = Vec::new(rt.alloc());
+    for (number, octets) in [(1, [16, 0, 251, 0, 0]), (2, [16, 3, 11, 0, 0])] {
+        let mut bytes = Vec::new(rt.alloc());
+        bytes.extend_from_slice(octets.as_slice())?;
+        rows.push(Row {
+            number,
+            side: Side::T,
+            octets: bytes,
+        })?;
+    }
+    let Ok(items) = decode_rows(rt.alloc(), &interface, rows) else {
+        return Err("refused")?;
+    };
+    let [restart, call] = items.as_slice() else {
+        return Err("not two items")?;
+    };
+    assert!(rt; matches!(restart.packet, Packet::Restart));
+    assert!(rt; matches!(call.packet, Packet::Channel { channel: 3, .. }));
+    assert_eq!(rt; call.row.number, 2);
+    Ok(())
+}
