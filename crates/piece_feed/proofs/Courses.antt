@@ -4,17 +4,17 @@ use Rattle.std.specs.Prelude.{IfOk, IfErr, IfSome}
 use Rattle.std.specs.Option.{option_map}
 use Rattle.line_model.specs.Book.{KnownPlan}
 use Rattle.line_model.specs.Device.{Gives}
-use Rattle.line_model.specs.Text.{early, early_head, early_rows, fault, head_of, size_kind}
+use Rattle.line_model.specs.Text.{early, early_head, fault, head_of, size_kind}
 use Rattle.line_model.specs.Traces.{trace_plan}
 use Rattle.line_model.specs.declared.fault.Fault.{Fault}
-use Rattle.line_model.specs.declared.fault.Fault.TheVariants.{Memory, Trace, Read as ReadFailed, Write, Start, Double, Stranger, Missing}
+use Rattle.line_model.specs.declared.fault.Fault.TheVariants.{Memory, Trace, Read as ReadFailed}
 use Rattle.line_model.proofs.TextLemmas.{early_rows-nothing}
 use Rattle.trace_text.specs.Progress.{Progress}
 use Rattle.trace_text.specs.StandsFor.{StandsFor, IsFaultOf, IsTextFault}
 use Rattle.piece_queue.specs.declared.rule.Record.{Record}
 use Rattle.workers.specs.Workers.{HasFed}
-use Rattle.piece_feed.specs.Fronts.{IsEndReady, IsFedTo, IsPlanOf, IsTextReady}
-use Rattle.piece_feed.specs.Readings.{HasRead, IsReadOf, IsReadingFault, IsRefusal, IsRefusedBy}
+use Rattle.piece_feed.specs.Fronts.{IsFedTo, IsPlanOf}
+use Rattle.piece_feed.specs.Readings.{HasRead, IsReadOf, IsReadingFault, IsRefusal}
 use Rattle.piece_feed.specs.declared.reading.Read.{Read}
 use Rattle.piece_feed.specs.declared.taking.Front.{Front}
 

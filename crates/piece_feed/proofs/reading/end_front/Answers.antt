@@ -1,4 +1,4 @@
-use Rattle.std.proofs.Common.{◌≡◌, ◌∙◌, ap, sym, refl, List, length, arith, length-append}
+use Rattle.std.proofs.Common.{◌∙◌, ap, sym, refl, List, length, arith, length-append}
 use Rattle.line_model.specs.Records.{Piece}
 use Rattle.restart_epochs.specs.Cutting.{given_of}
 use Rattle.piece_feed.proofs.Nexts.{last_next}

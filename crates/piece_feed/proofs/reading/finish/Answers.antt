@@ -1,4 +1,4 @@
-use Rattle.std.proofs.Common.{◌≡◌, ◌∙◌, sym, ◌++◌}
+use Rattle.std.proofs.Common.{◌∙◌, ◌++◌}
 use Rattle.std.proofs.lemmas.Result.{IfOk-weaker, IfErr-weaker}
 use Rattle.line_model.specs.Text.{early_head, early_rows, fault}
 use Rattle.piece_feed.proofs.Texts.{memory_fault, plan_is, read_of, ready_end, whole_head}

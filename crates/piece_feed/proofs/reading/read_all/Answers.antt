@@ -1,4 +1,4 @@
-use Rattle.std.proofs.Common.{◌≡◌, ◌∙◌, sym, ap, refl, ℕ, List, length, [], ◌++◌, ◌<◌, take, subst, arith, rules}
+use Rattle.std.proofs.Common.{◌∙◌, sym, ap, refl, ℕ, List, length, ◌++◌, ◌<◌, take, subst, arith, rules}
 use Rattle.std.proofs.lemmas.Grind.{common_steps}
 use Rattle.piece_feed.proofs.Courses.{Gave, course_begun, fed_none, fed_on, gave_all, gave_more, has_failed, has_read, has_refused, plan_so_far, plan_whole}
 use Rattle.piece_feed.proofs.reading.read_all.Goals as goal

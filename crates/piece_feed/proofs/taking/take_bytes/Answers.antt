@@ -1,4 +1,4 @@
-use Rattle.std.proofs.Common.{◌≡◌, ◌∙◌, sym, ap, subst, ◌++◌, Some}
+use Rattle.std.proofs.Common.{◌∙◌, sym, ap, subst, ◌++◌, Some}
 use Rattle.line_model.specs.Text.{early_head, early_rows}
 use Rattle.piece_feed.specs.Fronts.{HasCut}
 use Rattle.piece_feed.proofs.Texts.{no_front, ready_on, same_head}

@@ -1,8 +1,7 @@
-use Rattle.std.proofs.Common.{◌≡◌, ◌∙◌, ◌+◌, ◌≤◌, ◌++◌, ap, subst, sym, List, length, map, arith, length-append}
+use Rattle.std.proofs.Common.{◌≡◌, ◌∙◌, ◌+◌, ◌≤◌, ◌++◌, ap, subst, sym, List, length, arith, length-append}
 use Rattle.std.specs.Prelude.{All}
 use Rattle.line_model.specs.Classes.{packet_of}
-use Rattle.line_model.specs.Plans.{item_of}
-use Rattle.line_model.specs.Records.{Row, Piece}
+use Rattle.line_model.specs.Records.{Piece}
 use Rattle.restart_epochs.specs.Cutting.{StandsFor, given_of}
 use Rattle.piece_feed.specs.Fronts.{CanFollow, IsCounting}
 use Rattle.piece_feed.proofs.Batches.{rows_in, rows_of_items, packets_of_items, may_follow}
