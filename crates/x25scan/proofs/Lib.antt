@@ -1,5 +1,4 @@
 pub mod ReadingLemmas
-pub mod RowsOfText
 pub mod WritingLemmas
 pub mod ScanLemmas
 pub mod StatusLemmas

@@ -3,7 +3,7 @@ use Rattle.std.specs.Prelude.{All}
 use Rattle.std.specs.List.Sorted.{IsStrictlyIncreasing}
 use Rattle.line_model.specs.Report.{text_of}
 use Rattle.line_model.specs.Traces.{trace_report}
-use Rattle.x25scan.proofs.RowsOfText.{text_rises, text_numbers, text_octets}
+use Rattle.trace_text.proofs.RowsOfText.{text_rises, text_numbers, text_octets}
 use Rattle.x25scan.proofs.ScanLemmas.{all_reported, memory_refused, report_rows, write_refused, write_taken}
 use Rattle.x25scan.proofs.scan.scan_alone.Goals as goal
 
