@@ -1,9 +1,9 @@
 //! Worked traces, refused texts, failing devices, and the words of the program.
 
+mod crews;
 mod devices;
 mod runs;
 mod worked;
-mod workers;
 
 use crate::options::parse;
 use crate::tests::runs::{Cuts, run, scan};
