@@ -23,6 +23,8 @@ use piece_queue::{FeederPass, Work};
 use restart_epochs::cutter::Cut;
 use std::alloc::{Allocator, Global};
 use std::sync::Wait;
+use std::thread::Threads;
+use std::time::Clock;
 use trace_text::lines::Lines;
 use workers::{Feed, feed_pieces};
 
@@ -39,7 +41,7 @@ pub struct Read<A: Allocator = Global> {
 }
 
 /// The trace has ended: the pieces of the epoch that is open are fed.
-fn end_front<P: Plan, A: Allocator + Copy, R: Wait>(
+fn end_front<P: Plan, A: Allocator + Copy, R: Wait + Clock>(
     rt: &R,
     front: Front<A>,
     work: &Work<P, A>,
@@ -74,7 +76,7 @@ fn end_front<P: Plan, A: Allocator + Copy, R: Wait>(
 }
 
 /// The text has ended: the row of its last line, and the pieces that were not fed yet.
-fn finish<P: Plan, A: Allocator + Copy, R: Wait>(
+fn finish<P: Plan, A: Allocator + Copy + Send + Sync, R: Threads + Wait + Clock + Sync>(
     rt: &R,
     alloc: A,
     lines: Lines<A>,
@@ -104,7 +106,12 @@ fn finish<P: Plan, A: Allocator + Copy, R: Wait>(
 }
 
 /// Reads a source to its end. The pieces of its trace are fed as soon as they are known whole.
-fn read_all<P: Plan, A: Allocator + Copy, S: Source, R: Wait>(
+fn read_all<
+    P: Plan,
+    A: Allocator + Copy + Send + Sync,
+    S: Source,
+    R: Threads + Wait + Clock + Sync,
+>(
     rt: &R,
     alloc: A,
     source: &mut S,
@@ -142,7 +149,7 @@ pub struct Reading<'a, A: Allocator, S> {
     pub outcome: Option<Result<Read<A>, Fault>>,
 }
 
-impl<'a, P: Plan, A: Allocator + Copy, S: Source> Feed<P, A> for Reading<'a, A, S> {
+impl<'a, P: Plan, A: Allocator + Copy + Send + Sync, S: Source> Feed<P, A> for Reading<'a, A, S> {
     // The plan is that of the bytes that the source tells.
     ghost can_feed = { λ task. P.pieces ≡ option_map trace_plan (S.left task.source.now) };
 
@@ -154,7 +161,12 @@ impl<'a, P: Plan, A: Allocator + Copy, S: Source> Feed<P, A> for Reading<'a, A, 
         self
     }
 
-    fn feed<R: Wait>(self, rt: &R, work: &Work<P, A>, pass: &mut FeederPass<A>) -> Self {
+    fn feed<R: Threads + Wait + Clock + Sync>(
+        self,
+        rt: &R,
+        work: &Work<P, A>,
+        pass: &mut FeederPass<A>,
+    ) -> Self {
         let Reading { source, alloc, .. } = self;
         let outcome = Some(read_all(rt, alloc, source, work, pass));
         Reading {

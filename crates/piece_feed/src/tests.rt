@@ -18,6 +18,7 @@ use std::sync::Wait;
 use std::sync::ledger::{Blank, Ledger};
 use std::test::Fail;
 use std::thread::Threads;
+use std::time::Clock;
 use workers::{Gate, Worked, work_through};
 
 /// How many bytes a source gives at once.
@@ -71,7 +72,7 @@ impl Gate for NoMemory {
     }
 }
 
-fn read_on<P: Plan + Send + Sync, C: Ledger, F: Ledger, R: Threads + Wait + Sync>(
+fn read_on<P: Plan + Send + Sync, C: Ledger, F: Ledger, R: Threads + Wait + Clock + Sync>(
     rt: &R,
     alloc: Global,
     text: &[u8],
@@ -107,7 +108,7 @@ fn read_on<P: Plan + Send + Sync, C: Ledger, F: Ledger, R: Threads + Wait + Sync
 }
 
 /// Reads a text in such steps, from a source that fails after so many bytes.
-fn read<R: Threads + Wait + Sync>(
+fn read<R: Threads + Wait + Clock + Sync>(
     rt: &R,
     alloc: Global,
     text: &[u8],

@@ -5,11 +5,13 @@ ghost use Rattle.line_model.specs.Book.{IsPlanned};
 ghost use Rattle.piece_queue.specs.Rule.{feeder};
 ghost use Rattle.workers.specs.Workers.{ArePlanned, HasFed};
 
+use crate::waiting::Nap;
 use line_model::piece::{Piece, Plan};
 use piece_queue::{FeederPass, Work};
 use std::alloc::Allocator;
 use std::sync::Wait;
-use std::thread;
+use std::thread::Threads;
+use std::time::Clock;
 
 /// What the reading thread does while the workers run: it feeds the first pieces of the plan, in order.
 pub trait Feed<P: Plan, A: Allocator> {
@@ -27,7 +29,12 @@ pub trait Feed<P: Plan, A: Allocator> {
         ensures { unfed self result };
 
     /// Takes its turn.
-    fn feed<R: Wait>(self, rt: &R, work: &Work<P, A>, pass: &mut FeederPass<A>) -> Self
+    fn feed<R: Threads + Wait + Clock + Sync>(
+        self,
+        rt: &R,
+        work: &Work<P, A>,
+        pass: &mut FeederPass<A>,
+    ) -> Self
         requires able { can_feed self }
         requires queue { pass.old.queue ≡ work.now.queue }
         requires first { (pass.old.record_of.fed ≡ 0) × (pass.old.record_of.ends ≡ 0) }
@@ -37,7 +44,7 @@ pub trait Feed<P: Plan, A: Allocator> {
 }
 
 /// Feeds a piece, again while the queue is full.
-pub fn feed_piece<P: Plan, A: Allocator, R: Wait>(
+pub fn feed_piece<P: Plan, A: Allocator, R: Wait + Clock>(
     rt: &R,
     work: &Work<P, A>,
     piece: Piece<A>,
@@ -50,18 +57,19 @@ pub fn feed_piece<P: Plan, A: Allocator, R: Wait>(
     ensures fed { pass.new.record_of ≡ feeder (pass.old.record_of.fed + 1) pass.old.record_of.ends pass.old.record_of.pending pass.old.record_of.done pass.old.record_of.taken }
 {
     let mut piece = piece;
+    let mut nap = Nap::new();
     for _ in rt.forever() {
         match work.feed(rt, piece, pass) {
             Ok(()) => return,
             Err(back) => piece = back,
         }
-        thread::yield_now();
+        nap.take(rt);
     }
     unreachable!()
 }
 
 /// Feeds the plan's next pieces, in order.
-pub fn feed_pieces<P: Plan, A: Allocator, R: Wait>(
+pub fn feed_pieces<P: Plan, A: Allocator, R: Wait + Clock>(
     rt: &R,
     work: &Work<P, A>,
     pieces: Vec<Piece<A>, A>,
@@ -80,22 +88,27 @@ pub fn feed_pieces<P: Plan, A: Allocator, R: Wait>(
 }
 
 /// Feeds an end, again while the queue is full.
-fn feed_end<P: Plan, A: Allocator, R: Wait>(rt: &R, work: &Work<P, A>, pass: &mut FeederPass<A>)
+fn feed_end<P: Plan, A: Allocator, R: Wait + Clock>(
+    rt: &R,
+    work: &Work<P, A>,
+    pass: &mut FeederPass<A>,
+)
     requires queue { pass.old.queue ≡ work.now.queue }
     ensures queue { pass.new.queue ≡ pass.old.queue }
     ensures fed { pass.new.record_of ≡ feeder pass.old.record_of.fed (pass.old.record_of.ends + 1) pass.old.record_of.pending pass.old.record_of.done pass.old.record_of.taken }
 {
+    let mut nap = Nap::new();
     for _ in rt.forever() {
         if work.feed_end(rt, pass).is_ok() {
             return;
         }
-        thread::yield_now();
+        nap.take(rt);
     }
     unreachable!()
 }
 
 /// Feeds so many ends.
-pub fn feed_ends<P: Plan, A: Allocator, R: Wait>(
+pub fn feed_ends<P: Plan, A: Allocator, R: Wait + Clock>(
     rt: &R,
     work: &Work<P, A>,
     count: usize,

@@ -8,6 +8,7 @@ mod handler;
 mod joining;
 mod run;
 mod starting;
+mod waiting;
 mod whole;
 mod worker;
 

@@ -14,6 +14,7 @@ use std::alloc::{Allocator, Global};
 use std::sync::Wait;
 use std::thread;
 use std::thread::{Scope, Threads};
+use std::time::Clock;
 
 /// What became of the task, the shares of all workers, and the first of the workers' faults.
 #[derive(Drop)]
@@ -32,7 +33,7 @@ fn run<
     H: Posted + Send + Drop + 's,
     A: Allocator + Copy + Send + Sync,
     W: Handler<P, A, H> + Sync,
-    R: Threads + Wait + Sync,
+    R: Threads + Wait + Clock + Sync,
     T: Feed<P, A>,
 >(
     scope: &'s Scope<'s, &'e ()>,
@@ -78,7 +79,7 @@ pub fn run_scoped<
     H: Posted + Send + Drop,
     A: Allocator + Copy + Send + Sync,
     W: Handler<P, A, H> + Sync,
-    R: Threads + Wait + Sync,
+    R: Threads + Wait + Clock + Sync,
     T: Feed<P, A> + Drop,
 >(
     rt: &R,

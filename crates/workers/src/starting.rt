@@ -15,6 +15,7 @@ use std::marker::Model;
 use std::sync::Wait;
 use std::sync::ledger::Ledger;
 use std::thread::{PromisedHandle, Scope};
+use std::time::Clock;
 
 /// What a worker starts with.
 #[derive(Drop)]
@@ -83,7 +84,7 @@ fn start<
     H: Posted + Send + Drop + 's,
     A: Allocator + Copy + Send + Sync,
     W: Handler<P, A, H> + Sync,
-    R: Wait + Sync,
+    R: Wait + Clock + Sync,
 >(
     scope: &'s Scope<'s, &'e ()>,
     rt: &'s R,
@@ -114,7 +115,7 @@ pub fn start_all<
     H: Posted + Send + Drop + 's,
     A: Allocator + Copy + Send + Sync,
     W: Handler<P, A, H> + Sync,
-    R: Wait + Sync,
+    R: Wait + Clock + Sync,
 >(
     scope: &'s Scope<'s, &'e ()>,
     rt: &'s R,

@@ -12,6 +12,7 @@ use std::alloc::{Allocator, Global};
 use std::marker::Brand;
 use std::sync::Wait;
 use std::test::Fail;
+use std::time::Clock;
 
 /// The pieces of three epochs on four channels.
 const PIECES: u32 = 12;
@@ -95,7 +96,7 @@ impl Feed<Brand, Global> for Twelve {
         self
     }
 
-    fn feed<R: Wait>(
+    fn feed<R: Threads + Wait + Clock + Sync>(
         self,
         rt: &R,
         work: &Work<Brand, Global>,
@@ -126,7 +127,7 @@ impl Feed<Brand, Global> for Batch {
         self
     }
 
-    fn feed<R: Wait>(
+    fn feed<R: Threads + Wait + Clock + Sync>(
         self,
         rt: &R,
         work: &Work<Brand, Global>,

@@ -18,6 +18,7 @@ use std::marker::Brand;
 use std::sync::Wait;
 use std::sync::ledger::{Blank, Ledger};
 use std::thread::Threads;
+use std::time::Clock;
 
 /// What became of the task, and what the workers made, or want of memory.
 #[derive(Drop)]
@@ -35,7 +36,7 @@ fn work_in<
     S: Ledger + Sync,
     A: Allocator + Copy + Send + Sync,
     G: Gate,
-    R: Threads + Wait + Sync,
+    R: Threads + Wait + Clock + Sync,
     T: Feed<P, A> + Drop,
 >(
     rt: &R,
@@ -89,7 +90,7 @@ pub fn work_through<
     P: Plan + Send + Sync,
     A: Allocator + Copy + Send + Sync,
     G: Gate,
-    R: Threads + Wait + Sync,
+    R: Threads + Wait + Clock + Sync,
     T: Feed<P, A> + Drop,
 >(
     rt: &R,

@@ -6,13 +6,14 @@ ghost use Rattle.piece_queue.specs.Rule.{worker};
 ghost use Rattle.workers.specs.Workers.{IsDone};
 
 use crate::handler::{Handler, Posted};
+use crate::waiting::Nap;
 use line_model::fault::Fault;
 use line_model::piece::{Piece, Plan};
 use piece_queue::{Taken, Work, WorkerPass};
 use std::alloc::{Allocator, Global};
 use std::sync::Wait;
-use std::thread;
 use std::thread::Promise;
+use std::time::Clock;
 
 /// What a worker hands back: its pass, which has its end, its share, and its fault where memory ran out.
 #[derive(Drop)]
@@ -54,7 +55,13 @@ fn handle_unless<P: Plan, H: Posted + Drop, A: Allocator + Copy, W: Handler<P, A
 
 /// Takes pieces, runs them and posts their reports, until the end of this worker comes. Where memory ran out it keeps
 /// that fault, and drops the pieces that it takes from then on.
-pub fn work_on<P: Plan, H: Posted + Drop, A: Allocator + Copy, W: Handler<P, A, H>, R: Wait>(
+pub fn work_on<
+    P: Plan,
+    H: Posted + Drop,
+    A: Allocator + Copy,
+    W: Handler<P, A, H>,
+    R: Wait + Clock,
+>(
     rt: &R,
     alloc: A,
     work: &Work<P, A>,
@@ -67,13 +74,15 @@ pub fn work_on<P: Plan, H: Posted + Drop, A: Allocator + Copy, W: Handler<P, A, 
     ensures done { IsDone H.posts work.now.queue result }
 {
     let mut fault = None;
+    let mut nap = Nap::new();
     for _ in rt.forever() {
         match work.take(rt, &mut pass) {
             Taken::Got(piece) => {
+                nap = Nap::new();
                 fault = handle_unless(rt, alloc, handler, piece, &mut share, fault);
             }
             Taken::Finish => return Done { pass, share, fault },
-            Taken::Empty => thread::yield_now(),
+            Taken::Empty => nap.take(rt),
         }
     }
     unreachable!()

@@ -25,9 +25,10 @@ use std::process::ExitCode;
 use std::sync::Wait;
 use std::sync::ledger::{Blank, Ledger};
 use std::thread::Threads;
+use std::time::Clock;
 
 /// Runs the program over the streams of the process.
-fn run_streams<C: Ledger, F: Ledger, K: Ledger, E: Ledger, R: Threads + Wait + Sync>(
+fn run_streams<C: Ledger, F: Ledger, K: Ledger, E: Ledger, R: Threads + Wait + Clock + Sync>(
     rt: &HostRuntime,
     threads: &R,
     words: &[&str],
@@ -76,7 +77,7 @@ fn process_words(rt: &HostRuntime) -> Result<Vec<String>, u8> {
 }
 
 /// Runs the program over the words and the streams of the process.
-fn run_process<R: Threads + Wait + Sync>(rt: &HostRuntime, threads: &R) -> Result<u8, u8> {
+fn run_process<R: Threads + Wait + Clock + Sync>(rt: &HostRuntime, threads: &R) -> Result<u8, u8> {
     let words = process_words(rt)?;
     let names: Vec<&str> = words
         .iter()

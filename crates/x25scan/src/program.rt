@@ -19,6 +19,7 @@ use line_model::totals::Summary;
 use std::alloc::Global;
 use std::sync::Wait;
 use std::thread::Threads;
+use std::time::Clock;
 
 /// The exit status where the words are refused.
 pub const USAGE: u8 = 64;
@@ -84,7 +85,7 @@ fn run_alone<S: Source, K: Sink, E: Sink>(
 }
 
 /// Scans the trace with workers, and answers the exit status.
-fn run_with<S: Source, K: Sink, E: Sink, R: Threads + Wait + Sync>(
+fn run_with<S: Source, K: Sink, E: Sink, R: Threads + Wait + Clock + Sync>(
     rt: &R,
     alloc: Global,
     workers: u8,
@@ -112,7 +113,7 @@ fn run_with<S: Source, K: Sink, E: Sink, R: Threads + Wait + Sync>(
 }
 
 /// Scans the trace as the options ask, and answers the exit status.
-fn run<S: Source, K: Sink, E: Sink, R: Threads + Wait + Sync>(
+fn run<S: Source, K: Sink, E: Sink, R: Threads + Wait + Clock + Sync>(
     rt: &R,
     alloc: Global,
     options: Options,
@@ -154,7 +155,7 @@ fn refuse_words<K: Sink, E: Sink>(alloc: Global, error: Error, sink: &mut K, err
 
 /// The program over its words, of which the first is its name. Answers the exit status (profile): 0 without findings
 /// or where help was asked for, 1 with findings, 2 where the trace was refused, 3 at another fault, 64 for wrong words.
-pub fn program<S: Source, K: Sink, E: Sink, R: Threads + Wait + Sync>(
+pub fn program<S: Source, K: Sink, E: Sink, R: Threads + Wait + Clock + Sync>(
     rt: &R,
     alloc: Global,
     words: &[&str],

@@ -19,6 +19,7 @@ use std::alloc::{Allocator, Global};
 use std::marker::Brand;
 use std::sync::Wait;
 use std::thread::Threads;
+use std::time::Clock;
 use workers::{Gate, Gathered, Worked, work_through};
 
 /// What the reading thread read, and what the workers made of its pieces.
@@ -58,7 +59,7 @@ fn work_on_trace<
     A: Allocator + Copy + Send + Sync,
     S: Source,
     G: Gate,
-    R: Threads + Wait + Sync,
+    R: Threads + Wait + Clock + Sync,
 >(
     rt: &R,
     alloc: A,
@@ -124,7 +125,7 @@ fn scan_in<
     S: Source,
     K: Sink,
     G: Gate,
-    R: Threads + Wait + Sync,
+    R: Threads + Wait + Clock + Sync,
 >(
     rt: &R,
     alloc: A,
@@ -188,7 +189,7 @@ pub fn scan_with<
     S: Source,
     K: Sink,
     G: Gate,
-    R: Threads + Wait + Sync,
+    R: Threads + Wait + Clock + Sync,
 >(
     rt: &R,
     alloc: A,

@@ -21,6 +21,7 @@ use std::sync::Wait;
 use std::sync::ledger::{Blank, Ledger};
 use std::test::Fail;
 use std::thread::Threads;
+use std::time::Clock;
 
 /// How many bytes a source gives at once.
 const STEPS: [usize; 3] = [1, 7, 65536];
@@ -32,7 +33,7 @@ struct Scanned {
     taken: Vec<u8, Global>,
 }
 
-fn scan_on<C: Ledger, F: Ledger, K: Ledger, R: Threads + Wait + Sync>(
+fn scan_on<C: Ledger, F: Ledger, K: Ledger, R: Threads + Wait + Clock + Sync>(
     rt: &R,
     alloc: Global,
     text: &[u8],
@@ -85,7 +86,7 @@ fn scan_on<C: Ledger, F: Ledger, K: Ledger, R: Threads + Wait + Sync>(
 }
 
 /// Scans a text that a source gives by so many bytes.
-fn scan<R: Threads + Wait + Sync>(
+fn scan<R: Threads + Wait + Clock + Sync>(
     rt: &R,
     alloc: Global,
     text: &[u8],
@@ -108,7 +109,7 @@ fn scan<R: Threads + Wait + Sync>(
 }
 
 /// Scans a worked trace in steps of any size.
-fn check_trace<R: Threads + Wait + Sync + Abort>(
+fn check_trace<R: Threads + Wait + Clock + Sync + Abort>(
     rt: &R,
     alloc: Global,
     worked: &Worked,
@@ -136,7 +137,7 @@ fn check_trace<R: Threads + Wait + Sync + Abort>(
 }
 
 /// Scans worked traces by crews of several sizes.
-fn check<R: Threads + Wait + Sync + Abort>(
+fn check<R: Threads + Wait + Clock + Sync + Abort>(
     rt: &R,
     alloc: Global,
     traces: &[Worked],

@@ -13,6 +13,7 @@ use std::marker::Brand;
 use std::sync::Wait;
 use std::sync::ledger::{Blank, Ledger};
 use std::thread::Threads;
+use std::time::Clock;
 
 /// How a source and a sink cut, and where they fail.
 #[derive(Clone, Copy)]
@@ -100,7 +101,7 @@ pub fn scan(alloc: Global, text: &[u8], cuts: Cuts) -> Scanned {
     )
 }
 
-fn run_on<C: Ledger, F: Ledger, K: Ledger, E: Ledger, R: Threads + Wait + Sync>(
+fn run_on<C: Ledger, F: Ledger, K: Ledger, E: Ledger, R: Threads + Wait + Clock + Sync>(
     rt: &R,
     alloc: Global,
     words: &[&str],
@@ -152,7 +153,7 @@ fn run_on<C: Ledger, F: Ledger, K: Ledger, E: Ledger, R: Threads + Wait + Sync>(
 }
 
 /// Runs the program on its words and a text.
-pub fn run<R: Threads + Wait + Sync>(
+pub fn run<R: Threads + Wait + Clock + Sync>(
     rt: &R,
     alloc: Global,
     words: &[&str],

@@ -1,0 +1,33 @@
+//! How a thread waits for the queue.
+
+use std::thread;
+use std::time::{Clock, Duration};
+
+/// From so many microseconds on a nap is a sleep: a shorter one takes the system longer than it lasts.
+const SHORTEST: u64 = 64;
+
+/// No nap is longer than so many microseconds.
+const LONGEST: u64 = 16384;
+
+/// How long a thread rests before it asks the queue again: twice as long each time, up to 16 ms.
+#[derive(Drop)]
+pub struct Nap {
+    micros: u64,
+}
+
+impl Nap {
+    /// The first nap.
+    pub fn new() -> Nap {
+        Nap { micros: 1 }
+    }
+
+    /// Lets the other threads run, and sleeps where it waited for long. The next nap is longer.
+    pub fn take(&mut self, clock: &impl Clock) {
+        if self.micros < SHORTEST {
+            thread::yield_now();
+        } else {
+            thread::sleep(clock, Duration::from_micros(self.micros));
+        }
+        self.micros = self.micros.saturating_mul(2).min(LONGEST);
+    }
+}
