@@ -7,9 +7,9 @@ use std::time::{Clock, Duration};
 const SHORTEST: u64 = 64;
 
 /// No nap is longer than so many microseconds.
-const LONGEST: u64 = 16384;
+const LONGEST: u64 = 8192;
 
-/// How long a thread rests before it asks the queue again: twice as long each time, up to 16 ms.
+/// How long a thread rests before it asks the queue again: twice as long each time, up to 8 ms.
 #[derive(Drop)]
 pub struct Nap {
     micros: u64,
