@@ -111,6 +111,7 @@ pub fn feed_ends<P: Plan, A: Allocator, R: Wait + Clock>(
     requires queue { pass.old.queue ≡ work.now.queue }
     ensures queue { pass.new.queue ≡ pass.old.queue }
     ensures fed { pass.new.record_of.fed ≡ pass.old.record_of.fed }
+    ensures ends { pass.new.record_of.ends ≡ pass.old.record_of.ends + count }
     ensures pending { pass.new.record_of.pending ≡ pass.old.record_of.pending }
     ensures done { pass.new.record_of.done ≡ pass.old.record_of.done }
     ensures taken { pass.new.record_of.taken ≡ pass.old.record_of.taken }
