@@ -1,4 +1,4 @@
-use Rattle.findings_book.proofs.tests.two_threads_post_side_by_side.Given as goal
+use Rattle.findings_book.proofs.tests.side_by_side.two_threads_post_side_by_side.Given as goal
 
 abbrev pub ghosts-side_by_side-N-Ledger : goal.ghosts-side_by_side-N-Ledger
 ghosts-side_by_side-N-Ledger g a = record { name = a.blanks.0.name; parts = a.blanks.0.parts }
