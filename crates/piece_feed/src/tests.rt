@@ -98,6 +98,7 @@ fn read_on<P: Plan + Send + Sync, C: Ledger, F: Ledger, R: Threads + Wait + Cloc
     };
     let reading = Reading {
         source: &mut source,
+        threads: rt,
         alloc,
         outcome: None,
     };
@@ -220,7 +221,7 @@ fn rows_have_the_packets_of_their_octets(rt: HostRuntime) -> Result<(), Fail> {
             octets: bytes,
         })?;
     }
-    let Ok(items) = decode_rows(rt.alloc(), &interface, rows) else {
+    let Ok(items) = decode_rows(&rt, rt.alloc(), &interface, rows) else {
         return Err("refused")?;
     };
     let [restart, call] = items.as_slice() else {
