@@ -232,3 +232,39 @@ fn rows_have_the_packets_of_their_octets(rt: HostRuntime) -> Result<(), Fail> {
     assert_eq!(rt; call.row.number, 2);
     Ok(())
 }
+
+#[test]
+fn each_row_of_a_large_batch_has_its_packet(rt: HostRuntime) -> Result<(), Fail> {
+    let interface = Interface {
+        modulus: 8,
+        window: 2,
+        size: 128,
+        pvc: 0,
+        incoming: 0,
+        two_way: 200,
+        svc: 200,
+        join: false,
+    };
+    let mut rows = Vec::new(rt.alloc());
+    for number in 1..=5000u32 {
+        let mut octets = Vec::new(rt.alloc());
+        octets.extend_from_slice([16, (number % 199) as u8 + 1, 11, 0, 0].as_slice())?;
+        rows.push(Row {
+            number,
+            side: Side::T,
+            octets,
+        })?;
+    }
+    let Ok(items) = decode_rows(&rt, rt.alloc(), &interface, rows) else {
+        return Err("refused")?;
+    };
+    assert_eq!(rt; items.len(), 5000);
+    for (place, item) in items.iter().enumerate() {
+        let Packet::Channel { channel, .. } = item.packet else {
+            return Err("on no channel")?;
+        };
+        assert_eq!(rt; item.row.number as usize, place + 1);
+        assert_eq!(rt; channel as u32, item.row.number % 199 + 1);
+    }
+    Ok(())
+}
