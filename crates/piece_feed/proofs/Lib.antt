@@ -1,3 +1,4 @@
+pub mod Decoded
 pub mod Batches
 pub mod Nexts
 pub mod Texts

@@ -2,6 +2,7 @@
 
 ghost use Rattle.std.specs.Prelude.{◌≡◌, ℕ, ◌+◌, ◌<◌, ◌≤◌, ◌^◌, List, IfErr, IfOk, IfSome};
 ghost use Rattle.std.specs.Option.{option_map};
+ghost use Rattle.std.specs.Thread.{IsSync};
 ghost use Rattle.line_model.specs.Text.{fault};
 ghost use Rattle.line_model.specs.Traces.{trace_plan};
 ghost use Rattle.line_model.specs.declared.fault.Fault.TheVariants.{Memory};
@@ -23,6 +24,7 @@ use piece_queue::{FeederPass, Work};
 use restart_epochs::cutter::Cut;
 use std::alloc::{Allocator, Global};
 use std::sync::Wait;
+use std::thread::Threads;
 use std::time::Clock;
 use trace_text::lines::Lines;
 use workers::{Feed, feed_pieces};
@@ -75,8 +77,9 @@ fn end_front<P: Plan, A: Allocator + Copy, R: Wait + Clock>(
 }
 
 /// The text has ended: the row of its last line, and the pieces that were not fed yet.
-fn finish<P: Plan, A: Allocator + Copy, R: Wait + Clock>(
+fn finish<P: Plan, A: Allocator + Copy, T: Threads + Sync, R: Wait + Clock>(
     rt: &R,
+    threads: &T,
     alloc: A,
     lines: Lines<A>,
     front: Option<Front<A>>,
@@ -97,7 +100,7 @@ fn finish<P: Plan, A: Allocator + Copy, R: Wait + Clock>(
         Err(fault) => return Err(fault),
     };
     let front = front_of(alloc, &interface, front);
-    let front = match take_rows(rt, alloc, rows, front, work, pass) {
+    let front = match take_rows(rt, threads, alloc, rows, front, work, pass) {
         Ok(front) => front,
         Err(fault) => return Err(fault),
     };
@@ -105,8 +108,9 @@ fn finish<P: Plan, A: Allocator + Copy, R: Wait + Clock>(
 }
 
 /// Reads a source to its end. The pieces of its trace are fed as soon as they are known whole.
-fn read_all<P: Plan, A: Allocator + Copy, S: Source, R: Wait + Clock>(
+fn read_all<P: Plan, A: Allocator + Copy, S: Source, T: Threads + Sync, R: Wait + Clock>(
     rt: &R,
+    threads: &T,
     alloc: A,
     source: &mut S,
     work: &Work<P, A>,
@@ -125,8 +129,17 @@ fn read_all<P: Plan, A: Allocator + Copy, S: Source, R: Wait + Clock>(
     let mut front = None;
     loop {
         match source.read(&mut buffer) {
-            Ok(0) => return finish(rt, alloc, lines, front, work, pass),
-            Ok(n) => match take_bytes(rt, alloc, &buffer[..n], &mut lines, front, work, pass) {
+            Ok(0) => return finish(rt, threads, alloc, lines, front, work, pass),
+            Ok(n) => match take_bytes(
+                rt,
+                threads,
+                alloc,
+                &buffer[..n],
+                &mut lines,
+                front,
+                work,
+                pass,
+            ) {
                 Ok(more) => front = more,
                 Err(fault) => return Err(fault),
             },
@@ -135,17 +148,20 @@ fn read_all<P: Plan, A: Allocator + Copy, S: Source, R: Wait + Clock>(
     }
 }
 
-/// The reading thread's part of a scan with threads: a source, and what became of reading it: nothing before.
+/// The reading thread's part of a scan with threads: a source, what starts the threads that decode, and what became of
+/// reading it: nothing before.
 #[derive(Drop)]
-pub struct Reading<'a, A: Allocator, S> {
+pub struct Reading<'a, A: Allocator, S, T> {
     pub source: &'a mut S,
+    pub threads: &'a T,
     pub alloc: A,
     pub outcome: Option<Result<Read<A>, Fault>>,
 }
 
-impl<'a, P: Plan, A: Allocator + Copy, S: Source> Feed<P, A> for Reading<'a, A, S> {
-    // The plan is that of the bytes that the source tells.
-    ghost can_feed = { λ task. P.pieces ≡ option_map trace_plan (S.left task.source.now) };
+impl<'a, P: Plan, A: Allocator + Copy, S: Source, T: Threads + Sync> Feed<P, A>
+    for Reading<'a, A, S, T> {
+    // What starts the decoding threads may be shared with them. The plan is that of the bytes that the source tells.
+    ghost can_feed = { λ task. IsSync T.row × (P.pieces ≡ option_map trace_plan (S.left task.source.now)) };
 
     ghost feed_gives = { λ task fed after. (after.source.ghost_name ≡ task.source.ghost_name) × IsOutcome (S.left task.source.now) (S.left after.source.now) (S.failures task.source.now < S.failures after.source.now) fed after.outcome × (S.calls after.source.now ≤ S.calls task.source.now + (2 ^ 30 + 1)) };
 
@@ -156,10 +172,16 @@ impl<'a, P: Plan, A: Allocator + Copy, S: Source> Feed<P, A> for Reading<'a, A, 
     }
 
     fn feed<R: Wait + Clock>(self, rt: &R, work: &Work<P, A>, pass: &mut FeederPass<A>) -> Self {
-        let Reading { source, alloc, .. } = self;
-        let outcome = Some(read_all(rt, alloc, source, work, pass));
+        let Reading {
+            source,
+            threads,
+            alloc,
+            ..
+        } = self;
+        let outcome = Some(read_all(rt, threads, alloc, source, work, pass));
         Reading {
             source,
+            threads,
             alloc,
             outcome,
         }

@@ -22,6 +22,7 @@ use piece_queue::{FeederPass, Work};
 use restart_epochs::cutter::Cutter;
 use std::alloc::{Allocator, Global};
 use std::sync::Wait;
+use std::thread::Threads;
 use std::time::Clock;
 use trace_text::lines::Lines;
 use workers::feed_pieces;
@@ -78,8 +79,9 @@ fn push_items<A: Allocator + Copy>(
 }
 
 /// Decodes rows as one batch, cuts them, and feeds the pieces that are known whole with them.
-pub fn take_rows<P: Plan, A: Allocator + Copy, R: Wait + Clock>(
+pub fn take_rows<P: Plan, A: Allocator + Copy, T: Threads + Sync, R: Wait + Clock>(
     rt: &R,
+    threads: &T,
     alloc: A,
     rows: Vec<Row<A>, A>,
     front: Front<A>,
@@ -100,7 +102,7 @@ pub fn take_rows<P: Plan, A: Allocator + Copy, R: Wait + Clock>(
         mut cutter,
         fed,
     } = front;
-    let items = decode_rows(alloc, &interface, rows)?;
+    let items = decode_rows(threads, alloc, &interface, rows)?;
     let pieces = push_items(alloc, items, &mut cutter)?;
     let fed = fed + pieces.len() as u32;
     feed_pieces(rt, work, pieces, pass);
@@ -113,8 +115,9 @@ pub fn take_rows<P: Plan, A: Allocator + Copy, R: Wait + Clock>(
 
 /// Takes the next piece of the text: the rows that it completes are decoded, cut, and the pieces that are known whole
 /// with them are fed.
-pub fn take_bytes<P: Plan, A: Allocator + Copy, R: Wait + Clock>(
+pub fn take_bytes<P: Plan, A: Allocator + Copy, T: Threads + Sync, R: Wait + Clock>(
     rt: &R,
+    threads: &T,
     alloc: A,
     bytes: &[u8],
     lines: &mut Lines<A>,
@@ -142,7 +145,7 @@ pub fn take_bytes<P: Plan, A: Allocator + Copy, R: Wait + Clock>(
         return Ok(None);
     };
     let front = front_of(alloc, &interface, front);
-    match take_rows(rt, alloc, rows, front, work, pass) {
+    match take_rows(rt, threads, alloc, rows, front, work, pass) {
         Ok(front) => Ok(Some(front)),
         Err(fault) => Err(fault),
     }

@@ -98,6 +98,7 @@ fn read_on<P: Plan + Send + Sync, C: Ledger, F: Ledger, R: Threads + Wait + Cloc
     };
     let reading = Reading {
         source: &mut source,
+        threads: rt,
         alloc,
         outcome: None,
     };
@@ -220,7 +221,7 @@ fn rows_have_the_packets_of_their_octets(rt: HostRuntime) -> Result<(), Fail> {
             octets: bytes,
         })?;
     }
-    let Ok(items) = decode_rows(rt.alloc(), &interface, rows) else {
+    let Ok(items) = decode_rows(&rt, rt.alloc(), &interface, rows) else {
         return Err("refused")?;
     };
     let [restart, call] = items.as_slice() else {
@@ -229,5 +230,41 @@ fn rows_have_the_packets_of_their_octets(rt: HostRuntime) -> Result<(), Fail> {
     assert!(rt; matches!(restart.packet, Packet::Restart));
     assert!(rt; matches!(call.packet, Packet::Channel { channel: 3, .. }));
     assert_eq!(rt; call.row.number, 2);
+    Ok(())
+}
+
+#[test]
+fn each_row_of_a_large_batch_has_its_packet(rt: HostRuntime) -> Result<(), Fail> {
+    let interface = Interface {
+        modulus: 8,
+        window: 2,
+        size: 128,
+        pvc: 0,
+        incoming: 0,
+        two_way: 200,
+        svc: 200,
+        join: false,
+    };
+    let mut rows = Vec::new(rt.alloc());
+    for number in 1..=5000u32 {
+        let mut octets = Vec::new(rt.alloc());
+        octets.extend_from_slice([16, (number % 199) as u8 + 1, 11, 0, 0].as_slice())?;
+        rows.push(Row {
+            number,
+            side: Side::T,
+            octets,
+        })?;
+    }
+    let Ok(items) = decode_rows(&rt, rt.alloc(), &interface, rows) else {
+        return Err("refused")?;
+    };
+    assert_eq!(rt; items.len(), 5000);
+    for (place, item) in items.iter().enumerate() {
+        let Packet::Channel { channel, .. } = item.packet else {
+            return Err("on no channel")?;
+        };
+        assert_eq!(rt; item.row.number as usize, place + 1);
+        assert_eq!(rt; channel as u32, item.row.number % 199 + 1);
+    }
     Ok(())
 }

@@ -79,10 +79,13 @@ fn work_on_trace<
 {
     let reading = Reading {
         source,
+        threads: rt,
         alloc,
         outcome: None,
     };
-    match work_through::<P, A, G, R, Reading<A, S>>(rt, alloc, workers, capacity, gate, reading) {
+    match work_through::<P, A, G, R, Reading<A, S, R>>(
+        rt, alloc, workers, capacity, gate, reading,
+    ) {
         Ok(worked) => {
             let Worked { task, gathered } = worked;
             let Reading {

@@ -5,7 +5,7 @@ use Rattle.piece_feed.proofs.Texts.{memory_fault, plan_is, read_of, ready_end, w
 use Rattle.piece_feed.proofs.reading.finish.Goals as goal
 
 pub take_rows-requires-clause-ready : goal.take_rows-requires-clause-ready
-take_rows-requires-clause-ready g c =
+take_rows-requires-clause-ready g c lifetimes within =
     let text = c.requires.ready.0 in
     let r = c.requires.ready.1 in
     let end = c.in-Ok.ensures.ok text r.reader in

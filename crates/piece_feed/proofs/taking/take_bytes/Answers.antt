@@ -10,7 +10,7 @@ returns-in_default-clause-fed g c text s fed =
     no_front c.next_rows.new.lines text c.args.bytes.now c.args.pass.now.record_of.fed c.args.front s.sound after (sym c.interface.ensures.kept ∙ c.in_default.is) (sym (c.interface.ensures.head (text ++ c.args.bytes.now) after) ∙ c.in_default.is) fed
 
 pub take_rows-requires-clause-ready : goal.take_rows-requires-clause-ready
-take_rows-requires-clause-ready g c =
+take_rows-requires-clause-ready g c lifetimes within =
     let text = c.requires.ready.0 in
     let r = c.requires.ready.1 in
     let after = c.in-Ok.ensures.ok text r.reader in
