@@ -9,7 +9,8 @@ const SHORTEST: u64 = 64;
 /// No nap is longer than so many microseconds.
 const LONGEST: u64 = 8192;
 
-/// How long a thread rests before it asks the queue again: twice as long each time, up to 8 ms.
+/// How long a thread rests before it asks the queue again: an eighth longer each time, up to 8 ms, so it is late by about
+/// an eighth of what it waited.
 #[derive(Drop)]
 pub struct Nap {
     micros: u64,
@@ -28,6 +29,7 @@ impl Nap {
         } else {
             thread::sleep(clock, Duration::from_micros(self.micros));
         }
-        self.micros = self.micros.saturating_mul(2).min(LONGEST);
+        let longer = self.micros / 8 + 1;
+        self.micros = self.micros.saturating_add(longer).min(LONGEST);
     }
 }
