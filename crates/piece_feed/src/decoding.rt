@@ -54,6 +54,10 @@ fn decode_batch<R: Threads + Sync>(
     requires same { length packets.old ≡ length octets.now }
     ensures { packets.new ≡ map (packet_of interface.now) (map (λ o. o.now) octets.now) }
 {
+    if packets.len() <= SHARE {
+        decode_share(interface, octets, 0, packets);
+        return;
+    }
     par_chunks_mut_for_each(
         rt,
         packets,
