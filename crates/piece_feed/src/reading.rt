@@ -23,7 +23,6 @@ use piece_queue::{FeederPass, Work};
 use restart_epochs::cutter::Cut;
 use std::alloc::{Allocator, Global};
 use std::sync::Wait;
-use std::thread::Threads;
 use std::time::Clock;
 use trace_text::lines::Lines;
 use workers::{Feed, feed_pieces};
@@ -76,7 +75,7 @@ fn end_front<P: Plan, A: Allocator + Copy, R: Wait + Clock>(
 }
 
 /// The text has ended: the row of its last line, and the pieces that were not fed yet.
-fn finish<P: Plan, A: Allocator + Copy + Send + Sync, R: Threads + Wait + Clock + Sync>(
+fn finish<P: Plan, A: Allocator + Copy, R: Wait + Clock>(
     rt: &R,
     alloc: A,
     lines: Lines<A>,
@@ -106,12 +105,7 @@ fn finish<P: Plan, A: Allocator + Copy + Send + Sync, R: Threads + Wait + Clock 
 }
 
 /// Reads a source to its end. The pieces of its trace are fed as soon as they are known whole.
-fn read_all<
-    P: Plan,
-    A: Allocator + Copy + Send + Sync,
-    S: Source,
-    R: Threads + Wait + Clock + Sync,
->(
+fn read_all<P: Plan, A: Allocator + Copy, S: Source, R: Wait + Clock>(
     rt: &R,
     alloc: A,
     source: &mut S,
@@ -149,7 +143,7 @@ pub struct Reading<'a, A: Allocator, S> {
     pub outcome: Option<Result<Read<A>, Fault>>,
 }
 
-impl<'a, P: Plan, A: Allocator + Copy + Send + Sync, S: Source> Feed<P, A> for Reading<'a, A, S> {
+impl<'a, P: Plan, A: Allocator + Copy, S: Source> Feed<P, A> for Reading<'a, A, S> {
     // The plan is that of the bytes that the source tells.
     ghost can_feed = { λ task. P.pieces ≡ option_map trace_plan (S.left task.source.now) };
 
@@ -161,12 +155,7 @@ impl<'a, P: Plan, A: Allocator + Copy + Send + Sync, S: Source> Feed<P, A> for R
         self
     }
 
-    fn feed<R: Threads + Wait + Clock + Sync>(
-        self,
-        rt: &R,
-        work: &Work<P, A>,
-        pass: &mut FeederPass<A>,
-    ) -> Self {
+    fn feed<R: Wait + Clock>(self, rt: &R, work: &Work<P, A>, pass: &mut FeederPass<A>) -> Self {
         let Reading { source, alloc, .. } = self;
         let outcome = Some(read_all(rt, alloc, source, work, pass));
         Reading {

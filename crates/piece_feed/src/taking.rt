@@ -22,7 +22,6 @@ use piece_queue::{FeederPass, Work};
 use restart_epochs::cutter::Cutter;
 use std::alloc::{Allocator, Global};
 use std::sync::Wait;
-use std::thread::Threads;
 use std::time::Clock;
 use trace_text::lines::Lines;
 use workers::feed_pieces;
@@ -79,11 +78,7 @@ fn push_items<A: Allocator + Copy>(
 }
 
 /// Decodes rows as one batch, cuts them, and feeds the pieces that are known whole with them.
-pub fn take_rows<
-    P: Plan,
-    A: Allocator + Copy + Send + Sync,
-    R: Threads + Wait + Clock + Sync,
->(
+pub fn take_rows<P: Plan, A: Allocator + Copy, R: Wait + Clock>(
     rt: &R,
     alloc: A,
     rows: Vec<Row<A>, A>,
@@ -105,7 +100,7 @@ pub fn take_rows<
         mut cutter,
         fed,
     } = front;
-    let items = decode_rows(rt, alloc, &interface, rows)?;
+    let items = decode_rows(alloc, &interface, rows)?;
     let pieces = push_items(alloc, items, &mut cutter)?;
     let fed = fed + pieces.len() as u32;
     feed_pieces(rt, work, pieces, pass);
@@ -118,11 +113,7 @@ pub fn take_rows<
 
 /// Takes the next piece of the text: the rows that it completes are decoded, cut, and the pieces that are known whole
 /// with them are fed.
-pub fn take_bytes<
-    P: Plan,
-    A: Allocator + Copy + Send + Sync,
-    R: Threads + Wait + Clock + Sync,
->(
+pub fn take_bytes<P: Plan, A: Allocator + Copy, R: Wait + Clock>(
     rt: &R,
     alloc: A,
     bytes: &[u8],

@@ -10,7 +10,6 @@ use line_model::piece::{Piece, Plan};
 use piece_queue::{FeederPass, Work};
 use std::alloc::Allocator;
 use std::sync::Wait;
-use std::thread::Threads;
 use std::time::Clock;
 
 /// What the reading thread does while the workers run: it feeds the first pieces of the plan, in order.
@@ -29,12 +28,7 @@ pub trait Feed<P: Plan, A: Allocator> {
         ensures { unfed self result };
 
     /// Takes its turn.
-    fn feed<R: Threads + Wait + Clock + Sync>(
-        self,
-        rt: &R,
-        work: &Work<P, A>,
-        pass: &mut FeederPass<A>,
-    ) -> Self
+    fn feed<R: Wait + Clock>(self, rt: &R, work: &Work<P, A>, pass: &mut FeederPass<A>) -> Self
         requires able { can_feed self }
         requires queue { pass.old.queue ≡ work.now.queue }
         requires first { (pass.old.record_of.fed ≡ 0) × (pass.old.record_of.ends ≡ 0) }

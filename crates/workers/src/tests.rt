@@ -96,7 +96,7 @@ impl Feed<Brand, Global> for Twelve {
         self
     }
 
-    fn feed<R: Threads + Wait + Clock + Sync>(
+    fn feed<R: Wait + Clock>(
         self,
         rt: &R,
         work: &Work<Brand, Global>,
@@ -127,7 +127,7 @@ impl Feed<Brand, Global> for Batch {
         self
     }
 
-    fn feed<R: Threads + Wait + Clock + Sync>(
+    fn feed<R: Wait + Clock>(
         self,
         rt: &R,
         work: &Work<Brand, Global>,
