@@ -29,7 +29,7 @@ use workers::Gate;
 const PIECES: usize = 12;
 
 /// No hold takes more turns.
-const TURNS: u32 = 100_000_000;
+const TURNS: u32 = 20_000_000;
 
 /// How often each piece was entered, and whether a hold ended before the pieces came that it waited for.
 #[derive(Drop)]
