@@ -2,7 +2,10 @@
 
 mod crews;
 mod devices;
+mod gated;
+mod held;
 mod runs;
+mod wanting;
 mod worked;
 
 use crate::options::parse;

@@ -3,22 +3,18 @@
 ghost use Rattle.std.specs.Prelude.{◌≡◌, ◌<◌, ◌≤◌};
 
 use crate::gate::OpenGate;
-use crate::tests::devices::{CutSink, CutSource};
+use crate::tests::gated::{accepted, scan_through, trace};
 use crate::tests::runs::Cuts;
 use crate::tests::worked::Worked;
 use crate::tests::worked::channels::CHANNELS;
 use crate::tests::worked::epochs::EPOCHS;
 use crate::tests::worked::messages::MESSAGES;
 use crate::tests::worked::refused::REFUSED;
-use crate::threaded::{Scan, scan_with};
-use line_model::count::Count;
-use line_model::fault::Fault;
+use line_model::fault::{Fault, Kind};
 use line_model::totals::Totals;
 use std::alloc::Global;
-use std::marker::Brand;
 use std::process::Abort;
 use std::sync::Wait;
-use std::sync::ledger::{Blank, Ledger};
 use std::test::Fail;
 use std::thread::Threads;
 use std::time::Clock;
@@ -26,87 +22,13 @@ use std::time::Clock;
 /// How many bytes a source gives at once.
 const STEPS: [usize; 3] = [1, 7, 65536];
 
-/// What a scan with workers answered, and what its sink took.
-#[derive(Drop)]
-struct Scanned {
-    answer: Result<Scan, Fault>,
-    taken: Vec<u8, Global>,
-}
-
-fn scan_on<C: Ledger, F: Ledger, K: Ledger, R: Threads + Wait + Clock + Sync>(
-    rt: &R,
-    alloc: Global,
-    text: &[u8],
-    step: usize,
-    crew: (usize, usize),
-    calls: Blank,
-    read_failures: Blank,
-    write_failures: Blank,
-) -> Scanned
-    requires workers { (0 < crew.0) × (crew.0 ≤ 64) }
-    requires capacity { (0 < crew.1) × (crew.1 ≤ 4096) }
-    requires calls_name { calls.name ≡ C.name }
-    requires calls_parts { calls.parts ≡ C.parts }
-    requires calls_shared { 0 < C.parts }
-    requires read_name { read_failures.name ≡ F.name }
-    requires read_parts { read_failures.parts ≡ F.parts }
-    requires read_shared { 0 < F.parts }
-    requires write_name { write_failures.name ≡ K.name }
-    requires write_parts { write_failures.parts ≡ K.parts }
-    requires write_shared { 0 < K.parts }
-{
-    let cuts = Cuts::of_steps(step, step);
-    let mut source = CutSource {
-        rest: text,
-        step: cuts.read_step,
-        good: cuts.good_bytes,
-        calls: Count::<C>::open(calls),
-        failures: Count::<F>::open(read_failures),
-    };
-    let mut sink = CutSink {
-        taken: Vec::new(alloc),
-        step: cuts.write_step,
-        good_calls: cuts.good_writes,
-        failures: Count::<K>::open(write_failures),
-    };
-    let (workers, capacity) = crew;
-    let answer = scan_with(
-        rt,
-        alloc,
-        &mut source,
-        &mut sink,
-        workers,
-        capacity,
-        &OpenGate,
-    );
-    Scanned {
-        answer,
-        taken: sink.taken,
-    }
-}
-
-/// Scans a text that a source gives by so many bytes.
-fn scan<R: Threads + Wait + Clock + Sync>(
-    rt: &R,
-    alloc: Global,
-    text: &[u8],
-    step: usize,
-    crew: (usize, usize),
-) -> Scanned
-    requires workers { (0 < crew.0) × (crew.0 ≤ 64) }
-    requires capacity { (0 < crew.1) × (crew.1 ≤ 4096) }
-{
-    scan_on::<Brand, Brand, Brand, R>(
-        rt,
-        alloc,
-        text,
-        step,
-        crew,
-        Blank::new(1),
-        Blank::new(1),
-        Blank::new(1),
-    )
-}
+/// The totals of no pieces.
+const NONE: Totals = Totals {
+    posts: 0,
+    findings: 0,
+    octets: 0,
+    segments: 0,
+};
 
 /// Scans a worked trace in steps of any size.
 fn check_trace<R: Threads + Wait + Clock + Sync + Abort>(
@@ -119,7 +41,8 @@ fn check_trace<R: Threads + Wait + Clock + Sync + Abort>(
     requires capacity { (0 < crew.1) × (crew.1 ≤ 4096) }
 {
     for step in STEPS {
-        let scanned = scan(rt, alloc, worked.text, step, crew);
+        let cuts = Cuts::of_steps(step, step);
+        let scanned = scan_through(rt, alloc, worked.text, cuts, crew, &OpenGate);
         assert_eq!(rt;
             scanned.answer.err(),
             worked.fault,
@@ -170,29 +93,14 @@ fn faulty_texts_are_refused_by_any_number_of_workers(rt: HostRuntime) -> Result<
     check(&rt, rt.alloc(), REFUSED.as_slice())
 }
 
-/// The scan of a text without a fault.
-fn accepted(scanned: Scanned) -> Result<Scan, Fail> {
-    let Scanned { answer, taken: _ } = scanned;
-    match answer {
-        Ok(scan) => Ok(scan),
-        Err(_) => Err("the trace is without fault")?,
-    }
-}
-
-/// The trace of this name.
-fn trace<'a>(traces: &'a [Worked], name: &str) -> Result<&'a Worked, Fail> {
-    match traces.iter().find(|worked| worked.name == name) {
-        Some(worked) => Ok(worked),
-        None => Err("there is no such trace")?,
-    }
-}
-
 #[test]
 fn three_epochs_have_twelve_pieces(rt: HostRuntime) -> Result<(), Fail> {
     let worked = trace(EPOCHS.as_slice(), "three-epochs")?;
     for (workers, capacity) in [(1, 1), (1, 64), (2, 1), (2, 64), (64, 1), (64, 64)] {
-        let scanned = scan(&rt, rt.alloc(), worked.text, 7, (workers, capacity));
-        let scan = accepted(scanned)?;
+        let crew = (workers, capacity);
+        let cuts = Cuts::of_steps(7, 7);
+        let scanned = scan_through(&rt, rt.alloc(), worked.text, cuts, crew, &OpenGate);
+        let scan = accepted(scanned.answer)?;
         let wanted = Totals {
             posts: 12,
             findings: 12,
@@ -207,29 +115,115 @@ fn three_epochs_have_twelve_pieces(rt: HostRuntime) -> Result<(), Fail> {
 
 #[test]
 fn one_piece_is_one_workers_share(rt: HostRuntime) -> Result<(), Fail> {
-    let text = b"X25 1 MOD 8 WIN 2 SIZE 128 PVC 0 SVC 4\n1 T 100100AA\n";
-    let scanned = scan(&rt, rt.alloc(), text.as_slice(), 7, (64, 1));
-    let scan = accepted(scanned)?;
+    let worked = trace(EPOCHS.as_slice(), "one-piece")?;
+    let cuts = Cuts::of_steps(7, 7);
+    let scanned = scan_through(&rt, rt.alloc(), worked.text, cuts, (64, 1), &OpenGate);
+    let scan = accepted(scanned.answer)?;
     let one = Totals {
         posts: 1,
         findings: 1,
         octets: 0,
         segments: 0,
     };
-    let none = Totals {
-        posts: 0,
-        findings: 0,
-        octets: 0,
-        segments: 0,
-    };
+    assert_eq!(rt; scan.shares.len(), 64);
     assert!(rt; scan.totals == one);
     assert_eq!(rt;
         scan.shares.iter().filter(|share| **share == one).count(),
         1
     );
     assert_eq!(rt;
-        scan.shares.iter().filter(|share| **share == none).count(),
+        scan.shares.iter().filter(|share| **share == NONE).count(),
         63
     );
+    Ok(())
+}
+
+#[test]
+fn a_trace_without_rows_leaves_all_shares_empty(rt: HostRuntime) -> Result<(), Fail> {
+    let text = b"X25 1 MOD 8 WIN 2 SIZE 128 PVC 0 SVC 4\n";
+    for capacity in [1, 64] {
+        let cuts = Cuts::of_steps(7, 7);
+        let crew = (64, capacity);
+        let scanned = scan_through(&rt, rt.alloc(), text.as_slice(), cuts, crew, &OpenGate);
+        assert_eq!(rt;
+            scanned.taken.as_slice(),
+            b"P 0 -\nZ 0 0 0 0 0\n".as_slice()
+        );
+        let scan = accepted(scanned.answer)?;
+        assert_eq!(rt; scan.totals, NONE);
+        assert_eq!(rt; scan.shares.len(), 64);
+        assert!(rt; scan.shares.iter().all(|share| *share == NONE));
+    }
+    Ok(())
+}
+
+#[test]
+fn a_failing_source_is_told_with_workers(rt: HostRuntime) -> Result<(), Fail> {
+    let worked = trace(EPOCHS.as_slice(), "three-epochs")?;
+    for good_calls in [0, 1, 5, 12, 15] {
+        for step in [1, 16] {
+            let cuts = Cuts {
+                good_bytes: good_calls * step,
+                ..Cuts::of_steps(step, step)
+            };
+            let scanned = scan_through(&rt, rt.alloc(), worked.text, cuts, (2, 64), &OpenGate);
+            assert_eq!(rt;
+                scanned.answer.err(),
+                Some(Fault::Read),
+                "{good_calls} by {step}"
+            );
+            assert!(rt; scanned.taken.is_empty());
+        }
+    }
+    Ok(())
+}
+
+#[test]
+fn a_failing_source_hides_no_faulty_line_from_workers(rt: HostRuntime) {
+    let text = b"X25 1 MOD 8 WIN 2 SIZE 128 PVC 0 SVC 4\n5 T -\n5 T -\n6 T -\n";
+    for (good_bytes, fault) in [
+        (0, Fault::Read),
+        (39, Fault::Read),
+        (50, Fault::Read),
+        (51, Fault::Trace(3, Kind::Number)),
+        (52, Fault::Trace(3, Kind::Number)),
+    ] {
+        for step in STEPS {
+            let cuts = Cuts {
+                good_bytes,
+                ..Cuts::of_steps(step, step)
+            };
+            let scanned = scan_through(&rt, rt.alloc(), text, cuts, (2, 64), &OpenGate);
+            assert_eq!(rt;
+                scanned.answer.err(),
+                Some(fault),
+                "{good_bytes} bytes by {step}"
+            );
+            assert!(rt; scanned.taken.is_empty());
+        }
+    }
+}
+
+#[test]
+fn a_failing_sink_took_the_first_bytes_of_workers(rt: HostRuntime) -> Result<(), Fail> {
+    let worked = trace(EPOCHS.as_slice(), "three-epochs")?;
+    for good_writes in [0, 1, 11, 12, 100, 168, 169, 170] {
+        let cuts = Cuts {
+            good_writes,
+            ..Cuts::of_steps(16, 1)
+        };
+        let scanned = scan_through(&rt, rt.alloc(), worked.text, cuts, (2, 64), &OpenGate);
+        if good_writes < worked.report.len() {
+            assert_eq!(rt;
+                scanned.answer.err(),
+                Some(Fault::Write),
+                "{good_writes} bytes"
+            );
+            assert_eq!(rt; scanned.taken.as_slice(), &worked.report[..good_writes]);
+        } else {
+            assert!(rt; scanned.answer.is_ok(), "{good_writes} bytes");
+            assert_eq!(rt; scanned.taken.as_slice(), worked.report);
+        }
+    }
     Ok(())
 }

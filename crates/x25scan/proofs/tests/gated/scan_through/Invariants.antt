@@ -1,4 +1,4 @@
-use Rattle.x25scan.proofs.tests.crews.scan.Given as goal
+use Rattle.x25scan.proofs.tests.gated.scan_through.Given as goal
 
 abbrev pub ghosts-scan_on-C-Ledger : goal.ghosts-scan_on-C-Ledger
 ghosts-scan_on-C-Ledger g a = record { name = a.calls.name; parts = a.calls.parts }
