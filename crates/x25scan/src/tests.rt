@@ -13,6 +13,7 @@ use crate::tests::runs::{Cuts, run, scan};
 use crate::tests::worked::Worked;
 use crate::tests::worked::channels::CHANNELS;
 use crate::tests::worked::epochs::EPOCHS;
+use crate::tests::worked::long::LONG_TRACES;
 use crate::tests::worked::messages::MESSAGES;
 use crate::tests::worked::refused::REFUSED;
 use line_model::fault::{Fault, Kind};
@@ -71,36 +72,10 @@ fn pad_messages_are_reported(rt: HostRuntime) -> Result<(), Fail> {
 }
 
 #[test]
-fn long_messages_are_reported(rt: HostRuntime) -> Result<(), Fail> {
-    for (octets, report) in [
-        (
-            1023,
-            "F 3 N d1 X3\nC 1 1 1 out - - 1 2 - open 0 0 1 1023 16\nS 1 T 2 asked 2\nA - 1 16\nP 1 2\nZ 3 1 1 1023 16\n",
-        ),
-        (
-            1024,
-            "F 3 N d1 X2\nC 1 1 1 out - - 1 2 - open 0 0 1 1024 16\nA - 1 16\nP 1 2\nZ 3 1 1 1024 16\n",
-        ),
-        (
-            1025,
-            "F 3 N d1 XL\nC 1 1 1 out - - 1 2 - open 0 0 1 1025 17\nA - 1 17\nP 1 2\nZ 3 1 1 1025 17\n",
-        ),
-    ] {
-        let mut text = Vec::new(rt.alloc());
-        text.extend_from_slice(b"X25 1 MOD 8 WIN 2 SIZE 2048 PVC 0 SVC 4\n")?;
-        text.extend_from_slice(b"1 T 10010B000001000000\n2 N 10010F\n3 N 900100")?;
-        for _ in 0..octets {
-            text.extend_from_slice(b"02")?;
-        }
-        text.push(b'\n')?;
-        for step in STEPS {
-            let scanned = scan(rt.alloc(), text.as_slice(), Cuts::of_steps(step, step));
-            assert_eq!(rt;
-                scanned.taken.as_slice(),
-                report.as_bytes(),
-                "{octets} octets by {step}"
-            );
-        }
+fn long_traces_are_reported(rt: HostRuntime) -> Result<(), Fail> {
+    for long in &LONG_TRACES {
+        let text = long.text(rt.alloc())?;
+        check(&rt, rt.alloc(), &[long.worked(text.as_slice())])?;
     }
     Ok(())
 }
@@ -193,35 +168,6 @@ fn a_text_is_refused_by_its_first_faulty_line(rt: HostRuntime) -> Result<(), Fai
                 "at {text} by {step}"
             );
             assert!(rt; scanned.taken.is_empty());
-        }
-    }
-    Ok(())
-}
-
-#[test]
-fn long_lines_are_refused(rt: HostRuntime) -> Result<(), Fail> {
-    for (front, byte, count, fault) in [
-        ("1 T ", b'0', 8402, Some(Kind::Hex)),
-        ("1 T ", b'0', 8400, None),
-        ("#", b' ', 8500, Some(Kind::LineLong)),
-        ("#", b' ', 8499, None),
-    ] {
-        let mut text = Vec::new(rt.alloc());
-        text.extend_from_slice(HEADER.as_bytes())?;
-        text.extend_from_slice(front.as_bytes())?;
-        for _ in 0..count {
-            text.push(byte)?;
-        }
-        text.push(b'\n')?;
-        for step in STEPS {
-            let scanned = scan(rt.alloc(), text.as_slice(), Cuts::of_steps(step, step));
-            match fault {
-                Some(kind) => {
-                    assert_eq!(rt; scanned.answer, Err(Fault::Trace(2, kind)), "{count} bytes");
-                    assert!(rt; scanned.taken.is_empty());
-                }
-                None => assert!(rt; scanned.answer.is_ok(), "{count} bytes"),
-            }
         }
     }
     Ok(())

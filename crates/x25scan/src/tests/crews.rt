@@ -8,6 +8,7 @@ use crate::tests::runs::Cuts;
 use crate::tests::worked::Worked;
 use crate::tests::worked::channels::CHANNELS;
 use crate::tests::worked::epochs::EPOCHS;
+use crate::tests::worked::long::LONG_TRACES;
 use crate::tests::worked::messages::MESSAGES;
 use crate::tests::worked::refused::REFUSED;
 use line_model::fault::{Fault, Kind};
@@ -91,6 +92,15 @@ fn messages_are_reported_by_any_number_of_workers(rt: HostRuntime) -> Result<(),
 #[test]
 fn faulty_texts_are_refused_by_any_number_of_workers(rt: HostRuntime) -> Result<(), Fail> {
     check(&rt, rt.alloc(), REFUSED.as_slice())
+}
+
+#[test]
+fn long_traces_are_reported_by_any_number_of_workers(rt: HostRuntime) -> Result<(), Fail> {
+    for long in &LONG_TRACES {
+        let text = long.text(rt.alloc())?;
+        check(&rt, rt.alloc(), &[long.worked(text.as_slice())])?;
+    }
+    Ok(())
 }
 
 #[test]

@@ -130,7 +130,7 @@ pub fn accepted(answer: Result<Scan, Fault>) -> Result<Scan, Fail> {
 }
 
 /// The trace of this name.
-pub fn trace<'a>(traces: &'a [Worked], name: &str) -> Result<&'a Worked, Fail> {
+pub fn trace<'a>(traces: &'a [Worked<'static>], name: &str) -> Result<&'a Worked<'static>, Fail> {
     match traces.iter().find(|worked| worked.name == name) {
         Some(worked) => Ok(worked),
         None => Err("there is no such trace")?,

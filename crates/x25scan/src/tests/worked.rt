@@ -2,15 +2,17 @@
 
 pub mod channels;
 pub mod epochs;
+pub mod long;
 pub mod messages;
 pub mod refused;
 
 use line_model::fault::Fault;
 
 /// A trace that was worked out by hand.
-pub struct Worked {
+#[derive(Drop)]
+pub struct Worked<'a> {
     pub name: &'static str,
-    pub text: &'static [u8],
+    pub text: &'a [u8],
     /// The fault by which it is refused, if it is.
     pub fault: Option<Fault>,
     pub report: &'static [u8],
