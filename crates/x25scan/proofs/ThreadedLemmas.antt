@@ -1,11 +1,11 @@
 -- Where reading and working stop, and what the workers' reports are.
-use Rattle.std.proofs.Common.{◌≡◌, ◌∙◌, sym, ap, subst, refl, ℕ, Bool, true, List, [], Option, Some, None, Result, Ok, Err, ◌⊎◌, inl, inr}
+use Rattle.std.proofs.Common.{◌≡◌, ◌∙◌, sym, ap, subst, refl, ℕ, true, List, [], Option, Some, None, Result, Ok, Err, ◌⊎◌, inl, inr}
 use Rattle.std.specs.Prelude.{IfErr, IfSome, MatchResult, is_some, is_ok}
 use Rattle.line_model.specs.declared.fault.Fault.{Fault}
 use Rattle.line_model.specs.declared.fault.Fault.TheVariants.{Memory, Trace, Read as ReadFailed}
 use Rattle.piece_feed.specs.declared.reading.Read.{Read}
-use Rattle.piece_feed.specs.Readings.{IsReadingFault, IsRefusal, IsRefusedBy}
-use Rattle.piece_feed.specs.Readings.{HasRead, IsOutcome}
+use Rattle.piece_feed.specs.Readings.{IsReadingFault}
+use Rattle.piece_feed.specs.Readings.{IsOutcome}
 use Rattle.x25scan.specs.Threaded.{IsStopFault, IsStopped}
 use Rattle.std.specs.Option.{option_map}
 use Rattle.line_model.specs.declared.interface.Interface.{Interface}

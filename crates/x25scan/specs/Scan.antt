@@ -1,5 +1,5 @@
 -- What a scan answers, and what it wrote.
-use Rattle.std.specs.Prelude.{◌≡◌, ℕ, ◌⊎◌, List, [], ◌++◌, Option, Some, None, take}
+use Rattle.std.specs.Prelude.{◌≡◌, ℕ, List, Option, Some, None, take}
 use Rattle.line_model.specs.Device.{with_more}
 use Rattle.line_model.specs.Records.{Row}
 use Rattle.line_model.specs.Text.{early, fault, head, rows}

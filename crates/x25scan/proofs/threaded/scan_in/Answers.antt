@@ -1,4 +1,4 @@
-use Rattle.std.proofs.Common.{◌∙◌, ap, refl, ℕ, List, Some, ◌≡◌}
+use Rattle.std.proofs.Common.{◌∙◌, ap, refl}
 use Rattle.line_model.specs.Report.{text_of}
 use Rattle.line_model.specs.Text.{rows}
 use Rattle.line_model.specs.Traces.{trace_report}

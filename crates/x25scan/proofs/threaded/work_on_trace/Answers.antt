@@ -1,4 +1,4 @@
-use Rattle.std.proofs.Common.{◌≡◌, subst, sym, rules}
+use Rattle.std.proofs.Common.{◌≡◌, subst, rules}
 use Rattle.std.specs.Prelude.{IfErr}
 use Rattle.x25scan.specs.Threaded.{IsStopped}
 use Rattle.x25scan.proofs.ThreadedLemmas.{stopped}
