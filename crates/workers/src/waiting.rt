@@ -6,11 +6,14 @@ use std::time::{Clock, Duration};
 /// From so many microseconds on a nap is a sleep: a shorter one takes the system longer than it lasts.
 const SHORTEST: u64 = 64;
 
+/// The first nap has so many microseconds.
+const FIRST: u64 = 16;
+
 /// No nap is longer than so many microseconds.
 const LONGEST: u64 = 8192;
 
-/// How long a thread rests before it asks the queue again: an eighth longer each time, up to 8 ms, so it is late by about
-/// an eighth of what it waited.
+/// How long a thread rests before it asks the queue again: a quarter longer each time, up to 8 ms, so it is late by about
+/// a quarter of what it waited.
 #[derive(Drop)]
 pub struct Nap {
     micros: u64,
@@ -19,7 +22,7 @@ pub struct Nap {
 impl Nap {
     /// The first nap.
     pub fn new() -> Nap {
-        Nap { micros: 1 }
+        Nap { micros: FIRST }
     }
 
     /// Lets the other threads run, and sleeps where it waited for long. The next nap is longer.
@@ -29,7 +32,7 @@ impl Nap {
         } else {
             thread::sleep(clock, Duration::from_micros(self.micros));
         }
-        let longer = self.micros / 8 + 1;
-        self.micros = self.micros.saturating_add(longer).min(LONGEST);
+        let more = self.micros / 4;
+        self.micros = self.micros.saturating_add(more).min(LONGEST);
     }
 }
