@@ -71,6 +71,17 @@ fn a_queue_of_one_entry_and_one_worker(rt: HostRuntime) -> Result<(), Fail> {
     Ok(())
 }
 
+#[test]
+fn as_many_pieces_go_back_as_the_queue_holds(rt: HostRuntime) -> Result<(), Fail> {
+    let (work, _feeder) = Work::<Brand>::new(rt.alloc(), 2)?;
+    for id in 0..3 {
+        work.give_back(&rt, piece(rt.alloc(), id));
+    }
+    assert_eq!(rt; work.free_used(&rt), 2);
+    assert_eq!(rt; work.free_used(&rt), 0);
+    Ok(())
+}
+
 /// Counts a piece that was taken.
 fn count(rt: &impl Wait, taken: &Mutex<[u32; 12]>, id: u32) {
     let mut counts = taken.lock(rt);

@@ -6,17 +6,21 @@ ghost use Rattle.piece_queue.specs.Rule.{feeder, worker, after_split, after_join
 
 use crate::entry::Entry;
 use crate::rule::{Account, FeedsEnd, FeedsPiece, Record, Takes, Turns, Worker};
-use crossbeam_queue::{Pass, RuledArrayQueue};
+use crossbeam_queue::{ArrayQueue, Pass, RuledArrayQueue};
 use line_model::fault::Fault;
 use line_model::piece::{Piece, Plan};
 use std::alloc::{Allocator, Global};
 use std::marker::Model;
 use std::sync::Wait;
 
-/// A queue of pieces. Contracts see which queue it is and how much it holds.
+/// No more pieces are freed in one call.
+const MOST_FREED: usize = 4096;
+
+/// A queue of pieces, and the way back of those that were run. Contracts see which queue it is and how much it holds.
 #[derive(Drop)]
 pub struct Work<P: Plan, A: Allocator = Global> {
     queue: RuledArrayQueue<Entry<A>, Record, Turns<P>, A>,
+    used: ArrayQueue<Piece<A>, A>,
 }
 
 impl<P: Plan, A: Allocator> Model for Work<P, A> {
@@ -87,10 +91,31 @@ impl<P: Plan, A: Allocator> Work<P, A> {
         ensures ok { IfOk result (λ r. (r.0.capacity ≡ capacity) × (r.1.queue ≡ r.0.queue) × (r.1.record_of ≡ feeder 0 0 0 0 [])) }
         ensures refused { IfErr result (λ fault. fault ≡ Fault.Memory) }
     {
+        let used = ArrayQueue::new(alloc.clone()?, capacity)?;
         match RuledArrayQueue::ruled(alloc, capacity) {
-            Ok((queue, pass)) => Ok((Work { queue }, FeederPass { pass })),
+            Ok((queue, pass)) => Ok((Work { queue, used }, FeederPass { pass })),
             Err(_) => Err(Fault::Memory),
         }
+    }
+
+    /// Hands a piece that was run back to the thread that fed it. Where as many wait already as the queue holds, it is
+    /// freed at once.
+    pub fn give_back<R: Wait>(&self, rt: &R, piece: Piece<A>) {
+        drop(self.used.push(rt, piece));
+    }
+
+    /// Frees the pieces that were handed back, and says how many. The thread that made them does this: where one thread
+    /// takes memory and others free it, all of them wait for the lock of the allocator.
+    pub fn free_used<R: Wait>(&self, rt: &R) -> usize
+        ensures { result ≤ 4096 }
+    {
+        for freed in 0..MOST_FREED {
+            match self.used.pop(rt) {
+                Some(piece) => drop(piece),
+                None => return freed,
+            }
+        }
+        MOST_FREED
     }
 
     /// A worker's pass, which has taken nothing.

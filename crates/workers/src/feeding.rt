@@ -53,6 +53,7 @@ pub fn feed_piece<P: Plan, A: Allocator, R: Wait + Clock>(
     let mut piece = piece;
     let mut nap = Nap::new();
     for _ in rt.forever() {
+        work.free_used(rt);
         match work.feed(rt, piece, pass) {
             Ok(()) => return,
             Err(back) => piece = back,
@@ -93,6 +94,7 @@ fn feed_end<P: Plan, A: Allocator, R: Wait + Clock>(
 {
     let mut nap = Nap::new();
     for _ in rt.forever() {
+        work.free_used(rt);
         if work.feed_end(rt, pass).is_ok() {
             return;
         }

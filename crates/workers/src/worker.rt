@@ -38,18 +38,18 @@ fn handle_unless<P: Plan, H: Posted + Drop, A: Allocator + Copy, W: Handler<P, A
     rt: &R,
     alloc: A,
     handler: &W,
-    piece: Piece<A>,
+    piece: &Piece<A>,
     share: &mut H,
     fault: Option<Fault>,
 ) -> Option<Fault>
-    requires planned { IsPlanned P.pieces piece.id piece }
+    requires planned { IsPlanned P.pieces piece.now.id piece.now }
     requires memory { IfSome fault (λ f. f ≡ Fault.Memory) }
     ensures posted { IfNone result ((fault ≡ None) × (H.posts share.new ≡ H.posts share.old + 1)) }
     ensures memory { IfSome result (λ f. f ≡ Fault.Memory) }
 {
     match fault {
         Some(fault) => Some(fault),
-        None => handler.handle(rt, alloc, &piece, share).err(),
+        None => handler.handle(rt, alloc, piece, share).err(),
     }
 }
 
@@ -79,7 +79,8 @@ pub fn work_on<
         match work.take(rt, &mut pass) {
             Taken::Got(piece) => {
                 nap = Nap::new();
-                fault = handle_unless(rt, alloc, handler, piece, &mut share, fault);
+                fault = handle_unless(rt, alloc, handler, &piece, &mut share, fault);
+                work.give_back(rt, piece);
             }
             Taken::Finish => return Done { pass, share, fault },
             Taken::Empty => nap.take(rt),
