@@ -1,0 +1,2 @@
+"""Tests of parts that no small capture reaches."""
+import unittest
