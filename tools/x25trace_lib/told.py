@@ -94,4 +94,4 @@ class Ledger:
 
     def lines(self):
         """The counts, a line each, in the order of the reasons."""
-        return [f"left out: {self.counts[reason]} {reason.words}" for reason in Reason if self.counts[reason]]
+        return [f"left out: {reason.words}: {self.counts[reason]}" for reason in Reason if self.counts[reason]]
