@@ -76,9 +76,10 @@ class Lapb:
         self.ledger = ledger
         self.modulus = self.given = modulus
         self.side_by = side_by
-        self.swapped = swapped
-        # Which side the recording host is; the addresses of I frames with a direction tell.
-        self.host = Side.T
+        # Which side the recording host is: by what is said, or as the addresses of frames with a direction tell.
+        by_direction = side_by is SideBy.DIRECTION
+        self.host = Side.N if swapped and by_direction else Side.T
+        self.swapped = swapped and not by_direction
         self.host_known = False
         self.contradictions = 0
         self.ways = {side: Way(held={}) for side in Side}
@@ -129,7 +130,7 @@ class Lapb:
             return
         send = control >> 1 & 7 if size == 1 else control >> 1
         side = self.side(COMMAND_SIDES, octets[0], frame.direction)
-        yield from self.acknowledge(side.other, receive, True)
+        yield from self.acknowledge(frame.number, side.other, receive, True)
         yield from self.information(frame.number, side, send, None if cut else octets[1 + size:])
 
     @property
@@ -153,11 +154,11 @@ class Lapb:
         """An RR, RNR or REJ. Without a direction it may be a command or a response; then it proves no loss."""
         side = self.directed(frame.direction)
         if side is not None:
-            yield from self.acknowledge(side.other, receive, True)
+            yield from self.acknowledge(frame.number, side.other, receive, True)
         elif not final:
-            yield from self.acknowledge(RESPONSE_SIDES[address].other, receive, False)
+            yield from self.acknowledge(frame.number, RESPONSE_SIDES[address].other, receive, False)
 
-    def acknowledge(self, side, receive, proves):
+    def acknowledge(self, number, side, receive, proves):
         """Takes an N(R) for the frames of a side; beyond the next one it proves that frames were not recorded."""
         way = self.ways[side]
         if way.next is None or way.acknowledged is None:
@@ -167,9 +168,9 @@ class Lapb:
         if inside:
             way.acknowledged = receive
         elif proves:
-            yield from self.catch_up(side, way, receive)
+            yield from self.catch_up(number, side, way, receive)
 
-    def catch_up(self, side, way, receive):
+    def catch_up(self, number, side, way, receive):
         """Goes on to the frame that the receiver waits for: those held are given out, the others are lost."""
         lost = 0
         while way.next != receive:
@@ -181,15 +182,15 @@ class Lapb:
         way.acknowledged = receive
         self.drop_held(way)
         if lost:
-            words = f"{lost} I frames of {self.named(side).name} before N(S) {receive} were acknowledged and not recorded"
-            self.ledger.damaged(Reason.LOST_FRAME, words, lost)
+            words = f"I frames of {self.named(side).name} before N(S) {receive} were acknowledged and not recorded: {lost}"
+            self.ledger.damaged(Reason.LOST_FRAME, f"frame {number}: {words}", lost)
 
     def information(self, number, side, send, octets):
         """An I frame: the next one, one that repeats, or one to hold."""
         way = self.ways[side]
         if way.next is not None and len(way.held) == self.circle - 2 and (send + 1 - way.next) % self.circle == 0:
             # No window reaches so far: the receiver must have acknowledged the frame that is next.
-            yield from self.catch_up(side, way, send)
+            yield from self.catch_up(number, side, way, send)
         if way.next is None or send == way.next:
             self.drop_held(way)
             way.next = (send + 1) % self.circle
@@ -203,10 +204,13 @@ class Lapb:
 
     def repeats(self, way, send):
         """Whether N(S) is one that was taken: not acknowledged yet, or just before those, where no window reaches."""
+        follows_held = (send - 1) % self.circle in way.held
         if way.acknowledged is None:
-            return (way.next - send) % self.circle <= self.circle // 2
+            return not follows_held and (way.next - send) % self.circle <= self.circle // 2
         from_acknowledged = (send - way.acknowledged) % self.circle
-        return from_acknowledged < (way.next - way.acknowledged) % self.circle or from_acknowledged == self.circle - 1
+        if from_acknowledged < (way.next - way.acknowledged) % self.circle:
+            return True
+        return not follows_held and from_acknowledged == self.circle - 1
 
     def drop_held(self, way):
         if way.held:

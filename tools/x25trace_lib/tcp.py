@@ -35,6 +35,16 @@ class Chunk:
     octets: bytes
 
 
+@dataclass(slots=True)
+class Loss:
+    """Octets of one direction that are not there, and the frame where that showed."""
+
+    index: int
+    frame: int
+    octets: int
+    how: str
+
+
 class Stream:
     """One direction: the next sequence number, the segments that wait, and whether its end was delivered."""
 
@@ -64,6 +74,7 @@ class Connection:
         self.ledger, self.budget, self.ends = ledger, budget, ends
         self.streams = (Stream(), Stream())
         self.cost = 0
+        self.leaving = [False, False]
         self.lost = None
         self.over = False
 
@@ -82,8 +93,12 @@ class Connection:
         if segment.syn:
             self.begin(index, segment)
             segment.sequence = (segment.sequence + 1) % CIRCLE
+        self.leaving[index] |= segment.fin
         if not (segment.payload or segment.missing or segment.fin):
             self.ledger.left_out(Reason.NO_OCTETS)
+            if all(self.leaving):
+                # Both ends had all when they said their last word: what still waits was not recorded.
+                self.lose()
             return
         if stream.next is None:
             stream.next = segment.sequence
@@ -140,15 +155,15 @@ class Connection:
             return
         if segment.missing and past > max(old, len(segment.payload)):
             missing = past - max(old, len(segment.payload))
-            self.gap(f"frame {segment.frame}: {missing} octets that the snap length cut")
+            self.gap(Loss(index, segment.frame, missing, "were cut by the snap length"))
         elif segment.fin and not stream.ended:
             stream.next = (stream.next + 1) % CIRCLE
             stream.ended = True
             self.over = self.streams[1 - index].ended
 
-    def gap(self, words):
+    def gap(self, loss):
         if self.lost is None:
-            self.lost = words
+            self.lost = loss
             self.ledger.left_out(Reason.GAP)
 
     def lose(self):
@@ -161,7 +176,7 @@ class Connection:
         if missing <= 0:
             index = 1 - index
             missing = ahead(head.acknowledged, self.streams[index].next)
-        self.gap(f"frame {head.frame}: {missing} octets before it were not recorded")
+        self.gap(Loss(index, head.frame, missing, "before it were not recorded"))
         for stream in self.streams:
             for segment in list(stream.held):
                 self.keep(stream, segment, -1)

@@ -24,6 +24,7 @@ class Circuit:
     from_opening: bool
     permanent: bool = False
     line_channel: int | None = None
+    last_line_channel: int | None = None
     caller: Side | None = None
     called: bool = False
     cleared_by: Side | None = None
@@ -169,7 +170,9 @@ class Xot:
     def tell_loss(self, connection, circuit):
         if connection.lost and not circuit.broken:
             circuit.broken = connection.lost
-            self.ledger.tell(f"{connection.lost}; connection {circuit.number} is left out from here on")
+            words = f"frame {connection.lost.frame}: {connection.lost.octets} octets of {circuit.sides[connection.lost.index].name}"
+            words += f" {connection.lost.how}; connection {circuit.number} is left out from here on"
+            self.ledger.tell(words)
 
     def finish(self, connection, circuit, frame):
         """Tells how a connection ended."""
@@ -187,7 +190,7 @@ class Xot:
         self.tell_loss(connection, circuit)
         for index, rest in enumerate(circuit.rests):
             if rest and not circuit.broken:
-                words = f"connection {circuit.number}: {len(rest)} octets of a packet of {circuit.sides[index].name} are all"
+                words = f"connection {circuit.number} ends after {len(rest)} octets of a packet of {circuit.sides[index].name}"
                 self.ledger.damaged(Reason.CUT_XOT, words)
 
     def end(self):
@@ -238,9 +241,7 @@ class Xot:
                 return None
             if kind in CALL_TYPES:
                 circuit.step(side, kind)
-            if circuit.line_channel is None:
-                circuit.line_channel = line_channel
-            elif circuit.line_channel != line_channel:
+            if circuit.last_line_channel != line_channel:
                 self.other_channel(circuit, frame, line_channel)
         return Packet(frame, side, octets, circuit)
 
@@ -251,6 +252,9 @@ class Xot:
         self.ledger.tell(f"frame {frame}: connection {circuit.number}: {side.name} sets up a permanent circuit")
 
     def other_channel(self, circuit, frame, line_channel):
-        words = f"frame {frame}: connection {circuit.number}: logical channel {line_channel} after {circuit.line_channel}"
-        self.ledger.tell(f"{words}; a connection has one circuit")
-        circuit.line_channel = line_channel
+        if circuit.line_channel is None:
+            circuit.line_channel = line_channel
+        else:
+            words = f"logical channel {line_channel} after {circuit.last_line_channel}; a connection has one circuit"
+            self.ledger.tell(f"frame {frame}: connection {circuit.number}: {words}")
+        circuit.last_line_channel = line_channel
