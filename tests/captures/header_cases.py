@@ -4,6 +4,7 @@ from forms import *
 from link_cases import ACCEPTED, CALL, CLEAR, CONFIRMED, RESTART, RESTARTED
 
 USER = ["-o", 'uat:user_dlts:"User 0 (DLT=147)","x.25","0","","0",""']
+WITH_TSHARK = ("header-modulo-128", "header-permanent-channels", "header-join", "header-values-of-the-other-call")
 HEAD = [("T", RESTART), ("N", RESTARTED), ("T", CALL), ("N", ACCEPTED)]
 
 
@@ -12,7 +13,7 @@ def on_line(name, header, packets, words="", **more):
     blocks = [enhanced(bytes.fromhex(packet), flags=2 if side == "T" else 1) for side, packet in packets]
     rows = "".join(f"{at} {side} {packet}\n" for at, (side, packet) in enumerate(packets, 1))
     return Case(name, section() + interface(147) + b"".join(blocks), header + "\n" + rows, f"--as 147=x25 {words}".strip(),
-                ending="pcapng", tshark=USER, **more)
+                ending="pcapng", tshark=USER if name in WITH_TSHARK else None, **more)
 
 
 def data(side, send, receive, octets, more=False):

@@ -59,7 +59,7 @@ def sequence_cases():
         A - 1 3
         P 1 5
         Z 8 0 1 3 3
-    """))
+    """), tshark=["-o", "tcp.reassemble_out_of_order:TRUE"])
     yield overlapping()
     talk = Talk(first=(2**32 - 8, 2**32 - 3))
     yield Case("tcp-sequence-numbers-wrap", file_of(talk.open() + call(talk) + talk.close()), header() + text("""
@@ -114,7 +114,6 @@ def packing_cases():
     frames = talk.open()
     octets = xot(CALL)
     frames += [talk.segment(0, part) for part in (octets[:2], octets[2:5], octets[5:])]
-    frames += call(talk, [])
     frames += [talk.b(ACCEPTED), talk.a(DATA), talk.b(READY), talk.a(CLEAR), talk.b(CONFIRMED)] + talk.close()
     yield Case("tcp-packets-split", file_of(frames), header() + text("""
         6 T 10010B0000
@@ -128,7 +127,7 @@ def packing_cases():
         A - 1 1
         P 1 7
         Z 6 0 1 1 1
-    """))
+    """), tshark=None)
     talk = Talk()
     frames = talk.open() + [talk.a(CALL), talk.b(ACCEPTED), talk.a(*SENT[:3]), talk.b(READY_3)]
     frames += [talk.a(CLEAR), talk.b(CONFIRMED)] + talk.close()
@@ -226,7 +225,7 @@ def loss_cases():
         A - 1 1
         P 1 5
         Z 6 0 1 1 1
-    """))
+    """), tshark=None)
     talk = Talk()
     frames = talk.open() + [talk.a(CALL), talk.b(ACCEPTED)]
     long = ethernet(talk.a("100100" + "AA" * 60))
