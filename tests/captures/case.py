@@ -4,7 +4,7 @@ from dataclasses import dataclass, field
 
 @dataclass
 class Case:
-    """The rows are the header and the rows of the trace, without its comments; the report is that of the rows."""
+    """The rows are the header and the rows of the trace, without its comments; the report is that on the trace."""
 
     name: str
     octets: bytes

@@ -1,17 +1,16 @@
 """Tests that whatever is done to a capture gives a trace by the rules of docs/TRACE.md, or a named refusal."""
 import contextlib
 import io
-import pathlib
 import random
 import re
 import tempfile
 import unittest
 
+from cases import all_cases
 from x25trace_lib import command
 from x25trace_lib.told import Why
 
-FILES = pathlib.Path(__file__).resolve().parent / "files"
-ENDINGS = (".pcap", ".pcapng", ".txt")
+LARGEST = 6000
 ROUNDS = 600
 HEADER = re.compile(
     r"X25 (?:1 MOD (8|128) WIN (\d+) SIZE (\d+) PVC (\d+) SVC (\d+)"
@@ -67,17 +66,15 @@ def damaged(octets, source):
 
 class Damages(unittest.TestCase):
     def test_random_damages(self):
-        captures = sorted(path for path in FILES.iterdir() if path.suffix in ENDINGS and path.stat().st_size < 6000)
+        cases = [case for case in all_cases() if len(case.octets) < LARGEST]
         refusals = tuple(f"x25trace: {why.value}: " for why in Why)
         for seed in range(ROUNDS):
             source = random.Random(seed)
-            capture = source.choice(captures)
-            words = capture.with_suffix(".words")
-            words = words.read_text().split() if words.exists() else []
-            with self.subTest(seed=seed, capture=capture.name), tempfile.NamedTemporaryFile() as file:
-                file.write(damaged(capture.read_bytes(), source))
+            case = source.choice(cases)
+            with self.subTest(seed=seed, capture=case.name), tempfile.NamedTemporaryFile() as file:
+                file.write(damaged(case.octets, source))
                 file.flush()
-                status, out, errors = self.run_on([*words, file.name])
+                status, out, errors = self.run_on([*case.words.split(), file.name])
                 if status == 2:
                     self.assertEqual(out, "")
                     self.assertTrue(any(line.startswith(refusals) for line in errors.splitlines()), errors)

@@ -66,9 +66,9 @@ def complaints(file, trace, options):
     ][:1]
 
 
-def outcomes(files, cases, only):
+def outcomes(files, cases):
     """Names of tests, and what is wrong with each."""
-    asked = [case for case in cases if case.tshark is not None and only in case.name]
+    asked = [case for case in cases if case.tshark is not None]
 
     def judge(case):
         trace = (files / f"{case.name}.trace").read_text()

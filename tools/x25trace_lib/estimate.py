@@ -215,12 +215,15 @@ def header_of(wishes, estimator, permanent, highest, join):
     return header
 
 
-def estimates(wishes, header):
+def estimates(wishes, header, estimator):
     """The words of the numbers that no option gave."""
-    words = {"MOD": (wishes.modulus, header.modulus, "general format identifiers")}
-    words["WIN"] = wishes.window, header.window, "most data packets without an acknowledgement"
-    words["SIZE"] = wishes.size, header.size, "largest user data"
-    words["PVC"] = wishes.permanent, header.permanent, "channels with data and no call"
+    standard = "the standard value, as no data tells"
     last = wishes.calls or wishes.outgoing
-    words["OUT" if header.second_form else "SVC"] = last, header.outgoing, "channels used"
+    words = {
+        "MOD": (wishes.modulus, header.modulus, "the general format identifiers"),
+        "WIN": (wishes.window, header.window, "the most data not acknowledged" if estimator.most else standard),
+        "SIZE": (wishes.size, header.size, "the largest user data" if estimator.largest else standard),
+        "PVC": (wishes.permanent, header.permanent, "channels with data and no call"),
+        "OUT" if header.second_form else "SVC": (last, header.outgoing, "the channels used"),
+    }
     return [f"{name} {value} ({why})" for name, (wish, value, why) in words.items() if wish is None]

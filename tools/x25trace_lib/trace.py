@@ -67,7 +67,7 @@ class Trace:
         """The lines of the trace."""
         header = self.header()
         yield comment(f"from {name} by x25trace, {self.reading.frames} frames; a row has the number of its frame")
-        guesses = estimates(self.wishes, header)
+        guesses = estimates(self.wishes, header, self.estimator)
         if guesses:
             yield comment("estimated from what was seen: " + ", ".join(guesses))
         yield from map(comment, self.doubts(header))
@@ -82,7 +82,7 @@ class Trace:
         if strange:
             yield f"{strange} packets are not of modulo {header.modulus}"
         if not self.spool.by_frames:
-            yield f"the frames are too many to number the rows by them, which count from 1"
+            yield "the frames are too many to number the rows by them, which count from 1"
 
     def write(self, name, out):
         """Writes the trace; returns how many bytes it has."""
