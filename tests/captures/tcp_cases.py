@@ -1,13 +1,24 @@
-"""XOT: troubles of TCP connections, and circuits, their hosts and their channels."""
+"""Troubles of the TCP connections that carry XOT."""
 from case import Case, text
 from forms import *
-from link_cases import ACCEPTED, CALL, CLEAR, CONFIRMED, DATA, READY
+from link_cases import ACCEPTED, CALL, CLEAR, CONFIRMED, DATA, READY, REPORT, ROWS
 
 # Data packets of the DTE with P(S) 0 to 3, and what acknowledges three and four of them.
 SENT = ["100100A0", "100102A1", "100104A2", "100106A3"]
 READY_3, READY_4 = "100161", "100181"
 SIX = [CALL, ACCEPTED, DATA, READY, CLEAR, CONFIRMED]
-OTHER = "192.0.2.3"
+
+
+def report(opened, up, ended, sent, rows, octets=None):
+    """Of one call of the DTE on channel 1, which sent packets of an octet each; ended is a row, or None."""
+    octets = sent if octets is None else octets
+    end = f"{ended} T" if ended else "- open"
+    return text(f"""
+        C 1 1 1 out - - {opened} {up} {end} {sent} {octets} 0 0 {sent}
+        A - 1 {sent}
+        P 1 {up}
+        Z {rows} 0 1 {octets} {sent}
+    """)
 
 
 def file_of(frames):
@@ -24,7 +35,7 @@ def call(talk, packets=SIX):
     return [talk.a(packet) if at % 2 == 0 else talk.b(packet) for at, packet in enumerate(packets)]
 
 
-def sequence_cases():
+def retransmission():
     talk = Talk()
     opening, (one, two, three, four, five, six) = talk.open(), call(talk)
     yield Case("tcp-retransmission", file_of(opening + [one, one, two, three, three, four, five, six] + talk.close()),
@@ -35,12 +46,10 @@ def sequence_cases():
         9 N 100121
         10 T 1001130000
         11 N 100117
-    """), report=text("""
-        C 1 1 1 out - - 4 6 10 T 1 1 0 0 1
-        A - 1 1
-        P 1 6
-        Z 6 0 1 1 1
-    """))
+    """), report=report(4, 6, 10, 1, 6))
+
+
+def out_of_order():
     talk = Talk()
     frames = talk.open() + [talk.a(CALL), talk.b(ACCEPTED)]
     first, second, third = (talk.a(packet) for packet in SENT[:3])
@@ -54,27 +63,12 @@ def sequence_cases():
         10 N 100161
         11 T 1001130000
         12 N 100117
-    """), report=text("""
-        C 1 1 1 out - - 4 5 11 T 3 3 0 0 3
-        A - 1 3
-        P 1 5
-        Z 8 0 1 3 3
-    """), tshark=["-o", "tcp.reassemble_out_of_order:TRUE"])
-    yield overlapping()
+    """), report=report(4, 5, 11, 3, 8), tshark=["-o", "tcp.reassemble_out_of_order:TRUE"])
+
+
+def sequence_numbers_wrap():
     talk = Talk(first=(2**32 - 8, 2**32 - 3))
-    yield Case("tcp-sequence-numbers-wrap", file_of(talk.open() + call(talk) + talk.close()), header() + text("""
-        4 T 10010B0000
-        5 N 10010F
-        6 T 100100AA
-        7 N 100121
-        8 T 1001130000
-        9 N 100117
-    """), report=text("""
-        C 1 1 1 out - - 4 5 8 T 1 1 0 0 1
-        A - 1 1
-        P 1 5
-        Z 6 0 1 1 1
-    """))
+    yield Case("tcp-sequence-numbers-wrap", file_of(talk.open() + call(talk) + talk.close()), ROWS, report=REPORT)
 
 
 def overlapping():
@@ -91,7 +85,7 @@ def overlapping():
     frames.append(talk.segment(0, octets[2] + octets[3][:5], at=at))
     talk.next[0] = at + len(octets[2] + octets[3])
     frames += [talk.b(READY_4), talk.a(CLEAR), talk.b(CONFIRMED)] + talk.close()
-    return Case("tcp-overlapping", file_of(frames), header(4) + text("""
+    yield Case("tcp-overlapping", file_of(frames), header(4) + text("""
         4 T 10010B0000
         5 N 10010F
         6 T 100100A0
@@ -101,15 +95,10 @@ def overlapping():
         11 N 100181
         12 T 1001130000
         13 N 100117
-    """), report=text("""
-        C 1 1 1 out - - 4 5 12 T 4 4 0 0 4
-        A - 1 4
-        P 1 5
-        Z 9 0 1 4 4
-    """), tshark=None)
+    """), report=report(4, 5, 12, 4, 9), tshark=None)
 
 
-def packing_cases():
+def packets_split():
     talk = Talk()
     frames = talk.open()
     octets = xot(CALL)
@@ -122,12 +111,10 @@ def packing_cases():
         9 N 100121
         10 T 1001130000
         11 N 100117
-    """), report=text("""
-        C 1 1 1 out - - 6 7 10 T 1 1 0 0 1
-        A - 1 1
-        P 1 7
-        Z 6 0 1 1 1
-    """), tshark=None)
+    """), report=report(6, 7, 10, 1, 6), tshark=None)
+
+
+def packets_packed():
     talk = Talk()
     frames = talk.open() + [talk.a(CALL), talk.b(ACCEPTED), talk.a(*SENT[:3]), talk.b(READY_3)]
     frames += [talk.a(CLEAR), talk.b(CONFIRMED)] + talk.close()
@@ -141,12 +128,10 @@ def packing_cases():
         9 N 100161
         10 T 1001130000
         11 N 100117
-    """), report=text("""
-        C 1 1 1 out - - 4 5 10 T 3 3 0 0 3
-        A - 1 3
-        P 1 5
-        Z 8 0 1 3 3
-    """))
+    """), report=report(4, 5, 10, 3, 8))
+
+
+def packets_across_segments():
     talk = Talk()
     frames = talk.open() + [talk.a(CALL), talk.b(ACCEPTED)]
     octets = b"".join(map(xot, SENT))
@@ -163,15 +148,10 @@ def packing_cases():
         10 N 100181
         11 T 1001130000
         12 N 100117
-    """), report=text("""
-        C 1 1 1 out - - 4 5 11 T 4 4 0 0 4
-        A - 1 4
-        P 1 5
-        Z 9 0 1 4 4
-    """))
+    """), report=report(4, 5, 11, 4, 9))
 
 
-def loss_cases():
+def gap_and_next_connection():
     talk = Talk()
     frames = talk.open() + [talk.a(CALL), talk.b(ACCEPTED)]
     first, _, third = (talk.a(packet) for packet in SENT[:3])
@@ -195,6 +175,9 @@ def loss_cases():
         P 2 18
         Z 9 0 2 2 2
     """), tshark=None)
+
+
+def gap_in_the_other_direction():
     talk = Talk()
     frames = talk.open() + [talk.a(CALL), talk.b(ACCEPTED)]
     talk.a(DATA)
@@ -203,12 +186,10 @@ def loss_cases():
     yield Case("tcp-gap-in-the-other-direction", file_of(frames), header(2, 128) + text("""
         4 T 10010B0000
         5 N 10010F
-    """), status=1, report=text("""
-        C 1 1 1 out - - 4 5 - open 0 0 0 0 0
-        A - 1 0
-        P 1 5
-        Z 2 0 1 0 0
-    """), tshark=None)
+    """), status=1, report=report(4, 5, None, 0, 2), tshark=None)
+
+
+def answer_recorded_before_its_data():
     talk = Talk()
     frames = talk.open() + [talk.a(CALL), talk.b(ACCEPTED)]
     data = talk.a(DATA)
@@ -220,12 +201,10 @@ def loss_cases():
         8 N 100121
         9 T 1001130000
         10 N 100117
-    """), report=text("""
-        C 1 1 1 out - - 4 5 9 T 1 1 0 0 1
-        A - 1 1
-        P 1 5
-        Z 6 0 1 1 1
-    """), tshark=None)
+    """), report=report(4, 5, 9, 1, 6), tshark=None)
+
+
+def snap_length():
     talk = Talk()
     frames = talk.open() + [talk.a(CALL), talk.b(ACCEPTED)]
     long = ethernet(talk.a("100100" + "AA" * 60))
@@ -233,12 +212,7 @@ def loss_cases():
     yield Case("tcp-snap-length", file_of(frames), header(2, 128) + text("""
         4 T 10010B0000
         5 N 10010F
-    """), status=1, report=text("""
-        C 1 1 1 out - - 4 5 - open 0 0 0 0 0
-        A - 1 0
-        P 1 5
-        Z 2 0 1 0 0
-    """), tshark=None)
+    """), status=1, report=report(4, 5, None, 0, 2), tshark=None)
 
 
 def fragments(packet, at, identity, six=False):
@@ -253,7 +227,7 @@ def fragments(packet, at, identity, six=False):
     return parts
 
 
-def fragment_cases():
+def fragmented():
     data = "100100" + "AA" * 40
     rows = text(f"""
         X25 1 MOD 8 WIN 1 SIZE 64 PVC 0 SVC 1
@@ -264,57 +238,52 @@ def fragment_cases():
         9 T 1001130000
         10 N 100117
     """)
-    report = text("""
-        C 1 1 1 out - - 4 5 9 T 1 40 0 0 1
-        A - 1 1
-        P 1 5
-        Z 6 0 1 40 1
-    """)
-    for name, wrap, ends, kind in (("ipv4", ipv4, (DTE, DCE), 0x0800),
-                                   ("ipv6", ipv6, ("2001:db8::1", "2001:db8::2"), 0x86DD)):
+    sixes = ("2001:db8::1", "2001:db8::2")
+    for name, wrap, ends, kind in (("ipv4", ipv4, (DTE, DCE), 0x0800), ("ipv6", ipv6, sixes, 0x86DD)):
         talk = Talk(ends, wrap=wrap)
         frames = talk.open() + [talk.a(CALL), talk.b(ACCEPTED)]
         frames += fragments(talk.a(data), 32, 7, kind == 0x86DD)[::-1]
         frames += [talk.b(READY), talk.a(CLEAR), talk.b(CONFIRMED)] + talk.close()
-        yield Case(f"{name}-fragments", pcap(1, [ethernet(one, kind) for one in frames]), rows, report=report)
+        file = pcap(1, [ethernet(one, kind) for one in frames])
+        yield Case(f"{name}-fragments", file, rows, report=report(4, 5, 9, 1, 6, 40))
+
+
+def fragment_missing():
     talk = Talk()
-    frames = talk.open() + [talk.a(CALL), talk.b(ACCEPTED)]
-    frames += fragments(talk.a(data), 32, 7)[1:] + [talk.b(READY), talk.a(CLEAR), talk.b(CONFIRMED)] + talk.close()
+    frames = talk.open() + [talk.a(CALL), talk.b(ACCEPTED)] + fragments(talk.a("100100" + "AA" * 40), 32, 7)[1:]
+    frames += [talk.b(READY), talk.a(CLEAR), talk.b(CONFIRMED)] + talk.close()
     yield Case("ipv4-fragment-missing", file_of(frames), header(2, 128) + text("""
         4 T 10010B0000
         5 N 10010F
-    """), status=1, report=text("""
-        C 1 1 1 out - - 4 5 - open 0 0 0 0 0
-        A - 1 0
-        P 1 5
-        Z 2 0 1 0 0
-    """), tshark=None)
+    """), status=1, report=report(4, 5, None, 0, 2), tshark=None)
 
 
-def end_cases():
+def not_cleared():
+    """Ways in which a connection ends while its call is up: rows and report are the same."""
     rows = header() + text("""
         4 T 10010B0000
         5 N 10010F
         6 T 100100AA
     """)
-    report = text("""
-        C 1 1 1 out - - 4 5 - open 1 1 0 0 1
-        A - 1 1
-        P 1 5
-        Z 3 0 1 1 1
-    """)
-    talk = Talk()
-    frames = talk.open() + call(talk, SIX[:3])
-    yield Case("tcp-end-without-a-clear", file_of(frames + talk.close()), rows, report=report)
-    talk = Talk()
-    frames = talk.open() + call(talk, SIX[:3])
-    yield Case("tcp-reset-without-a-clear", file_of(frames + [talk.segment(1, flags=4)]), rows, report=report)
-    talk = Talk()
-    frames = talk.open() + call(talk, SIX[:3]) + [talk.segment(0, xot(CLEAR)[:6])] + talk.close()
-    yield Case("tcp-end-inside-of-a-packet", file_of(frames), rows, status=1, report=report, tshark=None)
-    talk = Talk()
-    frames = talk.open() + call(talk, SIX[:3]) + [talk.segment(1, b"\0\1\0\3\x10\x01\x21")] + call(talk, SIX[4:])
-    yield Case("tcp-not-xot", file_of(frames + talk.close()), rows, status=1, report=report, tshark=None)
+    told = report(4, 5, None, 1, 3)
+
+    def begun():
+        talk = Talk()
+        return talk, talk.open() + call(talk, SIX[:3])
+
+    talk, frames = begun()
+    yield Case("tcp-end-without-a-clear", file_of(frames + talk.close()), rows, report=told)
+    talk, frames = begun()
+    yield Case("tcp-reset-without-a-clear", file_of(frames + [talk.segment(1, flags=4)]), rows, report=told)
+    talk, frames = begun()
+    frames += [talk.segment(0, xot(CLEAR)[:6])] + talk.close()
+    yield Case("tcp-end-inside-of-a-packet", file_of(frames), rows, status=1, report=told, tshark=None)
+    talk, frames = begun()
+    frames += [talk.segment(1, b"\0\1\0\3\x10\x01\x21")] + call(talk, SIX[4:]) + talk.close()
+    yield Case("tcp-not-xot", file_of(frames), rows, status=1, report=told, tshark=None)
+
+
+def ports_used_again():
     talk, again = Talk(), Talk(first=(90_000, 95_000))
     frames = talk.open() + call(talk, SIX[:3]) + again.open() + call(again) + again.close()
     yield Case("tcp-ports-used-again", file_of(frames), header(last=2) + text("""
@@ -334,17 +303,10 @@ def end_cases():
         P 2 11
         Z 9 0 2 2 2
     """))
-    yield from stray_cases()
 
 
-def stray_cases():
-    """Probes that repeat an octet, a SYN that is repeated, and segments behind the end of their connection."""
-    report = text("""
-        C 1 1 1 out - - 5 6 10 T 1 1 0 0 1
-        A - 1 1
-        P 1 6
-        Z 6 0 1 1 1
-    """)
+def probes():
+    """A SYN that is repeated, and probes: of an octet that was acknowledged, and of the one that is next."""
     rows = header() + text("""
         5 T 10010B0000
         6 N 10010F
@@ -360,279 +322,23 @@ def stray_cases():
         at = talk.next[0]
         probe = b"\0" if octet else xot(DATA)[:1]
         frames += [talk.segment(0, probe, at=at + octet)] + call(talk, SIX[2:]) + talk.close()
-        yield Case(name, file_of(frames), rows, report=report)
+        yield Case(name, file_of(frames), rows, report=report(5, 6, 10, 1, 6))
+
+
+def segments_after_the_end():
     talk = Talk()
     frames = talk.open() + call(talk)
-    last = frames[-1]
-    frames += talk.close() + [last, talk.a(CALL)]
-    yield Case("tcp-segments-after-the-end", file_of(frames), header() + text("""
-        4 T 10010B0000
-        5 N 10010F
-        6 T 100100AA
-        7 N 100121
-        8 T 1001130000
-        9 N 100117
-    """), status=1, report=text("""
-        C 1 1 1 out - - 4 5 8 T 1 1 0 0 1
-        A - 1 1
-        P 1 5
-        Z 6 0 1 1 1
-    """), tshark=None)
+    frames += [*talk.close(), frames[-1], talk.a(CALL)]
+    yield Case("tcp-segments-after-the-end", file_of(frames), ROWS, status=1, report=REPORT, tshark=None)
 
 
-def middle_cases():
-    """Recordings that begin inside of a connection."""
-    rows = text("""
-        X25 2 MOD 8 WIN 1 SIZE 16 PVC 0 IN 0 TWO 1 OUT 1 JOIN
-        1 T 100146AA
-        2 N 100181
-        3 N 100184BB
-        4 T 1001130000
-        5 N 100117
-        6 T 10010B0000
-        7 N 10010F
-    """)
-    report = text("""
-        C 1 1 1 out - - 6 7 - open 0 0 0 0 0
-        A - 1 0
-        P 1 7
-        Z 7 0 1 0 0
-    """)
-    packets = [(0, "100146AA"), (1, "100181"), (1, "100184BB"), (0, CLEAR), (1, CONFIRMED), (0, CALL), (1, ACCEPTED)]
-    talk = Talk()
-    yield Case("xot-from-the-middle", file_of([talk.segment(side, xot(packet)) for side, packet in packets]), rows,
-               report=report)
-    talk = Talk()
-    frames = [talk.segment(0, xot(SENT[0])[6:])] + [talk.segment(side, xot(packet)) for side, packet in packets]
-    yield Case("xot-from-the-middle-of-a-packet", file_of(frames), text("""
-        X25 2 MOD 8 WIN 1 SIZE 16 PVC 0 IN 0 TWO 1 OUT 1 JOIN
-        2 T 100146AA
-        3 N 100181
-        4 N 100184BB
-        5 T 1001130000
-        6 N 100117
-        7 T 10010B0000
-        8 N 10010F
-    """), status=1, report=text("""
-        C 1 1 1 out - - 7 8 - open 0 0 0 0 0
-        A - 1 0
-        P 1 8
-        Z 8 0 1 0 0
-    """).replace("Z 8", "Z 7"), tshark=None)
-    talk = Talk()
-    frames = [talk.segment(side, xot(packet)) for side, packet in packets[1:]]
-    yield Case("xot-from-the-middle-server-first", file_of(frames), text("""
-        X25 2 MOD 8 WIN 1 SIZE 16 PVC 0 IN 0 TWO 1 OUT 1 JOIN
-        1 N 100181
-        2 N 100184BB
-        3 T 1001130000
-        4 N 100117
-        5 T 10010B0000
-        6 N 10010F
-    """).replace("WIN 1", "WIN 2"), report=text("""
-        C 1 1 1 out - - 5 6 - open 0 0 0 0 0
-        A - 1 0
-        P 1 6
-        Z 6 0 1 0 0
-    """))
-
-
-def circuit_cases():
-    """Two connections of one pair of hosts that both use logical channel 1024, each opened by another host."""
-    one, two = Talk(), Talk((DCE, DTE), (1025, 1998))
-    line = [packet[:1] + "400" + packet[4:] for packet in SIX]
-    both = one.open() + two.open() + call(one, line[:2]) + call(two, line[:2])
-    both += call(one, line[2:]) + call(two, line[2:]) + one.close() + two.close()
-    sides = """
-        7 {a} 10010B0000
-        8 {b} 10010F
-        9 {c} 10020B0000
-        10 {d} 10020F
-        11 {a} 100100AA
-        12 {b} 100121
-        13 {a} 1001130000
-        14 {b} 100117
-        15 {c} 100200AA
-        16 {d} 100221
-        17 {c} 1002130000
-        18 {d} 100217
-    """
-    yield Case("xot-circuits-of-one-pair", file_of(both), header(last=2) + text(sides.format(a="T", b="N", c="T", d="N")),
-               report=text("""
-        C 1 1 1 out - - 7 8 13 T 1 1 0 0 1
-        C 2 1 2 out - - 9 10 17 T 1 1 0 0 1
-        A - 2 2
-        P 2 10
-        Z 12 0 2 2 2
-    """))
-    yield Case("xot-dte-by-its-address", file_of(both), header(last=2) + text(sides.format(a="N", b="T", c="T", d="N")),
-               "--dte 192.0.2.2", report=text("""
-        C 1 1 1 in - - 7 8 13 N 0 0 1 1 1
-        C 2 1 2 out - - 9 10 17 T 1 1 0 0 1
-        A - 2 2
-        P 2 10
-        Z 12 0 2 2 2
-    """))
-    # The DTE's call may not have channel 1, which is for incoming calls, nor the DCE's channel 2.
-    yield Case("xot-one-way-channels", file_of(both), text("""
-        X25 2 MOD 8 WIN 1 SIZE 16 PVC 0 IN 1 TWO 1 OUT 2
-        7 N 10010B0000
-        8 T 10010F
-        9 T 10020B0000
-        10 N 10020F
-        11 N 100100AA
-        12 T 100121
-        13 N 1001130000
-        14 T 100117
-        15 T 100200AA
-        16 N 100221
-        17 T 1002130000
-        18 N 100217
-    """), "--dte 192.0.2.2 --in 1 --two 1 --out 2", report=text("""
-        C 1 1 1 in - - 7 8 13 N 0 0 1 1 1
-        C 2 1 2 out - - 9 10 17 T 1 1 0 0 1
-        A - 2 2
-        P 2 10
-        Z 12 0 2 2 2
-    """))
-    yield Case("xot-no-channel-left", file_of(both), header() + text("""
-        7 T 10010B0000
-        8 N 10010F
-        11 T 100100AA
-        12 N 100121
-        13 T 1001130000
-        14 N 100117
-    """), "--svc 1", status=1, report=text("""
-        C 1 1 1 out - - 7 8 13 T 1 1 0 0 1
-        A - 1 1
-        P 1 8
-        Z 6 0 1 1 1
-    """), tshark=None)
-
-
-def channel_cases():
-    one, two = Talk(), Talk(ports=(1026, 1998))
-    frames = one.open() + call(one) + one.close() + two.open() + call(two) + two.close()
-    yield Case("xot-channel-used-again", file_of(frames), header() + text("""
-        4 T 10010B0000
-        5 N 10010F
-        6 T 100100AA
-        7 N 100121
-        8 T 1001130000
-        9 N 100117
-        16 T 10010B0000
-        17 N 10010F
-        18 T 100100AA
-        19 N 100121
-        20 T 1001130000
-        21 N 100117
-    """), "--svc 1", report=text("""
-        C 1 1 1 out - - 4 5 8 T 1 1 0 0 1
-        C 2 1 1 out - - 16 17 20 T 1 1 0 0 1
-        A - 2 2
-        P 1 5
-        Z 12 0 2 2 2
-    """))
-    one, two = Talk(), Talk((OTHER, DCE))
-    frames = one.open() + call(one) + one.close() + two.open() + call(two) + two.close()
-    yield Case("xot-other-host", file_of(frames), header() + text("""
-        4 T 10010B0000
-        5 N 10010F
-        6 T 100100AA
-        7 N 100121
-        8 T 1001130000
-        9 N 100117
-    """), "--dte 192.0.2.1", report=text("""
-        C 1 1 1 out - - 4 5 8 T 1 1 0 0 1
-        A - 1 1
-        P 1 5
-        Z 6 0 1 1 1
-    """), tshark=None)
-    one, two = Talk(ports=(1025, 2000)), Talk(ports=(1025, 80))
-    frames = one.open() + two.open() + call(one) + one.close() + [two.segment(0, b"GET /"), ipv4(DTE, DCE, b"x" * 8, protocol=17)]
-    yield Case("xot-on-another-port", file_of(frames), header() + text("""
-        7 T 10010B0000
-        8 N 10010F
-        9 T 100100AA
-        10 N 100121
-        11 T 1001130000
-        12 N 100117
-    """), "--port 2000", report=text("""
-        C 1 1 1 out - - 7 8 11 T 1 1 0 0 1
-        A - 1 1
-        P 1 8
-        Z 6 0 1 1 1
-    """), tshark=["-d", "tcp.port==2000,xot"])
-    yield from packet_cases()
-
-
-def packet_cases():
-    talk = Talk()
-    frames = talk.open() + [talk.a("1000FB0700"), talk.a(CALL), talk.b(ACCEPTED), talk.b("1000F100"), talk.a("1002FB0000")]
-    yield Case("xot-packets-of-a-line", file_of(frames), header(2, 128) + text("""
-        5 T 10010B0000
-        6 N 10010F
-        8 T 1001FB0000
-    """), status=1, report=text("""
-        F 8 T d1 41
-        C 1 1 1 out - - 5 6 - open 0 0 0 0 0
-        A - 1 0
-        P 1 6
-        Z 3 1 1 0 0
-    """), tshark=None)
-    talk = Talk()
-    frames = talk.open() + [talk.a(""), talk.a("10"), talk.a("1001"), talk.a(CALL)]
-    yield Case("xot-short-packets", file_of(frames), header(2, 128) + text("""
-        4 T -
-        5 T 10
-        6 T 1001
-        7 T 10010B0000
-    """), report=text("""
-        F 4 T - 38
-        F 5 T - 38
-        F 6 T p1 38
-        P 0 -
-        Z 4 3 0 0 0
-    """), tshark=None)
-    talk = Talk()
-    long, longest = "100100" + "AA" * 4198, "100100" + "AA" * 4197
-    frames = talk.open() + call(talk, SIX[:2]) + [talk.a(long), talk.a(longest)] + call(talk, SIX[4:])
-    yield Case("xot-long-packets", file_of(frames), header(1, 4096) + text(f"""
-        4 T 10010B0000
-        5 N 10010F
-        7 T {longest}
-        8 T 1001130000
-        9 N 100117
-    """), status=1, report=text("""
-        F 7 T d1 39
-        C 1 1 1 out - - 4 5 8 T 0 0 0 0 0
-        A - 1 0
-        P 1 5
-        Z 5 1 1 0 0
-    """), tshark=None)
-    yield permanent()
-
-
-def permanent():
-    """Packets of type F5 set up a permanent circuit and are none of X.25; the call beside it has channel 2."""
-    one, two = Talk(), Talk(ports=(1026, 1998))
-    setup = "1001F5" + "00" + "08" + "0001" + "08" + "0001" + "02020707" + b"Serial0/Serial1/".hex()
-    frames = one.open() + [one.a(setup), one.b(setup)] + two.open() + call(two, SIX[:2]) + call(one, [DATA, READY])
-    return Case("xot-permanent-circuit", file_of(frames), text("""
-        X25 1 MOD 8 WIN 1 SIZE 16 PVC 1 SVC 2
-        9 T 10020B0000
-        10 N 10020F
-        11 T 100100AA
-        12 N 100121
-    """), report=text("""
-        C 1 1 2 out - - 9 10 - open 0 0 0 0 0
-        A - 1 0
-        P 1 10
-        Z 4 0 1 1 1
-    """), tshark=None)
+TOPICS = (
+    retransmission, out_of_order, overlapping, sequence_numbers_wrap, packets_split, packets_packed,
+    packets_across_segments, gap_and_next_connection, gap_in_the_other_direction, answer_recorded_before_its_data,
+    snap_length, fragmented, fragment_missing, not_cleared, ports_used_again, probes, segments_after_the_end,
+)
 
 
 def cases():
-    for topic in (sequence_cases, packing_cases, loss_cases, fragment_cases, end_cases, middle_cases, circuit_cases,
-                  channel_cases):
+    for topic in TOPICS:
         yield from topic()
