@@ -97,16 +97,18 @@ class Called(unittest.TestCase):
     def test_closed_output(self):
         reader = subprocess.Popen(["true"], stdin=subprocess.PIPE)
         reader.wait()
-        done = subprocess.run([PROGRAM, FILES / "ethernet.pcap"], stdout=reader.stdin, stderr=subprocess.PIPE, timeout=SECONDS)
+        words = [PROGRAM, FILES / "ethernet.pcap"]
+        done = subprocess.run(words, stdout=reader.stdin, stderr=subprocess.PIPE, timeout=SECONDS)
         reader.stdin.close()
         self.assertEqual(done.returncode, 3)
         self.assertEqual(done.stderr.splitlines()[-1], b"x25trace: reading or writing failed: Broken pipe")
         self.assertNotIn(b"Traceback", done.stderr)
 
     def test_words(self):
-        for words in (["--win", "0", "a"], ["--size", "100", "a"], ["--dte", "host", "a"], ["--as", "147=x26", "a"], [],
-                      ["--sender", "0=t", "a"], ["--svc", "4", "--in", "2", "a"], ["--join", "--no-join", "a"], ["--wi", "2", "a"]):
-            done = run(*words)
+        refused = ("--win 0 a", "--size 100 a", "--dte host a", "--as 147=x26 a", "", "--sender 0=t a", "--svc 4 --in 2 a",
+                   "--join --no-join a", "--wi 2 a")
+        for words in refused:
+            done = run(*words.split())
             self.assertEqual((done.returncode, done.stdout), (64, b""), words)
 
     def test_help(self):

@@ -24,15 +24,14 @@ def pcap_cases():
     yield Case("pcap-ends-in-a-record", cut, ROWS.replace("9 N 100117\n", ""), status=1, tshark=None,
                report=REPORT.replace("Z 6", "Z 5"))
     # A record header of nonsense, and eleven octets that look like nothing.
-    bad = b"\xff" * 27
-    rows = ROWS
-    yield Case("pcap-damaged-record", file_header() + b"".join(records[:5]) + bad + b"".join(records[5:]), rows, status=1,
-               report=REPORT, tshark=None)
+    bad = file_header() + b"".join(records[:5]) + b"\xff" * 27 + b"".join(records[5:])
+    yield Case("pcap-damaged-record", bad, ROWS, status=1, report=REPORT, tshark=None)
     # The length of record 6 is damaged: the frame with the data packet is lost, and the gap ends the connection.
     lost = bytearray(records[5])
     lost[8:12] = b"\xff\xff\xff\x7f"
     again = [record(ethernet(one), 20 + at) for at, one in enumerate(conversation_again())]
-    yield Case("pcap-damaged-length", file_header() + b"".join(records[:5]) + lost + b"".join(records[6:] + again), text("""
+    bad = file_header() + b"".join(records[:5]) + lost + b"".join(records[6:] + again)
+    yield Case("pcap-damaged-length", bad, text("""
         X25 1 MOD 8 WIN 1 SIZE 16 PVC 0 SVC 2
         4 T 10010B0000
         5 N 10010F
@@ -50,7 +49,8 @@ def pcap_cases():
         Z 8 0 2 1 1
     """), tshark=None)
     frames = [ethernet(one) for one in conversation()]
-    yield Case("pcap-cut-headers", pcap(1, [(b"\2\0\0\0\0\2", 60), (frames[0][:20], 54), (frames[0][:40], 54)] + frames),
+    cut = [(b"\2\0\0\0\0\2", 60), (frames[0][:20], 54), (frames[0][:40], 54)]
+    yield Case("pcap-cut-headers", pcap(1, cut + frames),
                "".join(shifted(row, 3) for row in ROWS.splitlines(keepends=True)), status=1, tshark=None,
                report="C 1 1 1 out - - 7 8 11 T 1 1 0 0 1\nA - 1 1\nP 1 8\nZ 6 0 1 1 1\n")
 

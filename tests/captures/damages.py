@@ -93,6 +93,7 @@ class Damages(unittest.TestCase):
         """The judge of traces itself, on traces that break one rule each."""
         good = "# words\nX25 1 MOD 8 WIN 2 SIZE 128 PVC 0 SVC 4\n1 T 10010F\n2 N -\n"
         self.assertIsNone(trace_fault(good))
-        for old, new in (("WIN 2", "WIN 8"), ("SIZE 128", "SIZE 100"), ("SVC 4", "SVC 0"), ("2 N", "1 N"), ("N -", "X -"),
-                         ("10010F", "10010"), ("-\n", "-"), ("1 T", "01 T"), ("X25 1", "X25 3"), ("words", "w" * 8500)):
+        bad = (("WIN 2", "WIN 8"), ("SIZE 128", "SIZE 100"), ("SVC 4", "SVC 0"), ("2 N", "1 N"), ("N -", "X -"),
+               ("10010F", "10010"), ("-\n", "-"), ("1 T", "01 T"), ("X25 1", "X25 3"), ("words", "w" * 8500))
+        for old, new in bad:
             self.assertIsNotNone(trace_fault(good.replace(old, new)), new)

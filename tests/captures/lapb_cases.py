@@ -30,7 +30,8 @@ def head():
 def user(name, frames, rows, words="", tshark=True, **more):
     """LAPB frames on a user link type."""
     lapb = ["-o", 'uat:user_dlts:"User 0 (DLT=147)","lapb","0","","0",""']
-    return Case(name, pcap(147, frames), rows, f"--as 147=lapb {words}".strip(), tshark=lapb if tshark else None, **more)
+    words = f"--as 147=lapb {words}".strip()
+    return Case(name, pcap(147, frames), rows, words, tshark=lapb if tshark else None, **more)
 
 
 def repeat_cases():
@@ -186,7 +187,8 @@ def middle_cases():
     """), report="P 0 -\nZ 5 0 0 0 0\n", tshark=False)
     plain = [frame for _, frame in line(HEAD + [("T", "100100" + "AA" * 40), ("N", "100121")])]
     cut = plain[:4] + [(plain[4][:30], len(plain[4])), plain[5]]
-    yield user("lapb-snap-length", cut, first(2, 128) + HEAD_ROWS + "6 N 100121\n", status=1, tshark=False, report=text("""
+    rows = first(2, 128) + HEAD_ROWS + "6 N 100121\n"
+    yield user("lapb-snap-length", cut, rows, status=1, tshark=False, report=text("""
         F 6 N d1 2
         C 1 2 1 out - - 3 4 - open 0 0 0 0 0
         A - 1 0

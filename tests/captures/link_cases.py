@@ -208,7 +208,8 @@ def dump_cases():
             shown = "".join(chr(one) if 32 < one < 127 else "." for one in part)
             text_column += f"{at:04x}  {part.hex(' '):<47}   {shown}\n"
         text_column += "\n"
-    yield carried("dump-of-ethernet-with-a-text-column", text_column.encode(), "--as ethernet", ending="txt", tshark=None)
+    yield carried("dump-of-ethernet-with-a-text-column", text_column.encode(), "--as ethernet", ending="txt",
+                  tshark=None)
 
 
 def cases():

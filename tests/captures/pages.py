@@ -11,7 +11,9 @@ from x25trace_lib import command
 HERE = pathlib.Path(__file__).resolve().parent
 PAGE = HERE.parent.parent / "docs" / "CAPTURES.md"
 # A block of text that begins with a call on one of the committed captures, perhaps with its output sent to a file.
-CALL = re.compile(r"```text\n\$ tools/x25trace ([^>\n]*?\.(?:pcap|pcapng|txt))( > \S+)?\n(.*?)(?:\$ .*?)?```", re.DOTALL)
+CALL = re.compile(
+    r"```text\n\$ tools/x25trace ([^>\n]*?\.(?:pcap|pcapng|txt))( > \S+)?\n(.*?)(?:\$ .*?)?```", re.DOTALL
+)
 
 
 class Pages(unittest.TestCase):

@@ -1,4 +1,4 @@
-"""Which channel of the trace each XOT circuit gets: one of its own while there are some, then one that is free again."""
+"""Which channel of the trace an XOT circuit gets: one of its own while there are some, then one that is free again."""
 import heapq
 from dataclasses import dataclass
 

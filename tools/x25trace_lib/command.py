@@ -106,47 +106,56 @@ def sender(word):
 def parser():
     words = Words(
         prog="x25trace",
-        description="Writes the trace, as x25scan reads it, of the X.25 packets in a capture: pcap, pcapng or a hex dump; "
-        "XOT, LAPB or packets. Messages and counts go to standard error, and into the trace as comments.",
+        description="Writes the trace, as x25scan reads it, of the X.25 packets in a capture: pcap, pcapng or a hex "
+        "dump; XOT, LAPB or packets. Messages and counts go to standard error, and into the trace as comments.",
         epilog=EPILOG,
         formatter_class=argparse.RawDescriptionHelpFormatter,
         allow_abbrev=False,
     )
     words.add_argument("capture", metavar="CAPTURE", help="the file; - for standard input")
-    reading = words.add_argument_group("reading")
-    reading.add_argument("--as", dest="kinds", metavar="[LINKTYPE=]KIND", type=kind, action="append", default=[],
-                         help="what frames of a link type hold, or those of a hex dump and of all unknown link types")
-    reading.add_argument("--only", choices=[one.value for one in Carrier], help="leave out what other carriers carry")
-    reading.add_argument("--interface", metavar="N", type=number(0, 65_535), action="append", default=[],
-                         help="only this interface of a pcapng file, from 0; may be repeated")
-    reading.add_argument("--port", metavar="N", type=number(1, 65_535), action="append", default=[],
-                         help=f"a TCP port of XOT, instead of {XOT_PORT}; may be repeated")
-    reading.add_argument("--lapb-modulo", dest="link_modulus", type=int, choices=(8, 128),
-                         help="how LAPB counts its frames; else SABM and SABME tell, and 8 before them")
-    sides = words.add_argument_group("sides")
-    sides.add_argument("--dte", metavar="ADDRESS", type=address,
-                       help="the host of XOT that is the DTE, else the one that opens each connection")
-    sides.add_argument("--side", choices=[one.value for one in SideBy], default=SideBy.ADDRESS.value,
-                       help="what tells the side of a LAPB frame (address)")
-    sides.add_argument("--sender", metavar="N=dte|dce", type=sender, action="append", default=[],
-                       help="who sends the packets that an interface recorded; may be repeated")
-    sides.add_argument("--swap", action="store_true",
-                       help="the DTE and the DCE the other way round: the recording host is the DCE")
-    header = words.add_argument_group("header, else estimated from what was seen")
-    header.add_argument("--mod", dest="modulus", type=int, choices=(8, 128), help="the modulus of packets")
-    header.add_argument("--win", dest="window", metavar="N", type=number(1, 127), help="the default window")
-    header.add_argument("--size", metavar="N", type=size, help="the default packet size, in octets")
-    channel = number(0, LAST_CHANNEL)
-    header.add_argument("--pvc", dest="permanent", metavar="N", type=channel, help="the last permanent channel")
-    header.add_argument("--svc", dest="calls", metavar="N", type=number(1, LAST_CHANNEL), help="the last channel")
-    header.add_argument("--in", dest="incoming", metavar="N", type=channel, help="the last channel for incoming calls")
-    header.add_argument("--two", dest="two_way", metavar="N", type=channel, help="the last two-way channel")
-    header.add_argument("--out", dest="outgoing", metavar="N", type=number(1, LAST_CHANNEL),
-                        help="the last channel for outgoing calls")
-    join = header.add_mutually_exclusive_group()
-    join.add_argument("--join", dest="join", action="store_true", default=None, help="the recording began in the middle")
-    join.add_argument("--no-join", dest="join", action="store_false", help="all channels were fresh when it began")
+    reading_words(words.add_argument_group("reading"))
+    side_words(words.add_argument_group("sides"))
+    header_words(words.add_argument_group("header, else estimated from what was seen"))
     return words
+
+
+def reading_words(group):
+    group.add_argument("--as", dest="kinds", metavar="[LINKTYPE=]KIND", type=kind, action="append", default=[],
+                       help="what frames of a link type hold, or those of a hex dump and of all unknown link types")
+    group.add_argument("--only", choices=[one.value for one in Carrier], help="leave out what other carriers carry")
+    group.add_argument("--interface", metavar="N", type=number(0, 65_535), action="append", default=[],
+                       help="only this interface of a pcapng file, from 0; may be repeated")
+    group.add_argument("--port", metavar="N", type=number(1, 65_535), action="append", default=[],
+                       help=f"a TCP port of XOT, instead of {XOT_PORT}; may be repeated")
+    group.add_argument("--lapb-modulo", dest="link_modulus", type=int, choices=(8, 128),
+                       help="how LAPB counts its frames; else SABM and SABME tell, and 8 before them")
+
+
+def side_words(group):
+    group.add_argument("--dte", metavar="ADDRESS", type=address,
+                       help="the host of XOT that is the DTE, else the one that opens each connection")
+    group.add_argument("--side", choices=[one.value for one in SideBy], default=SideBy.ADDRESS.value,
+                       help="what tells the side of a LAPB frame (address)")
+    group.add_argument("--sender", metavar="N=dte|dce", type=sender, action="append", default=[],
+                       help="who sends the packets that an interface recorded; may be repeated")
+    group.add_argument("--swap", action="store_true",
+                       help="the DTE and the DCE the other way round: the recording host is the DCE")
+
+
+def header_words(group):
+    channel = number(0, LAST_CHANNEL)
+    last = number(1, LAST_CHANNEL)
+    group.add_argument("--mod", dest="modulus", type=int, choices=(8, 128), help="the modulus of packets")
+    group.add_argument("--win", dest="window", metavar="N", type=number(1, 127), help="the default window")
+    group.add_argument("--size", metavar="N", type=size, help="the default packet size, in octets")
+    group.add_argument("--pvc", dest="permanent", metavar="N", type=channel, help="the last permanent channel")
+    group.add_argument("--svc", dest="calls", metavar="N", type=last, help="the last channel")
+    group.add_argument("--in", dest="incoming", metavar="N", type=channel, help="the last channel for incoming calls")
+    group.add_argument("--two", dest="two_way", metavar="N", type=channel, help="the last two-way channel")
+    group.add_argument("--out", dest="outgoing", metavar="N", type=last, help="the last channel for outgoing calls")
+    join = group.add_mutually_exclusive_group()
+    join.add_argument("--join", action="store_true", default=None, help="the recording began in the middle")
+    join.add_argument("--no-join", dest="join", action="store_false", help="all channels were fresh when it began")
 
 
 def chosen(words):

@@ -15,9 +15,8 @@ def is_dump(octets):
     """Whether the beginning of a file looks like a hex dump: text, with a line of offset 0 and an octet."""
     if b"\0" in octets:
         return False
-    return any(
-        (line := LINE.match(part)) and int(line[1], 16) == 0 and octets_of(line[2] or b"") for part in octets.splitlines()
-    )
+    matches = filter(None, map(LINE.match, octets.splitlines()))
+    return any(int(match[1], 16) == 0 and octets_of(match[2] or b"") for match in matches)
 
 
 def octets_of(words):

@@ -16,7 +16,7 @@ SYN, FIN, RST, ACK = 2, 1, 4, 16
 
 @dataclass(slots=True, eq=False)
 class Segment:
-    """A TCP segment; an end is an address and a port, as octets; missing counts what the capture cut off its payload."""
+    """A TCP segment; its ends are an address and a port each, in octets; missing octets of its payload were cut off."""
 
     frame: int
     source: bytes

@@ -182,8 +182,8 @@ class Lapb:
         way.acknowledged = receive
         self.drop_held(way)
         if lost:
-            words = f"I frames of {self.named(side).name} before N(S) {receive} were acknowledged and not recorded: {lost}"
-            self.ledger.damaged(Reason.LOST_FRAME, f"frame {number}: {words}", lost)
+            words = f"{lost} I frames of {self.named(side).name} before N(S) {receive} were not recorded"
+            self.ledger.damaged(Reason.LOST_FRAME, f"frame {number}: {words}, but acknowledged", lost)
 
     def information(self, number, side, send, octets):
         """An I frame: the next one, one that repeats, or one to hold."""
@@ -228,5 +228,5 @@ class Lapb:
         for way in self.ways.values():
             self.drop_held(way)
         if self.contradictions:
-            words = f"{self.contradictions} LAPB frames have a direction and an address octet that contradict each other"
-            self.ledger.tell(words)
+            words = "LAPB frames whose direction and address octet contradict each other"
+            self.ledger.tell(f"{words}: {self.contradictions}")

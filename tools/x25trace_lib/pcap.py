@@ -1,4 +1,4 @@
-"""Frames of a pcap file: both byte orders, micro- and nanoseconds. A damaged record is told, and the next one sought."""
+"""Frames of a pcap file: both byte orders, micro- and nanoseconds; behind a damaged record the next one is sought."""
 import struct
 
 from .frames import Direction, Frame

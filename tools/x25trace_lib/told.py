@@ -52,7 +52,7 @@ class Reason(enum.Enum):
     FRAGMENT = ("IP fragments without the rest of their datagram", True)
     GAP = ("gaps in TCP connections", True)
     AFTER_GAP = ("TCP segments after a gap, a break or the end of their connection", True)
-    NOT_XOT = ("TCP connections that stopped to speak XOT", True)
+    NOT_XOT = ("TCP connections that do not speak XOT", True)
     UNSYNCHRONISED = ("TCP segments before the first XOT header of a connection", True)
     CUT_XOT = ("XOT packets whose connection ended inside of them", True)
     LINE_PACKET = ("XOT packets that speak of a whole interface", True)

@@ -170,9 +170,9 @@ class Xot:
     def tell_loss(self, connection, circuit):
         if connection.lost and not circuit.broken:
             circuit.broken = connection.lost
-            words = f"frame {connection.lost.frame}: {connection.lost.octets} octets of {circuit.sides[connection.lost.index].name}"
-            words += f" {connection.lost.how}; connection {circuit.number} is left out from here on"
-            self.ledger.tell(words)
+            loss = connection.lost
+            words = f"frame {loss.frame}: {loss.octets} octets of {circuit.sides[loss.index].name} {loss.how}"
+            self.ledger.tell(f"{words}; connection {circuit.number} is left out from here on")
 
     def finish(self, connection, circuit, frame):
         """Tells how a connection ended."""
@@ -190,7 +190,8 @@ class Xot:
         self.tell_loss(connection, circuit)
         for index, rest in enumerate(circuit.rests):
             if rest and not circuit.broken:
-                words = f"connection {circuit.number} ends after {len(rest)} octets of a packet of {circuit.sides[index].name}"
+                side = circuit.sides[index].name
+                words = f"connection {circuit.number} ends after {len(rest)} octets of a packet of {side}"
                 self.ledger.damaged(Reason.CUT_XOT, words)
 
     def end(self):
@@ -236,8 +237,8 @@ class Xot:
             if kind == PVC_SETUP and not circuit.called:
                 return self.set_up(circuit, frame, side)
             if kind in LINE_TYPES and line_channel == 0:
-                words = f"frame {frame}: connection {circuit.number}: a packet of type {kind:02X} on channel 0, of {side.name}"
-                self.ledger.damaged(Reason.LINE_PACKET, words)
+                words = f"a packet of type {kind:02X} on channel 0, of {side.name}"
+                self.ledger.damaged(Reason.LINE_PACKET, f"frame {frame}: connection {circuit.number}: {words}")
                 return None
             if kind in CALL_TYPES:
                 circuit.step(side, kind)
