@@ -118,6 +118,17 @@ def lapb_cases():
     yield on_line("hdlc-with-check-sequence", pcap(147, checked), "--as 147=hdlc", tshark=None)
     flags = [b"\x7e" + frame + b"\x7e" for frame in checked]
     yield on_line("hdlc-with-flags", pcap(147, flags), "--as 147=hdlc", tshark=None)
+    yield check_that_ends_like_a_flag()
+
+
+def check_that_ends_like_a_flag():
+    """Interrupts whose check sequences end with the octet of a flag, with flags and without."""
+    frames = [information("N", 0, 0, f"100123{octet:02X}{octet2:02X}") for octet in range(256) for octet2 in (0, 1)]
+    ends = [frame + check(frame) for frame in frames if check(frame)[1:] == b"\x7e"][:2]
+    rows = "X25 2 MOD 8 WIN 2 SIZE 128 PVC 0 IN 0 TWO 1 OUT 1 JOIN\n"
+    rows += f"1 N {ends[0][2:-2].hex().upper()}\n"
+    return Case("hdlc-check-sequence-that-ends-like-a-flag", pcap(147, [b"\x7e" + ends[0] + b"\x7e\x7e", ends[0]]), rows,
+                "--as 147=hdlc", report="P 0 -\nZ 1 0 0 0 0\n", tshark=None)
 
 
 def packet_cases():

@@ -140,7 +140,7 @@ class Internet:
     def fragment(self, frame, identity, place, begin, end, last):
         """Keeps a fragment; the segment of the datagram that it completes."""
         if end > len(frame.octets):
-            self.ledger.damaged(Reason.FRAGMENT, f"frame {frame.number}: a fragment that the snap length cut")
+            self.ledger.damaged(Reason.FRAGMENT, f"frame {frame.number}: a fragment that was cut off")
             return None
         whole = self.fragments.add(frame, identity, place, frame.octets[begin:end], last)
         return self.tcp(frame, whole, 0, len(whole), *identity[:2]) if whole else None

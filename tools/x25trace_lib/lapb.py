@@ -18,6 +18,7 @@ from .told import Reason
 COMMAND_SIDES = {0x01: Side.T, 0x03: Side.N}
 RESPONSE_SIDES = {0x03: Side.T, 0x01: Side.N}
 POLL = 0x10
+FLAG = b"\x7e"
 
 
 class Unnumbered(enum.IntEnum):
@@ -42,21 +43,31 @@ class SideBy(enum.Enum):
     DIRECTION = "direction"
 
 
-def check_of(octets):
-    """The frame check sequence of octets: x^16 + x^12 + x^5 + 1, low bit first, ones at the start and inverted."""
+def remainder(rest):
+    """A step of the frame check sequence: eight bits by x^16 + x^12 + x^5 + 1, low bit first."""
+    for _ in range(8):
+        rest = rest >> 1 ^ 0x8408 if rest & 1 else rest >> 1
+    return rest
+
+
+REMAINDERS = [remainder(octet) for octet in range(256)]
+
+
+def is_checked(octets):
+    """Whether the last two octets are the check sequence of those before."""
     rest = 0xFFFF
-    for octet in octets:
-        rest ^= octet
-        for _ in range(8):
-            rest = rest >> 1 ^ 0x8408 if rest & 1 else rest >> 1
-    return rest ^ 0xFFFF
+    for octet in octets[:-2]:
+        rest = rest >> 8 ^ REMAINDERS[(rest ^ octet) & 255]
+    return len(octets) >= 4 and rest ^ 0xFFFF == int.from_bytes(octets[-2:], "little")
 
 
 def unframe(octets):
-    """What stands between the flags of a frame, without its check sequence; None where that is wrong."""
-    octets = octets.strip(b"\x7e") if octets[:1] == b"\x7e" else octets
-    if len(octets) < 4 or check_of(octets[:-2]) != int.from_bytes(octets[-2:], "little"):
-        return None
+    """What stands between the flags of a frame, without its check sequence, which may end like a flag; None if wrong."""
+    octets = octets.lstrip(FLAG)
+    while not is_checked(octets):
+        if octets[-1:] != FLAG:
+            return None
+        octets = octets[:-1]
     return octets[:-2]
 
 
@@ -219,7 +230,7 @@ class Lapb:
 
     def given_out(self, side, number, octets):
         if octets is None:
-            words = f"frame {number}: an I frame of {self.named(side).name} that the snap length cut"
+            words = f"frame {number}: an I frame of {self.named(side).name} that was cut off"
             self.ledger.damaged(Reason.CUT_PACKET, words)
         else:
             yield Packet(number, self.named(side), octets)

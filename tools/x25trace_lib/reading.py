@@ -125,7 +125,7 @@ class Reading:
         if side is None:
             self.ledger.left_out(Reason.NO_SIDE)
         elif len(octets) < frame.length:
-            self.ledger.damaged(Reason.CUT_PACKET, f"frame {frame.number}: a packet that the snap length cut")
+            self.ledger.damaged(Reason.CUT_PACKET, f"frame {frame.number}: a packet that was cut off")
         else:
             yield Packet(frame.number, side, octets[at:])
 

@@ -155,7 +155,7 @@ class Connection:
             return
         if segment.missing and past > max(old, len(segment.payload)):
             missing = past - max(old, len(segment.payload))
-            self.gap(Loss(index, segment.frame, missing, "were cut by the snap length"))
+            self.gap(Loss(index, segment.frame, missing, "were cut off"))
         elif segment.fin and not stream.ended:
             stream.next = (stream.next + 1) % CIRCLE
             stream.ended = True
