@@ -88,6 +88,10 @@ class Estimator:
         else:
             self.signal(seen, kind, octets)
 
+    def forget(self, key):
+        """The channel with a key has no more packets."""
+        self.seen.pop(key, None)
+
     def restart(self, kind):
         if kind == Type.RESTART:
             self.restarted = True

@@ -18,6 +18,7 @@ class Trace:
         self.ledger, self.reading, self.wishes = ledger, reading, wishes
         self.spool = Spool()
         self.estimator = Estimator()
+        reading.xot.on_end = self.estimator.forget
         self.carriers = Counter()
         ledger.listeners.append(self.spool.tell)
 

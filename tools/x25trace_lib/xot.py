@@ -1,5 +1,6 @@
 """XOT: packets of X.25 in TCP connections, one connection a circuit."""
 import struct
+from collections import deque
 from dataclasses import dataclass, field
 
 from .internet import port_of
@@ -9,11 +10,12 @@ from .told import Reason
 
 HEAD = struct.Struct(">HH")
 PVC_SETUP = 0xF5
+MOST_OVER = 1000
 LINE_TYPES = frozenset((Type.RESTART, Type.RESTART_CONFIRM, Type.DIAGNOSTIC, Type.REGISTRATION, Type.REGISTERED))
 CALL_TYPES = frozenset((Type.CALL, Type.CLEAR, Type.CLEAR_CONFIRM))
 
 
-@dataclass
+@dataclass(slots=True)
 class Circuit:
     """What one connection is in the trace. The first end is the one that opened it."""
 
@@ -93,6 +95,9 @@ class Xot:
         self.budget = Budget()
         self.circuits = []
         self.table = {}
+        # Connections that are over stay in the table for a while: their last segments may be repeated.
+        self.over = deque()
+        self.on_end = None
 
     def take(self, segment):
         """The packets that a segment completes."""
@@ -126,8 +131,9 @@ class Xot:
         ends = (segment.target, segment.source) if index else (segment.source, segment.target)
         connection = Connection(self.ledger, self.budget, ends)
         circuit = self.circuit(ends, segment.frame, syn)
-        self.table[ends] = (connection, 0, circuit)
-        self.table[ends[::-1]] = (connection, 1, circuit)
+        if circuit:
+            self.table[ends] = (connection, 0, circuit)
+            self.table[ends[::-1]] = (connection, 1, circuit)
         return connection, index, circuit
 
     def circuit(self, ends, frame, syn):
@@ -183,6 +189,18 @@ class Xot:
         words = circuit.end_words()
         if words and not circuit.broken:
             self.ledger.tell(f"frame {frame}: connection {circuit.number}: {words}")
+        circuit.rests = circuit.synchronised = None
+        self.over.append(connection)
+        if len(self.over) > MOST_OVER:
+            self.forget(self.over.popleft())
+        if self.on_end:
+            self.on_end(circuit.number)
+
+    def forget(self, connection):
+        """Takes a connection from the table, unless its ports are used again."""
+        for ends in (connection.ends, connection.ends[::-1]):
+            if self.table.get(ends, (None,))[0] is connection:
+                del self.table[ends]
 
     def close(self, connection, circuit):
         """Gives up what still waits."""
