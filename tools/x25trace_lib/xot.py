@@ -101,6 +101,9 @@ class Xot:
 
     def take(self, segment):
         """The packets that a segment completes."""
+        if self.dte is not None and self.dte not in (segment.source[:-2], segment.target[:-2]):
+            self.ledger.left_out(Reason.OTHER_HOST)
+            return
         connection, index, circuit = self.table.get((segment.source, segment.target), (None, 0, None))
         if segment.syn and not (connection and self.goes_on(connection, index, segment)):
             if connection:
@@ -111,9 +114,6 @@ class Xot:
                 self.ledger.left_out(Reason.NO_OCTETS)
                 return
             connection, index, circuit = self.open(segment, False)
-        if circuit is None:
-            self.ledger.left_out(Reason.OTHER_HOST)
-            return
         yield from self.feed(connection, index, circuit, segment)
 
     def goes_on(self, connection, index, segment):
@@ -131,20 +131,13 @@ class Xot:
         ends = (segment.target, segment.source) if index else (segment.source, segment.target)
         connection = Connection(self.ledger, self.budget, ends)
         circuit = self.circuit(ends, segment.frame, syn)
-        if circuit:
-            self.table[ends] = (connection, 0, circuit)
-            self.table[ends[::-1]] = (connection, 1, circuit)
+        self.table[ends] = (connection, 0, circuit)
+        self.table[ends[::-1]] = (connection, 1, circuit)
         return connection, index, circuit
 
     def circuit(self, ends, frame, syn):
-        """The circuit of a connection, or None where it has not the host that is asked for."""
-        hosts = [end[:-2] for end in ends]
-        if self.dte is None:
-            sides = self.sides
-        elif self.dte in hosts:
-            sides = self.sides if hosts[0] == self.dte else self.sides[::-1]
-        else:
-            return None
+        """The circuit of a connection; its DTE is the host that was asked for, else the one that opened it."""
+        sides = self.sides if self.dte in (None, ends[0][:-2]) else self.sides[::-1]
         circuit = Circuit(len(self.circuits) + 1, ends, sides, frame, syn)
         circuit.synchronised = [syn, syn]
         circuit.called = not syn
@@ -182,7 +175,7 @@ class Xot:
 
     def finish(self, connection, circuit, frame):
         """Tells how a connection ended."""
-        if circuit is None or circuit.ended:
+        if circuit.ended:
             return
         circuit.ended = True
         self.close(connection, circuit)
@@ -215,7 +208,7 @@ class Xot:
     def end(self):
         """The recording has ended."""
         for connection, index, circuit in self.table.values():
-            if index == 0 and circuit and not circuit.ended:
+            if index == 0 and not circuit.ended:
                 self.close(connection, circuit)
 
     def packets(self, circuit, chunk):
