@@ -18,6 +18,7 @@ from .told import Reason
 COMMAND_SIDES = {0x01: Side.T, 0x03: Side.N}
 RESPONSE_SIDES = {0x03: Side.T, 0x01: Side.N}
 POLL = 0x10
+REJECT = 0x09
 FLAG = b"\x7e"
 
 
@@ -137,7 +138,7 @@ class Lapb:
         if control & 1:
             self.ledger.left_out(Reason.LINK_FRAME)
             final = control & POLL if size == 1 else octets[2] & 1
-            yield from self.supervisory(frame, octets[0], receive, final)
+            yield from self.supervisory(frame, octets, receive, final)
             return
         send = control >> 1 & 7 if size == 1 else control >> 1
         side = self.side(COMMAND_SIDES, octets[0], frame.direction)
@@ -161,21 +162,34 @@ class Lapb:
                 self.drop_held(way)
                 way.next = way.acknowledged = 0
 
-    def supervisory(self, frame, address, receive, final):
+    def supervisory(self, frame, octets, receive, final):
         """An RR, RNR or REJ. Without a direction it may be a command or a response; then it proves no loss."""
         side = self.directed(frame.direction)
-        if side is not None:
-            yield from self.acknowledge(frame.number, side.other, receive, True)
-        elif not final:
-            yield from self.acknowledge(frame.number, RESPONSE_SIDES[address].other, receive, False)
+        proves = side is not None
+        if not proves:
+            if final:
+                return
+            side = RESPONSE_SIDES[octets[0]]
+        way = self.ways[side.other]
+        if octets[1] & 0x0F == REJECT and way.acknowledged is None:
+            # What is rejected was sent before, so this N(R) is for frames before the next one.
+            way.acknowledged = receive
+        else:
+            yield from self.acknowledge(frame.number, side.other, receive, proves)
 
     def acknowledge(self, number, side, receive, proves):
         """Takes an N(R) for the frames of a side; beyond the next one it proves that frames were not recorded."""
         way = self.ways[side]
-        if way.next is None or way.acknowledged is None:
+        if way.next is None:
             way.acknowledged = receive
             return
-        inside = (receive - way.acknowledged) % self.circle <= (way.next - way.acknowledged) % self.circle
+        if way.acknowledged is None:
+            # Where recording began in the middle a first N(R) may be for frames before; not for one that is held.
+            beyond = (receive - 1) % self.circle in way.held
+            inside = not beyond and (way.next - receive) % self.circle <= self.circle // 2
+            proves = proves and beyond
+        else:
+            inside = (receive - way.acknowledged) % self.circle <= (way.next - way.acknowledged) % self.circle
         if inside:
             way.acknowledged = receive
         elif proves:
@@ -191,7 +205,6 @@ class Lapb:
                 yield from self.given_out(side, *frame)
             way.next = (way.next + 1) % self.circle
         way.acknowledged = receive
-        self.drop_held(way)
         if lost:
             words = f"{lost} I frames of {self.named(side).name} before N(S) {receive} were not recorded"
             self.ledger.damaged(Reason.LOST_FRAME, f"frame {number}: {words}, but acknowledged", lost)
@@ -203,7 +216,8 @@ class Lapb:
             # No window reaches so far: the receiver must have acknowledged the frame that is next.
             yield from self.catch_up(number, side, way, send)
         if way.next is None or send == way.next:
-            self.drop_held(way)
+            # A held one with this number was not taken, so it came again; those behind it may have been.
+            self.ledger.left_out(Reason.UNTAKEN_FRAME, way.held.pop(send, None) is not None)
             way.next = (send + 1) % self.circle
             yield from self.given_out(side, number, octets)
         elif self.repeats(way, send):

@@ -75,7 +75,8 @@ class Ledger:
         self.listeners = []
 
     def left_out(self, reason, many=1):
-        self.counts[reason] += many
+        if many:
+            self.counts[reason] += many
 
     def tell(self, words):
         """Tells something that is no damage of its own."""
