@@ -185,6 +185,15 @@ def middle_cases():
         5 T 1001130000
         6 N 100117
     """), report="P 0 -\nZ 5 0 0 0 0\n", tshark=False)
+    # The recording host is the DCE. Its RR comes first, before an address has told which side it is.
+    frames = [b"\1" + ready("N", 7), b"\0" + information("T", 7, 3, "100146AA"), b"\1" + information("N", 3, 0, "100161"),
+              b"\0" + ready("T", 4), b"\0" + information("T", 0, 4, "100168BB"), b"\1" + ready("N", 1)]
+    yield Case("lapb-recorded-by-the-dce-from-the-middle", pcap(207, frames), text("""
+        X25 2 MOD 8 WIN 2 SIZE 16 PVC 0 IN 0 TWO 1 OUT 1 JOIN
+        2 T 100146AA
+        3 N 100161
+        5 T 100168BB
+    """), report="P 0 -\nZ 3 0 0 0 0\n", tshark=None)
     plain = [frame for _, frame in line(HEAD + [("T", "100100" + "AA" * 40), ("N", "100121")])]
     cut = plain[:4] + [(plain[4][:30], len(plain[4])), plain[5]]
     rows = first(2, 128) + HEAD_ROWS + "6 N 100121\n"

@@ -92,27 +92,26 @@ class Lapb:
         by_direction = side_by is SideBy.DIRECTION
         self.host = Side.N if swapped and by_direction else Side.T
         self.swapped = swapped and not by_direction
-        self.host_known = False
+        self.host_known = by_direction
         self.contradictions = 0
         self.ways = {side: Way(held={}) for side in Side}
 
     def directed(self, direction):
-        """The side that sent a frame of a direction, or None."""
-        if direction is Direction.UNKNOWN:
+        """The side that sent a frame of a direction, or None where the capture or the host's side does not tell."""
+        if direction is Direction.UNKNOWN or not self.host_known:
             return None
         return self.host if direction is Direction.SENT else self.host.other
 
     def side(self, table, address, direction):
         """The side of a frame that is known for a command or a response."""
         by_address, by_direction = table[address], self.directed(direction)
-        if by_direction is None:
-            return by_address
-        if by_direction is not by_address and self.side_by is SideBy.ADDRESS:
-            self.contradictions += self.host_known
-            self.host = self.host.other
-        self.contradictions += by_direction is not by_address and self.side_by is SideBy.DIRECTION
-        self.host_known = True
-        return by_address if self.side_by is SideBy.ADDRESS else by_direction
+        self.contradictions += by_direction not in (None, by_address)
+        if self.side_by is SideBy.DIRECTION:
+            return by_direction or by_address
+        if direction is not Direction.UNKNOWN:
+            self.host = by_address if direction is Direction.SENT else by_address.other
+            self.host_known = True
+        return by_address
 
     def named(self, side):
         return side.other if self.swapped else side

@@ -108,19 +108,23 @@ class Connection:
         if ahead(segment.sequence + len(segment.payload) + segment.missing + segment.fin, stream.next) <= 0:
             self.ledger.left_out(Reason.REPEATED_OCTETS)
             return
-        self.keep(stream, segment, 1)
+        self.keep(stream, segment)
         yield from self.pump()
         if self.cost > MOST_OF_ONE or self.budget.used > MOST_OF_ALL:
             self.lose()
 
-    def keep(self, stream, segment, sign):
-        cost = sign * (len(segment.payload) + SEGMENT_COST)
+    def keep(self, stream, segment):
+        stream.hold(segment)
+        self.charge(len(segment.payload) + SEGMENT_COST)
+
+    def take_back(self, stream):
+        segment = stream.held.pop(0)
+        self.charge(-len(segment.payload) - SEGMENT_COST)
+        return segment
+
+    def charge(self, cost):
         self.cost += cost
         self.budget.used += cost
-        if sign > 0:
-            stream.hold(segment)
-        else:
-            stream.held.remove(segment)
 
     def answers(self, index, segment):
         """Whether all that a segment acknowledges was delivered."""
@@ -129,17 +133,16 @@ class Connection:
 
     def pump(self):
         """Delivers what waits no longer, the lower frame first."""
-        while self.lost is None:
+        while True:
             ready = []
             for index, stream in enumerate(self.streams):
                 head = next(iter(stream.held), None)
                 if head and ahead(head.sequence, stream.next) <= 0 and self.answers(index, head):
-                    ready.append((head.frame, index, head))
+                    ready.append((head.frame, index))
             if not ready:
                 return
-            _, index, segment = min(ready)
-            self.keep(self.streams[index], segment, -1)
-            yield from self.deliver(index, segment)
+            _, index = min(ready)
+            yield from self.deliver(index, self.take_back(self.streams[index]))
 
     def deliver(self, index, segment):
         """The octets of a segment that were not delivered before, and its end."""
@@ -162,9 +165,18 @@ class Connection:
             self.over = self.streams[1 - index].ended
 
     def gap(self, loss):
-        if self.lost is None:
-            self.lost = loss
-            self.ledger.left_out(Reason.GAP)
+        """Nothing of the connection is delivered any more."""
+        self.lost = loss
+        self.ledger.left_out(Reason.GAP)
+        self.give_up()
+
+    def give_up(self):
+        """Counts what waits as left out."""
+        for stream in self.streams:
+            self.ledger.left_out(Reason.AFTER_GAP, len(stream.held))
+            stream.held.clear()
+        self.budget.used -= self.cost
+        self.cost = 0
 
     def lose(self):
         """Gives up what is missing: the first octets that something waits for."""
@@ -177,7 +189,3 @@ class Connection:
             index = 1 - index
             missing = ahead(head.acknowledged, self.streams[index].next)
         self.gap(Loss(index, head.frame, missing, "before it were not recorded"))
-        for stream in self.streams:
-            for segment in list(stream.held):
-                self.keep(stream, segment, -1)
-                self.ledger.left_out(Reason.AFTER_GAP)

@@ -39,7 +39,7 @@ class Circuit:
     shown: bool = False
     rests: list = field(default_factory=lambda: [b"", b""])
     synchronised: list = field(default_factory=lambda: [True, True])
-    broken: str | None = None
+    broken: bool = False
     ended: bool = False
 
     def who(self):
@@ -152,6 +152,8 @@ class Xot:
                 if not circuit.broken:
                     yield from self.packets(circuit, chunk)
             self.tell_loss(connection, circuit)
+            if circuit.broken:
+                connection.give_up()
         if segment.reset or connection.over:
             self.finish(connection, circuit, segment.frame)
 
@@ -168,7 +170,7 @@ class Xot:
 
     def tell_loss(self, connection, circuit):
         if connection.lost and not circuit.broken:
-            circuit.broken = connection.lost
+            circuit.broken = True
             loss = connection.lost
             words = f"frame {loss.frame}: {loss.octets} octets of {circuit.sides[loss.index].name} {loss.how}"
             self.ledger.tell(f"{words}; connection {circuit.number} is left out from here on")
@@ -225,7 +227,9 @@ class Xot:
         while len(octets) - at >= HEAD.size:
             version, length = HEAD.unpack_from(octets, at)
             if version:
-                self.not_xot(circuit, chunk.frame, f"an XOT header of version {version}")
+                circuit.broken = True
+                words = f"an XOT header of version {version}; connection {circuit.number} is left out from here on"
+                self.ledger.damaged(Reason.NOT_XOT, f"frame {chunk.frame}: {words}")
                 return
             begin = at + HEAD.size
             if begin + length > len(octets):
@@ -235,11 +239,6 @@ class Xot:
             if packet:
                 yield packet
         circuit.rests[index] = octets[at:]
-
-    def not_xot(self, circuit, frame, words):
-        circuit.broken = words
-        words = f"frame {frame}: {words}; connection {circuit.number} is left out from here on"
-        self.ledger.damaged(Reason.NOT_XOT, words)
 
     def packet(self, circuit, frame, side, octets):
         """A packet of a circuit, or None for one that is left out."""
