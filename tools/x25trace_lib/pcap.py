@@ -1,4 +1,5 @@
 """Frames of a pcap file: both byte orders, micro- and nanoseconds; behind a damaged record the next one is sought."""
+import re
 import struct
 
 from .frames import Direction, Frame
@@ -24,6 +25,7 @@ class Pcap:
     def __init__(self, source, ledger):
         self.source, self.ledger = source, ledger
         order, self.parts = MAGICS[source.peek(4)]
+        self.highest = 0 if order == ">" else 3
         self.record = struct.Struct(order + "IIII")
         header = source.read(FILE_HEADER)
         if len(header) < FILE_HEADER:
@@ -85,7 +87,7 @@ class Pcap:
 
     def next_record(self, window):
         """Where in a window two records follow each other, or one that ends with the file."""
-        for at in range(1, len(window) - RECORD_HEADER + 1):
+        for at in self.places(window):
             kept = self.plausible(window, at)
             if kept is None:
                 continue
@@ -93,6 +95,14 @@ class Pcap:
             if after == len(window) < WINDOW or self.plausible(window, after) is not None:
                 return at
         return None
+
+    def places(self, window):
+        """Where a record may begin: anywhere, or where the highest octet of its seconds is near the last record's."""
+        if self.seconds is None:
+            return range(1, len(window))
+        near = {(self.seconds + way * DAYS) >> 24 & 255 for way in (-1, 0, 1)}
+        octets = re.compile(b"[" + b"".join(re.escape(bytes((octet,))) for octet in near) + b"]", re.DOTALL)
+        return (match.start() - self.highest for match in octets.finditer(window, self.highest + 1))
 
     def plausible(self, window, at):
         """How many octets the record keeps that may begin here, or None."""

@@ -2,27 +2,31 @@
 
 
 class Source:
+    """A stream, and what was looked at: ahead has the octets, of which those before at were read."""
+
     def __init__(self, stream):
         self.stream = stream
         self.offset = 0
         self.ahead = b""
+        self.at = 0
 
     def read(self, many):
         """The next octets; fewer where the file ends."""
-        if self.ahead:
-            octets, self.ahead = self.ahead[:many], self.ahead[many:]
-            if len(octets) < many:
-                octets += self.stream.read(many - len(octets))
-        else:
-            octets = self.stream.read(many)
+        octets = self.ahead[self.at:self.at + many]
+        self.at += len(octets)
+        if self.at == len(self.ahead):
+            self.ahead, self.at = b"", 0
+        if len(octets) < many:
+            octets += self.stream.read(many - len(octets))
         self.offset += len(octets)
         return octets
 
     def peek(self, many):
         """What read would give, without reading it."""
-        if len(self.ahead) < many:
-            self.ahead += self.stream.read(many - len(self.ahead))
-        return self.ahead[:many]
+        if len(self.ahead) - self.at < many:
+            rest = self.ahead[self.at:]
+            self.ahead, self.at = rest + self.stream.read(many - len(rest)), 0
+        return self.ahead[self.at:self.at + many]
 
     def skip(self, many):
         """Reads over octets, in pieces; returns how many there were."""
@@ -36,8 +40,8 @@ class Source:
 
     def lines(self):
         """The lines of the rest, without their ends, each with its offset."""
-        rest = self.ahead
-        self.ahead = b""
+        rest = self.ahead[self.at:]
+        self.ahead, self.at = b"", 0
         while True:
             more = self.stream.readline()
             rest += more
