@@ -5,7 +5,13 @@ import struct
 from .frames import Direction
 
 UNIT = struct.Struct(">H")
-SENT_BY_US = 4
+# What a cooked header says of a frame's way; 3 is one of other hosts to each other.
+COOKED_DIRECTIONS = {
+    0: Direction.RECEIVED,
+    1: Direction.RECEIVED,
+    2: Direction.RECEIVED,
+    4: Direction.SENT,
+}
 VLAN_TAGS = frozenset((0x8100, 0x88A8, 0x9100))
 
 
@@ -53,11 +59,10 @@ def ethernet(frame):
 
 
 def cooked(frame, kind_at, protocol_at, size):
-    """A Linux cooked header: the packet type 4 says that this host sent the frame."""
+    """A Linux cooked header, with its packet type and its protocol somewhere."""
     if len(frame.octets) < size:
         return Carried.BROKEN, 0
-    kind = frame.octets[kind_at]
-    frame.direction = Direction.SENT if kind == SENT_BY_US else Direction.RECEIVED
+    frame.direction = COOKED_DIRECTIONS.get(frame.octets[kind_at], Direction.UNKNOWN)
     return by_protocol(frame, UNIT.unpack_from(frame.octets, protocol_at)[0], size)
 
 

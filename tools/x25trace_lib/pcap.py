@@ -49,8 +49,7 @@ class Pcap:
             if kept > self.largest:
                 self.seek(start, f"a record of {kept} octets")
                 continue
-            self.source.read(RECORD_HEADER)
-            octets = self.source.read(kept)
+            octets = self.source.read(RECORD_HEADER + kept)[RECORD_HEADER:]
             number += 1
             if len(octets) < kept:
                 self.ledger.damaged(
