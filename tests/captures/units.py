@@ -47,10 +47,10 @@ class Memory(unittest.TestCase):
     def test_of_one_connection(self):
         ledger, budget = Ledger(), Budget()
         connection = Connection(ledger, budget, ENDS)
-        list(connection.feed(0, segment(100, b"a")))
+        connection.feed(0, segment(100, b"a"))
         most, number = 0, 0
         while connection.lost is None:
-            self.assertEqual(list(connection.feed(0, segment(102 + 1000 * number, bytes(1000)))), [])
+            self.assertEqual(connection.feed(0, segment(102 + 1000 * number, bytes(1000))), [])
             number += 1
             most = max(most, budget.used)
         self.assertLessEqual(most, MOST_OF_ONE)
@@ -60,10 +60,10 @@ class Memory(unittest.TestCase):
 
     def test_repeats_in_what_waits(self):
         connection = Connection(Ledger(), Budget(), ENDS)
-        list(connection.feed(0, segment(100, b"a")))
+        connection.feed(0, segment(100, b"a"))
         for sequence, payload in ((104, b"ef"), (102, b"cde"), (104, b"efg")):
-            self.assertEqual(list(connection.feed(0, segment(sequence, payload))), [])
-        chunks = list(connection.feed(0, segment(101, b"b")))
+            self.assertEqual(connection.feed(0, segment(sequence, payload)), [])
+        chunks = connection.feed(0, segment(101, b"b"))
         self.assertEqual(b"".join(chunk.octets for chunk in chunks), b"bcdefg")
         self.assertEqual(connection.cost, 0)
 

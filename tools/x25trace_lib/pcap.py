@@ -41,15 +41,16 @@ class Pcap:
         number = 0
         while True:
             start = self.source.offset
-            header = self.source.peek(RECORD_HEADER)
+            header = self.source.read(RECORD_HEADER)
             if len(header) < RECORD_HEADER:
                 self.end_inside(start, header)
                 return
             seconds, _, kept, length = self.record.unpack(header)
             if kept > self.largest:
+                self.source.unread(header)
                 self.seek(start, f"a record of {kept} octets")
                 continue
-            octets = self.source.read(RECORD_HEADER + kept)[RECORD_HEADER:]
+            octets = self.source.read(kept)
             number += 1
             if len(octets) < kept:
                 self.ledger.damaged(
@@ -65,7 +66,6 @@ class Pcap:
 
     def end_inside(self, start, header):
         if header:
-            self.source.read(len(header))
             words = f"offset {start}: the file ends inside of a record's header, {len(header)} octets are left out"
             self.ledger.damaged(Reason.BAD_FILE, words)
 

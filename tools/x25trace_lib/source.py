@@ -12,6 +12,10 @@ class Source:
 
     def read(self, many):
         """The next octets; fewer where the file ends."""
+        if not self.ahead:
+            octets = self.stream.read(many)
+            self.offset += len(octets)
+            return octets
         octets = self.ahead[self.at:self.at + many]
         self.at += len(octets)
         if self.at == len(self.ahead):
@@ -20,6 +24,11 @@ class Source:
             octets += self.stream.read(many - len(octets))
         self.offset += len(octets)
         return octets
+
+    def unread(self, octets):
+        """Puts back what was read last."""
+        self.ahead, self.at = octets + self.ahead[self.at:], 0
+        self.offset -= len(octets)
 
     def peek(self, many):
         """What read would give, without reading it."""

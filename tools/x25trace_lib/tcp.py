@@ -94,24 +94,25 @@ class Connection:
             self.begin(index, segment)
             segment.sequence = (segment.sequence + 1) % CIRCLE
         self.leaving[index] |= segment.fin
+        chunks = []
         if not (segment.payload or segment.missing or segment.fin):
             self.ledger.left_out(Reason.NO_OCTETS)
             if all(self.leaving):
                 # Both ends had all when they said their last word: what still waits was not recorded.
                 self.lose()
-            return
+            return chunks
         if stream.next is None:
             stream.next = segment.sequence
         if self.cost == 0 and segment.sequence == stream.next and self.answers(index, segment):
-            yield from self.deliver(index, segment)
-            return
-        if ahead(segment.sequence + len(segment.payload) + segment.missing + segment.fin, stream.next) <= 0:
+            self.deliver(index, segment, chunks)
+        elif ahead(segment.sequence + len(segment.payload) + segment.missing + segment.fin, stream.next) <= 0:
             self.ledger.left_out(Reason.REPEATED_OCTETS)
-            return
-        self.keep(stream, segment)
-        yield from self.pump()
-        if self.cost > MOST_OF_ONE or self.budget.used > MOST_OF_ALL:
-            self.lose()
+        else:
+            self.keep(stream, segment)
+            self.pump(chunks)
+            if self.cost > MOST_OF_ONE or self.budget.used > MOST_OF_ALL:
+                self.lose()
+        return chunks
 
     def keep(self, stream, segment):
         stream.hold(segment)
@@ -131,7 +132,7 @@ class Connection:
         other = self.streams[1 - index].next
         return other is None or segment.acknowledged is None or ahead(segment.acknowledged, other) <= 0
 
-    def pump(self):
+    def pump(self, chunks):
         """Delivers what waits no longer, the lower frame first."""
         while True:
             ready = []
@@ -142,17 +143,17 @@ class Connection:
             if not ready:
                 return
             _, index = min(ready)
-            yield from self.deliver(index, self.take_back(self.streams[index]))
+            self.deliver(index, self.take_back(self.streams[index]), chunks)
 
-    def deliver(self, index, segment):
-        """The octets of a segment that were not delivered before, and its end."""
+    def deliver(self, index, segment, chunks):
+        """Adds the octets of a segment that were not delivered before, and takes its end."""
         stream = self.streams[index]
         old = ahead(stream.next, segment.sequence)
         new = segment.payload[old:] if old else segment.payload
         past = len(segment.payload) + segment.missing
         if new:
             stream.next = (stream.next + len(new)) % CIRCLE
-            yield Chunk(index, segment.frame, new)
+            chunks.append(Chunk(index, segment.frame, new))
         elif old and past + segment.fin <= old:
             self.ledger.left_out(Reason.REPEATED_OCTETS)
             return
