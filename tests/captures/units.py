@@ -4,7 +4,7 @@ import unittest
 from x25trace_lib.channels import assign
 from x25trace_lib.estimate import Header
 from x25trace_lib.internet import Segment
-from x25trace_lib.packets import Packet, Side
+from x25trace_lib.packets import Packet, Side, Type
 from x25trace_lib.spool import Spool
 from x25trace_lib.tcp import MOST_OF_ONE, Budget, Connection
 from x25trace_lib.told import Ledger, Reason
@@ -91,6 +91,27 @@ class Channels(unittest.TestCase):
     def test_not_cleared_is_not_free(self):
         self.assertEqual(self.assigned([(1, 2, False), (3, 4, True), (5, 6, True), (7, 8, True), (9, 10, True)]),
                          [1, 2, 3, 2, 3])
+
+    def test_free_only_in_p1(self):
+        """A clear that is confirmed frees a channel, unless it had no cause or the DTE goes on after it."""
+        t, n = Side.T, Side.N
+        end = [(t, Type.CLEAR, 5), (n, Type.CLEAR_CONFIRM, 3)]
+        for free, steps in (
+            (False, []),
+            (False, end[:1]),
+            (True, end),
+            (True, [(n, Type.CLEAR, 5), (t, Type.CLEAR_CONFIRM, 3)]),
+            (True, [(t, Type.CLEAR, 5), (n, Type.CLEAR, 5)]),
+            (False, [(t, Type.CLEAR, 3), (n, Type.CLEAR_CONFIRM, 3)]),
+            (False, [*end, (t, Type.CLEAR_CONFIRM, 3)]),
+            (True, [*end, (n, Type.CLEAR_CONFIRM, 3)]),
+            (False, [*end, (t, Type.CALL, 5)]),
+            (True, [*end, (t, Type.CALL, 5), *end]),
+        ):
+            circuit = Circuit(1, ENDS, (t, n), 1, True)
+            for step in [(t, Type.CALL, 5), *steps]:
+                circuit.step(*step)
+            self.assertEqual(circuit.is_free, free, steps)
 
     def test_none_left(self):
         self.assertEqual(self.assigned([(1, 2, False), (3, 4, False)], 1), [1, None])

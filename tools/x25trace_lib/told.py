@@ -60,6 +60,7 @@ class Reason(enum.Enum):
     OTHER_ADDRESS = ("LAPB frames with another address than 01 and 03", True)
     LOST_FRAME = ("LAPB I frames that were not recorded", True)
     LONG_PACKET = ("packets of more than 4,200 octets", True)
+    LARGE_TEXT = ("traces of more bytes than x25scan reads", True)
     NO_CHANNEL = ("packets of circuits for which no channel was left", True)
 
     def __init__(self, words, damage):

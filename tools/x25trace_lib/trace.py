@@ -92,5 +92,6 @@ class Trace:
             size += len(line)
             out.write(line)
         if size > LARGEST_TEXT:
-            self.ledger.tell(f"the trace has {size} bytes, and x25scan reads {LARGEST_TEXT}: split the capture")
+            words = f"the trace has {size} bytes, and x25scan reads {LARGEST_TEXT}: split the capture"
+            self.ledger.damaged(Reason.LARGE_TEXT, words)
         return size

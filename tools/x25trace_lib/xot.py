@@ -31,6 +31,7 @@ class Circuit:
     called: bool = False
     cleared_by: Side | None = None
     confirmed: bool = False
+    spoiled: bool = False
     rows: int = 0
     first_row: int = 0
     last_row: int = 0
@@ -54,8 +55,8 @@ class Circuit:
 
     @property
     def is_free(self):
-        """Whether its call was cleared and that was confirmed, or there was none."""
-        return not self.permanent and (self.confirmed or not self.called)
+        """Whether its channel is surely in p1: its call was cleared, that was confirmed, and no error came after it."""
+        return self.confirmed and not self.spoiled and not self.permanent
 
     def end_words(self):
         """What is told where the connection ends without a confirmed clear, or None."""
@@ -67,8 +68,10 @@ class Circuit:
             return f"it ends before the clear of {self.cleared_by.name} was confirmed"
         return None
 
-    def step(self, side, kind):
+    def step(self, side, kind, length):
         """Follows the call by the packets that open and end it."""
+        # What the DTE sends after the clear, and a clear without a cause, are errors that leave p1 or do not reach it.
+        self.spoiled |= self.confirmed and side is Side.T and kind != Type.CALL or kind == Type.CLEAR and length < 4
         if kind == Type.CALL:
             self.called, self.cleared_by, self.confirmed = True, None, False
             self.caller = self.caller or side
@@ -250,8 +253,8 @@ class Xot:
                 words = f"a packet of type {kind:02X} on channel 0, of {side.name}"
                 self.ledger.damaged(Reason.LINE_PACKET, f"frame {frame}: connection {circuit.number}: {words}")
                 return None
-            if kind in CALL_TYPES:
-                circuit.step(side, kind)
+            if circuit.confirmed or kind in CALL_TYPES:
+                circuit.step(side, kind, len(octets))
             if circuit.last_line_channel != line_channel:
                 self.other_channel(circuit, frame, line_channel)
         return Packet(frame, side, octets, circuit)
