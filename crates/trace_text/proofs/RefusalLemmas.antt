@@ -130,7 +130,7 @@ stopped T v text more (Double i) out first s l h e = absurd h
 stopped T v text more (Stranger i) out first s l h e = absurd h
 stopped T v text more (Missing i) out first s l h e = absurd h
 
--- the last piece of the text, without an LF
+-- the last chunk of the text, without an LF
 pub begun-told-or-stopped : (r : Result (Unit {0}) Fault) (v u : Progress) (text rest : List ℕ) (out first : List Row) → StandsFor v text → HasNoLf rest →
     OnOk r (StandsFor u (text ++ rest)) → IfErr r (IsAtLine (v.ended + 1)) → IfErr r (IsFaultOf (early (text ++ rest))) → out ≡ first ++ early_rows text → IsTold r out first (early_rows (text ++ rest))
 begun-told-or-stopped (Ok x) v u text rest out first s n ok line fault e = begun-told v u text rest out first s ok n e
@@ -185,7 +185,7 @@ pub head_stands : (v : Progress) (text : List ℕ) → StandsFor v text → v.in
 unfolding early_head
 head_stands v text s = s.interface ∙ ap (λ at. head_of (good_lines at (ended_lines text))) (sym s.sound)
 
--- the last piece of the text, without an LF
+-- the last chunk of the text, without an LF
 pub begun-head : (r : Result (Unit {0}) Fault) (v u : Progress) (text rest : List ℕ) → StandsFor v text →
     OnOk r (StandsFor u (text ++ rest)) → IfErr r (IsAtLine (v.ended + 1)) → IfErr r (IsFaultOf (early (text ++ rest))) → OnErr r (u ≡ v) → IsHeadKept r u.interface (early_head (text ++ rest))
 begun-head (Ok x) v u text rest s ok line fault same = head_stands u (text ++ rest) ok

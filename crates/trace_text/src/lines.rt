@@ -1,4 +1,4 @@
-//! The reader of trace texts: it is fed pieces of any size, keeps the line that has not ended, and appends rows.
+//! The reader of trace texts: it is fed chunks of any size, keeps the line that has not ended, and appends rows.
 
 ghost use Rattle.std.specs.Prelude.{◌≡◌, ◌+◌, ◌≤◌, ◌<◌, ◌^◌};
 ghost use Rattle.line_model.specs.Text.{size_kind};
@@ -18,7 +18,7 @@ const TEXT_LIMIT: u32 = 1 << 30;
 /// The bytes that a line may have without its LF.
 const LINE_LIMIT: usize = 8500;
 
-/// A reader of a trace text, which is fed in pieces.
+/// A reader of a trace text, which is fed in chunks.
 ///
 /// ```text
 ///  fed so far:  X25 1 MOD 8 ..\n1 T 10010B0000\n2 N 1001|
@@ -186,16 +186,16 @@ impl<A: Allocator + Clone> Lines<A> {
         Ok(())
     }
 
-    fn feed_lines(&mut self, piece: &[u8], out: &mut Vec<Row<A>, A>) -> Result<(), Fault>
-        ensures ok { OnOk result ((text : List ℕ) → StandsFor self.old text → StandsFor self.new (text ++ piece.now)) }
-        ensures refused { (text : List ℕ) → StandsFor self.old text → IfErr result (IsFaultOf (early (text ++ piece.now))) }
-        ensures told { (text : List ℕ) (rows : List records.Row) → StandsFor self.old text → out.old.items ≡ rows ++ early_rows text → IsTold result out.new.items rows (early_rows (text ++ piece.now)) }
-        ensures appended { (text : List ℕ) → StandsFor self.old text → OnOk result (HasAppended out.old.items out.new.items (early_rows text) (early_rows (text ++ piece.now))) }
-        ensures header { (text : List ℕ) → StandsFor self.old text → IsHeadKept result self.new.interface (early_head (text ++ piece.now)) }
-        ensures size { OnOk result (bytes_fed self.new ≡ bytes_fed self.old + length piece.now) }
+    fn feed_lines(&mut self, chunk: &[u8], out: &mut Vec<Row<A>, A>) -> Result<(), Fault>
+        ensures ok { OnOk result ((text : List ℕ) → StandsFor self.old text → StandsFor self.new (text ++ chunk.now)) }
+        ensures refused { (text : List ℕ) → StandsFor self.old text → IfErr result (IsFaultOf (early (text ++ chunk.now))) }
+        ensures told { (text : List ℕ) (rows : List records.Row) → StandsFor self.old text → out.old.items ≡ rows ++ early_rows text → IsTold result out.new.items rows (early_rows (text ++ chunk.now)) }
+        ensures appended { (text : List ℕ) → StandsFor self.old text → OnOk result (HasAppended out.old.items out.new.items (early_rows text) (early_rows (text ++ chunk.now))) }
+        ensures header { (text : List ℕ) → StandsFor self.old text → IsHeadKept result self.new.interface (early_head (text ++ chunk.now)) }
+        ensures size { OnOk result (bytes_fed self.new ≡ bytes_fed self.old + length chunk.now) }
         ensures kinds { IfErr result IsTextFault }
     {
-        let mut rest = piece;
+        let mut rest = chunk;
         while let Some((front, back)) = split_at_byte(rest, b'\n') {
             match self.end_with(front, out) {
                 Ok(()) => rest = back,
@@ -223,19 +223,19 @@ impl<A: Allocator + Clone> Lines<A> {
         }
     }
 
-    /// Takes the next piece of the text, and appends the rows of the lines that an LF of it ends.
-    pub fn feed(&mut self, piece: &[u8], out: &mut Vec<Row<A>, A>) -> Result<(), Fault>
-        // Of any text that it stands for: it stands for the text with the piece, where no line of that is faulty so far.
-        ensures ok { OnOk result ((text : List ℕ) → StandsFor self.old text → StandsFor self.new (text ++ piece.now)) }
+    /// Takes the next chunk of the text, and appends the rows of the lines that an LF of it ends.
+    pub fn feed(&mut self, chunk: &[u8], out: &mut Vec<Row<A>, A>) -> Result<(), Fault>
+        // Of any text that it stands for: it stands for the text with the chunk, where no line of that is faulty so far.
+        ensures ok { OnOk result ((text : List ℕ) → StandsFor self.old text → StandsFor self.new (text ++ chunk.now)) }
         // Else it answers the fault of the first line that is faulty however the text goes on, or want of memory.
-        ensures refused { (text : List ℕ) → StandsFor self.old text → IfErr result (IsFaultOf (early (text ++ piece.now))) }
-        ensures told { (text : List ℕ) (rows : List records.Row) → StandsFor self.old text → out.old.items ≡ rows ++ early_rows text → IsTold result out.new.items rows (early_rows (text ++ piece.now)) }
+        ensures refused { (text : List ℕ) → StandsFor self.old text → IfErr result (IsFaultOf (early (text ++ chunk.now))) }
+        ensures told { (text : List ℕ) (rows : List records.Row) → StandsFor self.old text → out.old.items ≡ rows ++ early_rows text → IsTold result out.new.items rows (early_rows (text ++ chunk.now)) }
         // Whatever else was taken out of the list: the rows that came are appended.
-        ensures appended { (text : List ℕ) → StandsFor self.old text → OnOk result (HasAppended out.old.items out.new.items (early_rows text) (early_rows (text ++ piece.now))) }
-        ensures header { (text : List ℕ) → StandsFor self.old text → IsHeadKept result self.new.interface (early_head (text ++ piece.now)) }
+        ensures appended { (text : List ℕ) → StandsFor self.old text → OnOk result (HasAppended out.old.items out.new.items (early_rows text) (early_rows (text ++ chunk.now))) }
+        ensures header { (text : List ℕ) → StandsFor self.old text → IsHeadKept result self.new.interface (early_head (text ++ chunk.now)) }
 
         // It was fed at most 2^30 bytes.
-        ensures size { OnOk result (bytes_fed self.new ≡ bytes_fed self.old + length piece.now) }
+        ensures size { OnOk result (bytes_fed self.new ≡ bytes_fed self.old + length chunk.now) }
         ensures limit { bytes_fed self.new ≤ 2 ^ 30 }
         ensures kinds { IfErr result IsTextFault }
         // From a refusal on it answers the same.
@@ -245,7 +245,7 @@ impl<A: Allocator + Clone> Lines<A> {
         if let Some(fault) = self.refused {
             return Err(fault);
         }
-        match self.feed_lines(piece, out) {
+        match self.feed_lines(chunk, out) {
             Ok(()) => Ok(()),
             Err(fault) => {
                 self.refused = Some(fault);

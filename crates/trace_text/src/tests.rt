@@ -1,4 +1,4 @@
-//! Texts from outside, read in pieces of several sizes.
+//! Texts from outside, read in chunks of several sizes.
 
 use crate::digits::read_digits;
 use crate::lines::Lines;
@@ -12,7 +12,7 @@ use std::test::Fail;
 
 const HEADER: &[u8] = b"X25 1 MOD 8 WIN 2 SIZE 128 PVC 0 SVC 4\n";
 
-/// Reads a text that comes in pieces of so many bytes.
+/// Reads a text that comes in chunks of so many bytes.
 fn read(
     alloc: Global,
     text: &[u8],
@@ -22,15 +22,15 @@ fn read(
     let mut lines = Lines::new(alloc);
     let mut rest = text;
     for _ in 0..text.len() {
-        let (piece, more) = rest.split_at(size.min(rest.len()));
-        lines.feed(piece, rows)?;
+        let (chunk, more) = rest.split_at(size.min(rest.len()));
+        lines.feed(chunk, rows)?;
         rest = more;
     }
     lines.end(rows)
 }
 
-/// Reads a text in pieces of 1, 7 and 4,096 bytes, which all have to answer the same.
-fn read_in_pieces(
+/// Reads a text in chunks of 1, 7 and 4,096 bytes, which all have to answer the same.
+fn read_in_chunks(
     rt: &impl Abort,
     alloc: Global,
     text: &[u8],
@@ -42,8 +42,8 @@ fn read_in_pieces(
     for size in [1, 7, 4096] {
         let mut told = Vec::new(alloc);
         let again = read(alloc, text, size, &mut told);
-        assert!(rt; again == answer, "in pieces of {size}");
-        assert_eq!(rt; told.len(), rows, "in pieces of {size}");
+        assert!(rt; again == answer, "in chunks of {size}");
+        assert_eq!(rt; told.len(), rows, "in chunks of {size}");
     }
     answer
 }
@@ -72,7 +72,7 @@ fn the_first_faulty_line_is_told(rt: HostRuntime) -> Result<(), Fail> {
         let mut text = Vec::new(rt.alloc());
         text.extend_from_slice(HEADER)?;
         text.extend_from_slice(rows_text)?;
-        let answer = read_in_pieces(&rt, rt.alloc(), text.as_slice(), rows);
+        let answer = read_in_chunks(&rt, rt.alloc(), text.as_slice(), rows);
         assert!(rt; answer == Err(Fault::Trace(line, kind)), "{line} {kind:?}");
     }
     Ok(())
@@ -131,7 +131,7 @@ fn faulty_headers_are_told(rt: HostRuntime) -> Result<(), Fail> {
             Kind::HeaderRange,
         ),
     ] {
-        let answer = read_in_pieces(&rt, rt.alloc(), text, 0);
+        let answer = read_in_chunks(&rt, rt.alloc(), text, 0);
         assert!(rt; answer == Err(Fault::Trace(line, kind)), "{line} {kind:?}");
     }
     Ok(())
@@ -139,7 +139,7 @@ fn faulty_headers_are_told(rt: HostRuntime) -> Result<(), Fail> {
 
 #[test]
 fn both_header_forms_are_read(rt: HostRuntime) -> Result<(), Fail> {
-    let first = read_in_pieces(
+    let first = read_in_chunks(
         &rt,
         rt.alloc(),
         b"X25 1 MOD 128 WIN 7 SIZE 4096 PVC 1 SVC 9",
@@ -158,7 +158,7 @@ fn both_header_forms_are_read(rt: HostRuntime) -> Result<(), Fail> {
                 join: false,
             })
     );
-    let second = read_in_pieces(
+    let second = read_in_chunks(
         &rt,
         rt.alloc(),
         b"X25 2 MOD 8 WIN 2 SIZE 16 PVC 1 IN 2 TWO 3 OUT 4 JOIN\n",
