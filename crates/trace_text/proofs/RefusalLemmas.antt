@@ -146,10 +146,11 @@ grown out out' first known known' a e = a.out_has ∙ ap (λ xs. xs ++ a.more) e
 
 -- a list that holds all earlier rows holds them all
 pub told-of : {T : Type 0} (r : Result T Fault) (out out' first known known' : List Row) → IsAppended r out out' known known' → out ≡ first ++ known → IsTold r out' first known'
-told-of (Err Memory) out out' first known known' a e =
-    (length (known ++ a.more),
-    grown out out' first known (known ++ a.more) (record { more = a.more; out_has = a.out_has; known_has = refl }) e
-    ∙ ap (λ xs. first ++ xs) (sym (ap (take (length (known ++ a.more))) a.known_has ∙ take-append_seam (known ++ a.more) a.rest)))
+told-of (Err Memory) out out' first known known' a e = (
+  length (known ++ a.more),
+  grown out out' first known (known ++ a.more) (record { more = a.more; out_has = a.out_has; known_has = refl }) e
+      ∙ ap (λ xs. first ++ xs) (sym (ap (take (length (known ++ a.more))) a.known_has ∙ take-append_seam (known ++ a.more) a.rest)),
+)
 told-of (Ok x) out out' first known known' a e = grown out out' first known known' a e
 told-of (Err f) out out' first known known' a e = grown out out' first known known' a e
 

@@ -214,11 +214,7 @@ impl<A: Allocator> Lines<A> {
     }
 
     /// Takes lines up to the first row, or the whole chunk.
-    fn find_row<'a>(
-        &mut self,
-        chunk: &'a [u8],
-        row: &mut Row<A>,
-    ) -> Result<Option<&'a [u8]>, Fault>
+    fn find_row<'a>(&mut self, chunk: &'a [u8], row: &mut Row<A>) -> Result<Option<&'a [u8]>, Fault>
         ensures ok { IfOk result (λ next. MatchOption next (ReadsChunk self.old self.new chunk.now) (λ rest. TakesRow self.old self.new chunk.now rest.now row.new)) }
         ensures shorter { IfOk result (λ next. IfSome next (λ rest. length rest.now < length chunk.now)) }
         ensures headed { IfOk result (λ next. IfSome next (λ rest. is_some self.new.interface ≡ true)) }
@@ -272,13 +268,9 @@ impl<A: Allocator> Lines<A> {
         if let Some(fault) = self.refused {
             return Err(fault);
         }
-        match self.find_row(chunk, row) {
-            Ok(next) => Ok(next),
-            Err(fault) => {
-                self.refused = Some(fault);
-                Err(fault)
-            }
-        }
+        let next = self.find_row(chunk, row);
+        self.refused = next.err();
+        next
     }
 
     /// Ends the text, whose last line may lack its LF. Counts its lines, and tells whether the last one is a row, which

@@ -250,3 +250,135 @@ fn octets_are_those_of_hex(rt: HostRuntime) -> Result<(), Fail> {
     }
     Ok(())
 }
+
+/// A row to be wanted.
+type Wanted<'a> = (u32, Side, &'a [u8]);
+
+fn is_wanted(row: &Row<Global>, wanted: &Wanted<'_>) -> bool {
+    row.number == wanted.0 && row.side == wanted.1 && row.octets.as_slice() == wanted.2
+}
+
+/// Takes the rows of a text one by one out of chunks of so many bytes, into one row that is used again. Counts those
+/// that were wanted there, and tells how the text ends.
+fn take_rows(
+    alloc: Global,
+    text: &[u8],
+    size: usize,
+    wanted: &[Wanted<'_>],
+    count: &mut usize,
+) -> Result<Interface, Fault> {
+    let mut lines = Lines::new(alloc);
+    let mut row = Row {
+        number: 0,
+        side: Side::N,
+        octets: Vec::new(alloc),
+    };
+    let mut rest = text;
+    for _ in 0..text.len() {
+        let (mut chunk, more) = rest.split_at(size.min(rest.len()));
+        while let Some(after) = lines.next_row(chunk, &mut row)? {
+            *count += usize::from(*count < wanted.len() && is_wanted(&row, &wanted[*count]));
+            chunk = after;
+        }
+        rest = more;
+    }
+    let end = lines.end_row(&mut row)?;
+    if end.has_row {
+        *count += usize::from(*count < wanted.len() && is_wanted(&row, &wanted[*count]));
+    }
+    Ok(end.interface)
+}
+
+#[test]
+fn rows_are_taken_one_by_one(rt: HostRuntime) -> Result<(), Fail> {
+    let long = [
+        (1, Side::T, b"\x10\x01\x0b\x00\x00".as_slice()),
+        (2, Side::N, b"\x10\x01\x0f".as_slice()),
+        (3, Side::T, b"\x10\x01\x00\xde\xad\xbe\xef".as_slice()),
+        (7, Side::N, b"".as_slice()),
+        (12, Side::N, b"\x10".as_slice()),
+    ];
+    let long_text = b"# first\nX25 1 MOD 8 WIN 2 SIZE 128 PVC 0 SVC 4\n1 T 10010b0000\n2 N 10010F\n\
+# between\n3 T 100100deadBEEF\n7 N -\n# last\n12 N 10";
+    for (text, wanted, end) in [
+        (long_text.as_slice(), long.as_slice(), None),
+        (HEADER, [].as_slice(), None),
+        (
+            b"#\n# no header\n".as_slice(),
+            [].as_slice(),
+            Some(Fault::Trace(3, Kind::HeaderMissing)),
+        ),
+        (
+            b"X25 1 MOD 8 WIN 2 SIZE 128 PVC 0 SVC 4\n1 T 10010b0000\n2 N 10010F\n3 T 100\n4 T -\n".as_slice(),
+            &long[..2],
+            Some(Fault::Trace(4, Kind::Hex)),
+        ),
+        (
+            b"X25 1 MOD 8 WIN 2 SIZE 128 PVC 0 SVC 4\n1 T 10010b0000\n2 n -".as_slice(),
+            &long[..1],
+            Some(Fault::Trace(3, Kind::Side)),
+        ),
+    ] {
+        for size in [1, 7, text.len()] {
+            let mut count = 0;
+            let answer = take_rows(rt.alloc(), text, size, wanted, &mut count);
+            assert!(rt; answer.err() == end, "in chunks of {size}");
+            assert_eq!(rt; count, wanted.len(), "in chunks of {size}");
+        }
+    }
+    Ok(())
+}
+
+#[test]
+fn room_of_the_octets_is_used_again(rt: HostRuntime) -> Result<(), Fail> {
+    let mut lines = Lines::new(rt.alloc());
+    let mut row = Row {
+        number: 0,
+        side: Side::N,
+        octets: Vec::with_capacity(rt.alloc(), 4)?,
+    };
+    assert!(rt; lines.next_row(HEADER, &mut row)?.is_none());
+    assert!(rt; lines.next_row(b"1 T 01020304\n", &mut row)?.is_some());
+    assert!(rt; is_wanted(&row, &(1, Side::T, b"\x01\x02\x03\x04".as_slice())));
+    assert!(rt; lines.next_row(b"2 N 05\n", &mut row)?.is_some());
+    assert!(rt; is_wanted(&row, &(2, Side::N, b"\x05".as_slice())));
+    assert_eq!(rt; row.octets.capacity(), 4);
+    Ok(())
+}
+
+#[test]
+fn lines_that_ended_are_counted_and_a_refusal_stays(rt: HostRuntime) -> Result<(), Fail> {
+    let mut lines = Lines::new(rt.alloc());
+    let mut row = Row {
+        number: 0,
+        side: Side::N,
+        octets: Vec::new(rt.alloc()),
+    };
+    assert_eq!(rt; lines.ended_lines(), 0);
+    assert!(rt; lines.next_row(b"# one\n# tw", &mut row)?.is_none());
+    assert_eq!(rt; lines.ended_lines(), 1);
+    assert!(rt; lines.next_row(b"o\n", &mut row)?.is_none());
+    assert!(rt; lines.next_row(HEADER, &mut row)?.is_none());
+    assert_eq!(rt; lines.ended_lines(), 3);
+    let fault = Fault::Trace(5, Kind::Number);
+    assert!(rt; lines.next_row(b"4 T -\n4 N -\n", &mut row)? == Some(b"4 N -\n".as_slice()));
+    assert!(rt; lines.next_row(b"4 N -\n", &mut row) == Err(fault));
+    assert!(rt; lines.next_row(b"5 N -\n", &mut row) == Err(fault));
+    assert!(rt; lines.end_row(&mut row).err() == Some(fault));
+    Ok(())
+}
+
+#[test]
+fn rows_before_a_fault_are_appended_to_any_list(rt: HostRuntime) -> Result<(), Fail> {
+    let mut lines = Lines::new(rt.alloc());
+    let mut rows = Vec::new(rt.alloc());
+    lines.feed(HEADER, &mut rows)?;
+    lines.feed(b"1 T 01\n", &mut rows)?;
+    rows.clear();
+    let answer = lines.feed(b"2 N 02\n3 T 03\n3 T 04\n", &mut rows);
+    assert!(rt; answer == Err(Fault::Trace(5, Kind::Number)));
+    assert_eq!(rt; rows.len(), 2);
+    assert!(rt; is_wanted(&rows[0], &(2, Side::N, b"\x02".as_slice())));
+    assert!(rt; is_wanted(&rows[1], &(3, Side::T, b"\x03".as_slice())));
+    Ok(())
+}
