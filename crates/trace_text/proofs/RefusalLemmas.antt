@@ -1,6 +1,6 @@
 -- The rows that were told where a text is refused: those of the lines before the faulty one.
 use Rattle.std.proofs.Common.{◌≡◌, ◌∙◌, sym, ap, refl, ℕ, ◌+◌, ◌-◌, ◌<◌, ◌≤◌, Bool, true, false, List, [], ◌∷◌, ◌++◌, length, Option, Some, None, Result, Ok, Err, take, drop, cond, ◌⊎◌, inl, inr, arith, append_assoc, append-nil, length-append}
-use Rattle.std.specs.Prelude.{not, OnOk, OnErr, IfErr}
+use Rattle.std.specs.Prelude.{not}
 use Rattle.std.specs.Option.{option_or, option_map}
 use Rattle.std.specs.List.{filter_map}
 use Rattle.std.proofs.lemmas.Bool.{eqb-true}
@@ -9,11 +9,11 @@ use Rattle.std.proofs.Math.Seq.{take-append_seam, take-append-add}
 use Rattle.line_model.specs.Records.{Row}
 use Rattle.line_model.specs.declared.interface.Interface.{Interface}
 use Rattle.line_model.specs.RowLine.{row_of}
-use Rattle.line_model.specs.Text.{Line, is_lf, is_comment, content_of, early, early_head, early_rows, head_in, head_of, ended_lines, begun_line, fault, first_fault, good_lines, line_kind, rows_in}
+use Rattle.line_model.specs.Text.{Line, is_lf, is_comment, content_of, early, early_head, early_rows, head_in, head_of, ended_lines, begun_line, first_fault, good_lines, line_kind, rows_in}
 use Rattle.line_model.specs.declared.fault.Kind.{Kind}
 use Rattle.line_model.specs.declared.fault.Fault.{Fault}
 use Rattle.line_model.specs.declared.fault.Fault.TheVariants.{Memory, Trace, Read, Write, Start, Double, Stranger, Missing}
-use Rattle.line_model.proofs.TextLemmas.{HasNoLf, ended-lf, ended-more, first_fault-append}
+use Rattle.line_model.proofs.TextLemmas.{ended-lf, ended-more, first_fault-append}
 use Rattle.trace_text.specs.Progress.{Progress}
 use Rattle.trace_text.specs.StandsFor.{StandsFor, AreKnown, HasAppended, IsAppended, IsFaultOf, IsTold, IsHeadKept, IsAtLine}
 use Rattle.trace_text.proofs.FeedLemmas.{no_fault}
