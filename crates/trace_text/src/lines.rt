@@ -95,7 +95,10 @@ impl<A: Allocator> Lines<A> {
     ghost use Rattle.trace_text.specs.Progress.{Progress, bytes_fed};
     ghost use Rattle.trace_text.specs.StandsFor.{StandsFor, IsFaultOf, IsHeadKept, IsAtLine, IsTextFault, EndsText, AreKnown, ReadsChunk, TakesRow, last_row};
     ghost use Rattle.trace_text.specs.Cuts.{Lacks};
+    ghost use Rattle.trace_text.specs.EndedPart.{ended_part};
     ghost use Rattle.line_model.specs.declared.fault.Fault.{Fault};
+    ghost use Rattle.line_model.specs.declared.fault.Fault.TheVariants.{Trace};
+    ghost use Rattle.line_model.specs.declared.fault.Kind.TheVariants.{HeaderMissing};
     ghost use Rattle.trace_text.specs.Steps.{RefusedBy, EndsLine, ended_kind, after_content, after_line, is_packet, with_more};
     ghost use Rattle.trace_text.specs.Reads.{ReadsAs};
 
@@ -127,6 +130,24 @@ impl<A: Allocator> Lines<A> {
         ensures kept { result ≡ self.now.ended }
     {
         self.ended
+    }
+
+    /// What the text says up to its last LF, if it ended there: its header, or that it has none.
+    pub fn ended_header(&self) -> Result<Interface, Fault>
+        ensures ok { (text : List ℕ) → StandsFor self.now text → IfOk result (λ interface. (fault (ended_part text) ≡ None) × (head (ended_part text) ≡ Some interface)) }
+        ensures refused { (text : List ℕ) → StandsFor self.now text → IfErr result (IsFaultOf (fault (ended_part text))) }
+        ensures missing { (text : List ℕ) → StandsFor self.now text → IfErr result (λ f. f ≡ Trace (length (lines_ended text) + 1) HeaderMissing) }
+        // The rows that were told are those of that text.
+        ensures rows { (text : List ℕ) → StandsFor self.now text → rows_of_text (ended_part text) ≡ early_rows text }
+        ensures again { (fault : Fault) → self.now.refused ≡ Some fault → result ≡ Err fault }
+    {
+        if let Some(fault) = self.refused {
+            return Err(fault);
+        }
+        match self.interface {
+            Some(interface) => Ok(interface),
+            None => Err(Fault::Trace(self.ended + 1, Kind::HeaderMissing)),
+        }
     }
 
     /// Takes bytes without an LF.
