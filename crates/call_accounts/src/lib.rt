@@ -3,7 +3,9 @@
 
 pub mod account;
 pub mod call;
+mod counts;
 mod heard;
+mod pad_table;
 pub mod peak;
 #[cfg(test)]
 mod tests;
