@@ -157,3 +157,12 @@ known_skipped pad t p e items new all le is known h step =
     let all_of : settings_in pad t (range_with_len p (23 - p)) ≡ rest =
     known-step pad t p k (omega arith) le ∙ ap (λ b. cond b (record { pad = pad; parameter = p; entry = entry_at t p } ∷ rest) rest) known' in
     ap (λ l. l ++ rest) step ∙ ap (λ l. items ++ l) (sym all_of) ∙ h
+
+-- a part of events that can be counted
+pub countable_part : (before own : List Event) → IsCountable (before ++ own) → IsCountable own
+countable_part before own few =
+    let both : all_lengths (before ++ own) ≡ all_lengths before ++ all_lengths own = filter_map-append (λ (v : Event). elim v.what [ Data y n ↦ Some n | _ ↦ None ]) before own in
+    record {
+      packets = omega (arith, ap length both, length-append (all_lengths before) (all_lengths own), few.packets);
+      octets = omega (arith, ap sum both, sum-more (all_lengths before) (all_lengths own), few.octets);
+    }

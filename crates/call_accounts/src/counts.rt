@@ -120,10 +120,7 @@ impl CallCounts {
     }
 
     /// The settings that are known, side T first, by parameter.
-    pub(crate) fn settings<A: Allocator>(
-        &self,
-        alloc: A,
-    ) -> Result<Vec<SettingRecord, A>, Fault>
+    pub(crate) fn settings<A: Allocator>(&self, alloc: A) -> Result<Vec<SettingRecord, A>, Fault>
         ensures settings { IfOk result (λ v. (own : List Event) → Counts self.now own → v.items ≡ settings_of own) }
         ensures memory { IfErr result (λ f. f ≡ Fault.Memory) }
     {

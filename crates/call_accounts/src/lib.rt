@@ -7,5 +7,6 @@ mod counts;
 mod heard;
 mod pad_table;
 pub mod peak;
+pub mod so_far;
 #[cfg(test)]
 mod tests;
