@@ -12,3 +12,5 @@ pub mod Taking
 pub mod Machines
 pub mod Runs
 pub mod Carried
+pub mod DataCounts
+pub mod LiveLemmas
