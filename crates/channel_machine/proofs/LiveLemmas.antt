@@ -7,7 +7,7 @@ use Rattle.std.specs.Slice.{IsItemAt}
 use Rattle.std.proofs.lemmas.Option.{slice_get_past}
 use denote.Bor.{Bor}
 use Rattle.std.proofs.lemmas.List.{map-append, append-nil, length-append, take_more, take_all, take-append-drop}
-use Rattle.std.proofs.lemmas.List.Elements.{filter_map-append}
+use Rattle.std.proofs.lemmas.List.Elements.{filter_map-append, All-take}
 use Rattle.std.proofs.lemmas.List.Sums.{sum_by-append}
 use Rattle.line_model.specs.declared.interface.Interface.{Interface}
 use Rattle.line_model.specs.declared.event.What.{What}
@@ -229,3 +229,17 @@ end_heard p n b is opened = sym (piece_ended p (Some n) ∙ ap (λ x. piece_even
 
 pub none_heard : (p : Piece) (n : ℕ) (b : Bool) → b ≡ is_open (channel_so_far p) → b ≡ false → piece_events (so_far p) ≡ piece_events (record p { end = Some n })
 none_heard p n b is closed = sym (piece_ended p (Some n) ∙ ap (λ x. piece_events (so_far p) ++ end_events p.epoch p.channel (Some n) x) (sym is ∙ closed) ∙ append-nil (piece_events (so_far p)))
+
+-- ---- the first rows of a piece
+
+pub piece_part : (i : Interface) (k : ℕ) (items : List Item) (n : ℕ) → IsPiece i k items → IsPiece i k (take n items)
+piece_part i k items n h =
+    let parts = take-append-drop n items in
+    record {
+      few_rows = omega (arith, ap length parts, length-append (take n items) (drop n items), h.few_rows);
+      few_octets = omega (arith, ap all_octets parts, sum_by-append (λ (x : Item). length x.row.octets) (take n items) (drop n items), h.few_octets);
+      packets = All-take (IsItem i k) n items h.packets;
+    }
+
+pub one_more_item : (items : List Item) (n : ℕ) (item inside : Item) → n < length items → item ≡ get_or items n item → inside ≡ item → take (n + 1) items ≡ take n items ++ inside ∷ []
+one_more_item items n item inside lt is same = take_more items n item lt ∙ ap (λ x. take n items ++ x ∷ []) (sym is ∙ sym same)
