@@ -112,20 +112,15 @@ impl<A: Allocator + Clone> Counted<A> {
         ensures worth { IfOk result (λ report. (es : List Event) → Counts self epoch channel es → report ≡ worth id epoch channel es) }
         ensures memory { IfErr result (λ fault. fault ≡ Memory) }
     {
-        let Counted {
-            findings,
-            calls,
-            octets,
-            segments,
-        } = self;
+        let calls = self.calls.finish()?;
         Ok(PieceReport {
             id,
             epoch,
             channel,
-            findings,
-            calls: calls.finish()?,
-            octets,
-            segments,
+            findings: self.findings,
+            calls,
+            octets: self.octets,
+            segments: self.segments,
         })
     }
 }
