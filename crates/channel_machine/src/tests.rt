@@ -18,6 +18,8 @@ use packet_decode::decode::decode;
 use std::alloc::Global;
 use std::test::Fail;
 
+mod live;
+
 /// Four two-way channels with window 2, and the packet size 128.
 const INTERFACE: Interface = Interface {
     modulus: 8,
