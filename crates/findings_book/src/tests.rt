@@ -7,7 +7,7 @@ ghost use Rattle.std.specs.Prelude.{◌≡◌, ◌≤◌, ◌^◌, ◌+◌, IfOk
 
 use crate::tests::in_turn::{has_one, has_three_epochs, posted_twice, three_epochs};
 use crate::tests::side_by_side::{has_both, has_twelve, post_and_look, twelve_pieces};
-use crate::{Book, Desk, MOST_SHARES, Share};
+use crate::{Blanks, Book, Desk, Ledgers, Share};
 use line_model::fault::Fault;
 use line_model::finding::{Code, Finding};
 use line_model::piece::PieceReport;
@@ -17,7 +17,6 @@ use std::alloc::Global;
 use std::marker::Brand;
 use std::process::Abort;
 use std::sync::Wait;
-use std::sync::ledger::{Blank, Ledger};
 use std::test::Fail;
 use std::thread::Threads;
 
@@ -67,10 +66,10 @@ fn report(alloc: Global, id: u32, octets: u16, segments: u16) -> Result<PieceRep
 }
 
 /// Posts a report, and looks. No number that is seen is below that of the share.
-fn post_one<R: Wait + Abort, N: Ledger, F: Ledger, O: Ledger, S: Ledger>(
+fn post_one<R: Wait + Abort, L: Ledgers>(
     rt: &R,
-    desk: &Desk<Brand, N, F, O, S>,
-    share: &mut Share<N, F, O, S>,
+    desk: &Desk<Brand, L>,
+    share: &mut Share<L>,
     report: PieceReport,
 ) -> Result<(), Fault> {
     if let Err((_, fault)) = desk.post(rt, report, share) {
@@ -83,11 +82,11 @@ fn post_one<R: Wait + Abort, N: Ledger, F: Ledger, O: Ledger, S: Ledger>(
 }
 
 /// A report of an id that was posted comes back.
-fn comes_back<R: Wait + Abort, N: Ledger, F: Ledger, O: Ledger, S: Ledger>(
+fn comes_back<R: Wait + Abort, L: Ledgers>(
     rt: &R,
-    desk: &Desk<Brand, N, F, O, S>,
+    desk: &Desk<Brand, L>,
     report: PieceReport,
-    share: &mut Share<N, F, O, S>,
+    share: &mut Share<L>,
 ) {
     let (id, octets) = (report.id, report.octets);
     let refused = desk.post(rt, report, share);
@@ -99,11 +98,11 @@ fn comes_back<R: Wait + Abort, N: Ledger, F: Ledger, O: Ledger, S: Ledger>(
 }
 
 /// Posts the reports of some pieces. After each post no number that is seen is below that of the share.
-fn post_all<R: Wait + Abort, N: Ledger, F: Ledger, O: Ledger, S: Ledger>(
+fn post_all<R: Wait + Abort, L: Ledgers>(
     rt: &R,
     alloc: Global,
-    desk: &Desk<Brand, N, F, O, S>,
-    share: &mut Share<N, F, O, S>,
+    desk: &Desk<Brand, L>,
+    share: &mut Share<L>,
     ids: &[u32],
 ) -> Result<(), Fault> {
     for id in ids {
@@ -122,10 +121,7 @@ enum Scenario {
 }
 
 /// The two shares of a book that gave none.
-fn two_shares<N: Ledger, F: Ledger, O: Ledger, S: Ledger>(
-    alloc: Global,
-    book: &mut Book<Brand, N, F, O, S>,
-) -> Result<Vec<Share<N, F, O, S>>, Fail>
+fn two_shares<L: Ledgers>(alloc: Global, book: &mut Book<Brand, L>) -> Result<Vec<Share<L>>, Fail>
     requires fresh { book.old ≡ 0 }
     ensures all { IfOk result (λ shares. vec_len shares ≡ book.new) }
 {
@@ -133,18 +129,12 @@ fn two_shares<N: Ledger, F: Ledger, O: Ledger, S: Ledger>(
 }
 
 /// Posts and looks by two shares.
-fn play_in_two<
-    R: Threads + Wait + Abort + Sync,
-    N: Ledger + Sync,
-    F: Ledger + Sync,
-    O: Ledger + Sync,
-    S: Ledger + Sync,
->(
+fn play_in_two<R: Threads + Wait + Abort + Sync, L: Ledgers + Sync>(
     rt: &R,
     alloc: Global,
     scenario: Scenario,
-    desk: &Desk<Brand, N, F, O, S>,
-    shares: &mut [Share<N, F, O, S>],
+    desk: &Desk<Brand, L>,
+    shares: &mut [Share<L>],
 ) -> Result<(), Fail> {
     let [first, second] = shares else {
         return Err("there are not two shares")?;
@@ -168,15 +158,13 @@ fn end<R: Abort>(rt: &R, scenario: Scenario, totals: Totals, reports: &[PieceRep
 }
 
 /// Plays a scenario with a book and two shares, and with the whole.
-fn play_with<
-    R: Threads + Wait + Abort + Sync,
-    N: Ledger + Sync,
-    F: Ledger + Sync,
-    O: Ledger + Sync,
-    S: Ledger + Sync,
->(rt: &R, alloc: Global, scenario: Scenario, mut book: Book<Brand, N, F, O, S>) -> Result<(), Fail>
+fn play_with<R: Threads + Wait + Abort + Sync, L: Ledgers + Sync>(
+    rt: &R,
+    alloc: Global,
+    scenario: Scenario,
+    mut book: Book<Brand, L>,
+) -> Result<(), Fail>
     requires fresh { book ≡ 0 }
-    requires parts { (N.parts ≡ 4096) × (F.parts ≡ 4096) × (O.parts ≡ 4096) × (S.parts ≡ 4096) }
 {
     let mut shares = two_shares(alloc, &mut book)?;
     play_in_two(rt, alloc, scenario, book.desk(), &mut shares)?;
@@ -185,26 +173,19 @@ fn play_with<
     Ok(())
 }
 
-fn play_in<
-    R: Threads + Wait + Abort + Sync,
-    N: Ledger + Sync,
-    F: Ledger + Sync,
-    O: Ledger + Sync,
-    S: Ledger + Sync,
->(
+/// Plays a scenario with a book over the ledgers of these blanks.
+fn play_in<R: Threads + Wait + Abort + Sync, L: Ledgers + Sync>(
     rt: &R,
     alloc: Global,
     scenario: Scenario,
-    blanks: (Blank, Blank, Blank, Blank),
+    blanks: Blanks,
 ) -> Result<(), Fail>
-    requires posts { (blanks.0.name ≡ N.name) × (blanks.0.parts ≡ N.parts) × (N.parts ≡ 4096) }
-    requires findings { (blanks.1.name ≡ F.name) × (blanks.1.parts ≡ F.parts) × (F.parts ≡ 4096) }
-    requires octets { (blanks.2.name ≡ O.name) × (blanks.2.parts ≡ O.parts) × (O.parts ≡ 4096) }
-    requires segments { (blanks.3.name ≡ S.name) × (blanks.3.parts ≡ S.parts) × (S.parts ≡ 4096) }
+    requires posts { (blanks.posts.name ≡ L.posts) × (blanks.posts.parts ≡ 4096) }
+    requires findings { (blanks.findings.name ≡ L.findings) × (blanks.findings.parts ≡ 4096) }
+    requires octets { (blanks.octets.name ≡ L.octets) × (blanks.octets.parts ≡ 4096) }
+    requires segments { (blanks.segments.name ≡ L.segments) × (blanks.segments.parts ≡ 4096) }
 {
-    let (posts, findings, octets, segments) = blanks;
-    let book = Book::<Brand, N, F, O, S>::new(alloc, posts, findings, octets, segments);
-    play_with(rt, alloc, scenario, book)
+    play_with(rt, alloc, scenario, Book::<Brand, L>::new(alloc, blanks))
 }
 
 /// Plays a scenario with a book over four new ledgers.
@@ -213,11 +194,5 @@ fn play<R: Threads + Wait + Abort + Sync>(
     alloc: Global,
     scenario: Scenario,
 ) -> Result<(), Fail> {
-    let blanks = (
-        Blank::new(MOST_SHARES),
-        Blank::new(MOST_SHARES),
-        Blank::new(MOST_SHARES),
-        Blank::new(MOST_SHARES),
-    );
-    play_in::<R, Brand, Brand, Brand, Brand>(rt, alloc, scenario, blanks)
+    play_in::<R, Brand>(rt, alloc, scenario, Blanks::new())
 }

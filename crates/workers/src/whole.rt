@@ -9,14 +9,13 @@ use crate::gathering::{Gathered, gather};
 use crate::handler::Posting;
 use crate::run::{Ran, run_scoped};
 use crate::starting::crew_for;
-use findings_book::{Book, MOST_SHARES};
+use findings_book::{Blanks, Book, Ledgers};
 use line_model::fault::Fault;
 use line_model::piece::Plan;
 use piece_queue::Work;
 use std::alloc::{Allocator, Global};
 use std::marker::Brand;
 use std::sync::Wait;
-use std::sync::ledger::{Blank, Ledger};
 use std::thread::Threads;
 use std::time::Clock;
 
@@ -30,10 +29,7 @@ pub struct Worked<T, A: Allocator = Global> {
 /// As `work_through`, over the four ledgers of these blanks.
 fn work_in<
     P: Plan + Send + Sync,
-    N: Ledger + Sync,
-    F: Ledger + Sync,
-    O: Ledger + Sync,
-    S: Ledger + Sync,
+    L: Ledgers + Sync,
     A: Allocator + Copy + Send + Sync,
     G: Gate,
     R: Threads + Wait + Clock + Sync,
@@ -41,27 +37,26 @@ fn work_in<
 >(
     rt: &R,
     alloc: A,
-    blanks: (Blank, Blank, Blank, Blank),
+    blanks: Blanks,
     workers: usize,
     capacity: usize,
     gate: &G,
     task: T,
 ) -> Result<Worked<T, A>, (T, Fault)>
-    requires posts { (blanks.0.name ≡ N.name) × (blanks.0.parts ≡ N.parts) × (N.parts ≡ 4096) }
-    requires findings { (blanks.1.name ≡ F.name) × (blanks.1.parts ≡ F.parts) × (F.parts ≡ 4096) }
-    requires octets { (blanks.2.name ≡ O.name) × (blanks.2.parts ≡ O.parts) × (O.parts ≡ 4096) }
-    requires segments { (blanks.3.name ≡ S.name) × (blanks.3.parts ≡ S.parts) × (S.parts ≡ 4096) }
+    requires posts { (blanks.posts.name ≡ L.posts) × (blanks.posts.parts ≡ 4096) }
+    requires findings { (blanks.findings.name ≡ L.findings) × (blanks.findings.parts ≡ 4096) }
+    requires octets { (blanks.octets.name ≡ L.octets) × (blanks.octets.parts ≡ 4096) }
+    requires segments { (blanks.segments.name ≡ L.segments) × (blanks.segments.parts ≡ 4096) }
     requires workers { (0 < workers) × (workers ≤ 64) }
     requires capacity { (0 < capacity) × (capacity ≤ 4096) }
     requires able { T.can_feed task }
     ensures worked { IfOk result (HasWorked P.pieces (T.feed_gives task) workers) }
     ensures refused { IfErr result (λ e. T.unfed task e.0 × ((e.1 ≡ Fault.Memory) ⊎ (e.1 ≡ Fault.Start))) }
 {
-    let (posts, findings, octets, segments) = blanks;
     let Ok((work, pass)) = Work::<P, A>::new(alloc, capacity) else {
         return Err((task.back(), Fault::Memory));
     };
-    let mut book = Book::<P, N, F, O, S, A>::new(alloc, posts, findings, octets, segments);
+    let mut book = Book::<P, L, A>::new(alloc, blanks);
     let Ok(crew) = crew_for(alloc, &work, &mut book, pass, workers) else {
         return Err((task.back(), Fault::Memory));
     };
@@ -106,13 +101,5 @@ pub fn work_through<
     ensures worked { IfOk result (HasWorked P.pieces (T.feed_gives task) workers) }
     ensures refused { IfErr result (λ e. T.unfed task e.0 × ((e.1 ≡ Fault.Memory) ⊎ (e.1 ≡ Fault.Start))) }
 {
-    let blanks = (
-        Blank::new(MOST_SHARES),
-        Blank::new(MOST_SHARES),
-        Blank::new(MOST_SHARES),
-        Blank::new(MOST_SHARES),
-    );
-    work_in::<P, Brand, Brand, Brand, Brand, A, G, R, T>(
-        rt, alloc, blanks, workers, capacity, gate, task,
-    )
+    work_in::<P, Brand, A, G, R, T>(rt, alloc, Blanks::new(), workers, capacity, gate, task)
 }

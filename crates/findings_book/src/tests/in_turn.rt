@@ -1,22 +1,21 @@
 //! The reports of three epochs in two shares, and a report that comes twice.
 
 use crate::tests::{Scenario, THREE_EPOCHS, comes_back, play, post_all, report};
-use crate::{Desk, Share};
+use crate::{Desk, Ledgers, Share};
 use line_model::piece::PieceReport;
 use line_model::totals::Totals;
 use std::alloc::Global;
 use std::marker::Brand;
 use std::process::Abort;
 use std::sync::Wait;
-use std::sync::ledger::Ledger;
 use std::test::Fail;
 
 /// The first share has posted the reports of six pieces, and all twelve are seen by the second.
-fn has_six_of_twelve<R: Wait + Abort, N: Ledger, F: Ledger, O: Ledger, S: Ledger>(
+fn has_six_of_twelve<R: Wait + Abort, L: Ledgers>(
     rt: &R,
-    desk: &Desk<Brand, N, F, O, S>,
-    first: &Share<N, F, O, S>,
-    second: &mut Share<N, F, O, S>,
+    desk: &Desk<Brand, L>,
+    first: &Share<L>,
+    second: &mut Share<L>,
 ) {
     assert_eq!(rt; first.totals().posts, 6);
     assert_eq!(rt; first.totals().findings, 6);
@@ -24,12 +23,12 @@ fn has_six_of_twelve<R: Wait + Abort, N: Ledger, F: Ledger, O: Ledger, S: Ledger
 }
 
 /// Posts the reports of twelve pieces, six by either share.
-pub(super) fn three_epochs<R: Wait + Abort, N: Ledger, F: Ledger, O: Ledger, S: Ledger>(
+pub(super) fn three_epochs<R: Wait + Abort, L: Ledgers>(
     rt: &R,
     alloc: Global,
-    desk: &Desk<Brand, N, F, O, S>,
-    first: &mut Share<N, F, O, S>,
-    second: &mut Share<N, F, O, S>,
+    desk: &Desk<Brand, L>,
+    first: &mut Share<L>,
+    second: &mut Share<L>,
 ) -> Result<(), Fail> {
     post_all(rt, alloc, desk, first, &[0, 1, 2, 3, 4, 5])?;
     post_all(rt, alloc, desk, second, &[6, 7, 8, 9, 10, 11])?;
@@ -57,11 +56,11 @@ const ONCE: Totals = Totals {
 };
 
 /// Posts a report that is taken, and one of its id that comes back.
-pub(super) fn posted_twice<R: Wait + Abort, N: Ledger, F: Ledger, O: Ledger, S: Ledger>(
+pub(super) fn posted_twice<R: Wait + Abort, L: Ledgers>(
     rt: &R,
     alloc: Global,
-    desk: &Desk<Brand, N, F, O, S>,
-    share: &mut Share<N, F, O, S>,
+    desk: &Desk<Brand, L>,
+    share: &mut Share<L>,
 ) -> Result<(), Fail> {
     let taken = desk.post(rt, report(alloc, 3, 130, 2)?, share).is_ok();
     assert!(rt; taken);

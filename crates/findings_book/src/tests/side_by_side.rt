@@ -3,7 +3,7 @@
 use crate::tests::{
     Scenario, THREE_EPOCHS, comes_back, finding, play, post_all, report, report_of,
 };
-use crate::{Desk, Share};
+use crate::{Desk, Ledgers, Share};
 use line_model::fault::Fault;
 use line_model::piece::PieceReport;
 use line_model::totals::Totals;
@@ -11,24 +11,17 @@ use std::alloc::Global;
 use std::marker::Brand;
 use std::process::Abort;
 use std::sync::Wait;
-use std::sync::ledger::Ledger;
 use std::test::Fail;
 use std::thread;
 use std::thread::Threads;
 
 /// Posts the reports of twelve pieces from two threads.
-fn post_side_by_side<
-    R: Threads + Wait + Abort + Sync,
-    N: Ledger + Sync,
-    F: Ledger + Sync,
-    O: Ledger + Sync,
-    S: Ledger + Sync,
->(
+fn post_side_by_side<R: Threads + Wait + Abort + Sync, L: Ledgers + Sync>(
     rt: &R,
     alloc: Global,
-    desk: &Desk<Brand, N, F, O, S>,
-    even: &mut Share<N, F, O, S>,
-    odd: &mut Share<N, F, O, S>,
+    desk: &Desk<Brand, L>,
+    even: &mut Share<L>,
+    odd: &mut Share<L>,
 ) -> Result<(), Fault> {
     let (one, other) = thread::join(
         rt,
@@ -40,28 +33,18 @@ fn post_side_by_side<
 }
 
 /// Either share has posted the reports of six pieces.
-fn have_six_each<R: Abort, N: Ledger, F: Ledger, O: Ledger, S: Ledger>(
-    rt: &R,
-    first: &Share<N, F, O, S>,
-    second: &Share<N, F, O, S>,
-) {
+fn have_six_each<R: Abort, L: Ledgers>(rt: &R, first: &Share<L>, second: &Share<L>) {
     assert_eq!(rt; first.totals().posts, 6);
     assert_eq!(rt; second.totals().posts, 6);
 }
 
 /// Posts the reports of twelve pieces from two threads.
-pub(super) fn twelve_pieces<
-    R: Threads + Wait + Abort + Sync,
-    N: Ledger + Sync,
-    F: Ledger + Sync,
-    O: Ledger + Sync,
-    S: Ledger + Sync,
->(
+pub(super) fn twelve_pieces<R: Threads + Wait + Abort + Sync, L: Ledgers + Sync>(
     rt: &R,
     alloc: Global,
-    desk: &Desk<Brand, N, F, O, S>,
-    first: &mut Share<N, F, O, S>,
-    second: &mut Share<N, F, O, S>,
+    desk: &Desk<Brand, L>,
+    first: &mut Share<L>,
+    second: &mut Share<L>,
 ) -> Result<(), Fail> {
     post_side_by_side(rt, alloc, desk, first, second)?;
     have_six_each(rt, first, second);
@@ -118,11 +101,11 @@ fn two_findings(alloc: Global) -> Result<PieceReport, Fault> {
 }
 
 /// Posts a report, and looks.
-fn post_then_look<R: Wait + Abort, N: Ledger, F: Ledger, O: Ledger, S: Ledger>(
+fn post_then_look<R: Wait + Abort, L: Ledgers>(
     rt: &R,
-    desk: &Desk<Brand, N, F, O, S>,
+    desk: &Desk<Brand, L>,
     report: PieceReport,
-    share: &mut Share<N, F, O, S>,
+    share: &mut Share<L>,
     posted: Totals,
 ) -> Result<(), Fault> {
     if let Err((_, fault)) = desk.post(rt, report, share) {
@@ -134,18 +117,12 @@ fn post_then_look<R: Wait + Abort, N: Ledger, F: Ledger, O: Ledger, S: Ledger>(
 }
 
 /// Two threads post a report each, and look.
-fn post_and_look_side_by_side<
-    R: Threads + Wait + Abort + Sync,
-    N: Ledger + Sync,
-    F: Ledger + Sync,
-    O: Ledger + Sync,
-    S: Ledger + Sync,
->(
+fn post_and_look_side_by_side<R: Threads + Wait + Abort + Sync, L: Ledgers + Sync>(
     rt: &R,
-    desk: &Desk<Brand, N, F, O, S>,
+    desk: &Desk<Brand, L>,
     reports: (PieceReport, PieceReport),
-    first: &mut Share<N, F, O, S>,
-    second: &mut Share<N, F, O, S>,
+    first: &mut Share<L>,
+    second: &mut Share<L>,
 ) -> Result<(), Fault> {
     let (two_findings, one_finding) = reports;
     let (one, other) = thread::join(
@@ -158,29 +135,23 @@ fn post_and_look_side_by_side<
 }
 
 /// Either share sees what both threads posted.
-fn both_are_seen<R: Wait + Abort, N: Ledger, F: Ledger, O: Ledger, S: Ledger>(
+fn both_are_seen<R: Wait + Abort, L: Ledgers>(
     rt: &R,
-    desk: &Desk<Brand, N, F, O, S>,
-    first: &mut Share<N, F, O, S>,
-    second: &mut Share<N, F, O, S>,
+    desk: &Desk<Brand, L>,
+    first: &mut Share<L>,
+    second: &mut Share<L>,
 ) {
     assert_eq!(rt; desk.look(rt, first), BOTH);
     assert_eq!(rt; desk.look(rt, second), BOTH);
 }
 
 /// Each of two threads posts a report and looks, and a report of an id that was posted comes back.
-pub(super) fn post_and_look<
-    R: Threads + Wait + Abort + Sync,
-    N: Ledger + Sync,
-    F: Ledger + Sync,
-    O: Ledger + Sync,
-    S: Ledger + Sync,
->(
+pub(super) fn post_and_look<R: Threads + Wait + Abort + Sync, L: Ledgers + Sync>(
     rt: &R,
     alloc: Global,
-    desk: &Desk<Brand, N, F, O, S>,
-    first: &mut Share<N, F, O, S>,
-    second: &mut Share<N, F, O, S>,
+    desk: &Desk<Brand, L>,
+    first: &mut Share<L>,
+    second: &mut Share<L>,
 ) -> Result<(), Fail> {
     let reports = (two_findings(alloc)?, report(alloc, 1, 0, 0)?);
     post_and_look_side_by_side(rt, desk, reports, first, second)?;
