@@ -12,3 +12,4 @@ pub mod Bounds
 pub mod Taken
 pub mod Whole
 pub mod Heads
+pub mod OpenLaneLemmas
