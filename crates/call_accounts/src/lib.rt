@@ -3,7 +3,10 @@
 
 pub mod account;
 pub mod call;
+mod counts;
 mod heard;
+mod pad_table;
 pub mod peak;
+pub mod so_far;
 #[cfg(test)]
 mod tests;

@@ -1,0 +1,83 @@
+-- The calls of one logical channel in one epoch, as its events come.
+use Rattle.std.specs.Prelude.{◌≡◌, ℕ, ◌++◌, Bool, true, false, ◌||◌, is_some, List, [], ◌∷◌, find, map, sum, length, Option, Some, None, option_map}
+use Rattle.std.specs.List.{AllByRecursion}
+use Rattle.line_model.specs.declared.state.Side.TheVariants.{T, N}
+use Rattle.line_model.specs.declared.event.How.{How}
+use Rattle.line_model.specs.declared.event.What.TheVariants.{Open}
+use Rattle.line_model.specs.declared.event.Event.{Event}
+use Rattle.line_model.specs.Records.{CallRecord}
+use Rattle.line_model.specs.Calls.{is_up, is_end, is_opening, lengths_from, all_lengths, segments_of, settings_of, calls_of}
+use Rattle.call_accounts.specs.Counted.{Counts}
+use Rattle.call_accounts.specs.declared.so_far.OpenCall.{OpenCall}
+use Rattle.call_accounts.specs.declared.so_far.CallsSoFar.{CallsSoFar}
+
+-- an event of a channel in an epoch
+abbrev pub IsOf : (epoch channel : ℕ) → Event → Type 0
+IsOf e k f = (f.epoch ≡ e) × (f.channel ≡ k)
+
+-- an event that neither opens nor ends a call
+abbrev pub IsWithin : Event → Type 0
+IsWithin f = (is_end f || is_opening f) ≡ false
+
+-- each call has ended: behind its opening there is an end
+abbrev pub AllEnded : List Event → Type 0
+AllEnded [] = Unit {0}
+AllEnded (f ∷ later) = (is_opening f ≡ true → is_some (find is_end later) ≡ true) × AllEnded later
+
+-- the event that opened a call
+abbrev pub opening_of : OpenCall → Event
+opening_of c = record { epoch = c.epoch; channel = c.channel; packet = c.packet; what = Open c.out c.called c.calling c.reverse }
+
+-- the record of a call by the events that belong to it, with its end
+abbrev pub call_with : OpenCall → (own : List Event) → (ended : Option ℕ) → (how : Option How) → CallRecord
+call_with c own ended how = record {
+  epoch = c.epoch;
+  channel = c.channel;
+  out = c.out;
+  called = c.called;
+  calling = c.calling;
+  reverse = c.reverse;
+  up = option_map (λ f. f.packet) (find is_up own);
+  opened = c.packet;
+  ended = ended;
+  how = how;
+  data_t = length (lengths_from T own);
+  oct_t = sum (lengths_from T own);
+  data_n = length (lengths_from N own);
+  oct_n = sum (lengths_from N own);
+  segments = segments_of (all_lengths own);
+  settings = settings_of own;
+}
+
+-- a call with an end, where it has none
+abbrev pub ended_by : (packet : ℕ) → How → CallRecord → CallRecord
+ended_by n h c = elim c.ended [ Some m ↦ c | None ↦ record c { ended = Some n; how = Some h } ]
+
+-- the calls that have ended stand before those that have not
+abbrev pub EndFirst : List CallRecord → Type 0
+EndFirst [] = Unit {0}
+EndFirst (c ∷ cs) = (c.ended ≡ None → AllByRecursion (λ d. d.ended ≡ None) cs) × EndFirst cs
+
+-- a call is open: the events that belong to it stand behind its opening, and the records are those of the calls before it
+pub record IsOpenIn (told : List CallRecord) (c : OpenCall) (es : List Event) : Type 0 where
+  pub before : List Event
+  pub own : List Event
+  pub whole : es ≡ before ++ opening_of c ∷ own
+  pub within : AllByRecursion IsWithin own
+  pub earlier : told ≡ calls_of before
+  pub counts : Counts c.counts own
+
+-- no call is open, and all have ended
+pub record IsClosedIn (told : List CallRecord) (es : List Event) : Type 0 where
+  pub earlier : told ≡ calls_of es
+  pub ended : AllEnded es
+
+-- records and the open call are those of the events of a channel
+abbrev pub HoldsFor : List CallRecord → Option OpenCall → List Event → Type 0
+HoldsFor told None es = IsClosedIn told es
+HoldsFor told (Some c) es = IsOpenIn told c es
+
+-- the calls so far are those of these events, all of one channel in one epoch
+pub record StandsFor {A : Type 0} (s : CallsSoFar A) (epoch channel : ℕ) (es : List Event) : Type 0 where
+  pub of_channel : AllByRecursion (IsOf epoch channel) es
+  pub holds : HoldsFor s.told.items s.call es

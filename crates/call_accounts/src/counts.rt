@@ -1,0 +1,132 @@
+//! What is counted of a call so far.
+
+ghost use Rattle.std.specs.Prelude.{◌≡◌, ◌+◌, ◌/◌, List, [], IfOk, IfErr};
+ghost use Rattle.line_model.specs.declared.event.Event.{Event};
+ghost use Rattle.line_model.specs.declared.event.What.TheVariants.{Data, Setting, Initial};
+ghost use Rattle.line_model.specs.Calls.{settings_of};
+ghost use Rattle.call_accounts.specs.Counted.{Counts, Adds};
+
+use crate::pad_table::PadTable;
+use line_model::call::SettingRecord;
+use line_model::event::{Entry, Event, What};
+use line_model::fault::Fault;
+use line_model::state::Side;
+use std::alloc::Allocator;
+
+/// The segments of a data packet: 64 octets each, the last one begun counts whole.
+fn segments(octets: u32) -> u64
+    ensures { result ≡ (octets + 63) / 64 }
+{
+    u64::from(octets).div_ceil(64)
+}
+
+/// What is counted of a call so far.
+#[derive(Clone, Copy)]
+pub struct CallCounts {
+    /// The packet that brought the call into p4, if one did.
+    pub up: Option<u32>,
+    /// Data packets of the DTE.
+    pub data_t: u64,
+    /// Octets of the DTE.
+    pub oct_t: u64,
+    /// Data packets of the DCE.
+    pub data_n: u64,
+    /// Octets of the DCE.
+    pub oct_n: u64,
+    /// Segments of 64 octets of both sides.
+    pub segments: u64,
+    settings_t: PadTable,
+    settings_n: PadTable,
+}
+
+impl CallCounts {
+    /// Nothing was heard.
+    pub(crate) fn new() -> CallCounts
+        ensures { Counts result [] }
+    {
+        CallCounts {
+            up: None,
+            data_t: 0,
+            oct_t: 0,
+            data_n: 0,
+            oct_n: 0,
+            segments: 0,
+            settings_t: PadTable::new(),
+            settings_n: PadTable::new(),
+        }
+    }
+
+    /// Counts the next event. A sum that would not fit stays at the greatest number.
+    pub(crate) fn hear(&mut self, event: &Event)
+        ensures { Adds self.old self.new event.now }
+    {
+        match event.what {
+            What::Found { .. } | What::Open { .. } | What::End(_) => {}
+            What::Up => self.rise(event.packet),
+            What::Data { side, octets } => self.hear_data(side, octets),
+            What::Setting {
+                pad,
+                parameter,
+                entry,
+            } => self.say(pad, parameter, entry),
+            What::Initial { pad } => self.forget(pad),
+        }
+    }
+
+    /// The call comes up, where it was not up.
+    fn rise(&mut self, packet: u32)
+        ensures { (e : Event) → e.packet ≡ packet → e.what ≡ What.Up → Adds self.old self.new e }
+    {
+        if self.up.is_none() {
+            self.up = Some(packet);
+        }
+    }
+
+    /// A data packet.
+    fn hear_data(&mut self, side: Side, octets: u32)
+        ensures { (e : Event) → e.what ≡ Data side octets → Adds self.old self.new e }
+    {
+        self.segments = self.segments.saturating_add(segments(octets));
+        match side {
+            Side::T => {
+                self.data_t = self.data_t.saturating_add(1);
+                self.oct_t = self.oct_t.saturating_add(u64::from(octets));
+            }
+            Side::N => {
+                self.data_n = self.data_n.saturating_add(1);
+                self.oct_n = self.oct_n.saturating_add(u64::from(octets));
+            }
+        }
+    }
+
+    /// A message says what a parameter of a PAD is.
+    fn say(&mut self, pad: Side, parameter: u8, entry: Entry)
+        ensures { (e : Event) → e.what ≡ Setting pad parameter entry → Adds self.old self.new e }
+    {
+        match pad {
+            Side::T => self.settings_t.say(parameter, entry),
+            Side::N => self.settings_n.say(parameter, entry),
+        }
+    }
+
+    /// The parameters of a PAD are initial again, and so unknown.
+    fn forget(&mut self, pad: Side)
+        ensures { (e : Event) → e.what ≡ Initial pad → Adds self.old self.new e }
+    {
+        match pad {
+            Side::T => self.settings_t = PadTable::new(),
+            Side::N => self.settings_n = PadTable::new(),
+        }
+    }
+
+    /// The settings that are known, side T first, by parameter.
+    pub(crate) fn settings<A: Allocator>(&self, alloc: A) -> Result<Vec<SettingRecord, A>, Fault>
+        ensures settings { IfOk result (λ v. (own : List Event) → Counts self.now own → v.items ≡ settings_of own) }
+        ensures memory { IfErr result (λ f. f ≡ Fault.Memory) }
+    {
+        let mut settings = Vec::new(alloc);
+        self.settings_t.push_known(Side::T, &mut settings)?;
+        self.settings_n.push_known(Side::N, &mut settings)?;
+        Ok(settings)
+    }
+}

@@ -1,0 +1,68 @@
+//! What the messages of a call said so far of the parameters of one PAD.
+
+ghost use Rattle.std.specs.Prelude.{◌≡◌, ℕ, ◌≤◌, ◌==◌, ◌++◌, if◌then◌else◌, OnOk, IfErr};
+ghost use Rattle.std.specs.List.{range_with_len};
+ghost use Rattle.line_model.specs.declared.event.Entry.TheVariants.{Unknown};
+ghost use Rattle.line_model.specs.Calls.{is_known};
+ghost use Rattle.call_accounts.specs.Counted.{entry_at, settings_in};
+
+use line_model::call::SettingRecord;
+use line_model::event::Entry;
+use line_model::fault::Fault;
+use line_model::state::Side;
+use std::alloc::Allocator;
+
+/// The last word on each of the parameters 1 to 22.
+#[derive(Clone, Copy)]
+pub struct PadTable {
+    entries: [Entry; 22],
+}
+
+impl PadTable {
+    /// Nothing is known.
+    pub(crate) fn new() -> PadTable
+        ensures { (n : ℕ) → entry_at result n ≡ Unknown }
+    {
+        PadTable {
+            entries: [Entry::Unknown; 22],
+        }
+    }
+
+    /// A message says what a parameter is.
+    pub(crate) fn say(&mut self, parameter: u8, entry: Entry)
+        ensures { (n : ℕ) → 1 ≤ n → n ≤ 22 → entry_at self.new n ≡ (if parameter == n then entry else entry_at self.old n) }
+    {
+        if (1..=22).contains(&parameter) {
+            self.entries[usize::from(parameter) - 1] = entry;
+        }
+    }
+
+    /// Adds the parameters that are known.
+    pub(crate) fn push_known<A: Allocator>(
+        &self,
+        pad: Side,
+        settings: &mut Vec<SettingRecord, A>,
+    ) -> Result<(), Fault>
+        ensures settings { OnOk result (settings.new.items ≡ settings.old.items ++ settings_in pad self.now (range_with_len 1 22)) }
+        ensures memory { IfErr result (λ f. f ≡ Fault.Memory) }
+    {
+        for parameter in 1..23u8 {
+            let entry = self.entries[usize::from(parameter) - 1];
+            if is_known(entry) {
+                settings.push(SettingRecord {
+                    pad,
+                    parameter,
+                    entry,
+                })?;
+            }
+        }
+        Ok(())
+    }
+}
+
+/// Whether an entry is known.
+fn is_known(entry: Entry) -> bool
+    ensures { result ≡ is_known entry }
+{
+    !matches!(entry, Entry::Unknown)
+}

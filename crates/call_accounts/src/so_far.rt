@@ -1,0 +1,210 @@
+//! The calls of one logical channel in one epoch, as its events come.
+
+ghost use Rattle.std.specs.Prelude.{◌≡◌, ℕ, List, [], ◌∷◌, ◌++◌, Option, Some, None, map, IfOk, IfErr, OnOk};
+ghost use Rattle.line_model.specs.declared.event.Event.{Event};
+ghost use Rattle.line_model.specs.declared.event.What.TheVariants.{Open, End};
+ghost use Rattle.line_model.specs.Calls.{calls_of};
+ghost use Rattle.call_accounts.specs.Counted.{Counts, IsCountable};
+ghost use Rattle.call_accounts.specs.SoFar.{IsOf, StandsFor, call_with, opening_of, ended_by, EndFirst};
+
+use crate::counts::CallCounts;
+use line_model::address::Address;
+use line_model::call::{CallRecord, copies};
+use line_model::event::{Event, How, What};
+use line_model::fault::Fault;
+use std::alloc::Allocator;
+
+/// A call that has not ended: where it was opened, and what was counted of it since.
+#[derive(Drop)]
+pub struct OpenCall {
+    epoch: u32,
+    channel: u16,
+    packet: u32,
+    out: bool,
+    called: Address,
+    calling: Address,
+    reverse: bool,
+    counts: CallCounts,
+}
+
+impl OpenCall {
+    /// The call that an event opens.
+    fn new(event: &Event, out: bool, called: &Address, calling: &Address, reverse: bool) -> Self
+        ensures opening { event.now.what ≡ Open out called.now calling.now reverse → opening_of result ≡ event.now }
+        ensures counts { Counts result.counts [] }
+    {
+        OpenCall {
+            epoch: event.epoch,
+            channel: event.channel,
+            packet: event.packet,
+            out,
+            called: called.copied(),
+            calling: calling.copied(),
+            reverse,
+            counts: CallCounts::new(),
+        }
+    }
+
+    /// Its record, with an end or none.
+    fn record<A: Allocator>(
+        &self,
+        alloc: A,
+        ended: Option<u32>,
+        how: Option<How>,
+    ) -> Result<CallRecord<A>, Fault>
+        ensures record { IfOk result (λ r. (own : List Event) → Counts self.now.counts own → r ≡ call_with self.now own ended how) }
+        ensures memory { IfErr result (λ f. f ≡ Fault.Memory) }
+    {
+        let counts = &self.counts;
+        let settings = counts.settings(alloc)?;
+        Ok(CallRecord {
+            epoch: self.epoch,
+            channel: self.channel,
+            out: self.out,
+            called: self.called.copied(),
+            calling: self.calling.copied(),
+            reverse: self.reverse,
+            up: counts.up,
+            opened: self.packet,
+            ended,
+            how,
+            data_t: counts.data_t,
+            oct_t: counts.oct_t,
+            data_n: counts.data_n,
+            oct_n: counts.oct_n,
+            segments: counts.segments,
+            settings,
+        })
+    }
+}
+
+/// Ends the calls that have not ended; they are the last ones.
+fn end_last<A: Allocator>(calls: &mut Vec<CallRecord<A>, A>, packet: u32, how: How)
+    ensures { EndFirst calls.old.items → calls.new.items ≡ map (ended_by packet how) calls.old.items }
+{
+    for index in (0..calls.len()).rev() {
+        if calls[index].ended.is_some() {
+            return;
+        }
+        let call = &mut calls[index];
+        call.ended = Some(packet);
+        call.how = Some(how);
+    }
+}
+
+/// Adds a record; the first one takes the room of one.
+fn push_record<A: Allocator>(
+    calls: &mut Vec<CallRecord<A>, A>,
+    call: CallRecord<A>,
+) -> Result<(), Fault>
+    ensures pushed { OnOk result (calls.new.items ≡ calls.old.items ++ call ∷ []) }
+    ensures memory { IfErr result (λ f. f ≡ Fault.Memory) }
+{
+    if calls.is_empty() {
+        calls.reserve_exact(1)?;
+    }
+    calls.push(call)?;
+    Ok(())
+}
+
+/// The calls of one logical channel in one epoch so far: the records of those that are over, and the call that is open.
+/// An opening where a call is open, which no channel makes, leaves that call without an end until one comes.
+#[derive(Drop)]
+pub struct CallsSoFar<A: Allocator> {
+    told: Vec<CallRecord<A>, A>,
+    call: Option<OpenCall>,
+}
+
+impl<A: Allocator + Clone> CallsSoFar<A> {
+    /// No event was heard. It takes no memory.
+    pub fn new(alloc: A) -> Self
+        ensures { (epoch channel : ℕ) → StandsFor result epoch channel [] }
+    {
+        CallsSoFar {
+            told: Vec::new(alloc),
+            call: None,
+        }
+    }
+
+    /// Hears the next event of the channel. It answers `Memory` alone; then it stands for nothing any more.
+    pub fn hear(&mut self, event: &Event) -> Result<(), Fault>
+        ensures heard { (epoch channel : ℕ) (es : List Event) → StandsFor self.old epoch channel es → IsOf epoch channel event.now → IsCountable (es ++ event.now ∷ []) → OnOk result (StandsFor self.new epoch channel (es ++ event.now ∷ [])) }
+        ensures memory { IfErr result (λ f. f ≡ Fault.Memory) }
+    {
+        match &event.what {
+            What::Open {
+                out,
+                called,
+                calling,
+                reverse,
+            } => {
+                self.close()?;
+                self.call = Some(OpenCall::new(event, *out, called, calling, *reverse));
+                Ok(())
+            }
+            What::End(how) => self.end(event.packet, *how),
+            _ => {
+                if let Some(call) = &mut self.call {
+                    call.counts.hear(event);
+                }
+                Ok(())
+            }
+        }
+    }
+
+    /// A call that is open is open no more, and has no end.
+    fn close(&mut self) -> Result<(), Fault>
+        ensures none { OnOk result (self.new.call ≡ None) }
+        ensures told { (epoch channel : ℕ) (es : List Event) → StandsFor self.old epoch channel es → OnOk result (self.new.told.items ≡ calls_of es) }
+        ensures memory { IfErr result (λ f. f ≡ Fault.Memory) }
+    {
+        let Some(call) = &self.call else {
+            return Ok(());
+        };
+        let alloc = self.told.allocator().clone()?;
+        let record = call.record(alloc, None, None)?;
+        push_record(&mut self.told, record)?;
+        self.call = None;
+        Ok(())
+    }
+
+    /// The call that is open ends, and with it those that have no end.
+    fn end(&mut self, packet: u32, how: How) -> Result<(), Fault>
+        ensures ended { (epoch channel : ℕ) (es : List Event) (e : Event) → StandsFor self.old epoch channel es → IsOf epoch channel e → e.packet ≡ packet → e.what ≡ End how → OnOk result (StandsFor self.new epoch channel (es ++ e ∷ [])) }
+        ensures memory { IfErr result (λ f. f ≡ Fault.Memory) }
+    {
+        let Some(call) = &self.call else {
+            return Ok(());
+        };
+        let alloc = self.told.allocator().clone()?;
+        let record = call.record(alloc, Some(packet), Some(how))?;
+        end_last(&mut self.told, packet, how);
+        push_record(&mut self.told, record)?;
+        self.call = None;
+        Ok(())
+    }
+
+    /// The records of the calls so far, in the order in which they were opened. It answers `Memory` alone.
+    pub fn calls(&self, alloc: A) -> Result<Vec<CallRecord<A>, A>, Fault>
+        ensures calls { IfOk result (λ v. (epoch channel : ℕ) (es : List Event) → StandsFor self.now epoch channel es → v.items ≡ calls_of es) }
+        ensures memory { IfErr result (λ f. f ≡ Fault.Memory) }
+    {
+        let mut calls = copies(alloc.clone()?, &self.told)?;
+        let Some(call) = &self.call else {
+            return Ok(calls);
+        };
+        let record = call.record(alloc, None, None)?;
+        push_record(&mut calls, record)?;
+        Ok(calls)
+    }
+
+    /// The records of the calls when no more events come, in the order in which they were opened. It answers `Memory`
+    /// alone.
+    pub fn finish(mut self) -> Result<Vec<CallRecord<A>, A>, Fault>
+        ensures calls { IfOk result (λ v. (epoch channel : ℕ) (es : List Event) → StandsFor self epoch channel es → v.items ≡ calls_of es) }
+        ensures memory { IfErr result (λ f. f ≡ Fault.Memory) }
+    {
+        self.close()?;
+        Ok(self.told)
+    }
+}
