@@ -1,0 +1,1 @@
+-- An observer that stands for some rows stands for one more after it took it.

@@ -1,0 +1,6 @@
+//! Reports of a trace that grows: the observer that runs.
+#![tactic(auto)]
+
+mod ending;
+mod lanes;
+pub mod observer;
