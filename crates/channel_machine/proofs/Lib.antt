@@ -10,5 +10,6 @@ pub mod Settings
 pub mod Steps
 pub mod Taking
 pub mod Machines
-pub mod Runs
 pub mod Carried
+pub mod DataCounts
+pub mod LiveLemmas

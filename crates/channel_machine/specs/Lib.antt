@@ -6,3 +6,5 @@ pub mod Transfers
 pub mod Channels
 pub mod Decisions
 pub mod Run
+pub mod Counted
+pub mod Live

@@ -2,9 +2,11 @@
 #![tactic(auto)]
 
 pub mod channel;
+mod counted;
 mod events;
 mod format;
 mod judging;
+pub mod live;
 mod messages;
 mod moves;
 mod plain;

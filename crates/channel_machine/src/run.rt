@@ -1,20 +1,17 @@
 //! The run of a piece: any machine of one logical channel, over the rows of the piece.
 
-ghost use Rattle.std.specs.Prelude.{◌≡◌, ◌≤◌, ◌^◌, ◌++◌, [], ◌∷◌, ℕ, length, sum, IfOk, IfErr, OnOk, OnErr};
+ghost use Rattle.std.specs.Prelude.{◌≡◌, ◌≤◌, ◌^◌, ◌++◌, ℕ, length, IfOk, IfErr, OnErr};
 ghost use Rattle.line_model.specs.declared.fault.Fault.TheVariants.{Memory};
 ghost use Rattle.line_model.specs.Channels as channels;
 ghost use Rattle.line_model.specs.Channels.{fresh, is_open};
 ghost use Rattle.line_model.specs.ChannelStep.{channel_step};
 ghost use Rattle.line_model.specs.Bounds.{IsItem};
 ghost use Rattle.line_model.specs.Plans as plans;
-ghost use Rattle.line_model.specs.Report.{findings_of};
-ghost use Rattle.line_model.specs.Calls.{all_lengths, segments_of};
-ghost use Rattle.channel_machine.specs.Run.{row_events, end_events};
+ghost use Rattle.channel_machine.specs.Run.{row_events};
 
-use call_accounts::call::calls_of;
-use line_model::event::{Event, How, What};
+use crate::live::LiveChannel;
+use line_model::event::Event;
 use line_model::fault::Fault;
-use line_model::finding::Finding;
 use line_model::interface::Interface;
 use line_model::packet::Packet;
 use line_model::piece::{Piece, PieceReport};
@@ -79,155 +76,16 @@ pub fn run_piece<A: Allocator + Clone, C: Channel<A>>(
     ensures value { IfOk result (λ report. report ≡ plans.value piece.now) }
     ensures memory { IfErr result (λ fault. fault ≡ Memory) }
 {
-    let events = piece_events::<A, C>(alloc.clone()?, piece)?;
-    report_of(alloc, piece, events.as_slice())
-}
-
-/// The events of the rows of a piece on a fresh channel, and of the restart that ends its epoch.
-fn piece_events<A: Allocator + Clone, C: Channel<A>>(
-    alloc: A,
-    piece: &Piece<A>,
-) -> Result<Vec<Event, A>, Fault>
-    ensures events { IfOk result (λ events. events.items ≡ plans.piece_events piece.now) }
-    ensures memory { IfErr result (λ fault. fault ≡ Memory) }
-{
-    let mut channel = C::fresh(alloc.clone()?, &piece.interface, piece.channel, piece.epoch);
+    let mut live = LiveChannel::<A, C>::fresh(
+        alloc.clone()?,
+        &piece.interface,
+        piece.channel,
+        piece.epoch,
+    )?;
     let mut events = Vec::new(alloc);
     for item in &piece.items {
-        channel.step(piece.epoch, &item.row, &item.packet, &mut events)?;
+        live.take(&item.row, &item.packet, &mut events)?;
     }
-    let is_open = channel.is_open();
-    end_call(piece.epoch, piece.channel, piece.end, is_open, &mut events)?;
-    Ok(events)
-}
-
-/// Ends the call with the packet of the restart that ends the epoch, where one does and a call is open.
-fn end_call<A: Allocator>(
-    epoch: u32,
-    channel: u16,
-    end: Option<u32>,
-    is_open: bool,
-    events: &mut Vec<Event, A>,
-) -> Result<(), Fault>
-    ensures end { OnOk result (events.new.items ≡ events.old.items ++ end_events epoch channel end is_open) }
-    ensures memory { IfErr result (λ fault. fault ≡ Memory) }
-{
-    match end {
-        Some(packet) if is_open => {
-            events.push(Event {
-                epoch,
-                channel,
-                packet,
-                what: What::End(How::Restart),
-            })?;
-            Ok(())
-        }
-        _ => Ok(()),
-    }
-}
-
-/// The report of a piece by its events.
-fn report_of<A: Allocator + Clone>(
-    alloc: A,
-    piece: &Piece<A>,
-    events: &[Event],
-) -> Result<PieceReport<A>, Fault>
-    requires events { events.now ≡ plans.piece_events piece.now }
-    ensures value { IfOk result (λ report. report ≡ plans.value piece.now) }
-    ensures memory { IfErr result (λ fault. fault ≡ Memory) }
-{
-    let Piece {
-        id,
-        epoch,
-        channel,
-        ..
-    } = piece;
-    let findings = findings_of(alloc.clone()?, events)?;
-    let calls = calls_of(alloc, events)?;
-    let octets = data_octets(events);
-    let segments = data_segments(events);
-    Ok(PieceReport {
-        id: *id,
-        epoch: *epoch,
-        channel: *channel,
-        findings,
-        calls,
-        octets,
-        segments,
-    })
-}
-
-/// The findings among events.
-fn findings_of<A: Allocator>(alloc: A, events: &[Event]) -> Result<Vec<Finding, A>, Fault>
-    ensures findings { IfOk result (λ v. v.items ≡ findings_of events.now) }
-    ensures memory { IfErr result (λ fault. fault ≡ Memory) }
-{
-    let mut findings = Vec::new(alloc);
-    for event in events {
-        push_finding(event, &mut findings)?;
-    }
-    Ok(findings)
-}
-
-/// Adds the finding of an event, if it is one.
-fn push_finding<A: Allocator>(event: &Event, findings: &mut Vec<Finding, A>) -> Result<(), Fault>
-    ensures finding { OnOk result (findings.new.items ≡ findings.old.items ++ findings_of (event.now ∷ [])) }
-    ensures memory { IfErr result (λ fault. fault ≡ Memory) }
-{
-    match event.what {
-        What::Found { side, state, code } => {
-            findings.push(Finding {
-                packet: event.packet,
-                side,
-                state,
-                code,
-            })?;
-            Ok(())
-        }
-        _ => Ok(()),
-    }
-}
-
-/// The octets of an event, 0 where it is no data packet.
-fn octets_in(event: &Event) -> u64
-    ensures { result ≡ sum (all_lengths (event.now ∷ [])) }
-{
-    match event.what {
-        What::Data { octets, .. } => u64::from(octets),
-        _ => 0,
-    }
-}
-
-/// The segments of 64 octets of an event, the last one begun counts whole; 0 where it is no data packet.
-fn segments_in(event: &Event) -> u64
-    ensures { result ≡ segments_of (all_lengths (event.now ∷ [])) }
-{
-    match event.what {
-        What::Data { octets, .. } => u64::from(octets).div_ceil(64),
-        _ => 0,
-    }
-}
-
-/// The octets of the data packets among events.
-fn data_octets(events: &[Event]) -> u64
-    requires few { sum (all_lengths events.now) ≤ 2 ^ 31 }
-    ensures { result ≡ sum (all_lengths events.now) }
-{
-    let mut octets = 0;
-    for event in events {
-        octets += octets_in(event);
-    }
-    octets
-}
-
-/// The segments of the data packets among events.
-fn data_segments(events: &[Event]) -> u64
-    requires few { segments_of (all_lengths events.now) ≤ 2 ^ 31 }
-    ensures { result ≡ segments_of (all_lengths events.now) }
-{
-    let mut segments = 0;
-    for event in events {
-        segments += segments_in(event);
-    }
-    segments
+    let report = live.end(piece.id, piece.end)?;
+    Ok(report)
 }

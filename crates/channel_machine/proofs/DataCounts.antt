@@ -1,0 +1,176 @@
+-- How many data packets the events of rows tell: one a row at most.
+use Rattle.std.proofs.Common.{◌≡◌, ℕ, ◌+◌, ◌≤◌, Bool, true, false, eqb, Option, Some, None, List, [], ◌∷◌, length, map, refl, ◌∙◌, ap, arith}
+use Rattle.std.specs.Prelude.{Result, Ok, Err, option_to_list, option_map}
+use Rattle.std.proofs.lemmas.List.{map-append}
+use Rattle.line_model.specs.declared.interface.Interface.{Interface}
+use Rattle.line_model.specs.declared.packet.Class.{Class}
+use Rattle.line_model.specs.declared.packet.Class.TheVariants.{Data}
+use Rattle.line_model.specs.declared.packet.DataHeader.{DataHeader}
+use Rattle.line_model.specs.declared.state.Side.{Side}
+use Rattle.line_model.specs.declared.state.Side.TheVariants.{T, N}
+use Rattle.line_model.specs.declared.state.StateName.{StateName}
+use Rattle.line_model.specs.declared.state.StateName.TheVariants.{D1, D2, D3}
+use Rattle.line_model.specs.declared.verdict.Verdict.{Verdict}
+use Rattle.line_model.specs.declared.verdict.Verdict.TheVariants.{Fails, Moves, Transfers, EndsOwed, Nothing}
+use Rattle.line_model.specs.declared.verdict.CallChange.{CallChange}
+use Rattle.line_model.specs.declared.verdict.CallChange.TheVariants.{Opens, GoesUp, Ends, Keeps}
+use Rattle.line_model.specs.declared.event.How.{How}
+use Rattle.line_model.specs.declared.event.What.{What}
+use Rattle.line_model.specs.declared.event.What.TheVariants.{Data as DataHeard}
+use Rattle.line_model.specs.declared.finding.Xcode.{Xcode}
+use Rattle.line_model.specs.declared.finding.Xcode.TheVariants.{X3}
+use Rattle.line_model.specs.declared.event.Event.{Event}
+use Rattle.line_model.specs.Records.{Row, Item, Piece}
+use Rattle.line_model.specs.MachineEvents.{stamp}
+use Rattle.line_model.specs.Pieces.{piece_value}
+use Rattle.line_model.specs.Observer.{x25, event_of, restart_end_if}
+use Rattle.line_model.specs.Plans.{row_numbered, piece_events}
+use Rattle.line_model.specs.Calls.{all_lengths}
+use Rattle.line_model.specs.Octets.{bits}
+use Rattle.line_model.specs.Pad.{Pair, is_indication, is_set, indicated_by, indicated, asked, set_told, settings_told, settings_after, message_fault}
+use Rattle.line_model.specs.Channels.{Channel, fresh, is_open, Heard, Opening, Told, is_permanent, other}
+use Rattle.line_model.specs.FlowControl.{Counts, count_data}
+use Rattle.line_model.specs.Sequences.{begun, is_alike}
+use Rattle.line_model.specs.Formats.{packet_fault, size_in_force, window_in_force}
+use Rattle.line_model.specs.Classes.{class_of, data_header, header_length}
+use Rattle.line_model.specs.ChannelStep.{heard_of, completed_message, call_change, judged, verdict, ending_open, after_error, failing, changing, entering, telling, option_found, data_alike, data_counted, data_step, counting, transferring, verdict_step, channel_step, counts_of}
+use Rattle.line_model.proofs.EventWeights.{total, total-append, heard_by, weight}
+
+-- a data packet counts once
+abbrev pub once : ℕ → ℕ
+once n = 1
+
+-- the data packets that contents tell
+abbrev pub packets_told : List What → ℕ
+packets_told ws = total (heard_by once) ws
+
+ending_none : (h : How) (o : Option Opening) (c : Channel) → packets_told (ending_open h o c).reported ≡ 0
+ending_none h None c = refl
+ending_none h (Some o) c = refl
+
+error_none : (s : StateName) (c : Channel) → packets_told (after_error s c).reported ≡ 0
+error_none D1 c = refl
+error_none D2 c = refl
+error_none D3 c = refl
+error_none s c = ending_none _ c.opening _
+
+failing_none : (x : Side) (s : StateName) (n : ℕ) (c : Channel) → packets_told (failing x s n c).reported ≡ 0
+failing_none T s n c = let none = error_none s c in omega arith
+failing_none N s n c = refl
+
+changing_none : (xs : List ℕ) (g : CallChange) (c : Channel) → packets_told (changing xs g c).reported ≡ 0
+changing_none xs (Opens out) c = total-append (heard_by once) (ending_open _ c.opening c).reported _ ∙ ap (λ n. n + 0) (ending_none _ c.opening c)
+changing_none xs GoesUp c = refl
+changing_none xs (Ends h) c = ending_none h c.opening c
+changing_none xs Keeps c = refl
+
+indicated_none : (b : Bool) (pad : Side) (p : Pair) → heard_by once (indicated_by b pad p) ≡ 0
+indicated_none true pad p = refl
+indicated_none false pad p = refl
+
+map_none : (f : Pair → What) → ((p : Pair) → heard_by once (f p) ≡ 0) → (ps : List Pair) → packets_told (map f ps) ≡ 0
+map_none f h [] = refl
+map_none f h (p ∷ ps) = let more = map_none f h ps in let none = h p in omega arith
+
+set_none : (b : Bool) (x : Side) (xs : List ℕ) → packets_told (set_told b x xs) ≡ 0
+set_none true x xs = refl
+set_none false x xs = map_none (asked (other x)) (λ p. refl) _
+
+settings_none : (a b : Bool) (x : Side) (xs : List ℕ) → packets_told (settings_told a b x xs) ≡ 0
+settings_none true b x xs = map_none (indicated x) (λ p. indicated_none (eqb (bits 8 8 p.reference) 1) x p) _
+settings_none false true x xs = set_none (eqb (length xs) 1) x xs
+settings_none false false x xs = refl
+
+after_none : (f : Option Xcode) (x : Side) (xs : List ℕ) → packets_told (settings_after f x xs) ≡ 0
+after_none None x xs = settings_none (is_indication xs) (is_set xs) x xs
+after_none (Some X3) x xs = settings_none (is_indication xs) (is_set xs) x xs
+after_none (Some f) x xs = refl
+
+found_none : (x : Side) (f : Option Xcode) → packets_told (option_to_list (option_found x f)) ≡ 0
+found_none x None = refl
+found_none x (Some f) = refl
+
+telling_data : (x : Side) (p : Heard) (told : List Told) (m : Option (List ℕ)) → packets_told (telling x p told m) ≡ 1
+telling_data x p told None = omega arith
+telling_data x p told (Some m) =
+    let f = message_fault x told m in
+    let later : List What = settings_after f x m in
+    let parts = total-append (heard_by once) (option_to_list (option_found x f)) (DataHeard x (length p.octets) ∷ later) in
+    let front = found_none x f in
+    let behind = after_none f x m in
+    omega arith
+
+alike_data : (i : Interface) (x : Side) (s : StateName) (p : Heard) (v : Counts) (b : Bool) (c : Channel) → packets_told (data_alike i x s p v b c).reported ≤ 1
+alike_data i x s p v false c = let none = failing_none x s 83 c in omega arith
+alike_data i x s p v true c = let told_is = telling_data x p c.told (completed_message i x c p) in omega arith
+
+counted_data : (i : Interface) (x : Side) (s : StateName) (p : Heard) (r : Result Counts ℕ) (c : Channel) → packets_told (data_counted i x s p r c).reported ≤ 1
+counted_data i x s p (Err n) c = let none = failing_none x s n c in omega arith
+counted_data i x s p (Ok v) c = alike_data i x s p v (is_alike p (begun (size_in_force i c x) x c.heard)) c
+
+step_data : (i : Interface) (x : Side) (s : StateName) (xs : List ℕ) (h : Option DataHeader) (c : Channel) → packets_told (data_step i x s xs h c).reported ≤ 1
+step_data i x s xs None c = omega arith
+step_data i x s xs (Some h) c =
+    counted_data i x s (heard_of i x xs h) (count_data i.modulus (window_in_force i c x) (counts_of c) x h.send h.receive) c
+
+counting_data : (x : Side) (s : StateName) (r : Result Counts ℕ) (c : Channel) → packets_told (counting x s r c).reported ≤ 1
+counting_data x s (Err m) c = let none = failing_none x s m c in omega arith
+counting_data x s (Ok v) c = omega arith
+
+transferring_data : (i : Interface) (x : Side) (s : StateName) (k : Class) (xs : List ℕ) (c : Channel) → packets_told (transferring i x s k xs c).reported ≤ 1
+transferring_data i x s Data xs c = step_data i x s xs (data_header i xs) c
+transferring_data i x s k xs c = counting_data x s _ c
+
+verdict_data : (i : Interface) (x : Side) (s : StateName) (k : Class) (xs : List ℕ) (v : Verdict) (c : Channel) → packets_told (verdict_step i x s k xs v c).reported ≤ 1
+verdict_data i x s k xs (Fails t n) c = let none = failing_none x t n c in omega arith
+verdict_data i x s k xs (Moves t) c = let none = changing_none xs (call_change x k t) (entering t false c) in omega arith
+verdict_data i x s k xs Transfers c = transferring_data i x s k xs c
+verdict_data i x s k xs EndsOwed c = omega arith
+verdict_data i x s k xs Nothing c = omega arith
+
+row_data : (i : Interface) (k : ℕ) (c : Channel) (r : Row) → packets_told (channel_step i k c r).reported ≤ 1
+row_data i k c r =
+    let j = judged (is_permanent i k) r.side c.state c.owed (class_of i r.octets) in
+    verdict_data i r.side j.state (class_of i r.octets) r.octets (verdict j (packet_fault i k c r.side (class_of i r.octets) r.octets)) c
+
+-- ---- the rows of a piece
+
+stamp_packets : (e : ℕ) (k : Option ℕ) (r : Row) (ws : List What) → weight (heard_by once) (map event_of (stamp e k r ws)) ≡ packets_told ws
+stamp_packets e k r [] = refl
+stamp_packets e k r (w ∷ ws) = let more = stamp_packets e k r ws in omega arith
+
+end_packets : (e : ℕ) (k : Option ℕ) (r : Row) (b : Bool) → weight (heard_by once) (map event_of (stamp e k r (restart_end_if b))) ≡ 0
+end_packets e k r true = refl
+end_packets e k r false = refl
+
+few_packets : (i : Interface) (e k : ℕ) (c : Channel) (items : List Item) (end : Option Row)
+    → weight (heard_by once) (map event_of (piece_value (x25 i) e k c (map (λ i. i.row) items) end)) ≤ length items
+few_packets i e k c [] None = omega arith
+few_packets i e k c [] (Some r) = let none = end_packets e (Some k) r (is_open c) in omega arith
+few_packets i e k c (item ∷ items) end =
+    let r = item.row in
+    let ws : List What = (channel_step i k c r).reported in
+    let d : Channel = (channel_step i k c r).after in
+    let parts =
+    ap (weight (heard_by once)) (map-append event_of (stamp e (Some k) r ws) (piece_value (x25 i) e k d (map (λ i. i.row) items) end))
+    ∙ total-append (λ v. heard_by once v.what) (map event_of (stamp e (Some k) r ws)) (map event_of (piece_value (x25 i) e k d (map (λ i. i.row) items) end)) in
+    let own = stamp_packets e (Some k) r ws in
+    let few = row_data i k c r in
+    let more = few_packets i e k d items end in
+    omega arith
+
+packets_weight : (es : List Event) → length (all_lengths es) ≡ weight (heard_by once) es
+packets_weight [] = refl
+packets_weight (e ∷ es) = at e.what (packets_weight es)
+  where
+    at : (w : What) → length (all_lengths es) ≡ weight (heard_by once) es
+        → length (all_lengths (record { epoch = e.epoch; channel = e.channel; packet = e.packet; what = w } ∷ es)) ≡ heard_by once w + weight (heard_by once) es
+    at (DataHeard x n) h = omega arith
+    at w h = omega arith
+
+-- the events of a piece tell no more data packets than it has rows
+pub piece_packets : (p : Piece) → length (all_lengths (piece_events p)) ≤ length p.items
+piece_packets p =
+    let same = packets_weight (piece_events p) in
+    let few = few_packets p.interface p.epoch p.channel (fresh p.interface p.epoch p.channel) p.items (option_map row_numbered p.end) in
+    omega arith
