@@ -1,6 +1,6 @@
 -- The rows that were told where a text is refused: those of the lines before the faulty one.
 use Rattle.std.proofs.Common.{◌≡◌, ◌∙◌, sym, ap, refl, ℕ, ◌+◌, ◌-◌, ◌<◌, ◌≤◌, Bool, true, false, List, [], ◌∷◌, ◌++◌, length, Option, Some, None, Result, Ok, Err, take, drop, cond, ◌⊎◌, inl, inr, arith, append_assoc, append-nil, length-append}
-use Rattle.std.specs.Prelude.{not, OnOk, OnErr, IfErr}
+use Rattle.std.specs.Prelude.{not}
 use Rattle.std.specs.Option.{option_or, option_map}
 use Rattle.std.specs.List.{filter_map}
 use Rattle.std.proofs.lemmas.Bool.{eqb-true}
@@ -9,14 +9,14 @@ use Rattle.std.proofs.Math.Seq.{take-append_seam, take-append-add}
 use Rattle.line_model.specs.Records.{Row}
 use Rattle.line_model.specs.declared.interface.Interface.{Interface}
 use Rattle.line_model.specs.RowLine.{row_of}
-use Rattle.line_model.specs.Text.{Line, is_lf, is_comment, content_of, early, early_head, early_rows, head_in, head_of, ended_lines, begun_line, fault, first_fault, good_lines, line_kind, rows_in}
+use Rattle.line_model.specs.Text.{Line, is_lf, is_comment, content_of, early, early_head, early_rows, head_in, head_of, ended_lines, begun_line, first_fault, good_lines, line_kind, rows_in}
 use Rattle.line_model.specs.declared.fault.Kind.{Kind}
 use Rattle.line_model.specs.declared.fault.Fault.{Fault}
 use Rattle.line_model.specs.declared.fault.Fault.TheVariants.{Memory, Trace, Read, Write, Start, Double, Stranger, Missing}
-use Rattle.line_model.proofs.TextLemmas.{HasNoLf, ended-lf, ended-more, first_fault-append}
+use Rattle.line_model.proofs.TextLemmas.{ended-lf, ended-more, first_fault-append}
 use Rattle.trace_text.specs.Progress.{Progress}
-use Rattle.trace_text.specs.StandsFor.{StandsFor, IsFaultOf, IsTold, IsHeadKept, IsAtLine}
-use Rattle.trace_text.proofs.FeedLemmas.{no_fault, begun-told}
+use Rattle.trace_text.specs.StandsFor.{StandsFor, AreKnown, HasAppended, IsAppended, IsFaultOf, IsTold, IsHeadKept, IsAtLine}
+use Rattle.trace_text.proofs.FeedLemmas.{no_fault}
 
 -- a text that goes on has more lines
 one_more : (v : Bool) (b : ℕ) → v ≡ is_lf b → (text : List ℕ) → (ls : List Line) × (ended_lines (text ++ b ∷ []) ≡ ended_lines text ++ ls)
@@ -116,25 +116,43 @@ rows_stop text more line kind h e k =
     ap (λ at. rows_in (good_lines at (ended_lines (text ++ more)))) k ∙ ap (λ ls. rows_in (good_lines (Some (line, kind)) ls)) lines.1
     ∙ good_here kind line (ended_lines text) lines.0 e ∙ ap (λ at. rows_in (good_lines at (ended_lines text))) (sym h)
 
--- at a refusal the rows stand that stood before the faulty line
-pub stopped : (T : Type 0) (v : Progress) (text more : List ℕ) (f : Fault) (out first : List Row) → StandsFor v text → IsAtLine (v.ended + 1) f → IsFaultOf (early (text ++ more)) f → out ≡ first ++ early_rows text → IsTold {T = T} (Err f) out first (early_rows (text ++ more))
-stopped T v text more Memory out first s l h e =
-    let grown = rows_grow text more s.sound in
-    (length (early_rows text), e ∙ ap (λ xs. first ++ xs) (sym (take-append_seam (early_rows text) grown.0) ∙ ap (take (length (early_rows text))) (sym grown.1)))
-stopped T v text more (Trace line kind) out first s l h e =
-    e ∙ ap (λ xs. first ++ xs) (sym (rows_stop text more line kind s.sound (l ∙ ap (λ n. n + 1) s.ended) h))
-stopped T v text more Read out first s l h e = absurd h
-stopped T v text more Write out first s l h e = absurd h
-stopped T v text more Start out first s l h e = absurd h
-stopped T v text more (Double i) out first s l h e = absurd h
-stopped T v text more (Stranger i) out first s l h e = absurd h
-stopped T v text more (Missing i) out first s l h e = absurd h
+-- at a refusal the rows of the lines before the faulty one are known
+pub known-here : (v : Progress) (text more : List ℕ) (f : Fault) → StandsFor v text → IsAtLine (v.ended + 1) f → IsFaultOf (early (text ++ more)) f → AreKnown (early_rows text) (early_rows (text ++ more)) f
+known-here v text more Memory s l h = rows_grow text more s.sound
+known-here v text more (Trace line kind) s l h = rows_stop text more line kind s.sound (l ∙ ap (λ n. n + 1) s.ended) h
+known-here v text more Read s l h = absurd h
+known-here v text more Write s l h = absurd h
+known-here v text more Start s l h = absurd h
+known-here v text more (Double i) s l h = absurd h
+known-here v text more (Stranger i) s l h = absurd h
+known-here v text more (Missing i) s l h = absurd h
 
--- the last piece of the text, without an LF
-pub begun-told-or-stopped : (r : Result (Unit {0}) Fault) (v u : Progress) (text rest : List ℕ) (out first : List Row) → StandsFor v text → HasNoLf rest →
-    OnOk r (StandsFor u (text ++ rest)) → IfErr r (IsAtLine (v.ended + 1)) → IfErr r (IsFaultOf (early (text ++ rest))) → out ≡ first ++ early_rows text → IsTold r out first (early_rows (text ++ rest))
-begun-told-or-stopped (Ok x) v u text rest out first s n ok line fault e = begun-told v u text rest out first s ok n e
-begun-told-or-stopped (Err f) v u text rest out first s n ok line fault e = stopped (Unit {0}) v text rest f out first s line fault e
+pub appended-none : (out known : List Row) → HasAppended out out known known
+appended-none out known = record { more = []; out_has = sym (append-nil out); known_has = sym (append-nil known) }
+
+-- so they were appended
+pub refused-appended : (T : Type 0) (f : Fault) (out out' known known' all : List Row) → HasAppended out out' known known' → AreKnown known' all f → IsAppended {T = T} (Err f) out out' known all
+refused-appended T Memory out out' known known' all a k = record { more = a.more; rest = k.0; out_has = a.out_has; known_has = k.1 ∙ ap (λ xs. xs ++ k.0) a.known_has }
+refused-appended T (Trace line kind) out out' known known' all a k = record { more = a.more; out_has = a.out_has; known_has = k ∙ a.known_has }
+refused-appended T Read out out' known known' all a k = absurd k
+refused-appended T Write out out' known known' all a k = absurd k
+refused-appended T Start out out' known known' all a k = absurd k
+refused-appended T (Double i) out out' known known' all a k = absurd k
+refused-appended T (Stranger i) out out' known known' all a k = absurd k
+refused-appended T (Missing i) out out' known known' all a k = absurd k
+
+grown : (out out' first known known' : List Row) → HasAppended out out' known known' → out ≡ first ++ known → out' ≡ first ++ known'
+grown out out' first known known' a e = a.out_has ∙ ap (λ xs. xs ++ a.more) e ∙ append_assoc first known a.more ∙ ap (λ xs. first ++ xs) (sym a.known_has)
+
+-- a list that holds all earlier rows holds them all
+pub told-of : {T : Type 0} (r : Result T Fault) (out out' first known known' : List Row) → IsAppended r out out' known known' → out ≡ first ++ known → IsTold r out' first known'
+told-of (Err Memory) out out' first known known' a e = (
+  length (known ++ a.more),
+  grown out out' first known (known ++ a.more) (record { more = a.more; out_has = a.out_has; known_has = refl }) e
+      ∙ ap (λ xs. first ++ xs) (sym (ap (take (length (known ++ a.more))) a.known_has ∙ take-append_seam (known ++ a.more) a.rest)),
+)
+told-of (Ok x) out out' first known known' a e = grown out out' first known known' a e
+told-of (Err f) out out' first known known' a e = grown out out' first known known' a e
 
 first_stays : (xs ys : List Line) → (head_in xs ≡ None) ⊎ (head_in xs ≡ head_in (xs ++ ys))
 first_stays [] ys = inl refl
@@ -185,8 +203,13 @@ pub head_stands : (v : Progress) (text : List ℕ) → StandsFor v text → v.in
 unfolding early_head
 head_stands v text s = s.interface ∙ ap (λ at. head_of (good_lines at (ended_lines text))) (sym s.sound)
 
--- the last piece of the text, without an LF
-pub begun-head : (r : Result (Unit {0}) Fault) (v u : Progress) (text rest : List ℕ) → StandsFor v text →
-    OnOk r (StandsFor u (text ++ rest)) → IfErr r (IsAtLine (v.ended + 1)) → IfErr r (IsFaultOf (early (text ++ rest))) → OnErr r (u ≡ v) → IsHeadKept r u.interface (early_head (text ++ rest))
-begun-head (Ok x) v u text rest s ok line fault same = head_stands u (text ++ rest) ok
-begun-head (Err f) v u text rest s ok line fault same = head_stopped (Unit {0}) v text rest f u.interface s line fault (ap (λ p. p.interface) same)
+-- whatever the call answers else
+pub head_alike : (T U : Type 0) (f : Fault) (kept head : Option Interface) → IsHeadKept {T = U} (Err f) kept head → IsHeadKept {T = T} (Err f) kept head
+head_alike T U Memory kept head h = h
+head_alike T U (Trace line kind) kept head h = h
+head_alike T U Read kept head h = h
+head_alike T U Write kept head h = h
+head_alike T U Start kept head h = h
+head_alike T U (Double i) kept head h = h
+head_alike T U (Stranger i) kept head h = h
+head_alike T U (Missing i) kept head h = h

@@ -1,6 +1,6 @@
 -- Which texts a reader of lines may have been fed.
-use Rattle.std.specs.Prelude.{◌≡◌, ◌⊎◌, ℕ, List, Option, None, Some, Result, Err, length, is_some, take, ◌++◌}
-use Rattle.line_model.specs.Text.{ended_lines, begun_line, size_of, head_of, has_header, last_number, early, lines_of, begun_kind}
+use Rattle.std.specs.Prelude.{◌≡◌, ◌⊎◌, ℕ, Bool, true, false, List, [], ◌∷◌, Option, None, Some, Result, Err, length, is_some, take, ◌++◌}
+use Rattle.line_model.specs.Text.{ended_lines, begun_line, size_of, head_of, has_header, last_number, early, early_rows, lines_of, begun_kind}
 use Rattle.line_model.specs.declared.fault.Kind.{Kind}
 use Rattle.line_model.specs.declared.fault.Fault.{Fault}
 use Rattle.line_model.specs.declared.fault.Fault.TheVariants.{Memory, Trace}
@@ -35,6 +35,41 @@ pub record HasAppended (out out_after known known_after : List Row) : Type 0 whe
   pub more : List Row
   pub out_has : out_after ≡ out ++ more
   pub known_has : known_after ≡ known ++ more
+
+-- the first ones of the same rows were appended to one list, and all to the other
+pub record HasBegun (out out_after known known_after : List Row) : Type 0 where
+  pub more : List Row
+  pub rest : List Row
+  pub out_has : out_after ≡ out ++ more
+  pub known_has : known_after ≡ known ++ more ++ rest
+
+-- the rows that came to the known ones were appended to a list, or where memory ran out some first ones
+abbrev pub IsAppended : {T : Type 0} → Result T Fault → List Row → List Row → List Row → List Row → Type 0
+IsAppended (Err Memory) out out_after known known_after = HasBegun out out_after known known_after
+IsAppended _ out out_after known known_after = HasAppended out out_after known known_after
+
+-- all rows of a refused text are known, or where memory ran out its first ones
+abbrev pub AreKnown : List Row → List Row → Fault → Type 0
+AreKnown known all Memory = (rest : List Row) × (all ≡ known ++ rest)
+AreKnown known all (Trace line kind) = all ≡ known
+AreKnown known all _ = ⊥
+
+-- a row was taken off the front of a chunk: the reader stands for the text with what was taken, which has this row more
+pub record TakesRow (before after : Progress) (chunk rest : List ℕ) (row : Row) : Type 0 where
+  pub taken : List ℕ
+  pub whole : chunk ≡ taken ++ rest
+  pub stands : (text : List ℕ) → StandsFor before text → StandsFor after (text ++ taken)
+  pub rows : (text : List ℕ) → StandsFor before text → early_rows (text ++ taken) ≡ early_rows text ++ row ∷ []
+
+-- a chunk was read to its end, and no line that ends in it writes a row
+pub record ReadsChunk (before after : Progress) (chunk : List ℕ) : Type 0 where
+  pub stands : (text : List ℕ) → StandsFor before text → StandsFor after (text ++ chunk)
+  pub rows : (text : List ℕ) → StandsFor before text → early_rows (text ++ chunk) ≡ early_rows text
+
+-- the row of a last line that no LF ended, if it has one
+abbrev pub last_row : Bool → Row → List Row
+last_row false row = []
+last_row true row = row ∷ []
 
 -- the interface that is kept is the text's, or where memory ran out perhaps none yet
 abbrev pub IsHeadKept : {T : Type 0} → Result T Fault → Option Interface → Option Interface → Type 0

@@ -1,5 +1,5 @@
 -- What a reader of lines does with bytes that end no line, and with an LF.
-use Rattle.std.specs.Prelude.{◌≡◌, ℕ, ◌+◌, List, [], ◌∷◌, ◌++◌, length, Option, None, Some, is_some}
+use Rattle.std.specs.Prelude.{◌≡◌, ℕ, ◌+◌, Bool, true, false, List, [], ◌∷◌, ◌++◌, length, Option, None, Some, is_some}
 use Rattle.std.specs.Option.{option_or}
 use Rattle.line_model.specs.Text.{size_kind, contents_kind}
 use Rattle.line_model.specs.declared.fault.Kind.{Kind}
@@ -22,25 +22,35 @@ abbrev pub ended_kind : ℕ → Progress → Option Kind
 ended_kind lf v = option_or (size_kind v.start lf (length v.begun)) (contents_kind (is_some v.interface) v.last v.begun)
 
 -- the row of a line, if it writes one
-abbrev pub rows_of : {A : Type 0} → Content A → List Row
-rows_of Comment = []
-rows_of (Header interface) = []
-rows_of (Packet row) = row ∷ []
+abbrev pub rows_of : Content → Row → List Row
+rows_of Comment row = []
+rows_of (Header interface) row = []
+rows_of Packet row = row ∷ []
 
--- the reader after what a line says
-abbrev pub after_content : {A : Type 0} → Content A → Progress → Progress
-after_content Comment v = v
-after_content (Header interface) v = record v { interface = Some interface }
-after_content (Packet row) v = record v { last = row.number }
+-- whether a line writes a row
+abbrev pub is_packet : Content → Bool
+is_packet Comment = false
+is_packet (Header interface) = false
+is_packet Packet = true
 
--- the next line begins
-abbrev pub after_line : Progress → Progress
-after_line v = record v { ended = v.ended + 1; start = v.start + length v.begun + 1; begun = [] }
+-- the reader after what a line says; a row has this number
+abbrev pub after_content : Content → ℕ → Progress → Progress
+after_content Comment number v = v
+after_content (Header interface) number v = record v { interface = Some interface }
+after_content Packet number v = record v { last = number }
 
--- the reader and the rows after an LF
-pub record EndsLine (A : Type 0) (before after : Progress) (rows more : List Row) : Type 0 where
-  pub content : Content A
+-- the next line begins, after one of so many bytes and its LF
+abbrev pub after_line : ℕ → Progress → Progress
+after_line len v = record v { ended = v.ended + 1; start = v.start + len + 1; begun = [] }
+
+-- more of the line begun
+abbrev pub with_more : Progress → List ℕ → Progress
+with_more v more = record v { begun = v.begun ++ more }
+
+-- an LF ends the line begun, which writes this row, or none
+pub record EndsLine (before after : Progress) (row : Row) (is_row : Bool) : Type 0 where
+  pub content : Content
   pub sound : ended_kind 1 before ≡ None
-  pub reads : ReadsAs (is_some before.interface) before.last before.begun content
-  pub reader : after ≡ after_line (after_content content before)
-  pub told : more ≡ rows ++ rows_of content
+  pub reads : ReadsAs (is_some before.interface) before.last before.begun content row
+  pub reader : after ≡ after_line (length before.begun) (after_content content row.number before)
+  pub told : is_row ≡ is_packet content

@@ -7,18 +7,17 @@ ghost use Rattle.line_model.specs.Text.{header_kind};
 
 use line_model::fault::Kind;
 use line_model::interface::Interface;
-use line_model::row::Row;
-use std::alloc::{AllocError, AllocFailed, Allocator};
+use std::alloc::{AllocError, AllocFailed};
 
 /// What a line without a fault says.
-#[derive(Drop)]
-pub enum Content<A: Allocator> {
-    /// A line without content, or a comment.
+#[derive(Clone, Copy)]
+pub enum Content {
+    /// A comment.
     Comment,
     /// The header line.
     Header(Interface),
-    /// A row.
-    Packet(Row<A>),
+    /// A row, which was put into the caller's.
+    Packet,
 }
 
 /// Why a line was not read.

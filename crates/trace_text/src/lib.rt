@@ -1,4 +1,4 @@
-//! The text of a trace, read in pieces of any size.
+//! The text of a trace, read in chunks of any size.
 #![tactic(auto)]
 
 mod content;

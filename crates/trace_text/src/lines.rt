@@ -1,4 +1,4 @@
-//! The reader of trace texts: it is fed pieces of any size, keeps the line that has not ended, and appends rows.
+//! The reader of trace texts: it is fed chunks of any size, keeps the line that has not ended, and tells rows.
 
 ghost use Rattle.std.specs.Prelude.{◌≡◌, ◌+◌, ◌≤◌, ◌<◌, ◌^◌};
 ghost use Rattle.line_model.specs.Text.{size_kind};
@@ -9,7 +9,8 @@ use crate::reading::read_line;
 use line_model::fault::{Fault, Kind};
 use line_model::interface::Interface;
 use line_model::row::Row;
-use std::alloc::Allocator;
+use line_model::state::Side;
+use std::alloc::{AllocError, Allocator};
 use std::marker::Model;
 
 /// The bytes that a text may have.
@@ -18,7 +19,7 @@ const TEXT_LIMIT: u32 = 1 << 30;
 /// The bytes that a line may have without its LF.
 const LINE_LIMIT: usize = 8500;
 
-/// A reader of a trace text, which is fed in pieces.
+/// A reader of a trace text, which is fed in chunks.
 ///
 /// ```text
 ///  fed so far:  X25 1 MOD 8 ..\n1 T 10010B0000\n2 N 1001|
@@ -53,6 +54,24 @@ impl<A: Allocator> Model for Lines<A> {
     ghost invariant = { λ l. (l.ended ≤ l.start) × (l.start + length l.begun.items ≤ 2 ^ 30) × (length l.begun.items ≤ 8500) × IfSome l.refused IsTextFault };
 }
 
+/// How a text without a fault ends.
+#[derive(Clone, Copy, Debug, PartialEq, Eq)]
+pub struct TextEnd {
+    /// What the header says.
+    pub interface: Interface,
+    /// Whether a last line that no LF ended writes a row.
+    pub has_row: bool,
+}
+
+/// A row to put others in. It takes no memory.
+fn blank_row<A: Allocator + Clone>(alloc: &A) -> Result<Row<A>, AllocError> {
+    Ok(Row {
+        number: 0,
+        side: Side::T,
+        octets: Vec::new(alloc.clone()?),
+    })
+}
+
 /// The rule on sizes that a line of so many bytes breaks, after `start` bytes; `lf` is 1 where an LF ends it.
 #[tactic(auto, unfolding(line_model::specs::Text::size_kind))]
 fn size_fault(start: u32, lf: usize, len: usize) -> Option<Kind>
@@ -70,18 +89,18 @@ fn size_fault(start: u32, lf: usize, len: usize) -> Option<Kind>
     None
 }
 
-impl<A: Allocator + Clone> Lines<A> {
-    ghost use Rattle.std.specs.Prelude.{◌≡◌, ◌≢◌, ℕ, ◌+◌, ◌<◌, ◌^◌, ◌++◌, ◌∷◌, [], List, Option, Some, None, Err, OnOk, OnErr, IfErr, IfOk, length, is_some, ◌≤◌};
-    ghost use Rattle.line_model.specs.Text.{early, early_head, early_rows, fault, head, lines_of, rows as rows_of_text, rows_in};
-    ghost use Rattle.line_model.specs.Records as records;
-    ghost use Rattle.trace_text.specs.StandsFor.{StandsFor};
+impl<A: Allocator> Lines<A> {
+    ghost use Rattle.std.specs.Prelude.{◌≡◌, ℕ, Bool, true, ◌+◌, ◌<◌, ◌^◌, ◌++◌, ◌∷◌, [], List, Option, Some, None, Err, OnOk, OnErr, IfErr, IfOk, IfSome, MatchOption, length, is_some, ◌≤◌};
+    ghost use Rattle.line_model.specs.Text.{early, early_head, early_rows, ended_lines as lines_ended, fault, head, lines_of, rows as rows_of_text, rows_in};
     ghost use Rattle.trace_text.specs.Progress.{Progress, bytes_fed};
-    ghost use Rattle.trace_text.specs.StandsFor.{IsFaultOf, IsTold, HasAppended, IsHeadKept, IsAtLine, IsTextFault, EndsText};
+    ghost use Rattle.trace_text.specs.StandsFor.{StandsFor, IsFaultOf, IsHeadKept, IsAtLine, IsTextFault, EndsText, AreKnown, ReadsChunk, TakesRow, last_row};
     ghost use Rattle.trace_text.specs.Cuts.{Lacks};
+    ghost use Rattle.trace_text.specs.EndedPart.{ended_part};
     ghost use Rattle.line_model.specs.declared.fault.Fault.{Fault};
-    ghost use Rattle.trace_text.specs.Steps.{RefusedBy, EndsLine, ended_kind, after_content, after_line, rows_of};
+    ghost use Rattle.line_model.specs.declared.fault.Fault.TheVariants.{Trace};
+    ghost use Rattle.line_model.specs.declared.fault.Kind.TheVariants.{HeaderMissing};
+    ghost use Rattle.trace_text.specs.Steps.{RefusedBy, EndsLine, ended_kind, after_content, after_line, is_packet, with_more};
     ghost use Rattle.trace_text.specs.Reads.{ReadsAs};
-    ghost use Rattle.line_model.specs.declared.fault.Fault.TheVariants.{Memory};
 
     /// A reader that was fed nothing. It takes no memory.
     pub fn new(alloc: A) -> Self
@@ -105,9 +124,35 @@ impl<A: Allocator + Clone> Lines<A> {
         self.interface
     }
 
+    /// How many lines an LF has ended.
+    pub fn ended_lines(&self) -> u32
+        ensures lines { (text : List ℕ) → StandsFor self.now text → result ≡ length (lines_ended text) }
+        ensures kept { result ≡ self.now.ended }
+    {
+        self.ended
+    }
+
+    /// What the text says up to its last LF, if it ended there: its header, or that it has none.
+    pub fn ended_header(&self) -> Result<Interface, Fault>
+        ensures ok { (text : List ℕ) → StandsFor self.now text → IfOk result (λ interface. (fault (ended_part text) ≡ None) × (head (ended_part text) ≡ Some interface)) }
+        ensures refused { (text : List ℕ) → StandsFor self.now text → IfErr result (IsFaultOf (fault (ended_part text))) }
+        ensures missing { (text : List ℕ) → StandsFor self.now text → IfErr result (λ f. f ≡ Trace (length (lines_ended text) + 1) HeaderMissing) }
+        // The rows that were told are those of that text.
+        ensures rows { (text : List ℕ) → StandsFor self.now text → rows_of_text (ended_part text) ≡ early_rows text }
+        ensures again { (fault : Fault) → self.now.refused ≡ Some fault → result ≡ Err fault }
+    {
+        if let Some(fault) = self.refused {
+            return Err(fault);
+        }
+        match self.interface {
+            Some(interface) => Ok(interface),
+            None => Err(Fault::Trace(self.ended + 1, Kind::HeaderMissing)),
+        }
+    }
+
     /// Takes bytes without an LF.
     fn begin(&mut self, more: &[u8]) -> Result<(), Fault>
-        ensures ok { OnOk result (self.new ≡ record self.old { begun = self.old.begun ++ more.now }) }
+        ensures ok { OnOk result (self.new ≡ with_more self.old more.now) }
         ensures sound { OnOk result (size_kind self.old.start 0 (length self.old.begun + length more.now) ≡ None) }
         ensures refused { IfErr result (RefusedBy (size_kind self.old.start 0 (length self.old.begun + length more.now)) (self.old.ended + 1)) }
         ensures same { OnErr result (self.new ≡ self.old) }
@@ -121,121 +166,227 @@ impl<A: Allocator + Clone> Lines<A> {
         }
     }
 
-    /// Keeps what a line says.
-    fn take_content(&mut self, content: Content<A>, out: &mut Vec<Row<A>, A>) -> Result<(), Fault>
-        ensures reader { OnOk result (self.new ≡ after_content content self.old) }
-        ensures told { OnOk result (out.new.items ≡ out.old.items ++ rows_of content) }
-        ensures memory { IfErr result (λ fault. fault ≡ Memory) }
-        ensures same { OnErr result ((self.new ≡ self.old) × (out.new.items ≡ out.old.items)) }
-    {
-        match content {
-            Content::Comment => Ok(()),
-            Content::Header(interface) => {
-                self.interface = Some(interface);
-                Ok(())
-            }
-            Content::Packet(row) => {
-                let number = row.number;
-                out.push(row)?;
-                self.last = number;
-                Ok(())
-            }
-        }
-    }
-
-    /// What the line begun says, if it ends here.
-    fn read_begun(&self, lf: usize) -> Result<Content<A>, Fault>
+    /// What a line says that ends here; `lf` is 1 where an LF ends it. A row is put in the place of another.
+    fn read(&self, line: &[u8], lf: usize, row: &mut Row<A>) -> Result<Content, Fault>
         requires { lf ≤ 1 }
-        ensures reads { IfOk result (λ content. (ended_kind lf self.now ≡ None) × ReadsAs (is_some self.now.interface) self.now.last self.now.begun content) }
-        ensures refused { IfErr result (RefusedBy (ended_kind lf self.now) (self.now.ended + 1)) }
+        ensures reads { IfOk result (λ content. (ended_kind lf (record self.now { begun = line.now }) ≡ None) × ReadsAs (is_some self.now.interface) self.now.last line.now content row.new) }
+        ensures refused { IfErr result (RefusedBy (ended_kind lf (record self.now { begun = line.now })) (self.now.ended + 1)) }
     {
-        if let Some(kind) = size_fault(self.start, lf, self.begun.len()) {
+        if let Some(kind) = size_fault(self.start, lf, line.len()) {
             return Err(Fault::Trace(self.ended + 1, kind));
         }
-        match read_line(
-            self.begun.allocator(),
-            self.interface.is_some(),
-            self.last,
-            self.begun.as_slice(),
-        ) {
+        match read_line(self.interface.is_some(), self.last, line, row) {
             Ok(content) => Ok(content),
             Err(LineFault::Memory) => Err(Fault::Memory),
             Err(LineFault::Broken(kind)) => Err(Fault::Trace(self.ended + 1, kind)),
         }
     }
 
-    /// The next line begins.
-    fn next_line(&mut self)
-        requires { self.old.start + length self.old.begun + 1 ≤ 2 ^ 30 }
-        ensures { self.new ≡ after_line self.old }
+    /// Keeps what a line says, and tells whether it is a row, which then has this number.
+    fn keep(&mut self, content: Content, number: u32) -> bool
+        ensures reader { self.new ≡ after_content content number self.old }
+        ensures told { result ≡ is_packet content }
     {
-        self.start += self.begun.len() as u32 + 1;
+        match content {
+            Content::Comment => false,
+            Content::Header(interface) => {
+                self.interface = Some(interface);
+                false
+            }
+            Content::Packet => {
+                self.last = number;
+                true
+            }
+        }
+    }
+
+    /// The next line begins, after one of so many bytes and its LF.
+    fn next_line(&mut self, len: usize)
+        requires { self.old.start + len + 1 ≤ 2 ^ 30 }
+        ensures { self.new ≡ after_line len self.old }
+    {
+        self.start += len as u32 + 1;
         self.ended += 1;
         self.begun.clear();
     }
 
-    /// An LF ends the line begun.
-    fn end_line(&mut self, out: &mut Vec<Row<A>, A>) -> Result<(), Fault>
-        ensures ok { OnOk result (EndsLine A self.old self.new out.old.items out.new.items) }
-        ensures refused { IfErr result (RefusedBy (ended_kind 1 self.old) (self.old.ended + 1)) }
-        ensures same { OnErr result ((self.new ≡ self.old) × (out.new.items ≡ out.old.items)) }
+    /// Takes the end of a line, without its LF. Tells whether the line is a row, which then is put in the place of
+    /// another.
+    fn end_line(&mut self, front: &[u8], row: &mut Row<A>) -> Result<bool, Fault>
+        ensures ok { IfOk result (EndsLine (with_more self.old front.now) self.new row.new) }
+        ensures refused { IfErr result (RefusedBy (ended_kind 1 (with_more self.old front.now)) (self.old.ended + 1)) }
+        ensures kept { OnErr result (self.new.interface ≡ self.old.interface) }
     {
-        let content = self.read_begun(1)?;
-        self.take_content(content, out)?;
-        self.next_line();
-        Ok(())
+        if self.begun.is_empty() {
+            // The usual line lies whole in the chunk, and is read there.
+            let content = self.read(front, 1, row)?;
+            let is_row = self.keep(content, row.number);
+            self.next_line(front.len());
+            return Ok(is_row);
+        }
+        if let Err(fault) = self.begin(front) {
+            return Err(fault);
+        }
+        let content = self.read(self.begun.as_slice(), 1, row)?;
+        let is_row = self.keep(content, row.number);
+        let len = self.begun.len();
+        self.next_line(len);
+        Ok(is_row)
     }
 
-    fn feed_lines(&mut self, piece: &[u8], out: &mut Vec<Row<A>, A>) -> Result<(), Fault>
-        ensures ok { OnOk result ((text : List ℕ) → StandsFor self.old text → StandsFor self.new (text ++ piece.now)) }
-        ensures refused { (text : List ℕ) → StandsFor self.old text → IfErr result (IsFaultOf (early (text ++ piece.now))) }
-        ensures told { (text : List ℕ) (rows : List records.Row) → StandsFor self.old text → out.old.items ≡ rows ++ early_rows text → IsTold result out.new.items rows (early_rows (text ++ piece.now)) }
-        ensures appended { (text : List ℕ) → StandsFor self.old text → OnOk result (HasAppended out.old.items out.new.items (early_rows text) (early_rows (text ++ piece.now))) }
-        ensures header { (text : List ℕ) → StandsFor self.old text → IsHeadKept result self.new.interface (early_head (text ++ piece.now)) }
-        ensures size { OnOk result (bytes_fed self.new ≡ bytes_fed self.old + length piece.now) }
+    /// Takes lines up to the first row, or the whole chunk.
+    fn find_row<'a>(&mut self, chunk: &'a [u8], row: &mut Row<A>) -> Result<Option<&'a [u8]>, Fault>
+        ensures ok { IfOk result (λ next. MatchOption next (ReadsChunk self.old self.new chunk.now) (λ rest. TakesRow self.old self.new chunk.now rest.now row.new)) }
+        ensures shorter { IfOk result (λ next. IfSome next (λ rest. length rest.now < length chunk.now)) }
+        ensures headed { IfOk result (λ next. IfSome next (λ rest. is_some self.new.interface ≡ true)) }
+        ensures refused { (text : List ℕ) → StandsFor self.old text → IfErr result (IsFaultOf (early (text ++ chunk.now))) }
+        ensures known { (text : List ℕ) → StandsFor self.old text → IfErr result (AreKnown (early_rows text) (early_rows (text ++ chunk.now))) }
+        ensures header { (text : List ℕ) → StandsFor self.old text → IsHeadKept result self.new.interface (early_head (text ++ chunk.now)) }
+        ensures size { IfOk result (λ next. MatchOption next (bytes_fed self.new ≡ bytes_fed self.old + length chunk.now) (λ rest. bytes_fed self.new + length rest.now ≡ bytes_fed self.old + length chunk.now)) }
         ensures kinds { IfErr result IsTextFault }
     {
-        let mut rest = piece;
+        let mut rest = chunk;
         while let Some((front, back)) = split_at_byte(rest, b'\n') {
-            match self.end_with(front, out) {
-                Ok(()) => rest = back,
+            match self.end_line(front, row) {
+                Ok(true) => return Ok(Some(back)),
+                Ok(false) => rest = back,
                 Err(fault) => return Err(fault),
             }
         }
-        self.begin(rest)
-    }
-
-    /// Takes the end of a line, without its LF.
-    fn end_with(&mut self, front: &[u8], out: &mut Vec<Row<A>, A>) -> Result<(), Fault>
-        requires { Lacks 10 front.now }
-        ensures ok { OnOk result ((text : List ℕ) → StandsFor self.old text → StandsFor self.new (text ++ front.now ++ 10 ∷ [])) }
-        ensures refused { (text more : List ℕ) → StandsFor self.old text → IfErr result (IsFaultOf (early (text ++ front.now ++ 10 ∷ more))) }
-        ensures told { (text : List ℕ) (rows : List records.Row) → StandsFor self.old text → out.old.items ≡ rows ++ early_rows text → OnOk result (out.new.items ≡ rows ++ early_rows (text ++ front.now ++ 10 ∷ [])) }
-        ensures appended { (text : List ℕ) → StandsFor self.old text → OnOk result (HasAppended out.old.items out.new.items (early_rows text) (early_rows (text ++ front.now ++ 10 ∷ []))) }
-        ensures same { OnErr result (out.new.items ≡ out.old.items) }
-        ensures kept { OnErr result (self.new.interface ≡ self.old.interface) }
-        ensures line { IfErr result (IsAtLine (self.old.ended + 1)) }
-        ensures size { OnOk result (bytes_fed self.new ≡ bytes_fed self.old + length front.now + 1) }
-    {
-        match self.begin(front) {
-            Ok(()) => self.end_line(out),
+        match self.begin(rest) {
+            Ok(()) => Ok(None),
             Err(fault) => Err(fault),
         }
     }
 
-    /// Takes the next piece of the text, and appends the rows of the lines that an LF of it ends.
-    pub fn feed(&mut self, piece: &[u8], out: &mut Vec<Row<A>, A>) -> Result<(), Fault>
-        // Of any text that it stands for: it stands for the text with the piece, where no line of that is faulty so far.
-        ensures ok { OnOk result ((text : List ℕ) → StandsFor self.old text → StandsFor self.new (text ++ piece.now)) }
+    /// Takes the text's next row out of a chunk, and puts it in the place of another, whose octets' room is used again:
+    /// `Some` holds what is still to be read of the chunk. `None`: the chunk was read to its end, and has no further row.
+    ///
+    /// A line is read where it lies in the chunk. Only one that a chunk's end cuts is copied. What the row holds where
+    /// none was taken is not said.
+    pub fn next_row<'a>(
+        &mut self,
+        chunk: &'a [u8],
+        row: &mut Row<A>,
+    ) -> Result<Option<&'a [u8]>, Fault>
+        // Of any text that it stands for: it stands for the text with what was taken, which has that row more, or none.
+        ensures ok { IfOk result (λ next. MatchOption next (ReadsChunk self.old self.new chunk.now) (λ rest. TakesRow self.old self.new chunk.now rest.now row.new)) }
+        ensures shorter { IfOk result (λ next. IfSome next (λ rest. length rest.now < length chunk.now)) }
+        ensures headed { IfOk result (λ next. IfSome next (λ rest. is_some self.new.interface ≡ true)) }
         // Else it answers the fault of the first line that is faulty however the text goes on, or want of memory.
-        ensures refused { (text : List ℕ) → StandsFor self.old text → IfErr result (IsFaultOf (early (text ++ piece.now))) }
-        ensures told { (text : List ℕ) (rows : List records.Row) → StandsFor self.old text → out.old.items ≡ rows ++ early_rows text → IsTold result out.new.items rows (early_rows (text ++ piece.now)) }
-        // Whatever else was taken out of the list: the rows that came are appended.
-        ensures appended { (text : List ℕ) → StandsFor self.old text → OnOk result (HasAppended out.old.items out.new.items (early_rows text) (early_rows (text ++ piece.now))) }
-        ensures header { (text : List ℕ) → StandsFor self.old text → IsHeadKept result self.new.interface (early_head (text ++ piece.now)) }
+        ensures refused { (text : List ℕ) → StandsFor self.old text → IfErr result (IsFaultOf (early (text ++ chunk.now))) }
+        ensures known { (text : List ℕ) → StandsFor self.old text → IfErr result (AreKnown (early_rows text) (early_rows (text ++ chunk.now))) }
+        ensures header { (text : List ℕ) → StandsFor self.old text → IsHeadKept result self.new.interface (early_head (text ++ chunk.now)) }
 
         // It was fed at most 2^30 bytes.
-        ensures size { OnOk result (bytes_fed self.new ≡ bytes_fed self.old + length piece.now) }
+        ensures size { IfOk result (λ next. MatchOption next (bytes_fed self.new ≡ bytes_fed self.old + length chunk.now) (λ rest. bytes_fed self.new + length rest.now ≡ bytes_fed self.old + length chunk.now)) }
+        ensures limit { bytes_fed self.new ≤ 2 ^ 30 }
+        ensures kinds { IfErr result IsTextFault }
+        // From a refusal on it answers the same.
+        ensures refuses { IfErr result (λ fault. self.new.refused ≡ Some fault) }
+        ensures again { (fault : Fault) → self.old.refused ≡ Some fault → (result ≡ Err fault) × (self.new ≡ self.old) × (row.new ≡ row.old) }
+    {
+        if let Some(fault) = self.refused {
+            return Err(fault);
+        }
+        let next = self.find_row(chunk, row);
+        self.refused = next.err();
+        next
+    }
+
+    /// Ends the text, whose last line may lack its LF. Counts its lines, and tells whether the last one is a row, which
+    /// then is put in the place of another.
+    fn end_begun(&mut self, row: &mut Row<A>) -> Result<(u32, bool), Fault>
+        ensures ok { (text : List ℕ) → StandsFor self.old text → IfOk result (λ end. EndsText self.new end.0 text) }
+        ensures few { IfOk result (λ end. end.0 ≤ 2 ^ 30 + 1) }
+        ensures row { (text : List ℕ) → StandsFor self.old text → IfOk result (λ end. rows_in (lines_of text) ≡ early_rows text ++ last_row end.1 row.new) }
+        ensures refused { (text : List ℕ) → StandsFor self.old text → IfErr result (IsFaultOf (fault text)) }
+        ensures kinds { IfErr result IsTextFault }
+    {
+        if self.begun.is_empty() {
+            return Ok((self.ended, false));
+        }
+        let count = self.ended + 1;
+        let content = match self.read(self.begun.as_slice(), 0, row) {
+            Ok(content) => content,
+            Err(fault) => return Err(fault),
+        };
+        let is_row = self.keep(content, row.number);
+        Ok((count, is_row))
+    }
+
+    /// The text has ended: its header, and whether a last line that no LF ended writes a row, which then is put in the
+    /// place of another.
+    pub fn end_row(mut self, row: &mut Row<A>) -> Result<TextEnd, Fault>
+        ensures ok { (text : List ℕ) → StandsFor self text → IfOk result (λ end. (fault text ≡ None) × (head text ≡ Some end.interface)) }
+        ensures row { (text : List ℕ) → StandsFor self text → IfOk result (λ end. rows_of_text text ≡ early_rows text ++ last_row end.has_row row.new) }
+        ensures refused { (text : List ℕ) → StandsFor self text → IfErr result (IsFaultOf (fault text)) }
+        ensures known { (text : List ℕ) → StandsFor self text → IfErr result (AreKnown (early_rows text) (rows_of_text text)) }
+        ensures kinds { IfErr result IsTextFault }
+        ensures again { (fault : Fault) → self.refused ≡ Some fault → (result ≡ Err fault) × (row.new ≡ row.old) }
+    {
+        if let Some(fault) = self.refused {
+            return Err(fault);
+        }
+        let (count, has_row) = match self.end_begun(row) {
+            Ok(end) => end,
+            Err(fault) => return Err(fault),
+        };
+        match self.interface {
+            Some(interface) => Ok(TextEnd { interface, has_row }),
+            None => Err(Fault::Trace(count + 1, Kind::HeaderMissing)),
+        }
+    }
+}
+
+impl<A: Allocator + Clone> Lines<A> {
+    ghost use Rattle.std.specs.Prelude.{◌≡◌, ℕ, ◌+◌, ◌^◌, ◌++◌, List, Some, None, Err, OnOk, IfErr, IfOk, length, ◌≤◌};
+    ghost use Rattle.line_model.specs.Text.{early, early_head, early_rows, fault, head, rows as rows_of_text};
+    ghost use Rattle.line_model.specs.Records as records;
+    ghost use Rattle.trace_text.specs.Progress.{bytes_fed};
+    ghost use Rattle.trace_text.specs.StandsFor.{StandsFor, IsFaultOf, IsTold, IsAppended, IsHeadKept, IsTextFault};
+    ghost use Rattle.line_model.specs.declared.fault.Fault.{Fault};
+
+    /// Appends the rows of a chunk.
+    fn feed_rows(&mut self, chunk: &[u8], out: &mut Vec<Row<A>, A>) -> Result<(), Fault>
+        ensures ok { OnOk result ((text : List ℕ) → StandsFor self.old text → StandsFor self.new (text ++ chunk.now)) }
+        ensures refused { (text : List ℕ) → StandsFor self.old text → IfErr result (IsFaultOf (early (text ++ chunk.now))) }
+        ensures appended { (text : List ℕ) → StandsFor self.old text → IsAppended result out.old.items out.new.items (early_rows text) (early_rows (text ++ chunk.now)) }
+        ensures header { (text : List ℕ) → StandsFor self.old text → IsHeadKept result self.new.interface (early_head (text ++ chunk.now)) }
+        ensures size { OnOk result (bytes_fed self.new ≡ bytes_fed self.old + length chunk.now) }
+        ensures kinds { IfErr result IsTextFault }
+    {
+        let mut rest = chunk;
+        loop {
+            let mut row = match blank_row(self.begun.allocator()) {
+                Ok(row) => row,
+                Err(_) => return Err(Fault::Memory),
+            };
+            match self.find_row(rest, &mut row) {
+                Ok(Some(after)) => match out.push(row) {
+                    Ok(()) => rest = after,
+                    Err(_) => return Err(Fault::Memory),
+                },
+                Ok(None) => return Ok(()),
+                Err(fault) => return Err(fault),
+            }
+        }
+    }
+
+    /// Takes the next chunk of the text, and appends the rows of the lines that an LF of it ends.
+    pub fn feed(&mut self, chunk: &[u8], out: &mut Vec<Row<A>, A>) -> Result<(), Fault>
+        // Of any text that it stands for: it stands for the text with the chunk, where no line of that is faulty so far.
+        ensures ok { OnOk result ((text : List ℕ) → StandsFor self.old text → StandsFor self.new (text ++ chunk.now)) }
+        // Else it answers the fault of the first line that is faulty however the text goes on, or want of memory.
+        ensures refused { (text : List ℕ) → StandsFor self.old text → IfErr result (IsFaultOf (early (text ++ chunk.now))) }
+        // Whatever the list held: the rows that came are appended, at a faulty line those before it, for want of memory
+        // some first ones.
+        ensures appended { (text : List ℕ) → StandsFor self.old text → IsAppended result out.old.items out.new.items (early_rows text) (early_rows (text ++ chunk.now)) }
+        ensures told { (text : List ℕ) (rows : List records.Row) → StandsFor self.old text → out.old.items ≡ rows ++ early_rows text → IsTold result out.new.items rows (early_rows (text ++ chunk.now)) }
+        ensures header { (text : List ℕ) → StandsFor self.old text → IsHeadKept result self.new.interface (early_head (text ++ chunk.now)) }
+
+        // It was fed at most 2^30 bytes.
+        ensures size { OnOk result (bytes_fed self.new ≡ bytes_fed self.old + length chunk.now) }
         ensures limit { bytes_fed self.new ≤ 2 ^ 30 }
         ensures kinds { IfErr result IsTextFault }
         // From a refusal on it answers the same.
@@ -245,7 +396,7 @@ impl<A: Allocator + Clone> Lines<A> {
         if let Some(fault) = self.refused {
             return Err(fault);
         }
-        match self.feed_lines(piece, out) {
+        match self.feed_rows(chunk, out) {
             Ok(()) => Ok(()),
             Err(fault) => {
                 self.refused = Some(fault);
@@ -254,47 +405,33 @@ impl<A: Allocator + Clone> Lines<A> {
         }
     }
 
-    /// Ends the text, whose last line may lack its LF, and counts its lines.
-    fn end_begun(&mut self, out: &mut Vec<Row<A>, A>) -> Result<u32, Fault>
-        ensures ok { (text : List ℕ) → StandsFor self.old text → IfOk result (λ count. EndsText self.new count text) }
-        ensures few { IfOk result (λ count. count ≤ 2 ^ 30 + 1) }
-        ensures refused { (text : List ℕ) → StandsFor self.old text → IfErr result (IsFaultOf (fault text)) }
-        ensures told { (text : List ℕ) (rows : List records.Row) → StandsFor self.old text → out.old.items ≡ rows ++ early_rows text → OnOk result (out.new.items ≡ rows ++ rows_in (lines_of text)) }
-        ensures appended { (text : List ℕ) → StandsFor self.old text → OnOk result (HasAppended out.old.items out.new.items (early_rows text) (rows_in (lines_of text))) }
-        ensures same { OnErr result (out.new.items ≡ out.old.items) }
-        ensures line { IfErr result (IsAtLine (self.old.ended + 1)) }
-    {
-        if self.begun.is_empty() {
-            return Ok(self.ended);
-        }
-        let count = self.ended + 1;
-        match self.read_begun(0) {
-            Ok(content) => match self.take_content(content, out) {
-                Ok(()) => Ok(count),
-                Err(fault) => Err(fault),
-            },
-            Err(fault) => Err(fault),
-        }
-    }
-
     /// The text has ended: its header, and the row of a last line that no LF ended.
-    pub fn end(mut self, out: &mut Vec<Row<A>, A>) -> Result<Interface, Fault>
+    pub fn end(self, out: &mut Vec<Row<A>, A>) -> Result<Interface, Fault>
         ensures ok { (text : List ℕ) → StandsFor self text → IfOk result (λ interface. (fault text ≡ None) × (head text ≡ Some interface)) }
         ensures refused { (text : List ℕ) → StandsFor self text → IfErr result (IsFaultOf (fault text)) }
+        ensures appended { (text : List ℕ) → StandsFor self text → IsAppended result out.old.items out.new.items (early_rows text) (rows_of_text text) }
         ensures told { (text : List ℕ) (rows : List records.Row) → StandsFor self text → out.old.items ≡ rows ++ early_rows text → IsTold result out.new.items rows (rows_of_text text) }
-        ensures appended { (text : List ℕ) → StandsFor self text → OnOk result (HasAppended out.old.items out.new.items (early_rows text) (rows_of_text text)) }
         ensures kinds { IfErr result IsTextFault }
         ensures again { (fault : Fault) → self.refused ≡ Some fault → (result ≡ Err fault) × (out.new.items ≡ out.old.items) }
     {
         if let Some(fault) = self.refused {
             return Err(fault);
         }
-        match self.end_begun(out) {
-            Ok(count) => match self.interface {
-                Some(interface) => Ok(interface),
-                None => Err(Fault::Trace(count + 1, Kind::HeaderMissing)),
-            },
-            Err(fault) => Err(fault),
+        let mut row = match blank_row(self.begun.allocator()) {
+            Ok(row) => row,
+            Err(_) => return Err(Fault::Memory),
+        };
+        let end = match self.end_row(&mut row) {
+            Ok(end) => end,
+            Err(fault) => return Err(fault),
+        };
+        if !end.has_row {
+            return Ok(end.interface);
         }
+        match out.push(row) {
+            Ok(()) => {}
+            Err(_) => return Err(Fault::Memory),
+        }
+        Ok(end.interface)
     }
 }

@@ -9,6 +9,7 @@ ghost use Rattle.trace_text.specs.Reads.{ReadsAs, Breaks};
 use crate::content::{Content, LineFault};
 use crate::header::read_header;
 use crate::row_line::read_row;
+use line_model::row::Row;
 use std::alloc::Allocator;
 
 fn is_comment_line(line: &[u8]) -> bool
@@ -20,24 +21,25 @@ fn is_comment_line(line: &[u8]) -> bool
     }
 }
 
-/// What a line says that stands before the header, or after it and after a row of the number `last`.
+/// What a line says that stands before the header, or after it and after a row of the number `last`. A row is put in the
+/// place of another.
 #[tactic(auto, unfolding(line_model::specs::Text::contents_kind))]
-pub fn read_line<A: Allocator + Clone>(
-    alloc: &A,
+pub fn read_line<A: Allocator>(
     after_header: bool,
     last: u32,
     line: &[u8],
-) -> Result<Content<A>, LineFault>
+    row: &mut Row<A>,
+) -> Result<Content, LineFault>
     ensures { MatchResult result
-        (λ content. (contents_kind after_header last line.now ≡ None) × ReadsAs after_header last line.now content)
+        (λ content. (contents_kind after_header last line.now ≡ None) × ReadsAs after_header last line.now content row.new)
         (Breaks (contents_kind after_header last line.now)) }
 {
     if is_comment_line(line) {
         return Ok(Content::Comment);
     }
     if after_header {
-        let row = read_row(alloc, last, line)?;
-        return Ok(Content::Packet(row));
+        read_row(last, line, row)?;
+        return Ok(Content::Packet);
     }
     match read_header(line) {
         Ok(interface) => Ok(Content::Header(interface)),

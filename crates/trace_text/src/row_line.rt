@@ -73,13 +73,14 @@ fn read_side(word: &[u8]) -> Option<Side>
     }
 }
 
-/// The octets that hex digits write, or `-` for none.
+/// Puts the octets that hex digits write, or `-` for none, in the place of what was in a list.
 #[tactic(auto, unfolding(line_model::specs::RowLine::octets_of))]
-fn read_octets<A: Allocator>(alloc: A, word: &[u8]) -> Result<Vec<u8, A>, LineFault>
-    ensures { MatchResult result (λ octets. octets_of word.now ≡ Some octets.items) (λ fault. (fault ≡ Memory) ⊎ ((fault ≡ Broken Hex) × (octets_of word.now ≡ None))) }
+fn read_octets<A: Allocator>(word: &[u8], octets: &mut Vec<u8, A>) -> Result<(), LineFault>
+    ensures { MatchResult result (λ _. octets_of word.now ≡ Some octets.new.items) (λ fault. (fault ≡ Memory) ⊎ ((fault ≡ Broken Hex) × (octets_of word.now ≡ None))) }
 {
     if word == b"-".as_slice() {
-        return Ok(Vec::new(alloc));
+        octets.clear();
+        return Ok(());
     }
     if word.len() > 2 * OCTET_LIMIT {
         return Err(LineFault::Broken(Kind::Hex));
@@ -87,20 +88,17 @@ fn read_octets<A: Allocator>(alloc: A, word: &[u8]) -> Result<Vec<u8, A>, LineFa
     if word.len() % 2 != 0 {
         return Err(LineFault::Broken(Kind::Hex));
     }
-    match read_digits(alloc, word) {
-        Ok(octets) => Ok(octets),
+    match read_digits(word, octets) {
+        Ok(()) => Ok(()),
         Err(fault) => Err(fault),
     }
 }
 
-/// The row that a line writes after one of the number `last`, or the rule that it breaks.
+/// Puts the row that a line writes after one of the number `last` in the place of another, or tells the rule that the
+/// line breaks; then the row has no meaning.
 #[tactic(auto, unfolding(line_model::specs::RowLine::row_kind, line_model::specs::RowLine::row_of))]
-pub fn read_row<A: Allocator + Clone>(
-    alloc: &A,
-    last: u32,
-    line: &[u8],
-) -> Result<Row<A>, LineFault>
-    ensures { MatchResult result (λ row. (row_kind last line.now ≡ None) × (row_of line.now ≡ Some row)) (Breaks (row_kind last line.now)) }
+pub fn read_row<A: Allocator>(last: u32, line: &[u8], row: &mut Row<A>) -> Result<(), LineFault>
+    ensures { MatchResult result (λ _. (row_kind last line.now ≡ None) × (row_of line.now ≡ Some row.new)) (Breaks (row_kind last line.now)) }
 {
     let Some(fields) = split_fields(line) else {
         return Err(LineFault::Broken(Kind::LineForm));
@@ -111,10 +109,8 @@ pub fn read_row<A: Allocator + Clone>(
     let Some(side) = read_side(fields.side) else {
         return Err(LineFault::Broken(Kind::Side));
     };
-    let octets = read_octets(alloc.clone()?, fields.hex)?;
-    Ok(Row {
-        number,
-        side,
-        octets,
-    })
+    read_octets(fields.hex, &mut row.octets)?;
+    row.number = number;
+    row.side = side;
+    Ok(())
 }

@@ -1,4 +1,4 @@
-//! Texts from outside, read in pieces of several sizes.
+//! Texts from outside, read in chunks of several sizes.
 
 use crate::digits::read_digits;
 use crate::lines::Lines;
@@ -12,7 +12,7 @@ use std::test::Fail;
 
 const HEADER: &[u8] = b"X25 1 MOD 8 WIN 2 SIZE 128 PVC 0 SVC 4\n";
 
-/// Reads a text that comes in pieces of so many bytes.
+/// Reads a text that comes in chunks of so many bytes.
 fn read(
     alloc: Global,
     text: &[u8],
@@ -22,15 +22,15 @@ fn read(
     let mut lines = Lines::new(alloc);
     let mut rest = text;
     for _ in 0..text.len() {
-        let (piece, more) = rest.split_at(size.min(rest.len()));
-        lines.feed(piece, rows)?;
+        let (chunk, more) = rest.split_at(size.min(rest.len()));
+        lines.feed(chunk, rows)?;
         rest = more;
     }
     lines.end(rows)
 }
 
-/// Reads a text in pieces of 1, 7 and 4,096 bytes, which all have to answer the same.
-fn read_in_pieces(
+/// Reads a text in chunks of 1, 7 and 4,096 bytes, which all have to answer the same.
+fn read_in_chunks(
     rt: &impl Abort,
     alloc: Global,
     text: &[u8],
@@ -42,8 +42,8 @@ fn read_in_pieces(
     for size in [1, 7, 4096] {
         let mut told = Vec::new(alloc);
         let again = read(alloc, text, size, &mut told);
-        assert!(rt; again == answer, "in pieces of {size}");
-        assert_eq!(rt; told.len(), rows, "in pieces of {size}");
+        assert!(rt; again == answer, "in chunks of {size}");
+        assert_eq!(rt; told.len(), rows, "in chunks of {size}");
     }
     answer
 }
@@ -72,7 +72,7 @@ fn the_first_faulty_line_is_told(rt: HostRuntime) -> Result<(), Fail> {
         let mut text = Vec::new(rt.alloc());
         text.extend_from_slice(HEADER)?;
         text.extend_from_slice(rows_text)?;
-        let answer = read_in_pieces(&rt, rt.alloc(), text.as_slice(), rows);
+        let answer = read_in_chunks(&rt, rt.alloc(), text.as_slice(), rows);
         assert!(rt; answer == Err(Fault::Trace(line, kind)), "{line} {kind:?}");
     }
     Ok(())
@@ -131,7 +131,7 @@ fn faulty_headers_are_told(rt: HostRuntime) -> Result<(), Fail> {
             Kind::HeaderRange,
         ),
     ] {
-        let answer = read_in_pieces(&rt, rt.alloc(), text, 0);
+        let answer = read_in_chunks(&rt, rt.alloc(), text, 0);
         assert!(rt; answer == Err(Fault::Trace(line, kind)), "{line} {kind:?}");
     }
     Ok(())
@@ -139,7 +139,7 @@ fn faulty_headers_are_told(rt: HostRuntime) -> Result<(), Fail> {
 
 #[test]
 fn both_header_forms_are_read(rt: HostRuntime) -> Result<(), Fail> {
-    let first = read_in_pieces(
+    let first = read_in_chunks(
         &rt,
         rt.alloc(),
         b"X25 1 MOD 128 WIN 7 SIZE 4096 PVC 1 SVC 9",
@@ -158,7 +158,7 @@ fn both_header_forms_are_read(rt: HostRuntime) -> Result<(), Fail> {
                 join: false,
             })
     );
-    let second = read_in_pieces(
+    let second = read_in_chunks(
         &rt,
         rt.alloc(),
         b"X25 2 MOD 8 WIN 2 SIZE 16 PVC 1 IN 2 TWO 3 OUT 4 JOIN\n",
@@ -235,17 +235,174 @@ fn lines_and_rows_have_their_limits(rt: HostRuntime) -> Result<(), Fail> {
 
 #[test]
 fn octets_are_those_of_hex(rt: HostRuntime) -> Result<(), Fail> {
+    let mut octets = Vec::new(rt.alloc());
     for high in 0..=255u8 {
         for low in 0..=255u8 {
             let digits = [high, low];
-            let ours = read_digits(rt.alloc(), digits.as_slice());
+            let ours = read_digits(digits.as_slice(), &mut octets);
             match hex::decode(rt.alloc(), digits.as_slice()) {
                 Ok(wanted) => {
-                    assert!(rt; ours.is_ok_and(|octets| octets.as_slice() == wanted.as_slice()));
+                    assert!(rt; ours.is_ok() && octets.as_slice() == wanted.as_slice());
                 }
                 Err(_) => assert!(rt; ours.is_err(), "{high} {low}"),
             }
         }
     }
+    Ok(())
+}
+
+#[test]
+fn octets_of_many_digits_are_those_of_hex(rt: HostRuntime) -> Result<(), Fail> {
+    let mut octets = Vec::new(rt.alloc());
+    let mut digits = *b"0123456789abcdefABCDEF0918273645546372ff0a1B2c3D4e5F60718293a4b5c6D7E8F9";
+    for place in [0, 1, 15, 16, 31, 32, 47, 63, 64, 71] {
+        let was = digits[place];
+        for byte in 0..=255u8 {
+            digits[place] = byte;
+            let ours = read_digits(digits.as_slice(), &mut octets);
+            match hex::decode(rt.alloc(), digits.as_slice()) {
+                Ok(wanted) => {
+                    assert!(rt; ours.is_ok() && octets.as_slice() == wanted.as_slice());
+                }
+                Err(_) => assert!(rt; ours.is_err(), "{byte} at {place}"),
+            }
+        }
+        digits[place] = was;
+    }
+    Ok(())
+}
+
+/// A row to be wanted.
+type Wanted<'a> = (u32, Side, &'a [u8]);
+
+fn is_wanted(row: &Row<Global>, wanted: &Wanted<'_>) -> bool {
+    row.number == wanted.0 && row.side == wanted.1 && row.octets.as_slice() == wanted.2
+}
+
+/// Takes the rows of a text one by one out of chunks of so many bytes, into one row that is used again. Counts those
+/// that were wanted there, and tells how the text ends.
+fn take_rows(
+    alloc: Global,
+    text: &[u8],
+    size: usize,
+    wanted: &[Wanted<'_>],
+    count: &mut usize,
+) -> Result<Interface, Fault> {
+    let mut lines = Lines::new(alloc);
+    let mut row = Row {
+        number: 0,
+        side: Side::N,
+        octets: Vec::new(alloc),
+    };
+    let mut rest = text;
+    for _ in 0..text.len() {
+        let (mut chunk, more) = rest.split_at(size.min(rest.len()));
+        while let Some(after) = lines.next_row(chunk, &mut row)? {
+            *count += usize::from(*count < wanted.len() && is_wanted(&row, &wanted[*count]));
+            chunk = after;
+        }
+        rest = more;
+    }
+    let end = lines.end_row(&mut row)?;
+    if end.has_row {
+        *count += usize::from(*count < wanted.len() && is_wanted(&row, &wanted[*count]));
+    }
+    Ok(end.interface)
+}
+
+#[test]
+fn rows_are_taken_one_by_one(rt: HostRuntime) -> Result<(), Fail> {
+    let long = [
+        (1, Side::T, b"\x10\x01\x0b\x00\x00".as_slice()),
+        (2, Side::N, b"\x10\x01\x0f".as_slice()),
+        (3, Side::T, b"\x10\x01\x00\xde\xad\xbe\xef".as_slice()),
+        (7, Side::N, b"".as_slice()),
+        (12, Side::N, b"\x10".as_slice()),
+    ];
+    let long_text = b"# first\nX25 1 MOD 8 WIN 2 SIZE 128 PVC 0 SVC 4\n1 T 10010b0000\n2 N 10010F\n\
+# between\n3 T 100100deadBEEF\n7 N -\n# last\n12 N 10";
+    for (text, wanted, end) in [
+        (long_text.as_slice(), long.as_slice(), None),
+        (HEADER, [].as_slice(), None),
+        (
+            b"#\n# no header\n".as_slice(),
+            [].as_slice(),
+            Some(Fault::Trace(3, Kind::HeaderMissing)),
+        ),
+        (
+            b"X25 1 MOD 8 WIN 2 SIZE 128 PVC 0 SVC 4\n1 T 10010b0000\n2 N 10010F\n3 T 100\n4 T -\n".as_slice(),
+            &long[..2],
+            Some(Fault::Trace(4, Kind::Hex)),
+        ),
+        (
+            b"X25 1 MOD 8 WIN 2 SIZE 128 PVC 0 SVC 4\n1 T 10010b0000\n2 n -".as_slice(),
+            &long[..1],
+            Some(Fault::Trace(3, Kind::Side)),
+        ),
+    ] {
+        for size in [1, 7, text.len()] {
+            let mut count = 0;
+            let answer = take_rows(rt.alloc(), text, size, wanted, &mut count);
+            assert!(rt; answer.err() == end, "in chunks of {size}");
+            assert_eq!(rt; count, wanted.len(), "in chunks of {size}");
+        }
+    }
+    Ok(())
+}
+
+#[test]
+fn room_of_the_octets_is_used_again(rt: HostRuntime) -> Result<(), Fail> {
+    let mut lines = Lines::new(rt.alloc());
+    let mut row = Row {
+        number: 0,
+        side: Side::N,
+        octets: Vec::with_capacity(rt.alloc(), 4)?,
+    };
+    assert!(rt; lines.next_row(HEADER, &mut row)?.is_none());
+    assert!(rt; lines.next_row(b"1 T 01020304\n", &mut row)?.is_some());
+    assert!(rt; is_wanted(&row, &(1, Side::T, b"\x01\x02\x03\x04".as_slice())));
+    assert!(rt; lines.next_row(b"2 N 05\n", &mut row)?.is_some());
+    assert!(rt; is_wanted(&row, &(2, Side::N, b"\x05".as_slice())));
+    assert_eq!(rt; row.octets.capacity(), 4);
+    Ok(())
+}
+
+#[test]
+fn lines_that_ended_are_counted_and_a_refusal_stays(rt: HostRuntime) -> Result<(), Fail> {
+    let mut lines = Lines::new(rt.alloc());
+    let mut row = Row {
+        number: 0,
+        side: Side::N,
+        octets: Vec::new(rt.alloc()),
+    };
+    assert_eq!(rt; lines.ended_lines(), 0);
+    assert!(rt; lines.next_row(b"# one\n# tw", &mut row)?.is_none());
+    assert_eq!(rt; lines.ended_lines(), 1);
+    assert!(rt; lines.ended_header() == Err(Fault::Trace(2, Kind::HeaderMissing)));
+    assert!(rt; lines.next_row(b"o\n", &mut row)?.is_none());
+    assert!(rt; lines.next_row(HEADER, &mut row)?.is_none());
+    assert_eq!(rt; lines.ended_lines(), 3);
+    assert!(rt; lines.ended_header().is_ok_and(|interface| interface.svc == 4));
+    let fault = Fault::Trace(5, Kind::Number);
+    assert!(rt; lines.next_row(b"4 T -\n4 N -\n", &mut row)? == Some(b"4 N -\n".as_slice()));
+    assert!(rt; lines.next_row(b"4 N -\n", &mut row) == Err(fault));
+    assert!(rt; lines.next_row(b"5 N -\n", &mut row) == Err(fault));
+    assert!(rt; lines.ended_header() == Err(fault));
+    assert!(rt; lines.end_row(&mut row).err() == Some(fault));
+    Ok(())
+}
+
+#[test]
+fn rows_before_a_fault_are_appended_to_any_list(rt: HostRuntime) -> Result<(), Fail> {
+    let mut lines = Lines::new(rt.alloc());
+    let mut rows = Vec::new(rt.alloc());
+    lines.feed(HEADER, &mut rows)?;
+    lines.feed(b"1 T 01\n", &mut rows)?;
+    rows.clear();
+    let answer = lines.feed(b"2 N 02\n3 T 03\n3 T 04\n", &mut rows);
+    assert!(rt; answer == Err(Fault::Trace(5, Kind::Number)));
+    assert_eq!(rt; rows.len(), 2);
+    assert!(rt; is_wanted(&rows[0], &(2, Side::N, b"\x02".as_slice())));
+    assert!(rt; is_wanted(&rows[1], &(3, Side::T, b"\x03".as_slice())));
     Ok(())
 }
