@@ -7,12 +7,12 @@ use Rattle.line_model.specs.Records.{Item, Piece, PieceReport}
 use Rattle.line_model.specs.Channels.{Channel}
 use Rattle.line_model.specs.Plan.{has_some}
 use Rattle.line_model.specs.Plans.{value}
-use Rattle.restart_epochs.specs.OpenRows.{OpenRows, rows_of}
+use Rattle.restart_epochs.specs.OpenRows.{OpenRows, rows_of, IsListing}
 use Rattle.restart_epochs.specs.OpenLanes.{OpenLanes, value_at, HasPopped, IsEmpty}
 use Rattle.restart_epochs.specs.Cutting.{pieces_out}
 use Rattle.channel_machine.specs.declared.live.LiveChannel.{LiveChannel}
 use Rattle.channel_machine.specs.Live.{StandsFor as IsLive}
-use Rattle.live_report.specs.Lanes.{begun_piece, LaneFor, OpenFor, IsListing}
+use Rattle.live_report.specs.Lanes.{begun_piece, LaneFor, OpenFor}
 
 -- the piece of a channel in an epoch that ended so
 abbrev pub ended_piece : (id : ℕ) → Interface → (epoch : ℕ) → (end : Option ℕ) → (channel : ℕ) → List Item → Piece

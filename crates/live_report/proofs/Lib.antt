@@ -1,3 +1,5 @@
 pub mod LaneLemmas
 pub mod EndingLemmas
 pub mod StandLemmas
+pub mod TakeLemmas
+pub mod TellingLemmas

@@ -1,6 +1,5 @@
 -- The live channels of the open epoch, and the rows that they stand for.
 use Rattle.std.specs.Prelude.{◌≡◌, ◌≢◌, ℕ, true, List, [], Option, Some, None}
-use Rattle.std.specs.List.{AllByRecursion}
 use Rattle.line_model.specs.declared.interface.Interface.{Interface}
 use Rattle.line_model.specs.Records.{Item, Piece}
 use Rattle.line_model.specs.Channels.{Channel}
@@ -24,11 +23,6 @@ pub record OpenFor {A C : Type 0} (interface_of : C → Interface) (number_of : 
     (i : Interface) (epoch : ℕ) (rows : OpenRows) (lanes : OpenLanes (LiveChannel A C)) : Type 0 where
   pub channels : lanes.channels ≡ rows.channels
   pub each : (k : ℕ) → LaneFor interface_of number_of stands_for (begun_piece i epoch k (rows_of rows k)) (value_at lanes k)
-
--- the channels that are listed have rows, and no others
-pub record IsListing (rows : OpenRows) : Type 0 where
-  pub listed : AllByRecursion (λ k. has_some (rows_of rows k) ≡ true) rows.channels
-  pub others : (k : ℕ) → AllByRecursion (λ j. j ≢ k) rows.channels → rows_of rows k ≡ []
 
 -- the live channel of a channel was taken out of its lane, or begun where it had no rows; the channel is listed
 pub record IsOutFor {A C : Type 0} (interface_of : C → Interface) (number_of : C → ℕ) (stands_for : C → Channel → Type 0)

@@ -2,14 +2,13 @@
 
 ghost use Rattle.std.specs.Prelude.{◌≡◌, ℕ, ◌<◌, ◌+◌, ◌^◌, ◌++◌, IfErr, OnOk, length, map};
 ghost use Rattle.std.specs.Vec.{vec_len};
-ghost use Rattle.line_model.specs.Bounds.{IsPiece};
 ghost use Rattle.line_model.specs.Plans.{value};
 ghost use Rattle.line_model.specs.declared.interface.Interface.{Interface as AnyInterface};
 ghost use Rattle.line_model.specs.declared.fault.Fault.TheVariants.{Memory};
-ghost use Rattle.restart_epochs.specs.OpenRows.{OpenRows, rows_of};
+ghost use Rattle.restart_epochs.specs.OpenRows.{OpenRows, rows_of, IsListing};
 ghost use Rattle.restart_epochs.specs.OpenLanes.{IsEmpty};
 ghost use Rattle.restart_epochs.specs.Cutting.{pieces_out};
-ghost use Rattle.live_report.specs.Lanes.{IsListing, OpenFor};
+ghost use Rattle.live_report.specs.Lanes.{OpenFor};
 
 use channel_machine::live::LiveChannel;
 use channel_machine::run::Channel;
@@ -26,7 +25,7 @@ pub fn end_channels<A: Allocator + Copy, C: Channel<A>>(
     lanes: &mut Lanes<LiveChannel<A, C>, A>,
     out: &mut Vec<PieceReport<A>, A>,
 ) -> Result<(), Fault>
-    requires room { (i : AnyInterface) × (epoch : ℕ) × (rows : OpenRows) × OpenFor C.interface_of C.number_of C.stands_for i epoch rows lanes.old × IsListing rows × ((k : ℕ) → IsPiece i k (rows_of rows k)) }
+    requires room { (i : AnyInterface) × (epoch : ℕ) × (rows : OpenRows) × OpenFor C.interface_of C.number_of C.stands_for i epoch rows lanes.old × IsListing rows }
     requires ids { vec_len out.old + length lanes.old.channels < 2 ^ 32 }
     ensures values { (i : AnyInterface) (epoch : ℕ) (rows : OpenRows) → OpenFor C.interface_of C.number_of C.stands_for i epoch rows lanes.old → IsListing rows → OnOk result (out.new.items ≡ out.old.items ++ map value (pieces_out i epoch end (rows_of rows) (length out.old.items) rows.channels)) }
     ensures emptied { (i : AnyInterface) (epoch : ℕ) (rows : OpenRows) → OpenFor C.interface_of C.number_of C.stands_for i epoch rows lanes.old → IsListing rows → OnOk result (IsEmpty lanes.new) }

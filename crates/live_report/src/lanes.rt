@@ -5,7 +5,7 @@ ghost use Rattle.line_model.specs.Bounds.{IsPiece};
 ghost use Rattle.line_model.specs.Report.{findings_of};
 ghost use Rattle.line_model.specs.declared.fault.Fault.TheVariants.{Memory};
 ghost use Rattle.channel_machine.specs.Run.{row_events};
-ghost use Rattle.channel_machine.specs.Live.{channel_of_piece};
+ghost use Rattle.channel_machine.specs.Live.{channel_so_far};
 ghost use Rattle.restart_epochs.specs.OpenRows.{OpenRows, rows_of, HasMore};
 ghost use Rattle.live_report.specs.Lanes.{begun_piece, IsOutFor, OpenFor};
 
@@ -52,8 +52,8 @@ pub fn step_channel<A: Allocator + Copy, C: Channel<A>>(
     lanes: &mut Lanes<LiveChannel<A, C>, A>,
 ) -> Result<Option<Finding>, Fault>
     requires room { (rows : OpenRows) × OpenFor C.interface_of C.number_of C.stands_for interface.now epoch rows lanes.old × IsPiece interface.now channel (rows_of rows channel ++ record { row = row.now; packet = packet.now } ∷ []) }
-    ensures stands { (rows after : OpenRows) → OpenFor C.interface_of C.number_of C.stands_for interface.now epoch rows lanes.old → HasMore channel (record { row = row.now; packet = packet.now }) rows after → OnOk result (OpenFor C.interface_of C.number_of C.stands_for interface.now epoch after lanes.new) }
-    ensures finding { (rows : OpenRows) → OpenFor C.interface_of C.number_of C.stands_for interface.now epoch rows lanes.old → IfOk result (λ found. option_to_list found ≡ findings_of (row_events interface.now epoch channel (channel_of_piece (begun_piece interface.now epoch channel (rows_of rows channel))) row.now)) }
+    ensures stands { (rows after : OpenRows) → OpenFor C.interface_of C.number_of C.stands_for interface.now epoch rows lanes.old → HasMore channel (record { row = row.now; packet = packet.now }) rows after → IsPiece interface.now channel (rows_of after channel) → OnOk result (OpenFor C.interface_of C.number_of C.stands_for interface.now epoch after lanes.new) }
+    ensures finding { (rows : OpenRows) → OpenFor C.interface_of C.number_of C.stands_for interface.now epoch rows lanes.old → IfOk result (λ found. option_to_list found ≡ findings_of (row_events interface.now epoch channel (channel_so_far (begun_piece interface.now epoch channel (rows_of rows channel))) row.now)) }
     ensures memory { IfErr result (λ fault. fault ≡ Memory) }
 {
     let alloc = *events.allocator();

@@ -4,3 +4,4 @@
 mod ending;
 mod lanes;
 pub mod observer;
+mod telling;

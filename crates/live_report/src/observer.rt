@@ -9,13 +9,13 @@ ghost use Rattle.line_model.specs.Records as records;
 ghost use Rattle.line_model.specs.Report.{report_of};
 ghost use Rattle.line_model.specs.declared.interface.Interface.{Interface as AnyInterface};
 ghost use Rattle.line_model.specs.declared.fault.Fault.TheVariants.{Memory};
-ghost use Rattle.restart_epochs.specs.OpenRows.{rows_of, no_rows};
+ghost use Rattle.restart_epochs.specs.OpenRows.{rows_of, no_rows, IsListing};
 ghost use Rattle.restart_epochs.specs.Cutting.{Cutting, IsKeptOn, IsStepped, IsLeft, pieces_out};
-ghost use Rattle.live_report.specs.Lanes.{IsListing};
 ghost use Rattle.live_report.specs.Observing.{AreRows, Holds, StandsFor};
 
 use crate::ending::end_channels;
 use crate::lanes::step_channel;
+use crate::telling::{copies, tell_channels};
 use channel_machine::live::LiveChannel;
 use channel_machine::run::Channel;
 use line_model::event::Event;
@@ -71,7 +71,7 @@ impl<A: Allocator + Copy, C: Channel<A>> Observer<A, C> {
     fn step(&mut self, channel: u16, row: &Row<A>, packet: &Packet) -> Result<Option<Finding>, Fault>
         requires room { (c : Cutting) × (reports : List records.PieceReport) × Holds C.interface_of C.number_of C.stands_for c reports self.old × IsPiece c.interface channel (rows_of c.open_rows channel ++ record { row = row.now; packet = packet.now } ∷ []) }
         requires packets { self.old.packets + 1 < 2 ^ 32 }
-        ensures holds { (c after : Cutting) (reports : List records.PieceReport) → Holds C.interface_of C.number_of C.stands_for c reports self.old → IsKeptOn channel (record { row = row.now; packet = packet.now }) c after → OnOk result (Holds C.interface_of C.number_of C.stands_for after reports self.new) }
+        ensures holds { (c after : Cutting) (reports : List records.PieceReport) → Holds C.interface_of C.number_of C.stands_for c reports self.old → IsKeptOn channel (record { row = row.now; packet = packet.now }) c after → IsPiece c.interface channel (rows_of after.open_rows channel) → OnOk result (Holds C.interface_of C.number_of C.stands_for after reports self.new) }
         ensures memory { IfErr result (λ fault. fault ≡ Memory) }
     {
         let found = step_channel(
@@ -87,34 +87,46 @@ impl<A: Allocator + Copy, C: Channel<A>> Observer<A, C> {
         Ok(found)
     }
 
-    /// Takes a row that steps the restart machine and does not leave r1.
-    fn advance(&mut self, machine: Restart, begun: u32, finding: Option<Finding>) -> Result<(), Fault>
-        requires epochs { self.old.epoch + begun < 2 ^ 32 }
+    /// Takes a row that steps the restart machine and neither leaves r1 nor enters it.
+    fn advance(&mut self, machine: Restart, finding: Option<Finding>) -> Result<Option<Finding>, Fault>
         requires packets { self.old.packets + 1 < 2 ^ 32 }
-        ensures holds { (c after : Cutting) (reports : List records.PieceReport) (row : records.Row) → Holds C.interface_of C.number_of C.stands_for c reports self.old → IsStepped row machine (c.epoch + begun) (option_to_list finding) c after → OnOk result (Holds C.interface_of C.number_of C.stands_for after reports self.new) }
+        ensures holds { (c after : Cutting) (reports : List records.PieceReport) (row : records.Row) → Holds C.interface_of C.number_of C.stands_for c reports self.old → IsStepped row machine c.epoch (option_to_list finding) c after → OnOk result (Holds C.interface_of C.number_of C.stands_for after reports self.new) }
+        ensures found { IfOk result (λ found. found ≡ finding) }
         ensures memory { IfErr result (λ fault. fault ≡ Memory) }
     {
         note(&mut self.findings, finding)?;
         self.machine = machine;
-        self.epoch += begun;
         self.packets += 1;
-        Ok(())
+        Ok(finding)
+    }
+
+    /// Takes a row that enters r1.
+    fn enter(&mut self, machine: Restart, finding: Option<Finding>) -> Result<Option<Finding>, Fault>
+        requires epochs { self.old.epoch + 1 < 2 ^ 32 }
+        requires packets { self.old.packets + 1 < 2 ^ 32 }
+        ensures holds { (c after : Cutting) (reports : List records.PieceReport) (row : records.Row) → Holds C.interface_of C.number_of C.stands_for c reports self.old → ((k : ℕ) → rows_of c.open_rows k ≡ []) → IsStepped row machine (c.epoch + 1) (option_to_list finding) c after → OnOk result (Holds C.interface_of C.number_of C.stands_for after reports self.new) }
+        ensures found { IfOk result (λ found. found ≡ finding) }
+        ensures memory { IfErr result (λ fault. fault ≡ Memory) }
+    {
+        self.epoch += 1;
+        self.advance(machine, finding)
     }
 
     /// Takes a row of this number that leaves r1, and ends the channels of the epoch.
-    fn leave(&mut self, machine: Restart, number: u32, finding: Option<Finding>) -> Result<(), Fault>
-        requires room { (c : Cutting) × (reports : List records.PieceReport) × Holds C.interface_of C.number_of C.stands_for c reports self.old × IsListing c.open_rows × ((k : ℕ) → IsPiece c.interface k (rows_of c.open_rows k)) }
+    fn leave(&mut self, machine: Restart, number: u32, finding: Option<Finding>) -> Result<Option<Finding>, Fault>
+        requires room { (c : Cutting) × (reports : List records.PieceReport) × Holds C.interface_of C.number_of C.stands_for c reports self.old × IsListing c.open_rows }
         requires packets { self.old.packets + 1 < 2 ^ 32 }
         requires ids { length self.old.ended.items + length self.old.lanes.channels < 2 ^ 32 }
         ensures holds { (c after : Cutting) (reports : List records.PieceReport) (row : records.Row) → Holds C.interface_of C.number_of C.stands_for c reports self.old → IsListing c.open_rows → row.number ≡ number → after.open_rows ≡ no_rows → IsLeft row machine (option_to_list finding) c after
             → OnOk result (Holds C.interface_of C.number_of C.stands_for after (reports ++ map value (pieces_out c.interface c.epoch (Some number) (rows_of c.open_rows) (length reports) c.open_rows.channels)) self.new) }
+        ensures found { IfOk result (λ found. found ≡ finding) }
         ensures memory { IfErr result (λ fault. fault ≡ Memory) }
     {
         note(&mut self.findings, finding)?;
         end_channels(Some(number), &mut self.lanes, &mut self.ended)?;
         self.machine = machine;
         self.packets += 1;
-        Ok(())
+        Ok(finding)
     }
 
     /// Takes the next row, and answers what it finds. It refuses for want of memory alone, and stands for nothing then.
@@ -132,13 +144,27 @@ impl<A: Allocator + Copy, C: Channel<A>> Observer<A, C> {
         let route = machine.step(&packet, octets.len(), row.side);
         let finding = finding_of(route, row);
         match route {
-            Route::ToChannel => return self.step(logical_channel(octets), row, &packet),
-            Route::Leave(_) => self.leave(machine, row.number, finding)?,
-            Route::Enter => self.advance(machine, 1, finding)?,
-            Route::Found(_, _) => self.advance(machine, 0, finding)?,
-            Route::Pass => self.advance(machine, 0, finding)?,
+            Route::ToChannel => self.step(logical_channel(octets), row, &packet),
+            Route::Leave(_) => self.leave(machine, row.number, finding),
+            Route::Enter => self.enter(machine, finding),
+            Route::Found(_, _) => self.advance(machine, finding),
+            Route::Pass => self.advance(machine, finding),
         }
-        Ok(finding)
+    }
+
+    /// The report of the rows that were taken so far, by copies: the observer goes on. It costs what is reported, not
+    /// what was read. It refuses for want of memory alone.
+    pub fn report(&self) -> Result<Report<A>, Fault>
+        requires room { (i : AnyInterface) × (rows : List records.Row) × StandsFor C.interface_of C.number_of C.stands_for i rows self.now }
+        ensures report { (i : AnyInterface) (rows : List records.Row) → StandsFor C.interface_of C.number_of C.stands_for i rows self.now → IfOk result (λ report. report ≡ report_of i rows) }
+        ensures memory { IfErr result (λ fault. fault ≡ Memory) }
+    {
+        let alloc = *self.findings.allocator();
+        let mut reports = copies(alloc, self.ended.as_slice())?;
+        tell_channels(alloc, &self.lanes, &mut reports)?;
+        let pieces = reports.len() as u32;
+        let findings = Vec::from_slice(alloc, self.findings.as_slice())?;
+        merge(alloc, reports, findings, self.packets, pieces)
     }
 
     /// The report of the rows that were taken. It refuses for want of memory alone.

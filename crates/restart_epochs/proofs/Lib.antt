@@ -13,3 +13,4 @@ pub mod Taken
 pub mod Whole
 pub mod Heads
 pub mod OpenLaneLemmas
+pub mod Listings

@@ -1,8 +1,8 @@
 use Rattle.std.proofs.Common.{ℕ, ◌+◌, ◌<◌, length}
 use Rattle.std.specs.Vec.{vec_len}
 use Rattle.line_model.specs.declared.interface.Interface.{Interface}
-use Rattle.restart_epochs.specs.OpenRows.{OpenRows}
-use Rattle.live_report.specs.Lanes.{OpenFor, IsListing}
+use Rattle.restart_epochs.specs.OpenRows.{OpenRows, IsListing}
+use Rattle.live_report.specs.Lanes.{OpenFor}
 use Rattle.live_report.proofs.EndingLemmas.{Ending}
 use Rattle.live_report.proofs.ending.end_channels.Given as goal
 
