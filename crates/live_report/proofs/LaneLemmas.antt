@@ -32,7 +32,6 @@ out_some I N S i e k rows before after live f t =
       channels = t.channels ∙ f.channels ∙ sym (has_with (rows_of rows k) k rows.channels lane.0);
     }
 
-
 pub out_none : {A C : Type 0} → (I : C → Interface) (N : C → ℕ) (S : C → Channel → Type 0) (i : Interface) (e k : ℕ) (rows : OpenRows) (before middle after : OpenLanes (LiveChannel A C)) (live : LiveChannel A C)
     → OpenFor I N S i e rows before → HasTaken k None before middle → HasListed k middle after
     → ((p : Piece) → p.interface ≡ i → p.channel ≡ k → p.epoch ≡ e → p.items ≡ [] → IsLive I N S live p)

@@ -3,3 +3,5 @@ pub mod EndingLemmas
 pub mod StandLemmas
 pub mod TakeLemmas
 pub mod TellingLemmas
+pub mod WholeLemmas
+pub mod FindingLemmas

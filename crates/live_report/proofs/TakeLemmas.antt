@@ -128,7 +128,7 @@ enter_stands I N S i rs o new r p step found s sound told enter is holds =
     (stepped_bounds s.cutting after r step.after (s.cutting.epoch + 1) found s.bounds stepped (omega arith) may.rising may.number may.octets) stepped.counted
     (subst (λ l. Holds I N S after l new) (sym (append-nil (map value (given_of i rs)))) holds)
 
-same_length : (ps : List Piece) → length (map value ps) ≡ length ps
+pub same_length : (ps : List Piece) → length (map value ps) ≡ length ps
 same_length [] = refl
 same_length (p ∷ ps) = ap suc (same_length ps)
 

@@ -6,11 +6,14 @@ ghost use Rattle.line_model.specs.Classes.{packet_of};
 ghost use Rattle.line_model.specs.Octets.{channel_of};
 ghost use Rattle.line_model.specs.Plans.{value};
 ghost use Rattle.line_model.specs.Records as records;
-ghost use Rattle.line_model.specs.Report.{report_of};
+ghost use Rattle.line_model.specs.Report.{findings_of, report_of};
 ghost use Rattle.line_model.specs.declared.interface.Interface.{Interface as AnyInterface};
 ghost use Rattle.line_model.specs.declared.fault.Fault.TheVariants.{Memory};
 ghost use Rattle.restart_epochs.specs.OpenRows.{rows_of, no_rows, IsListing};
 ghost use Rattle.restart_epochs.specs.Cutting.{Cutting, IsKeptOn, IsStepped, IsLeft, pieces_out};
+ghost use Rattle.channel_machine.specs.Live.{channel_so_far};
+ghost use Rattle.channel_machine.specs.Run.{row_events};
+ghost use Rattle.live_report.specs.Lanes.{begun_piece};
 ghost use Rattle.live_report.specs.Observing.{AreRows, Holds, StandsFor};
 
 use crate::ending::end_channels;
@@ -68,10 +71,16 @@ impl<A: Allocator + Copy, C: Channel<A>> Observer<A, C> {
     }
 
     /// Steps the channel of a row.
-    fn step(&mut self, channel: u16, row: &Row<A>, packet: &Packet) -> Result<Option<Finding>, Fault>
+    fn step(
+        &mut self,
+        channel: u16,
+        row: &Row<A>,
+        packet: &Packet,
+    ) -> Result<Option<Finding>, Fault>
         requires room { (c : Cutting) × (reports : List records.PieceReport) × Holds C.interface_of C.number_of C.stands_for c reports self.old × IsPiece c.interface channel (rows_of c.open_rows channel ++ record { row = row.now; packet = packet.now } ∷ []) }
         requires packets { self.old.packets + 1 < 2 ^ 32 }
         ensures holds { (c after : Cutting) (reports : List records.PieceReport) → Holds C.interface_of C.number_of C.stands_for c reports self.old → IsKeptOn channel (record { row = row.now; packet = packet.now }) c after → IsPiece c.interface channel (rows_of after.open_rows channel) → OnOk result (Holds C.interface_of C.number_of C.stands_for after reports self.new) }
+        ensures finding { (c : Cutting) (reports : List records.PieceReport) → Holds C.interface_of C.number_of C.stands_for c reports self.old → IfOk result (λ found. option_to_list found ≡ findings_of (row_events c.interface c.epoch channel (channel_so_far (begun_piece c.interface c.epoch channel (rows_of c.open_rows channel))) row.now)) }
         ensures memory { IfErr result (λ fault. fault ≡ Memory) }
     {
         let found = step_channel(
@@ -88,7 +97,11 @@ impl<A: Allocator + Copy, C: Channel<A>> Observer<A, C> {
     }
 
     /// Takes a row that steps the restart machine and neither leaves r1 nor enters it.
-    fn advance(&mut self, machine: Restart, finding: Option<Finding>) -> Result<Option<Finding>, Fault>
+    fn advance(
+        &mut self,
+        machine: Restart,
+        finding: Option<Finding>,
+    ) -> Result<Option<Finding>, Fault>
         requires packets { self.old.packets + 1 < 2 ^ 32 }
         ensures holds { (c after : Cutting) (reports : List records.PieceReport) (row : records.Row) → Holds C.interface_of C.number_of C.stands_for c reports self.old → IsStepped row machine c.epoch (option_to_list finding) c after → OnOk result (Holds C.interface_of C.number_of C.stands_for after reports self.new) }
         ensures found { IfOk result (λ found. found ≡ finding) }
@@ -101,7 +114,11 @@ impl<A: Allocator + Copy, C: Channel<A>> Observer<A, C> {
     }
 
     /// Takes a row that enters r1.
-    fn enter(&mut self, machine: Restart, finding: Option<Finding>) -> Result<Option<Finding>, Fault>
+    fn enter(
+        &mut self,
+        machine: Restart,
+        finding: Option<Finding>,
+    ) -> Result<Option<Finding>, Fault>
         requires epochs { self.old.epoch + 1 < 2 ^ 32 }
         requires packets { self.old.packets + 1 < 2 ^ 32 }
         ensures holds { (c after : Cutting) (reports : List records.PieceReport) (row : records.Row) → Holds C.interface_of C.number_of C.stands_for c reports self.old → ((k : ℕ) → rows_of c.open_rows k ≡ []) → IsStepped row machine (c.epoch + 1) (option_to_list finding) c after → OnOk result (Holds C.interface_of C.number_of C.stands_for after reports self.new) }
@@ -113,7 +130,12 @@ impl<A: Allocator + Copy, C: Channel<A>> Observer<A, C> {
     }
 
     /// Takes a row of this number that leaves r1, and ends the channels of the epoch.
-    fn leave(&mut self, machine: Restart, number: u32, finding: Option<Finding>) -> Result<Option<Finding>, Fault>
+    fn leave(
+        &mut self,
+        machine: Restart,
+        number: u32,
+        finding: Option<Finding>,
+    ) -> Result<Option<Finding>, Fault>
         requires room { (c : Cutting) × (reports : List records.PieceReport) × Holds C.interface_of C.number_of C.stands_for c reports self.old × IsListing c.open_rows }
         requires packets { self.old.packets + 1 < 2 ^ 32 }
         requires ids { length self.old.ended.items + length self.old.lanes.channels < 2 ^ 32 }

@@ -14,3 +14,4 @@ pub mod Whole
 pub mod Heads
 pub mod OpenLaneLemmas
 pub mod Listings
+pub mod States

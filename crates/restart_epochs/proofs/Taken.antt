@@ -28,7 +28,7 @@ pub record Told (c : Cutting) (item : Item) (step : Routing) : Type 0 where
   pub packet : item.packet ≡ packet_of c.interface item.row.octets
   pub stepped : step ≡ line_step c.line item.row.side (packet_class item.packet) (length item.row.octets)
 
-routed_by : (i : Interface) (rs : List Row) (c : Cutting) (item : Item) (step : Routing) → StandsFor i rs c → Told c item step → step ≡ routing i c.line item.row
+pub routed_by : (i : Interface) (rs : List Row) (c : Cutting) (item : Item) (step : Routing) → StandsFor i rs c → Told c item step → step ≡ routing i c.line item.row
 routed_by i rs c item step s t = as_routed i c.line item.row item.packet step (t.packet ∙ ap (λ j. packet_of j item.row.octets) s.interface) t.stepped
 
 pub takes_channel : (i : Interface) (rs : List Row) (c c' : Cutting) (item : Item) (step : Routing) → StandsFor i rs c → Told c item step → is_to_channel step.route ≡ true → IsKeptOn (channel_of item.row.octets) item c c' → Pushed i rs item.row [] c'

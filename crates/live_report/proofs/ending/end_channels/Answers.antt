@@ -20,7 +20,7 @@ end-requires g c =
       stands = (
         begun_piece room.0 room.1 c.in-Some.channel (rows_of room.2 c.in-Some.channel),
         popped_live g.C.Channel.interface_of g.C.Channel.number_of g.C.Channel.stands_for room.0 room.1 c.args.end room.2 c.args.out.now.items c.loop-channel.lanes c.pop_first.new.self c.loop-channel.out.items c.in-Some.channel c.into_inner.result
-        (c.loop-channel.invariant.ending room.0 room.1 room.2 room.3 room.4) (popped g c),
+            (c.loop-channel.invariant.ending room.0 room.1 room.2 room.3 room.4) (popped g c),
       );
     }
 

@@ -10,6 +10,7 @@ use Rattle.restart_epochs.proofs.Listings.{bare, has_one_more, listing, rows_wit
 use Rattle.restart_epochs.proofs.Routes.{is_to_channel, is_quiet}
 use Rattle.restart_epochs.proofs.Taken.{enters_unready, on_ok}
 use Rattle.live_report.specs.Observing.{Holds}
+use Rattle.live_report.proofs.FindingLemmas.{channel_finds, line_finds}
 use Rattle.live_report.proofs.TakeLemmas.{told_of, kept_with, kept_small, kept_stands, is_kept, stepped_with, is_stepped, quiet_stands, enter_stands, left_with, is_left, leave_stands}
 use Rattle.live_report.proofs.observer.Observer.take.Goals as goal
 
@@ -27,13 +28,12 @@ step-requires-clause-room g c =
     let octets : c.as_slice-octets.result.now ≡ r.octets = c.as_slice-octets.ensures.value ∙ ap (λ x. x.octets) c.row.view_is in
     let told = told_of g.C.Channel.interface_of g.C.Channel.number_of g.C.Channel.stands_for room.0 room.1 c.args.self.now r p step room.2 c.as_slice-octets.result.now c.row.inside.side (length c.as_slice-octets.result.now) octets (ap (λ x. x.side) c.row.view_is) (ap (λ l. length l) octets) c.decode-packet.ensures c.step-route.ensures in
     let k : c.logical_channel.result ≡ channel_of r.octets = c.logical_channel.ensures ∙ ap channel_of octets in
-    let small = kept_small g.C.Channel.interface_of g.C.Channel.number_of g.C.Channel.stands_for room.0 room.1 c.args.self.now r p step room.2 room.3 told in
-    (
+    let small = kept_small g.C.Channel.interface_of g.C.Channel.number_of g.C.Channel.stands_for room.0 room.1 c.args.self.now r p step room.2 room.3 told in (
       room.2.cutting,
       map value (given_of room.0 room.1),
       room.2.holds,
       subst (λ n. IsPiece room.2.cutting.interface n (rows_of room.2.cutting.open_rows n ++ record { row = r; packet = p } ∷ [])) (sym k)
-      (subst (IsPiece room.2.cutting.interface (channel_of r.octets)) (has_one_more room.2.cutting.open_rows (channel_of r.octets) (record { row = r; packet = p })).row small),
+          (subst (IsPiece room.2.cutting.interface (channel_of r.octets)) (has_one_more room.2.cutting.open_rows (channel_of r.octets) (record { row = r; packet = p })).row small),
     )
 
 pub returns-in-ToChannel-clause-stands : goal.returns-in-ToChannel-clause-stands
@@ -104,3 +104,48 @@ returns-in-Pass-clause-stands g c i rs s sound =
     on_ok c.advance-in-Pass.result _ _
     (c.advance-in-Pass.ensures.holds s.cutting after (map value (given_of i rs)) r s.holds (is_stepped s.cutting r step.after s.cutting.epoch found))
     (quiet_stands g.C.Channel.interface_of g.C.Channel.number_of g.C.Channel.stands_for i rs c.args.self.now c.advance-in-Pass.new.self r p step found s sound told (ap is_quiet c.in-Pass.is) c.finding_of-finding.ensures)
+
+pub returns-in-ToChannel-clause-finding : goal.returns-in-ToChannel-clause-finding
+returns-in-ToChannel-clause-finding g c i rs s =
+    let r = c.args.row.now in
+    let p = c.decode-packet.result in
+    let step : Routing = record { route = c.step-route.result; after = c.step-route.new.self } in
+    let octets : c.as_slice-octets.result.now ≡ r.octets = c.as_slice-octets.ensures.value ∙ ap (λ x. x.octets) c.row.view_is in
+    let told = told_of g.C.Channel.interface_of g.C.Channel.number_of g.C.Channel.stands_for i rs c.args.self.now r p step s c.as_slice-octets.result.now c.row.inside.side (length c.as_slice-octets.result.now) octets (ap (λ x. x.side) c.row.view_is) (ap (λ l. length l) octets) c.decode-packet.ensures c.step-route.ensures in
+    channel_finds g.C.Channel.interface_of g.C.Channel.number_of g.C.Channel.stands_for i rs c.args.self.now r p step s c.logical_channel.result told (ap is_to_channel c.in-ToChannel.is) (c.logical_channel.ensures ∙ ap channel_of octets) c.step.result (c.step.ensures.finding s.cutting (map value (given_of i rs)) s.holds)
+
+pub returns-in-Leave-clause-finding : goal.returns-in-Leave-clause-finding
+returns-in-Leave-clause-finding g c i rs s =
+    let r = c.args.row.now in
+    let p = c.decode-packet.result in
+    let step : Routing = record { route = c.step-route.result; after = c.step-route.new.self } in
+    let octets : c.as_slice-octets.result.now ≡ r.octets = c.as_slice-octets.ensures.value ∙ ap (λ x. x.octets) c.row.view_is in
+    let told = told_of g.C.Channel.interface_of g.C.Channel.number_of g.C.Channel.stands_for i rs c.args.self.now r p step s c.as_slice-octets.result.now c.row.inside.side (length c.as_slice-octets.result.now) octets (ap (λ x. x.side) c.row.view_is) (ap (λ l. length l) octets) c.decode-packet.ensures c.step-route.ensures in
+    line_finds g.C.Channel.interface_of g.C.Channel.number_of g.C.Channel.stands_for i rs c.args.self.now r p step s c.finding_of-finding.result told (ap is_to_channel c.in-Leave.is) c.finding_of-finding.ensures c.leave.result c.leave.ensures.found
+
+pub returns-in-Enter-clause-finding : goal.returns-in-Enter-clause-finding
+returns-in-Enter-clause-finding g c i rs s =
+    let r = c.args.row.now in
+    let p = c.decode-packet.result in
+    let step : Routing = record { route = c.step-route.result; after = c.step-route.new.self } in
+    let octets : c.as_slice-octets.result.now ≡ r.octets = c.as_slice-octets.ensures.value ∙ ap (λ x. x.octets) c.row.view_is in
+    let told = told_of g.C.Channel.interface_of g.C.Channel.number_of g.C.Channel.stands_for i rs c.args.self.now r p step s c.as_slice-octets.result.now c.row.inside.side (length c.as_slice-octets.result.now) octets (ap (λ x. x.side) c.row.view_is) (ap (λ l. length l) octets) c.decode-packet.ensures c.step-route.ensures in
+    line_finds g.C.Channel.interface_of g.C.Channel.number_of g.C.Channel.stands_for i rs c.args.self.now r p step s c.finding_of-finding.result told (ap is_to_channel c.in-Enter.is) c.finding_of-finding.ensures c.enter.result c.enter.ensures.found
+
+pub returns-in-Found-clause-finding : goal.returns-in-Found-clause-finding
+returns-in-Found-clause-finding g c i rs s =
+    let r = c.args.row.now in
+    let p = c.decode-packet.result in
+    let step : Routing = record { route = c.step-route.result; after = c.step-route.new.self } in
+    let octets : c.as_slice-octets.result.now ≡ r.octets = c.as_slice-octets.ensures.value ∙ ap (λ x. x.octets) c.row.view_is in
+    let told = told_of g.C.Channel.interface_of g.C.Channel.number_of g.C.Channel.stands_for i rs c.args.self.now r p step s c.as_slice-octets.result.now c.row.inside.side (length c.as_slice-octets.result.now) octets (ap (λ x. x.side) c.row.view_is) (ap (λ l. length l) octets) c.decode-packet.ensures c.step-route.ensures in
+    line_finds g.C.Channel.interface_of g.C.Channel.number_of g.C.Channel.stands_for i rs c.args.self.now r p step s c.finding_of-finding.result told (ap is_to_channel c.in-Found.is) c.finding_of-finding.ensures c.advance.result c.advance.ensures.found
+
+pub returns-in-Pass-clause-finding : goal.returns-in-Pass-clause-finding
+returns-in-Pass-clause-finding g c i rs s =
+    let r = c.args.row.now in
+    let p = c.decode-packet.result in
+    let step : Routing = record { route = c.step-route.result; after = c.step-route.new.self } in
+    let octets : c.as_slice-octets.result.now ≡ r.octets = c.as_slice-octets.ensures.value ∙ ap (λ x. x.octets) c.row.view_is in
+    let told = told_of g.C.Channel.interface_of g.C.Channel.number_of g.C.Channel.stands_for i rs c.args.self.now r p step s c.as_slice-octets.result.now c.row.inside.side (length c.as_slice-octets.result.now) octets (ap (λ x. x.side) c.row.view_is) (ap (λ l. length l) octets) c.decode-packet.ensures c.step-route.ensures in
+    line_finds g.C.Channel.interface_of g.C.Channel.number_of g.C.Channel.stands_for i rs c.args.self.now r p step s c.finding_of-finding.result told (ap is_to_channel c.in-Pass.is) c.finding_of-finding.ensures c.advance-in-Pass.result c.advance-in-Pass.ensures.found
