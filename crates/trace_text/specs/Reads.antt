@@ -1,10 +1,12 @@
 -- What one line says.
-use Rattle.std.specs.Prelude.{◌≡◌, ℕ, Bool, true, false, List, Option, Some}
+use Rattle.std.specs.Prelude.{◌≡◌, ℕ, Bool, true, false, List, [], ◌∷◌, ◌++◌, Option, Some}
 use Rattle.line_model.specs.Header.{interface_of}
-use Rattle.line_model.specs.RowLine.{row_of}
+use Rattle.line_model.specs.RowLine.{rising_number, row_of, side_of}
 use Rattle.line_model.specs.Text.{is_comment}
 use Rattle.line_model.specs.declared.fault.Kind.{Kind}
 use Rattle.line_model.specs.Records.{Row}
+use Rattle.line_model.specs.declared.state.Side.{Side}
+use Rattle.trace_text.specs.Cuts.{Lacks}
 use Rattle.trace_text.specs.declared.content.Content.{Content}
 use Rattle.trace_text.specs.declared.content.Content.TheVariants.{Comment, Header, Packet}
 use Rattle.trace_text.specs.declared.content.LineFault.{LineFault}
@@ -20,3 +22,13 @@ ReadsAs after_header last line Packet row = (is_comment line ≡ false) × (afte
 abbrev pub Breaks : Option Kind → LineFault → Type 0
 Breaks kind Memory = Unit {0}
 Breaks kind (Broken k) = kind ≡ Some k
+
+-- a line begins as a row's: a number above the last one, a side, and what follows the space behind it
+pub record BeginsRow (last : ℕ) (line : List ℕ) (number : ℕ) (side : Side) (rest : List ℕ) : Type 0 where
+  pub word : List ℕ
+  pub letter : ℕ
+  pub whole : line ≡ word ++ 32 ∷ letter ∷ 32 ∷ rest
+  pub one_word : Lacks 32 word
+  pub no_space : Lacks 32 (letter ∷ [])
+  pub rises : rising_number last word ≡ Some number
+  pub names : side_of (letter ∷ []) ≡ Some side

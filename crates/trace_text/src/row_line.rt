@@ -1,12 +1,14 @@
 //! The line of a row: `number side hex`.
 
-ghost use Rattle.std.specs.Prelude.{◌≡◌, ◌<◌, ◌^◌, None, Some, MatchResult, MatchOption, ◌⊎◌};
+ghost use Rattle.std.specs.Prelude.{◌≡◌, ◌<◌, ◌^◌, None, Some, IfSome, MatchResult, MatchOption, ◌⊎◌};
+ghost use Rattle.std.specs.Bool.{OnTrue};
 ghost use Rattle.line_model.specs.declared.fault.Kind.TheVariants.{Hex};
 ghost use Rattle.trace_text.specs.declared.content.LineFault.TheVariants.{Memory, Broken};
 ghost use Rattle.line_model.specs.RowLine.{RowWords, octets_of, row_kind, row_of, row_words, side_of, rising_number};
-ghost use Rattle.trace_text.specs.Reads.{Breaks};
+ghost use Rattle.trace_text.specs.Reads.{BeginsRow, Breaks};
 
 use crate::content::LineFault;
+use crate::cuts::split_at_byte;
 use crate::digits::read_digits;
 use crate::number::read_number;
 use crate::words::Words;
@@ -94,10 +96,44 @@ fn read_octets<A: Allocator>(word: &[u8], octets: &mut Vec<u8, A>) -> Result<(),
     }
 }
 
-/// Puts the row that a line writes after one of the number `last` in the place of another, or tells the rule that the
-/// line breaks; then the row has no meaning.
+/// The number and the side of the usual line of a row, and what follows: its digits, unless the line is another. The
+/// words behind the number are not searched for.
+fn split_usual(last: u32, line: &[u8]) -> Option<(u32, Side, &[u8])>
+    ensures { IfSome result (λ parts. BeginsRow last line.now parts.0 parts.1 parts.2.now) }
+{
+    let (word, rest) = split_at_byte(line, b' ')?;
+    let number = read_rising(last, word)?;
+    match rest {
+        [b'T', b' ', digits @ ..] => Some((number, Side::T, digits)),
+        [b'N', b' ', digits @ ..] => Some((number, Side::N, digits)),
+        _ => None,
+    }
+}
+
+/// Puts the row of the usual line in the place of another. A line that has no octets, or breaks a rule, is another.
+fn read_usual<A: Allocator>(last: u32, line: &[u8], row: &mut Row<A>) -> Result<bool, LineFault>
+    ensures { MatchResult result (λ is_usual. OnTrue is_usual ((row_kind last line.now ≡ None) × (row_of line.now ≡ Some row.new))) (λ fault. fault ≡ Memory) }
+{
+    let Some((number, side, digits)) = split_usual(last, line) else {
+        return Ok(false);
+    };
+    if digits.is_empty() || digits.len() > 2 * OCTET_LIMIT || digits.len() % 2 != 0 {
+        return Ok(false);
+    }
+    match read_digits(digits, &mut row.octets) {
+        Ok(()) => {
+            row.number = number;
+            row.side = side;
+            Ok(true)
+        }
+        Err(LineFault::Memory) => Err(LineFault::Memory),
+        Err(LineFault::Broken(_)) => Ok(false),
+    }
+}
+
+/// Puts the row of any line in the place of another, or tells the rule that the line breaks.
 #[tactic(auto, unfolding(line_model::specs::RowLine::row_kind, line_model::specs::RowLine::row_of))]
-pub fn read_row<A: Allocator>(last: u32, line: &[u8], row: &mut Row<A>) -> Result<(), LineFault>
+fn read_any<A: Allocator>(last: u32, line: &[u8], row: &mut Row<A>) -> Result<(), LineFault>
     ensures { MatchResult result (λ _. (row_kind last line.now ≡ None) × (row_of line.now ≡ Some row.new)) (Breaks (row_kind last line.now)) }
 {
     let Some(fields) = split_fields(line) else {
@@ -113,4 +149,16 @@ pub fn read_row<A: Allocator>(last: u32, line: &[u8], row: &mut Row<A>) -> Resul
     row.number = number;
     row.side = side;
     Ok(())
+}
+
+/// Puts the row that a line writes after one of the number `last` in the place of another, or tells the rule that the
+/// line breaks; then the row has no meaning.
+pub fn read_row<A: Allocator>(last: u32, line: &[u8], row: &mut Row<A>) -> Result<(), LineFault>
+    ensures { MatchResult result (λ _. (row_kind last line.now ≡ None) × (row_of line.now ≡ Some row.new)) (Breaks (row_kind last line.now)) }
+{
+    match read_usual(last, line, row) {
+        Ok(true) => Ok(()),
+        Ok(false) => read_any(last, line, row),
+        Err(fault) => Err(fault),
+    }
 }

@@ -382,7 +382,11 @@ fn lines_that_ended_are_counted_and_a_refusal_stays(rt: HostRuntime) -> Result<(
     assert!(rt; lines.next_row(b"o\n", &mut row)?.is_none());
     assert!(rt; lines.next_row(HEADER, &mut row)?.is_none());
     assert_eq!(rt; lines.ended_lines(), 3);
-    assert!(rt; lines.ended_header().is_ok_and(|interface| interface.svc == 4));
+    assert!(rt;
+        lines
+            .ended_header()
+            .is_ok_and(|interface| interface.svc == 4)
+    );
     let fault = Fault::Trace(5, Kind::Number);
     assert!(rt; lines.next_row(b"4 T -\n4 N -\n", &mut row)? == Some(b"4 N -\n".as_slice()));
     assert!(rt; lines.next_row(b"4 N -\n", &mut row) == Err(fault));

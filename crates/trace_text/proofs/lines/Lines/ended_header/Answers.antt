@@ -1,4 +1,4 @@
-use Rattle.std.proofs.Common.{◌≡◌, ◌∙◌, sym, ap, ◌+◌}
+use Rattle.std.proofs.Common.{◌∙◌, sym, ap, ◌+◌}
 use Rattle.line_model.specs.declared.fault.Kind.TheVariants.{HeaderMissing}
 use Rattle.line_model.specs.declared.fault.Fault.TheVariants.{Trace}
 use Rattle.trace_text.specs.Progress.{Progress}
