@@ -5,3 +5,4 @@ pub mod TakeLemmas
 pub mod TellingLemmas
 pub mod WholeLemmas
 pub mod FindingLemmas
+pub mod WatchLemmas

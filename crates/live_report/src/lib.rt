@@ -3,5 +3,7 @@
 
 mod ending;
 mod lanes;
+pub mod live;
 pub mod observer;
 mod telling;
+mod watching;
