@@ -96,7 +96,7 @@ stepped_bounds c c' r machine epoch found h step next rising number octets =
           (wider c.interface j c.packets (c.packets + 1) c.octets (c.octets + length r.octets) (rows_of c.open_rows j) (h.lanes j) (omega arith) (omega arith)));
     }
 
-no_items : (i : Interface) (k n a : ℕ) → IsLane i k n a []
+pub no_items : (i : Interface) (k n a : ℕ) → IsLane i k n a []
 no_items i k n a = record { few_rows = omega arith; few_octets = omega arith; packets_of = λ m d lt. absurd (omega (arith, lt)) }
 
 left_lane : (i : Interface) (k n a : ℕ) (items was : List Item) (P : Type 0) → IsLane i k n a was → (items ≡ []) ⊎ ((items ≡ was) × P) → IsLane i k n a items

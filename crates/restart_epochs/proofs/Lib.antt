@@ -12,3 +12,6 @@ pub mod Bounds
 pub mod Taken
 pub mod Whole
 pub mod Heads
+pub mod OpenLaneLemmas
+pub mod Listings
+pub mod States

@@ -25,7 +25,7 @@ use Rattle.restart_epochs.specs.Cutting.{observer, route_finding}
 use Rattle.restart_epochs.proofs.Routes.{is_to_channel}
 use Rattle.restart_epochs.proofs.Steps.{routed_to, routed_none}
 
-events_append : {X L S E : Type 0} → (m : Machine X L S E) (o : Observer L S) (p q : List X) → walk_events m o (p ++ q) ≡ walk_events m o p ++ walk_events m (walk m o p) q
+pub events_append : {X L S E : Type 0} → (m : Machine X L S E) (o : Observer L S) (p q : List X) → walk_events m o (p ++ q) ≡ walk_events m o p ++ walk_events m (walk m o p) q
 events_append m o [] q = refl
 events_append m o (x ∷ p) q = ap (λ l. row_events m o x ++ l) (events_append m (after m o x) p q) ∙ sym (append_assoc (row_events m o x) (walk_events m (after m o x) p) (walk_events m (walk m (after m o x) p) q))
 
@@ -39,7 +39,7 @@ line_append us vs =
     ∙ ap findings_of (map-append event_of (filter is_line us) (filter is_line vs))
     ∙ filter_map-append _ (map event_of (filter is_line us)) (map event_of (filter is_line vs))
 
-found_here : (e : ℕ) (r : Row) (route : Route) → findings_of (map event_of (stamp e None r (route_found r route))) ≡ route_finding r route
+pub found_here : (e : ℕ) (r : Row) (route : Route) → findings_of (map event_of (stamp e None r (route_found r route))) ≡ route_finding r route
 found_here e r (Found s n) = refl
 found_here e r (Leave (Some n)) = refl
 found_here e r (Leave None) = refl

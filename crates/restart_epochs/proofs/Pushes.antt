@@ -340,7 +340,7 @@ not_listed f k (j ∷ ks) (inr w) h others = not_listed f k ks w.1 h (rest (f j)
 served : (i : Interface) (rs : List Row) (e k : ℕ) → piece_rows e k (places i rs) ≢ [] → StandsOnce k (range_with_len 1 i.svc)
 served i rs e k some = piece_once (x25 i) (start i) e k rs (has_channels i rs).of_rows some
 
-no_rows_of : (i : Interface) (rs : List Row) (e k : ℕ) → AllByRecursion (λ j. j ≢ k) (channels_in i (places i rs) e) → piece_rows e k (places i rs) ≡ []
+pub no_rows_of : (i : Interface) (rs : List Row) (e k : ℕ) → AllByRecursion (λ j. j ≢ k) (channels_in i (places i rs) e) → piece_rows e k (places i rs) ≡ []
 no_rows_of i rs e k others = elim (rows_or_none (piece_rows e k (places i rs))) [
   | inl none ↦ none
   | inr some ↦ absurd (not_listed (λ j. has_some (piece_rows e j (places i rs))) k (range_with_len 1 i.svc) (served i rs e k (λ none. true≢false (sym some ∙ ap has_some none))) some others)

@@ -1,5 +1,5 @@
 -- A cutter that took a row by its route.
-use Rattle.std.proofs.Common.{◌≡◌, ◌∙◌, sym, ap, subst, refl, ℕ, ◌+◌, true, List, [], ◌++◌, length, Option, Some, arith, append-nil, append_assoc, Result, Ok, Err, OnOk}
+use Rattle.std.proofs.Common.{◌≡◌, ◌∙◌, sym, ap, subst, refl, ℕ, ◌+◌, true, List, [], ◌++◌, length, false, Option, Some, arith, append-nil, append_assoc, Result, Ok, Err, OnOk}
 use Rattle.line_model.specs.declared.interface.Interface.{Interface}
 use Rattle.line_model.specs.declared.finding.Finding.{Finding}
 use Rattle.line_model.specs.declared.packet.Packet.{Packet}
@@ -28,7 +28,7 @@ pub record Told (c : Cutting) (item : Item) (step : Routing) : Type 0 where
   pub packet : item.packet ≡ packet_of c.interface item.row.octets
   pub stepped : step ≡ line_step c.line item.row.side (packet_class item.packet) (length item.row.octets)
 
-routed_by : (i : Interface) (rs : List Row) (c : Cutting) (item : Item) (step : Routing) → StandsFor i rs c → Told c item step → step ≡ routing i c.line item.row
+pub routed_by : (i : Interface) (rs : List Row) (c : Cutting) (item : Item) (step : Routing) → StandsFor i rs c → Told c item step → step ≡ routing i c.line item.row
 routed_by i rs c item step s t = as_routed i c.line item.row item.packet step (t.packet ∙ ap (λ j. packet_of j item.row.octets) s.interface) t.stepped
 
 pub takes_channel : (i : Interface) (rs : List Row) (c c' : Cutting) (item : Item) (step : Routing) → StandsFor i rs c → Told c item step → is_to_channel step.route ≡ true → IsKeptOn (channel_of item.row.octets) item c c' → Pushed i rs item.row [] c'
@@ -52,6 +52,12 @@ takes_entering i rs c c' item step found s t enter f h =
     let both = enters_at (is_ready c.line) (is_ready step.after) step.route enter (fits_here i c.line item.row step routed) in
     pushed_entering i rs item.row c c' s (ap (λ q. is_to_channel q.route) (sym routed) ∙ ap is_to_channel enter) both.0 (ap (λ q. is_ready q.after) (sym routed) ∙ both.1)
     (subst (λ q. IsStepped item.row q.after (c.epoch + 1) (route_finding item.row q.route) c c') routed (subst (λ l. IsStepped item.row step.after (c.epoch + 1) l c c') f h))
+
+-- r1 is entered from another state
+pub enters_unready : (i : Interface) (rs : List Row) (c : Cutting) (item : Item) (step : Routing) → StandsFor i rs c → Told c item step → step.route ≡ Enter → is_ready c.line ≡ false
+enters_unready i rs c item step s t enter =
+    let routed = routed_by i rs c item step s t in
+    (enters_at (is_ready c.line) (is_ready step.after) step.route enter (fits_here i c.line item.row step routed)).0
 
 pub takes_leaving : (i : Interface) (rs : List Row) (c c' : Cutting) (item : Item) (step : Routing) (code : Option ℕ) (found : List Finding) → StandsFor i rs c → Told c item step → step.route ≡ Leave code → found ≡ route_finding item.row step.route
     → IsLeft item.row step.after found c c' → Pushed i rs item.row (pieces_out c.interface c.epoch (Some item.row.number) (rows_of c.open_rows) c.given c.open_rows.channels) c'

@@ -13,10 +13,10 @@ use Rattle.line_model.specs.Machine.{Observer, walk}
 use Rattle.line_model.specs.Pieces.{Placed, placed, piece_rows, piece_end}
 use Rattle.line_model.specs.Plan.{has_some}
 use Rattle.std.specs.List.{range_with_len, AllByRecursion}
-use Rattle.line_model.specs.Observer.{x25, start, is_ready}
+use Rattle.line_model.specs.Observer.{x25, start, is_ready, line_in_r1}
 use Rattle.line_model.specs.Plans.{plan, item_of, line_findings}
 use Rattle.line_model.specs.Bounds.{IsItem, all_octets}
-use Rattle.restart_epochs.specs.OpenRows.{OpenRows, rows_of, IsSame, HasMore}
+use Rattle.restart_epochs.specs.OpenRows.{OpenRows, no_rows, rows_of, IsSame, HasMore}
 
 -- the observer of an interface after some rows
 abbrev pub observer : Interface → List Row → Observer LineState Channel
@@ -42,6 +42,10 @@ pub record Cutting : Type 0 where
   pub octets : ℕ
   pub findings : List Finding
   pub open_rows : OpenRows
+
+-- what a cutter keeps before the first row
+abbrev pub no_cutting : Interface → Cutting
+no_cutting i = record { interface = i; line = line_in_r1 i.join; epoch = 1; given = 0; packets = 0; last = 0; octets = 0; findings = []; open_rows = no_rows }
 
 -- rows of a channel, with their packets, that are no more than these
 pub record IsLane (i : Interface) (k packets octets : ℕ) (items : List Item) : Type 0 where

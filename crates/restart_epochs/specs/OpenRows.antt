@@ -1,9 +1,10 @@
 -- The rows of the open epoch, by logical channel (profile).
-use Rattle.std.specs.Prelude.{◌≡◌, ◌≢◌, ℕ, zero, suc, List, [], ◌∷◌, ◌++◌}
+use Rattle.std.specs.Prelude.{◌≡◌, ◌≢◌, ℕ, zero, suc, List, [], ◌∷◌, ◌++◌, true}
 use Rattle.std.specs.BTreeSet.{insert_key}
 use Rattle.std.specs.Ordering.{nat_cmp}
 use Rattle.std.specs.List.{AllByRecursion}
 use Rattle.line_model.specs.Records.{Item}
+use Rattle.line_model.specs.Plan.{has_some}
 
 -- the rows of a channel; none of one that has no lane
 abbrev pub lane_at : List (List Item) → ℕ → List Item
@@ -19,6 +20,11 @@ pub record OpenRows : Type 0 where
 -- the rows of a channel
 abbrev pub rows_of : OpenRows → ℕ → List Item
 rows_of open_rows k = lane_at open_rows.lanes k
+
+-- the channels that are listed have rows, and no others
+pub record IsListing (o : OpenRows) : Type 0 where
+  pub listed : AllByRecursion (λ k. has_some (rows_of o k) ≡ true) o.channels
+  pub others : (k : ℕ) → AllByRecursion (λ j. j ≢ k) o.channels → rows_of o k ≡ []
 
 -- no rows
 abbrev pub no_rows : OpenRows

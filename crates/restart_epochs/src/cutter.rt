@@ -4,21 +4,20 @@ ghost use Rattle.std.specs.Prelude.{option_to_list, ◌≡◌, ℕ, ◌<◌, ◌
 ghost use Rattle.line_model.specs.Classes.{packet_of, packet_class};
 ghost use Rattle.std.specs.Vec.{vec_len, vec_capacity};
 ghost use Rattle.line_model.specs.Octets.{channel_of};
-ghost use Rattle.line_model.specs.Observer.{line_in_r1};
 ghost use Rattle.line_model.specs.RestartMachine.{line_step};
 ghost use Rattle.restart_epochs.specs.OpenRows.{rows_of};
-ghost use Rattle.restart_epochs.specs.Cutting.{pieces_out, route_finding, IsUnchanged};
+ghost use Rattle.restart_epochs.specs.Cutting.{pieces_out, IsUnchanged};
 
 use crate::giving::give_out;
 use crate::open_epoch::OpenEpoch;
 use crate::restart::{Restart, Route};
+use crate::routing::{finding_of, first_machine, logical_channel, note};
 use line_model::fault::Fault;
-use line_model::finding::{Code, Finding};
+use line_model::finding::Finding;
 use line_model::interface::Interface;
 use line_model::piece::Piece;
-use line_model::row::{Item, Row};
-use line_model::state::StateName;
-use std::alloc::{AllocError, Allocator, Global};
+use line_model::row::Item;
+use std::alloc::{Allocator, Global};
 use std::marker::Model;
 
 /// Cuts a trace into pieces.
@@ -73,62 +72,6 @@ pub struct Cut<A: Allocator = Global> {
     pub pieces: Vec<Piece<A>, A>,
     pub line: Vec<Finding, A>,
     pub packets: u32,
-}
-
-/// The restart machine before the first row.
-fn first_machine(join: bool) -> Restart
-    ensures { result ≡ line_in_r1 join }
-{
-    if join {
-        Restart::joined()
-    } else {
-        Restart::new()
-    }
-}
-
-/// The logical channel of a packet (X.25 clauses 5.1.2 and 5.1.3).
-fn logical_channel(octets: &[u8]) -> u16
-    ensures { result ≡ channel_of octets.now }
-{
-    match octets {
-        [first, second, ..] => u16::from(*first % 16) * 256 + u16::from(*second),
-        [first] => u16::from(*first % 16) * 256,
-        [] => 0,
-    }
-}
-
-/// The finding of the restart machine on a row, if its route has one.
-fn finding_of<A: Allocator>(route: Route, row: &Row<A>) -> Option<Finding>
-    ensures { option_to_list result ≡ route_finding row.now route }
-{
-    let (state, code) = match route {
-        Route::Found(state, code) => (state, code),
-        Route::Leave(Some(code)) => (StateName::R1, code),
-        _ => return None,
-    };
-    Some(Finding {
-        packet: row.number,
-        side: row.side,
-        state,
-        code: Code::Number(code),
-    })
-}
-
-/// Appends a finding, if there is one.
-fn note<A: Allocator>(
-    findings: &mut Vec<Finding, A>,
-    finding: Option<Finding>,
-) -> Result<(), AllocError>
-    ensures ok { OnOk result (findings.new.items ≡ findings.old.items ++ option_to_list finding) }
-    ensures refused { OnErr result (findings.new.items ≡ findings.old.items) }
-{
-    match finding {
-        Some(finding) => {
-            findings.push(finding)?;
-            Ok(())
-        }
-        None => Ok(()),
-    }
 }
 
 impl<A: Allocator + Copy> Cutter<A> {

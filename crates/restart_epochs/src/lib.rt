@@ -5,7 +5,9 @@ pub mod cut;
 pub mod cutter;
 pub mod giving;
 pub mod open_epoch;
+pub mod open_lanes;
 mod reserved;
 pub mod restart;
+pub mod routing;
 #[cfg(test)]
 mod tests;

@@ -1,0 +1,116 @@
+-- An observer that stands for some rows stands for one more after it took it.
+use Rattle.std.proofs.Common.{◌≡◌, ◌∙◌, sym, ap, subst, refl, ℕ, zero, suc, ◌+◌, ◌<◌, ◌≤◌, ◌^◌, true, false, true≢false, List, [], ◌∷◌, ◌++◌, map, length, Option, Some, None, arith, append-nil, length-append, get_or}
+use Rattle.std.specs.Prelude.{All, sum_by}
+use Rattle.std.specs.List.Sorted.{IsStrictlyIncreasing}
+use Rattle.std.proofs.lemmas.List.{map-append}
+use Rattle.std.proofs.lemmas.List.Sums.{sum_by_push}
+use Rattle.line_model.specs.declared.interface.Interface.{Interface}
+use Rattle.line_model.specs.declared.finding.Finding.{Finding}
+use Rattle.line_model.specs.Records.{Row, Item, Piece, PieceReport}
+use Rattle.line_model.specs.Channels.{Channel}
+use Rattle.line_model.specs.RestartMachine.{LineState}
+use Rattle.line_model.specs.Plan.{has_some}
+use Rattle.line_model.specs.Plans.{value}
+use Rattle.line_model.specs.Text.{last_or}
+use Rattle.line_model.proofs.Rising.{RisesFrom, rises-from_index}
+use Rattle.restart_epochs.specs.OpenRows.{OpenRows, no_rows, rows_of, IsSame}
+use Rattle.restart_epochs.specs.OpenLanes.{OpenLanes, value_at, IsEmpty}
+use Rattle.restart_epochs.specs.Cutting.{Cutting, IsCutting, StandsFor as IsCutterOf, IsCounted, IsKeptOn, IsStepped, given_of, no_cutting}
+use Rattle.restart_epochs.proofs.Pushes.{Pushed}
+use Rattle.restart_epochs.proofs.Listings.{nothing_cut, nothing_bound}
+use Rattle.channel_machine.specs.declared.live.LiveChannel.{LiveChannel}
+use Rattle.live_report.specs.declared.observer.Observer.{Observer}
+use Rattle.live_report.specs.Lanes.{begun_piece, LaneFor, OpenFor}
+use Rattle.live_report.specs.Observing.{AreRows, Holds, StandsFor}
+
+-- ---- lanes
+
+-- the live channels of the same rows
+pub lanes_same : {A C : Type 0} → (I : C → Interface) (N : C → ℕ) (S : C → Channel → Type 0) (i j : Interface) (e n : ℕ) (rows more : OpenRows) (lanes : OpenLanes (LiveChannel A C))
+    → OpenFor I N S i e rows lanes → j ≡ i → n ≡ e → IsSame rows more → OpenFor I N S j n more lanes
+lanes_same I N S i j e n rows more lanes f same_interface same_epoch same = record {
+  channels = f.channels ∙ sym same.channels;
+  each = λ k. subst (λ items. LaneFor I N S (begun_piece j n k items) (value_at lanes k)) (sym (same.rows k))
+      (subst (λ x. LaneFor I N S (begun_piece x n k (rows_of rows k)) (value_at lanes k)) (sym same_interface)
+      (subst (λ m. LaneFor I N S (begun_piece i m k (rows_of rows k)) (value_at lanes k)) (sym same_epoch) (f.each k)));
+}
+
+other_epoch : {A C : Type 0} → (I : C → Interface) (N : C → ℕ) (S : C → Channel → Type 0) (i : Interface) (e n k : ℕ) (items : List Item) (o : Option (LiveChannel A C)) → items ≡ []
+    → LaneFor I N S (begun_piece i e k items) o → LaneFor I N S (begun_piece i n k items) o
+other_epoch I N S i e n k items None none l = l
+other_epoch I N S i e n k items (Some live) none l = absurd (true≢false (sym l.0 ∙ ap has_some none))
+
+-- where no channel has rows, the epoch makes no difference
+pub lanes_bare : {A C : Type 0} → (I : C → Interface) (N : C → ℕ) (S : C → Channel → Type 0) (i : Interface) (e n : ℕ) (rows : OpenRows) (lanes : OpenLanes (LiveChannel A C))
+    → OpenFor I N S i e rows lanes → ((k : ℕ) → rows_of rows k ≡ []) → OpenFor I N S i n rows lanes
+lanes_bare I N S i e n rows lanes f none = record { channels = f.channels; each = λ k. other_epoch I N S i e n k (rows_of rows k) (value_at lanes k) (none k) (f.each k) }
+
+-- no live channels, for no rows
+pub lanes_none : {A C : Type 0} → (I : C → Interface) (N : C → ℕ) (S : C → Channel → Type 0) (i : Interface) (e : ℕ) (rows : OpenRows) (lanes : OpenLanes (LiveChannel A C))
+    → IsEmpty lanes → rows ≡ no_rows → OpenFor I N S i e rows lanes
+lanes_none I N S i e rows lanes empty none = record {
+  channels = empty.channels ∙ ap (λ o. o.channels) (sym none);
+  each = λ k. subst (LaneFor I N S (begun_piece i e k (rows_of rows k))) (sym (empty.values k)) (ap (λ o. rows_of o k) none);
+}
+
+-- ---- rows
+
+-- the last number, with one more
+last_more : (a : ℕ) (ns : List ℕ) (n : ℕ) → last_or a (ns ++ n ∷ []) ≡ n
+last_more a [] n = refl
+last_more a (m ∷ ns) n = last_more m ns n
+
+rises_past : (a : ℕ) (ns : List ℕ) (n : ℕ) → RisesFrom a (ns ++ n ∷ []) → last_or a ns < n
+rises_past a [] n h = h.0
+rises_past a (m ∷ ns) n h = rises_past m ns n h.1
+
+last_of_all : (P : Row → Type 0) (rs : List Row) (r : Row) → All P (rs ++ r ∷ []) → P r
+last_of_all P [] r h = h 0 r (omega arith)
+last_of_all P (x ∷ rs) r h = last_of_all P rs r (λ k d lt. h (suc k) d (omega (arith, lt)))
+
+-- a row that may come next
+pub record MayCome (c : Cutting) (r : Row) : Type 0 where
+  pub rising : c.last < r.number
+  pub number : r.number ≤ 999999999
+  pub octets : c.octets + length r.octets ≤ 2147483648
+
+pub may_come : (c : Cutting) (rs : List Row) (r : Row) → c.last ≡ last_or 0 (map (λ x. x.number) rs) → c.octets ≡ sum_by (λ x. length x.octets) rs → AreRows (rs ++ r ∷ []) → MayCome c r
+may_come c rs r last octets h =
+    let all : RisesFrom 0 (map (λ x. x.number) rs ++ r.number ∷ []) = subst (RisesFrom 0) (map-append (λ (x : Row). x.number) rs (r ∷ [])) (rises-from_index (0 ∷ map (λ x. x.number) (rs ++ r ∷ [])) h.rising) in
+    let past : last_or 0 (map (λ x. x.number) rs) < r.number = rises_past 0 (map (λ x. x.number) rs) r.number all in
+    let few = h.octets in
+    record {
+      rising = omega (arith, last, past);
+      number = last_of_all (λ x. x.number ≤ 999999999) rs r h.numbers;
+      octets = omega (arith, few, octets, sum_by_push (λ (x : Row). length x.octets) rs r);
+    }
+
+-- ---- one more row
+
+pub next_stands : {A C : Type 0} → (I : C → Interface) (N : C → ℕ) (S : C → Channel → Type 0) (i : Interface) (rs : List Row) (r : Row) (more : List Piece) (before new : Observer A C) (after : Cutting)
+    → (s : StandsFor I N S i rs before) → AreRows (rs ++ r ∷ []) → Pushed i rs r more after → IsCutting after → IsCounted r s.cutting after → Holds I N S after (map value (given_of i rs) ++ map value more) new
+    → StandsFor I N S i (rs ++ r ∷ []) new
+next_stands I N S i rs r more before new after s sound pushed bounds counted holds = record {
+  sound = sound;
+  cutting = after;
+  cut = pushed.stands;
+  bounds = bounds;
+  last = counted.last ∙ sym (ap (last_or 0) (map-append (λ (x : Row). x.number) rs (r ∷ [])) ∙ last_more 0 (map (λ x. x.number) rs) r.number);
+  octets = counted.octets ∙ ap (λ n. n + length r.octets) s.octets ∙ sym (sum_by_push (λ (x : Row). length x.octets) rs r);
+  holds = subst (λ reports. Holds I N S after reports new) (sym (ap (map value) pushed.given ∙ map-append value (given_of i rs) more)) holds;
+}
+
+of_no_length : (ps : List Piece) → 0 ≡ length ps → ps ≡ []
+of_no_length [] h = refl
+of_no_length (p ∷ ps) h = absurd (omega (arith, h))
+
+pub nothing_taken : {A C : Type 0} → (I : C → Interface) (N : C → ℕ) (S : C → Channel → Type 0) (i : Interface) (o : Observer A C) → Holds I N S (no_cutting i) [] o → StandsFor I N S i [] o
+nothing_taken I N S i o holds = record {
+  sound = record { rising = λ k lt. absurd (omega (arith, lt)); numbers = λ k d lt. absurd (omega (arith, lt)); octets = omega arith };
+  cutting = no_cutting i;
+  cut = nothing_cut i;
+  bounds = nothing_bound i;
+  last = refl;
+  octets = refl;
+  holds = subst (λ reports. Holds I N S (no_cutting i) reports o) (sym (ap (map value) (of_no_length (given_of i []) (nothing_cut i).given))) holds;
+}

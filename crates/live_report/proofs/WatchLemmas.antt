@@ -1,0 +1,69 @@
+-- A chunk that is read row by row, and an observer that takes the rows.
+use Rattle.std.proofs.Common.{◌≡◌, ◌∙◌, sym, ap, subst, refl, ℕ, List, [], ◌∷◌, ◌++◌, Option, Some, None, append-nil, append_assoc}
+use Rattle.line_model.specs.declared.interface.Interface.{Interface}
+use Rattle.line_model.specs.Channels.{Channel}
+use Rattle.line_model.specs.Records.{Row}
+use Rattle.line_model.specs.Text.{early, early_head, early_rows}
+use Rattle.trace_text.specs.Progress.{Progress}
+use Rattle.trace_text.specs.StandsFor.{StandsFor as IsReaderOf, TakesRow, ReadsChunk}
+use Rattle.trace_text.proofs.Grows.{early_head_stays}
+use Rattle.trace_text.proofs.RefusalLemmas.{head_stands}
+use Rattle.trace_text.proofs.RowsOfText.{early_numbers, early_octets, early_rises}
+use Rattle.live_report.specs.declared.observer.Observer.{Observer}
+use Rattle.live_report.specs.Observing.{AreRows, StandsFor as IsObserverOf}
+use Rattle.live_report.specs.Lives.{IsWatching}
+
+-- the rows of a text that has no fault so far
+pub early_trace : (text : List ℕ) → early text ≡ None → AreRows (early_rows text)
+early_trace text sound = record { rising = early_rises text sound; numbers = early_numbers text sound; octets = early_octets text sound }
+
+-- what is known of the header stays
+pub header_stays : (reader after : Progress) (text more : List ℕ) (i : Interface) → IsReaderOf reader text → reader.interface ≡ Some i → after.interface ≡ early_head (text ++ more) → after.interface ≡ Some i
+header_stays reader after text more i s h kept = kept ∙ early_head_stays text more i s.sound (sym (head_stands reader text s) ∙ h)
+
+-- some of a chunk was read, and the observer took its rows
+pub record Course {A C : Type 0} (I : C → Interface) (N : C → ℕ) (S : C → Channel → Type 0) (i : Interface) (text chunk : List ℕ) (reader : Progress) (o : Observer A C) (rest : List ℕ) : Type 0 where
+  pub read : List ℕ
+  pub whole : chunk ≡ read ++ rest
+  pub watching : IsWatching I N S i (text ++ read) reader o
+
+pub course_begun : {A C : Type 0} → (I : C → Interface) (N : C → ℕ) (S : C → Channel → Type 0) (i : Interface) (text chunk : List ℕ) (reader : Progress) (o : Observer A C) → IsWatching I N S i text reader o → Course I N S i text chunk reader o chunk
+course_begun I N S i text chunk reader o w = record { read = []; whole = refl; watching = subst (λ x. IsWatching I N S i x reader o) (sym (append-nil text)) w }
+
+-- the row that was taken may come next
+pub next_rows : (reader after : Progress) (text chunk rest : List ℕ) (row : Row) → IsReaderOf reader text → TakesRow reader after chunk rest row → AreRows (early_rows text ++ row ∷ [])
+next_rows reader after text chunk rest row s t = subst AreRows (t.rows text s) (early_trace (text ++ t.taken) (t.stands text s).sound)
+
+pub watched_row : {A C : Type 0} → (I : C → Interface) (N : C → ℕ) (S : C → Channel → Type 0) (i : Interface) (text chunk rest : List ℕ) (row : Row) (reader after : Progress) (o : Observer A C)
+    → IsReaderOf reader text → (t : TakesRow reader after chunk rest row) → after.interface ≡ Some i → IsObserverOf I N S i (early_rows text ++ row ∷ []) o → IsWatching I N S i (text ++ t.taken) after o
+watched_row I N S i text chunk rest row reader after o s t h took = record {
+  reads = t.stands text s;
+  header = h;
+  observes = subst (λ rows. IsObserverOf I N S i rows o) (sym (t.rows text s)) took;
+}
+
+pub course_row : {A C : Type 0} → (I : C → Interface) (N : C → ℕ) (S : C → Channel → Type 0) (i : Interface) (text chunk rest left : List ℕ) (row : Row) (reader after : Progress) (o next : Observer A C)
+    → (c : Course I N S i text chunk reader o rest) → TakesRow reader after rest left row → after.interface ≡ early_head ((text ++ c.read) ++ rest) → IsObserverOf I N S i (early_rows (text ++ c.read) ++ row ∷ []) next → Course I N S i text chunk after next left
+course_row I N S i text chunk rest left row reader after o next c t kept took =
+    let w = c.watching in
+    record {
+      read = c.read ++ t.taken;
+      whole = c.whole ∙ ap (λ x. c.read ++ x) t.whole ∙ sym (append_assoc c.read t.taken left);
+      watching = subst (λ x. IsWatching I N S i x after next) (append_assoc text c.read t.taken)
+          (watched_row I N S i (text ++ c.read) rest left row reader after next w.reads t (header_stays reader after (text ++ c.read) rest i w.reads w.header kept) took);
+    }
+
+-- the whole text with the chunk
+pub course_text : {A C : Type 0} → (I : C → Interface) (N : C → ℕ) (S : C → Channel → Type 0) (i : Interface) (text chunk rest : List ℕ) (reader : Progress) (o : Observer A C) (c : Course I N S i text chunk reader o rest) → (text ++ c.read) ++ rest ≡ text ++ chunk
+course_text I N S i text chunk rest reader o c = append_assoc text c.read rest ∙ ap (λ x. text ++ x) (sym c.whole)
+
+pub course_end : {A C : Type 0} → (I : C → Interface) (N : C → ℕ) (S : C → Channel → Type 0) (i : Interface) (text chunk rest : List ℕ) (reader after : Progress) (o : Observer A C)
+    → (c : Course I N S i text chunk reader o rest) → ReadsChunk reader after rest → after.interface ≡ early_head ((text ++ c.read) ++ rest) → IsWatching I N S i (text ++ chunk) after o
+course_end I N S i text chunk rest reader after o c t kept =
+    let w = c.watching in
+    let all = course_text I N S i text chunk rest reader o c in
+    record {
+      reads = subst (IsReaderOf after) all (t.stands (text ++ c.read) w.reads);
+      header = header_stays reader after (text ++ c.read) rest i w.reads w.header kept;
+      observes = subst (λ x. IsObserverOf I N S i (early_rows x) o) all (subst (λ rows. IsObserverOf I N S i rows o) (sym (t.rows (text ++ c.read) w.reads)) w.observes);
+    }

@@ -1,0 +1,17 @@
+use Rattle.std.proofs.Common.{ap, refl}
+use Rattle.restart_epochs.specs.OpenRows.{no_rows}
+use Rattle.live_report.proofs.StandLemmas.{lanes_none, nothing_taken}
+use Rattle.live_report.proofs.observer.Observer.new.Goals as goal
+
+pub returns : goal.returns
+returns g c =
+    nothing_taken g.C.Channel.interface_of g.C.Channel.number_of g.C.Channel.stands_for c.args.interface.now _
+    (record {
+      interface = refl;
+      line = c.first_machine.ensures;
+      epoch = refl;
+      packets = refl;
+      findings = c.new.ensures.items;
+      ended = c.new-2.ensures.items;
+      lanes = lanes_none g.C.Channel.interface_of g.C.Channel.number_of g.C.Channel.stands_for c.args.interface.now 1 no_rows c.new-3.result c.new-3.ensures refl;
+    })

@@ -1,0 +1,4 @@
+pub mod Lanes
+pub mod Observing
+pub mod Reports
+pub mod Lives

@@ -1,0 +1,43 @@
+-- What a report says of a text, and what a sink took of it.
+use Rattle.std.specs.Prelude.{◌≡◌, ℕ, ◌+◌, List, Option, Some, None, length, take}
+use Rattle.line_model.specs.Device.{with_more}
+use Rattle.line_model.specs.Records.{Report}
+use Rattle.line_model.specs.Report.{report_of}
+use Rattle.line_model.specs.Text.{fault, head, rows}
+use Rattle.line_model.specs.Traces.{trace_report, trace_summary}
+use Rattle.line_model.specs.declared.interface.Interface.{Interface}
+use Rattle.line_model.specs.declared.fault.Fault.{Fault}
+use Rattle.line_model.specs.declared.fault.Fault.TheVariants.{Memory, Trace, Write}
+use Rattle.line_model.specs.declared.totals.Summary.{Summary}
+
+-- a text without a fault, and its report
+pub record IsReportOf (text : List ℕ) (r : Report) : Type 0 where
+  pub sound : fault text ≡ None
+  pub interface : Interface
+  pub header : head text ≡ Some interface
+  pub report : r ≡ report_of interface (rows text)
+
+-- the text has no fault, the sink took exactly its report, and the sums are those of its last line
+pub record IsReported (text : List ℕ) (before after : Option (List ℕ)) (sums : Summary) : Type 0 where
+  pub sound : fault text ≡ None
+  pub taken : after ≡ with_more before (trace_report text)
+  pub counted : sums ≡ trace_summary text
+
+-- why a text has no report: memory ran out, the text is faulty, or the sink failed on the report of a text that is not
+abbrev pub IsRefusal : List ℕ → Fault → Type 0
+IsRefusal text Memory = Unit {0}
+IsRefusal text (Trace line kind) = fault text ≡ Some (line, kind)
+IsRefusal text Write = fault text ≡ None
+IsRefusal text _ = ⊥
+
+-- the faults that a report may meet
+abbrev pub IsReportFault : Fault → Type 0
+IsReportFault Memory = Unit {0}
+IsReportFault (Trace line kind) = Unit {0}
+IsReportFault Write = Unit {0}
+IsReportFault _ = ⊥
+
+-- nothing was taken, or where the sink failed a first part of the report
+abbrev pub IsTaken : Option (List ℕ) → Option (List ℕ) → List ℕ → Fault → Type 0
+IsTaken before after report Write = (n : ℕ) × (after ≡ with_more before (take n report))
+IsTaken before after report _ = after ≡ before

@@ -1,0 +1,64 @@
+//! The live channels of the epoch that has not ended.
+
+ghost use Rattle.std.specs.Prelude.{option_to_list, ◌≡◌, ◌<◌, ◌++◌, ◌∷◌, [], IfErr, IfOk, OnOk, length};
+ghost use Rattle.line_model.specs.Bounds.{IsPiece};
+ghost use Rattle.line_model.specs.Report.{findings_of};
+ghost use Rattle.line_model.specs.declared.fault.Fault.TheVariants.{Memory};
+ghost use Rattle.channel_machine.specs.Run.{row_events};
+ghost use Rattle.channel_machine.specs.Live.{channel_so_far};
+ghost use Rattle.restart_epochs.specs.OpenRows.{OpenRows, rows_of, HasMore};
+ghost use Rattle.live_report.specs.Lanes.{begun_piece, IsOutFor, OpenFor};
+
+use channel_machine::live::LiveChannel;
+use channel_machine::run::Channel;
+use line_model::event::Event;
+use line_model::fault::Fault;
+use line_model::finding::Finding;
+use line_model::interface::Interface;
+use line_model::packet::Packet;
+use line_model::row::Row;
+use restart_epochs::open_lanes::Lanes;
+use std::alloc::Allocator;
+use std::boxed::Box;
+
+/// Takes the live channel of a channel out of its lane, and begins one where the channel has no rows in this epoch.
+fn take_out<A: Allocator + Copy, C: Channel<A>>(
+    alloc: A,
+    interface: &Interface,
+    epoch: u32,
+    channel: u16,
+    lanes: &mut Lanes<LiveChannel<A, C>, A>,
+) -> Result<Box<LiveChannel<A, C>, A>, Fault>
+    ensures out { (rows : OpenRows) → OpenFor C.interface_of C.number_of C.stands_for interface.now epoch rows lanes.old → IfOk result (λ live. IsOutFor C.interface_of C.number_of C.stands_for interface.now epoch channel rows live.value lanes.new) }
+    ensures room { OnOk result (channel < length lanes.new.lanes) }
+    ensures memory { IfErr result (λ fault. fault ≡ Memory) }
+{
+    if let Some(live) = lanes.take(channel) {
+        return Ok(live);
+    }
+    let live = Box::new(alloc, LiveChannel::fresh(alloc, interface, channel, epoch)?)?;
+    lanes.list(channel)?;
+    Ok(live)
+}
+
+/// Steps the live channel of a channel by its next row, and answers what it finds. It refuses for want of memory alone.
+pub fn step_channel<A: Allocator + Copy, C: Channel<A>>(
+    interface: &Interface,
+    epoch: u32,
+    channel: u16,
+    row: &Row<A>,
+    packet: &Packet,
+    events: &mut Vec<Event, A>,
+    lanes: &mut Lanes<LiveChannel<A, C>, A>,
+) -> Result<Option<Finding>, Fault>
+    requires room { (rows : OpenRows) × OpenFor C.interface_of C.number_of C.stands_for interface.now epoch rows lanes.old × IsPiece interface.now channel (rows_of rows channel ++ record { row = row.now; packet = packet.now } ∷ []) }
+    ensures stands { (rows after : OpenRows) → OpenFor C.interface_of C.number_of C.stands_for interface.now epoch rows lanes.old → HasMore channel (record { row = row.now; packet = packet.now }) rows after → IsPiece interface.now channel (rows_of after channel) → OnOk result (OpenFor C.interface_of C.number_of C.stands_for interface.now epoch after lanes.new) }
+    ensures finding { (rows : OpenRows) → OpenFor C.interface_of C.number_of C.stands_for interface.now epoch rows lanes.old → IfOk result (λ found. option_to_list found ≡ findings_of (row_events interface.now epoch channel (channel_so_far (begun_piece interface.now epoch channel (rows_of rows channel))) row.now)) }
+    ensures memory { IfErr result (λ fault. fault ≡ Memory) }
+{
+    let alloc = *events.allocator();
+    let mut live = take_out(alloc, interface, epoch, channel, lanes)?;
+    let found = live.take(row, packet, events)?;
+    lanes.put(channel, live);
+    Ok(found)
+}

@@ -1,0 +1,210 @@
+//! The observer that runs: it walks a trace row by row, and keeps what it found, not what it read.
+
+ghost use Rattle.std.specs.Prelude.{option_to_list, ◌≡◌, ℕ, ◌<◌, ◌≤◌, ◌+◌, ◌^◌, ◌++◌, ◌∷◌, [], List, length, map, Some, IfErr, IfOk, OnOk};
+ghost use Rattle.line_model.specs.Bounds.{IsPiece};
+ghost use Rattle.line_model.specs.Classes.{packet_of};
+ghost use Rattle.line_model.specs.Octets.{channel_of};
+ghost use Rattle.line_model.specs.Plans.{value};
+ghost use Rattle.line_model.specs.Records as records;
+ghost use Rattle.line_model.specs.Report.{findings_of, report_of};
+ghost use Rattle.line_model.specs.declared.interface.Interface.{Interface as AnyInterface};
+ghost use Rattle.line_model.specs.declared.fault.Fault.TheVariants.{Memory};
+ghost use Rattle.restart_epochs.specs.OpenRows.{rows_of, no_rows, IsListing};
+ghost use Rattle.restart_epochs.specs.Cutting.{Cutting, IsKeptOn, IsStepped, IsLeft, pieces_out};
+ghost use Rattle.channel_machine.specs.Live.{channel_so_far};
+ghost use Rattle.channel_machine.specs.Run.{row_events};
+ghost use Rattle.live_report.specs.Lanes.{begun_piece};
+ghost use Rattle.live_report.specs.Observing.{AreRows, Holds, StandsFor};
+
+use crate::ending::end_channels;
+use crate::lanes::step_channel;
+use crate::telling::{copies, tell_channels};
+use channel_machine::live::LiveChannel;
+use channel_machine::run::Channel;
+use line_model::event::Event;
+use line_model::fault::Fault;
+use line_model::finding::Finding;
+use line_model::interface::Interface;
+use line_model::packet::Packet;
+use line_model::piece::PieceReport;
+use line_model::report::Report;
+use line_model::row::Row;
+use packet_decode::decode::decode;
+use report_merge::merging::merge;
+use restart_epochs::open_lanes::Lanes;
+use restart_epochs::restart::{Restart, Route};
+use restart_epochs::routing::{finding_of, first_machine, logical_channel, note};
+use std::alloc::Allocator;
+
+/// An observer of an interface, and what it found so far.
+#[derive(Drop)]
+pub struct Observer<A: Allocator, C: Channel<A>> {
+    interface: Interface,
+    machine: Restart,
+    epoch: u32,
+    packets: u32,
+    /// The findings of the restart machine.
+    findings: Vec<Finding, A>,
+    /// What the pieces are worth whose epochs have ended.
+    ended: Vec<PieceReport<A>, A>,
+    /// The channels that have rows in the epoch that has not ended.
+    lanes: Lanes<LiveChannel<A, C>, A>,
+    /// The events of the last row.
+    events: Vec<Event, A>,
+}
+
+impl<A: Allocator + Copy, C: Channel<A>> Observer<A, C> {
+    /// An observer before the first row. It takes no memory.
+    pub fn new(alloc: A, interface: &Interface) -> Self
+        ensures { StandsFor C.interface_of C.number_of C.stands_for interface.now [] result }
+    {
+        Observer {
+            interface: *interface,
+            machine: first_machine(interface.join),
+            epoch: 1,
+            packets: 0,
+            findings: Vec::new(alloc),
+            ended: Vec::new(alloc),
+            lanes: Lanes::new(alloc),
+            events: Vec::new(alloc),
+        }
+    }
+
+    /// Steps the channel of a row.
+    fn step(
+        &mut self,
+        channel: u16,
+        row: &Row<A>,
+        packet: &Packet,
+    ) -> Result<Option<Finding>, Fault>
+        requires room { (c : Cutting) × (reports : List records.PieceReport) × Holds C.interface_of C.number_of C.stands_for c reports self.old × IsPiece c.interface channel (rows_of c.open_rows channel ++ record { row = row.now; packet = packet.now } ∷ []) }
+        requires packets { self.old.packets + 1 < 2 ^ 32 }
+        ensures holds { (c after : Cutting) (reports : List records.PieceReport) → Holds C.interface_of C.number_of C.stands_for c reports self.old → IsKeptOn channel (record { row = row.now; packet = packet.now }) c after → IsPiece c.interface channel (rows_of after.open_rows channel) → OnOk result (Holds C.interface_of C.number_of C.stands_for after reports self.new) }
+        ensures finding { (c : Cutting) (reports : List records.PieceReport) → Holds C.interface_of C.number_of C.stands_for c reports self.old → IfOk result (λ found. option_to_list found ≡ findings_of (row_events c.interface c.epoch channel (channel_so_far (begun_piece c.interface c.epoch channel (rows_of c.open_rows channel))) row.now)) }
+        ensures memory { IfErr result (λ fault. fault ≡ Memory) }
+    {
+        let found = step_channel(
+            &self.interface,
+            self.epoch,
+            channel,
+            row,
+            packet,
+            &mut self.events,
+            &mut self.lanes,
+        )?;
+        self.packets += 1;
+        Ok(found)
+    }
+
+    /// Takes a row that steps the restart machine and neither leaves r1 nor enters it.
+    fn advance(
+        &mut self,
+        machine: Restart,
+        finding: Option<Finding>,
+    ) -> Result<Option<Finding>, Fault>
+        requires packets { self.old.packets + 1 < 2 ^ 32 }
+        ensures holds { (c after : Cutting) (reports : List records.PieceReport) (row : records.Row) → Holds C.interface_of C.number_of C.stands_for c reports self.old → IsStepped row machine c.epoch (option_to_list finding) c after → OnOk result (Holds C.interface_of C.number_of C.stands_for after reports self.new) }
+        ensures found { IfOk result (λ found. found ≡ finding) }
+        ensures memory { IfErr result (λ fault. fault ≡ Memory) }
+    {
+        note(&mut self.findings, finding)?;
+        self.machine = machine;
+        self.packets += 1;
+        Ok(finding)
+    }
+
+    /// Takes a row that enters r1.
+    fn enter(
+        &mut self,
+        machine: Restart,
+        finding: Option<Finding>,
+    ) -> Result<Option<Finding>, Fault>
+        requires epochs { self.old.epoch + 1 < 2 ^ 32 }
+        requires packets { self.old.packets + 1 < 2 ^ 32 }
+        ensures holds { (c after : Cutting) (reports : List records.PieceReport) (row : records.Row) → Holds C.interface_of C.number_of C.stands_for c reports self.old → ((k : ℕ) → rows_of c.open_rows k ≡ []) → IsStepped row machine (c.epoch + 1) (option_to_list finding) c after → OnOk result (Holds C.interface_of C.number_of C.stands_for after reports self.new) }
+        ensures found { IfOk result (λ found. found ≡ finding) }
+        ensures memory { IfErr result (λ fault. fault ≡ Memory) }
+    {
+        self.epoch += 1;
+        self.advance(machine, finding)
+    }
+
+    /// Takes a row of this number that leaves r1, and ends the channels of the epoch.
+    fn leave(
+        &mut self,
+        machine: Restart,
+        number: u32,
+        finding: Option<Finding>,
+    ) -> Result<Option<Finding>, Fault>
+        requires room { (c : Cutting) × (reports : List records.PieceReport) × Holds C.interface_of C.number_of C.stands_for c reports self.old × IsListing c.open_rows }
+        requires packets { self.old.packets + 1 < 2 ^ 32 }
+        requires ids { length self.old.ended.items + length self.old.lanes.channels < 2 ^ 32 }
+        ensures holds { (c after : Cutting) (reports : List records.PieceReport) (row : records.Row) → Holds C.interface_of C.number_of C.stands_for c reports self.old → IsListing c.open_rows → row.number ≡ number → after.open_rows ≡ no_rows → IsLeft row machine (option_to_list finding) c after
+            → OnOk result (Holds C.interface_of C.number_of C.stands_for after (reports ++ map value (pieces_out c.interface c.epoch (Some number) (rows_of c.open_rows) (length reports) c.open_rows.channels)) self.new) }
+        ensures found { IfOk result (λ found. found ≡ finding) }
+        ensures memory { IfErr result (λ fault. fault ≡ Memory) }
+    {
+        note(&mut self.findings, finding)?;
+        end_channels(Some(number), &mut self.lanes, &mut self.ended)?;
+        self.machine = machine;
+        self.packets += 1;
+        Ok(finding)
+    }
+
+    /// Takes the next row, and answers what it finds. It refuses for want of memory alone, and stands for nothing then.
+    pub fn take(&mut self, row: &Row<A>) -> Result<Option<Finding>, Fault>
+        requires room { (i : AnyInterface) × (rows : List records.Row) × StandsFor C.interface_of C.number_of C.stands_for i rows self.old × AreRows (rows ++ row.now ∷ []) }
+        // Of any rows that it took: it stands for them and this one.
+        ensures stands { (i : AnyInterface) (rows : List records.Row) → StandsFor C.interface_of C.number_of C.stands_for i rows self.old → AreRows (rows ++ row.now ∷ []) → OnOk result (StandsFor C.interface_of C.number_of C.stands_for i (rows ++ row.now ∷ []) self.new) }
+        // What was found comes behind all that was found before.
+        ensures finding { (i : AnyInterface) (rows : List records.Row) → StandsFor C.interface_of C.number_of C.stands_for i rows self.old → IfOk result (λ found. (report_of i (rows ++ row.now ∷ [])).findings ≡ (report_of i rows).findings ++ option_to_list found) }
+        ensures memory { IfErr result (λ fault. fault ≡ Memory) }
+    {
+        let octets = row.octets.as_slice();
+        let packet = decode(&self.interface, octets);
+        let mut machine = self.machine;
+        let route = machine.step(&packet, octets.len(), row.side);
+        let finding = finding_of(route, row);
+        match route {
+            Route::ToChannel => self.step(logical_channel(octets), row, &packet),
+            Route::Leave(_) => self.leave(machine, row.number, finding),
+            Route::Enter => self.enter(machine, finding),
+            Route::Found(_, _) => self.advance(machine, finding),
+            Route::Pass => self.advance(machine, finding),
+        }
+    }
+
+    /// The report of the rows that were taken so far, by copies: the observer goes on. It costs what is reported, not
+    /// what was read. It refuses for want of memory alone.
+    pub fn report(&self) -> Result<Report<A>, Fault>
+        requires room { (i : AnyInterface) × (rows : List records.Row) × StandsFor C.interface_of C.number_of C.stands_for i rows self.now }
+        ensures report { (i : AnyInterface) (rows : List records.Row) → StandsFor C.interface_of C.number_of C.stands_for i rows self.now → IfOk result (λ report. report ≡ report_of i rows) }
+        ensures memory { IfErr result (λ fault. fault ≡ Memory) }
+    {
+        let alloc = *self.findings.allocator();
+        let mut reports = copies(alloc, self.ended.as_slice())?;
+        tell_channels(alloc, &self.lanes, &mut reports)?;
+        let pieces = reports.len() as u32;
+        let findings = Vec::from_slice(alloc, self.findings.as_slice())?;
+        merge(alloc, reports, findings, self.packets, pieces)
+    }
+
+    /// The report of the rows that were taken. It refuses for want of memory alone.
+    pub fn end(self) -> Result<Report<A>, Fault>
+        requires room { (i : AnyInterface) × (rows : List records.Row) × StandsFor C.interface_of C.number_of C.stands_for i rows self }
+        ensures report { (i : AnyInterface) (rows : List records.Row) → StandsFor C.interface_of C.number_of C.stands_for i rows self → IfOk result (λ report. report ≡ report_of i rows) }
+        ensures memory { IfErr result (λ fault. fault ≡ Memory) }
+    {
+        let Observer {
+            packets,
+            findings,
+            mut ended,
+            mut lanes,
+            ..
+        } = self;
+        let alloc = *findings.allocator();
+        end_channels(None, &mut lanes, &mut ended)?;
+        let pieces = ended.len() as u32;
+        merge(alloc, ended, findings, packets, pieces)
+    }
+}

@@ -1,0 +1,41 @@
+//! A chunk of a trace, row by row.
+
+ghost use Rattle.std.specs.Prelude.{◌≡◌, ℕ, ◌+◌, ◌++◌, List, length, IfErr, OnOk};
+ghost use Rattle.line_model.specs.Text.{early};
+ghost use Rattle.line_model.specs.declared.interface.Interface.{Interface as AnyInterface};
+ghost use Rattle.trace_text.specs.Progress.{bytes_fed};
+ghost use Rattle.trace_text.specs.StandsFor.{IsFaultOf, IsTextFault};
+ghost use Rattle.live_report.specs.Lives.{IsWatching};
+
+use crate::observer::Observer;
+use channel_machine::run::Channel;
+use line_model::fault::Fault;
+use line_model::row::Row;
+use std::alloc::Allocator;
+use trace_text::lines::Lines;
+
+/// Has an observer take the rows of a chunk, each in the place of the one before it.
+pub fn watch<A: Allocator + Copy, C: Channel<A>>(
+    chunk: &[u8],
+    lines: &mut Lines<A>,
+    row: &mut Row<A>,
+    observer: &mut Observer<A, C>,
+) -> Result<(), Fault>
+    requires { (i : AnyInterface) × (text : List ℕ) × IsWatching C.interface_of C.number_of C.stands_for i text lines.old observer.old }
+    ensures watches { (i : AnyInterface) (text : List ℕ) → IsWatching C.interface_of C.number_of C.stands_for i text lines.old observer.old → OnOk result (IsWatching C.interface_of C.number_of C.stands_for i (text ++ chunk.now) lines.new observer.new) }
+    ensures refused { (i : AnyInterface) (text : List ℕ) → IsWatching C.interface_of C.number_of C.stands_for i text lines.old observer.old → IfErr result (IsFaultOf (early (text ++ chunk.now))) }
+    ensures size { OnOk result (bytes_fed lines.new ≡ bytes_fed lines.old + length chunk.now) }
+    ensures kinds { IfErr result IsTextFault }
+{
+    let mut rest = chunk;
+    loop {
+        match lines.next_row(rest, row) {
+            Ok(Some(after)) => {
+                observer.take(row)?;
+                rest = after;
+            }
+            Ok(None) => return Ok(()),
+            Err(fault) => return Err(fault),
+        }
+    }
+}

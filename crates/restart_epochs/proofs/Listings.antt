@@ -1,0 +1,98 @@
+-- The channels that are listed, and the rows of the open epoch with one more.
+use Rattle.std.proofs.Common.{◌≡◌, ◌≢◌, ◌∙◌, sym, ap, subst, refl, ℕ, zero, suc, Bool, true, false, cond, List, [], ◌∷◌, ◌++◌, map, arith}
+use Rattle.std.specs.List.{filter, range_with_len, AllByRecursion}
+use Rattle.line_model.specs.declared.interface.Interface.{Interface}
+use Rattle.line_model.specs.Records.{Row, Item}
+use Rattle.line_model.specs.Plan.{has_some}
+use Rattle.line_model.specs.Plans.{item_of}
+use Rattle.line_model.specs.Pieces.{piece_rows}
+use Rattle.line_model.specs.Observer.{is_ready}
+use Rattle.restart_epochs.specs.OpenRows.{OpenRows, rows_of, lane_at, no_rows, with_channel, HasMore, IsListing}
+use Rattle.restart_epochs.specs.Cutting.{Cutting, StandsFor, IsCutting, observer, places, rows_if, channels_if, no_cutting}
+use Rattle.restart_epochs.proofs.Pushes.{no_rows_of, stands_nothing}
+use Rattle.restart_epochs.proofs.Bounds.{no_items}
+
+-- what a test lets through passes it
+passes : (f : ℕ → Bool) (ks : List ℕ) → AllByRecursion (λ k. f k ≡ true) (filter f ks)
+passes f [] = tt
+passes f (k ∷ ks) = at (f k) refl (passes f ks)
+  where
+    at : (b : Bool) → f k ≡ b → AllByRecursion (λ j. f j ≡ true) (filter f ks) → AllByRecursion (λ j. f j ≡ true) (cond b (k ∷ filter f ks) (filter f ks))
+    at true e rest = (e, rest)
+    at false e rest = rest
+
+some_mapped : (i : Interface) (rs : List Row) → has_some (map (item_of i) rs) ≡ has_some rs
+some_mapped i [] = refl
+some_mapped i (r ∷ rs) = refl
+
+all_some : (i : Interface) (rs : List Row) (e : ℕ) (o : OpenRows) → ((k : ℕ) → rows_of o k ≡ map (item_of i) (piece_rows e k (places i rs)))
+    → (ks : List ℕ) → AllByRecursion (λ k. has_some (piece_rows e k (places i rs)) ≡ true) ks → AllByRecursion (λ k. has_some (rows_of o k) ≡ true) ks
+all_some i rs e o rows [] all = tt
+all_some i rs e o rows (k ∷ ks) all = (ap has_some (rows k) ∙ some_mapped i (piece_rows e k (places i rs)) ∙ all.0, all_some i rs e o rows ks all.1)
+
+-- a cutter lists the channels that have rows
+pub listing : (i : Interface) (rs : List Row) (c : Cutting) → StandsFor i rs c → IsListing c.open_rows
+listing i rs c s = at (is_ready (observer i rs).line) refl
+  where
+    at : (b : Bool) → is_ready (observer i rs).line ≡ b → IsListing c.open_rows
+    at true e =
+        let n = (observer i rs).epoch in
+        let rows : (k : ℕ) → rows_of c.open_rows k ≡ map (item_of i) (piece_rows n k (places i rs)) = λ k. s.rows k ∙ ap (λ b. rows_if b i (places i rs) n k) e in
+        let channels = s.channels ∙ ap (λ b. channels_if b i (places i rs) n) e in
+        record {
+          listed = subst (AllByRecursion (λ k. has_some (rows_of c.open_rows k) ≡ true)) (sym channels)
+              (all_some i rs n c.open_rows rows _ (passes (λ k. has_some (piece_rows n k (places i rs))) (range_with_len 1 i.svc)));
+          others = λ k not. rows k ∙ ap (map (item_of i)) (no_rows_of i rs n k (subst (AllByRecursion (λ j. j ≢ k)) channels not));
+        }
+    at false e = record {
+      listed = subst (AllByRecursion (λ k. has_some (rows_of c.open_rows k) ≡ true)) (sym (s.channels ∙ ap (λ b. channels_if b i (places i rs) (observer i rs).epoch) e)) tt;
+      others = λ k not. s.rows k ∙ ap (λ b. rows_if b i (places i rs) (observer i rs).epoch k) e;
+    }
+
+-- outside r1 no channel has rows
+pub bare : (i : Interface) (rs : List Row) (c : Cutting) → StandsFor i rs c → is_ready c.line ≡ false → (k : ℕ) → rows_of c.open_rows k ≡ []
+bare i rs c s h k = s.rows k ∙ ap (λ b. rows_if b i (places i rs) (observer i rs).epoch k) (ap is_ready (sym s.line) ∙ h)
+
+-- lanes with one more row
+abbrev pub lanes_with : List (List Item) → ℕ → Item → List (List Item)
+lanes_with [] zero item = (item ∷ []) ∷ []
+lanes_with [] (suc k) item = [] ∷ lanes_with [] k item
+lanes_with (lane ∷ lanes) zero item = (lane ++ item ∷ []) ∷ lanes
+lanes_with (lane ∷ lanes) (suc k) item = lane ∷ lanes_with lanes k item
+
+with_here : (lanes : List (List Item)) (k : ℕ) (item : Item) → lane_at (lanes_with lanes k item) k ≡ lane_at lanes k ++ item ∷ []
+with_here [] zero item = refl
+with_here [] (suc k) item = with_here [] k item
+with_here (lane ∷ lanes) zero item = refl
+with_here (lane ∷ lanes) (suc k) item = with_here lanes k item
+
+with_other : (lanes : List (List Item)) (k : ℕ) (item : Item) (j : ℕ) → j ≢ k → lane_at (lanes_with lanes k item) j ≡ lane_at lanes j
+with_other [] zero item zero ne = absurd (ne refl)
+with_other [] zero item (suc j) ne = refl
+with_other [] (suc k) item zero ne = refl
+with_other [] (suc k) item (suc j) ne = with_other [] k item j (λ e. ne (ap suc e))
+with_other (lane ∷ lanes) zero item zero ne = absurd (ne refl)
+with_other (lane ∷ lanes) zero item (suc j) ne = refl
+with_other (lane ∷ lanes) (suc k) item zero ne = refl
+with_other (lane ∷ lanes) (suc k) item (suc j) ne = with_other lanes k item j (λ e. ne (ap suc e))
+
+-- the rows with one more
+abbrev pub rows_with : OpenRows → ℕ → Item → OpenRows
+rows_with o k item = record { lanes = lanes_with o.lanes k item; channels = with_channel (rows_of o k) k o.channels }
+
+pub has_one_more : (o : OpenRows) (k : ℕ) (item : Item) → HasMore k item o (rows_with o k item)
+has_one_more o k item = record { row = with_here o.lanes k item; others = λ j ne. with_other o.lanes k item j ne; channels = refl }
+
+-- before the first row
+pub nothing_cut : (i : Interface) → StandsFor i [] (no_cutting i)
+nothing_cut i = stands_nothing i (no_cutting i) refl refl refl refl refl refl (λ k. refl) refl
+
+pub nothing_bound : (i : Interface) → IsCutting (no_cutting i)
+nothing_bound i = record {
+  rows = omega arith;
+  last = omega arith;
+  octets = omega arith;
+  epochs = omega arith;
+  ids = omega arith;
+  lanes = λ k. no_items i k 0 0;
+}

@@ -1,0 +1,53 @@
+-- A value for each logical channel of the open epoch that has one.
+use Rattle.std.specs.Prelude.{◌≡◌, ◌≢◌, ℕ, zero, suc, ◌<◌, List, [], ◌∷◌, Option, Some, None, is_some, true, length}
+use Rattle.std.specs.BTreeSet.{insert_key}
+use Rattle.std.specs.Ordering.{nat_cmp}
+use Rattle.std.specs.List.{AllByRecursion}
+
+-- what stands in a lane; nothing where there is none
+abbrev pub lane_at : {T : Type 0} → List (Option T) → ℕ → Option T
+lane_at [] k = None
+lane_at (lane ∷ lanes) zero = lane
+lane_at (lane ∷ lanes) (suc k) = lane_at lanes k
+
+-- a lane for each channel up to some one, and the channels that are listed, in order
+pub record OpenLanes (T : Type 0) : Type 0 where
+  pub lanes : List (Option T)
+  pub channels : List ℕ
+
+-- the value of a channel, if it has one
+abbrev pub value_at : {T : Type 0} → OpenLanes T → ℕ → Option T
+value_at o k = lane_at o.lanes k
+
+-- no channel has a value, and none is listed
+pub record IsEmpty {T : Type 0} (o : OpenLanes T) : Type 0 where
+  pub channels : o.channels ≡ []
+  pub values : (k : ℕ) → value_at o k ≡ None
+
+-- a channel was listed; the values are the same
+pub record HasListed {T : Type 0} (channel : ℕ) (before after : OpenLanes T) : Type 0 where
+  pub channels : after.channels ≡ insert_key nat_cmp before.channels channel
+  pub values : (k : ℕ) → value_at after k ≡ value_at before k
+  pub room : channel < length after.lanes
+
+-- the value of a channel was taken out, if it had one; it stays listed
+pub record HasTaken {T : Type 0} (channel : ℕ) (taken : Option T) (before after : OpenLanes T) : Type 0 where
+  pub value : taken ≡ value_at before channel
+  pub emptied : value_at after channel ≡ None
+  pub others : (k : ℕ) → k ≢ channel → value_at after k ≡ value_at before k
+  pub channels : after.channels ≡ before.channels
+  pub room : is_some taken ≡ true → channel < length after.lanes
+
+-- a channel has this value now
+pub record HasPut {T : Type 0} (channel : ℕ) (put : T) (before after : OpenLanes T) : Type 0 where
+  pub value : value_at after channel ≡ Some put
+  pub others : (k : ℕ) → k ≢ channel → value_at after k ≡ value_at before k
+  pub channels : after.channels ≡ before.channels
+
+-- the first channel that was listed was taken out with its value
+pub record HasPopped {T : Type 0} (channel : ℕ) (taken : Option T) (before after : OpenLanes T) : Type 0 where
+  pub channels : before.channels ≡ channel ∷ after.channels
+  pub once : AllByRecursion (λ k. k ≢ channel) after.channels
+  pub value : taken ≡ value_at before channel
+  pub emptied : value_at after channel ≡ None
+  pub others : (k : ℕ) → k ≢ channel → value_at after k ≡ value_at before k

@@ -1,0 +1,68 @@
+//! Where a row goes: what the cutter and a running observer do alike.
+
+ghost use Rattle.std.specs.Prelude.{option_to_list, ◌≡◌, ◌++◌, OnOk, OnErr};
+ghost use Rattle.line_model.specs.Octets.{channel_of};
+ghost use Rattle.line_model.specs.Observer.{line_in_r1};
+ghost use Rattle.restart_epochs.specs.Cutting.{route_finding};
+
+use crate::restart::{Restart, Route};
+use line_model::finding::{Code, Finding};
+use line_model::row::Row;
+use line_model::state::StateName;
+use std::alloc::{AllocError, Allocator};
+
+/// The restart machine before the first row.
+pub fn first_machine(join: bool) -> Restart
+    ensures { result ≡ line_in_r1 join }
+{
+    if join {
+        Restart::joined()
+    } else {
+        Restart::new()
+    }
+}
+
+/// The logical channel of a packet (X.25 clauses 5.1.2 and 5.1.3).
+pub fn logical_channel(octets: &[u8]) -> u16
+    ensures { result ≡ channel_of octets.now }
+{
+    match octets {
+        [first, second, ..] => u16::from(*first % 16) * 256 + u16::from(*second),
+        [first] => u16::from(*first % 16) * 256,
+        [] => 0,
+    }
+}
+
+/// The finding of the restart machine on a row, if its route has one.
+pub fn finding_of<A: Allocator>(route: Route, row: &Row<A>) -> Option<Finding>
+    ensures { option_to_list result ≡ route_finding row.now route }
+{
+    let (state, code) = match route {
+        Route::Found(state, code) => (state, code),
+        Route::Leave(Some(code)) => (StateName::R1, code),
+        _ => return None,
+    };
+    Some(Finding {
+        packet: row.number,
+        side: row.side,
+        state,
+        code: Code::Number(code),
+    })
+}
+
+/// Appends a finding, if there is one.
+pub fn note<A: Allocator>(
+    findings: &mut Vec<Finding, A>,
+    finding: Option<Finding>,
+) -> Result<(), AllocError>
+    ensures ok { OnOk result (findings.new.items ≡ findings.old.items ++ option_to_list finding) }
+    ensures refused { OnErr result (findings.new.items ≡ findings.old.items) }
+{
+    match finding {
+        Some(finding) => {
+            findings.push(finding)?;
+            Ok(())
+        }
+        None => Ok(()),
+    }
+}
