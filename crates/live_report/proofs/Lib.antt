@@ -6,3 +6,5 @@ pub mod TellingLemmas
 pub mod WholeLemmas
 pub mod FindingLemmas
 pub mod WatchLemmas
+pub mod LiveLemmas
+pub mod ReportLemmas

@@ -1,10 +1,10 @@
 -- A trace that is fed in chunks: what was read of it, and the observer of its rows.
-use Rattle.std.specs.Prelude.{◌≡◌, ℕ, List, [], ◌++◌, Option, Some, None}
+use Rattle.std.specs.Prelude.{◌≡◌, ℕ, List, [], ◌++◌, Option, Some, None, IfSome}
 use Rattle.line_model.specs.Channels.{Channel}
 use Rattle.line_model.specs.Text.{early_rows}
 use Rattle.line_model.specs.declared.interface.Interface.{Interface}
 use Rattle.trace_text.specs.Progress.{Progress}
-use Rattle.trace_text.specs.StandsFor.{StandsFor as IsReaderOf}
+use Rattle.trace_text.specs.StandsFor.{StandsFor as IsReaderOf, IsTextFault}
 use Rattle.live_report.specs.declared.observer.Observer.{Observer}
 use Rattle.live_report.specs.declared.live.Live.{Live}
 use Rattle.live_report.specs.Observing.{StandsFor as IsObserverOf}
@@ -30,3 +30,4 @@ pub record StandsFor {A C : Type 0} (interface_of : C → Interface) (number_of 
 -- it was fed some text, or it refused
 pub record IsFed {A C : Type 0} (interface_of : C → Interface) (number_of : C → ℕ) (stands_for : C → Channel → Type 0) (live : Live A C) : Type 0 where
   pub fed : live.refused ≡ None → (text : List ℕ) × StandsFor interface_of number_of stands_for live text
+  pub kinds : IfSome live.refused IsTextFault

@@ -6,6 +6,7 @@ use Rattle.line_model.specs.Report.{report_of}
 use Rattle.line_model.specs.Text.{fault, head, rows}
 use Rattle.line_model.specs.Traces.{trace_report, trace_summary}
 use Rattle.line_model.specs.declared.interface.Interface.{Interface}
+use Rattle.line_model.specs.declared.fault.Kind.TheVariants.{HeaderMissing}
 use Rattle.line_model.specs.declared.fault.Fault.{Fault}
 use Rattle.line_model.specs.declared.fault.Fault.TheVariants.{Memory, Trace, Write}
 use Rattle.line_model.specs.declared.totals.Summary.{Summary}
@@ -41,3 +42,8 @@ IsReportFault _ = ⊥
 abbrev pub IsTaken : Option (List ℕ) → Option (List ℕ) → List ℕ → Fault → Type 0
 IsTaken before after report Write = (n : ℕ) × (after ≡ with_more before (take n report))
 IsTaken before after report _ = after ≡ before
+
+-- a line is only refused where it would have to be the header
+abbrev pub IsMissing : ℕ → Fault → Type 0
+IsMissing at (Trace line kind) = (line ≡ at) × (kind ≡ HeaderMissing)
+IsMissing at _ = Unit {0}

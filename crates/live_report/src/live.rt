@@ -1,19 +1,26 @@
 //! Reports of a trace that is fed in chunks.
 
-ghost use Rattle.std.specs.Prelude.{◌≡◌, ℕ, ◌+◌, ◌≤◌, ◌^◌, ◌++◌, [], List, None, Some, Err, length, IfErr, IfOk, OnOk};
-ghost use Rattle.line_model.specs.Text.{early};
+ghost use Rattle.std.specs.Prelude.{◌≡◌, ◌≢◌, ℕ, ◌+◌, ◌<◌, ◌++◌, [], List, Some, Err, length, IfErr, IfOk, OnOk};
+ghost use Rattle.line_model.specs.Text.{early, ended_lines, fault};
+ghost use Rattle.line_model.specs.Traces.{trace_report};
 ghost use Rattle.trace_text.specs.Progress.{bytes_fed};
 ghost use Rattle.trace_text.specs.StandsFor.{IsFaultOf, IsTextFault};
+ghost use Rattle.trace_text.specs.EndedPart.{ended_part};
 ghost use Rattle.live_report.specs.Lives.{IsFed, StandsFor};
+ghost use Rattle.live_report.specs.Reports.{IsMissing, IsRefusal, IsReportFault, IsReportOf, IsReported, IsTaken};
 
 use crate::observer::Observer;
-use crate::watching::watch;
+use crate::watching::{finish, watch};
 use channel_machine::run::Channel;
+use line_model::device::Sink;
 use line_model::fault::Fault;
+use line_model::report::Report;
 use line_model::row::Row;
 use line_model::state::Side;
+use line_model::totals::Summary;
+use report_merge::text::write_report;
 use std::alloc::Allocator;
-use trace_text::lines::Lines;
+use trace_text::lines::{Lines, TextEnd};
 
 /// A trace that grows, and the observer of its rows so far.
 #[derive(Drop)]
@@ -29,7 +36,8 @@ pub struct Live<A: Allocator, C: Channel<A>> {
 impl<A: Allocator + Copy, C: Channel<A>> Live<A, C> {
     /// A trace of which nothing was fed. It takes no memory.
     pub fn new(alloc: A) -> Self
-        ensures { StandsFor C.interface_of C.number_of C.stands_for result [] }
+        ensures fed { IsFed C.interface_of C.number_of C.stands_for result }
+        ensures stands { StandsFor C.interface_of C.number_of C.stands_for result [] }
     {
         Live {
             lines: Lines::new(alloc),
@@ -63,9 +71,13 @@ impl<A: Allocator + Copy, C: Channel<A>> Live<A, C> {
         };
         let mut observer = Observer::new(*self.row.octets.allocator(), &interface);
         observer.take(&self.row)?;
-        watch(rest, &mut self.lines, &mut self.row, &mut observer)?;
-        self.observer = Some(observer);
-        Ok(())
+        match watch(rest, &mut self.lines, &mut self.row, &mut observer) {
+            Ok(()) => {
+                self.observer = Some(observer);
+                Ok(())
+            }
+            Err(fault) => Err(fault),
+        }
     }
 
     /// Takes the next chunk of the text, of any size. It refuses by the first line that is faulty however the text goes
@@ -87,5 +99,100 @@ impl<A: Allocator + Copy, C: Channel<A>> Live<A, C> {
         let answer = self.feed_rows(chunk);
         self.refused = answer.err();
         answer
+    }
+
+    /// The report of the text up to its last LF.
+    fn told(&self) -> Result<Report<A>, Fault>
+        requires fed { IsFed C.interface_of C.number_of C.stands_for self.now }
+        ensures told { (text : List ℕ) → StandsFor C.interface_of C.number_of C.stands_for self.now text → IfOk result (IsReportOf (ended_part text)) }
+        ensures refused { (text : List ℕ) → StandsFor C.interface_of C.number_of C.stands_for self.now text → IfErr result (IsFaultOf (fault (ended_part text))) }
+        ensures missing { (text : List ℕ) → StandsFor C.interface_of C.number_of C.stands_for self.now text → IfErr result (IsMissing (length (ended_lines text) + 1)) }
+        ensures kinds { IfErr result IsTextFault }
+        ensures again { (fault : Fault) → self.now.refused ≡ Some fault → result ≡ Err fault }
+    {
+        if let Some(fault) = self.refused {
+            return Err(fault);
+        }
+        let interface = match self.lines.ended_header() {
+            Ok(interface) => interface,
+            Err(fault) => return Err(fault),
+        };
+        match &self.observer {
+            Some(observer) => observer.report(),
+            None => Observer::<A, C>::new(*self.row.octets.allocator(), &interface).end(),
+        }
+    }
+
+    /// Writes the report of the text up to its last LF, and answers its last line as numbers; the text goes on. Where no
+    /// header was read it answers `HeaderMissing` at the line behind those. It refuses for want of memory, and where the
+    /// sink fails; that leaves all as it was. Once `feed` has refused, it answers the same.
+    pub fn report<K: Sink>(&self, sink: &mut K) -> Result<Summary, Fault>
+        requires fed { IsFed C.interface_of C.number_of C.stands_for self.now }
+        // The sink took exactly the report.
+        ensures reported { (text : List ℕ) → StandsFor C.interface_of C.number_of C.stands_for self.now text → IfOk result (IsReported (ended_part text) (K.taken sink.old) (K.taken sink.new)) }
+        ensures refused { (text : List ℕ) → StandsFor C.interface_of C.number_of C.stands_for self.now text → IfErr result (IsRefusal (ended_part text)) }
+        ensures missing { (text : List ℕ) → StandsFor C.interface_of C.number_of C.stands_for self.now text → IfErr result (IsMissing (length (ended_lines text) + 1)) }
+        ensures kinds { IfErr result IsReportFault }
+        ensures write_failed { result ≡ Err Fault.Write → K.failures sink.old < K.failures sink.new }
+        ensures unwritten { IfErr result (λ fault. fault ≢ Fault.Write → sink.new ≡ sink.old) }
+        ensures taken { (text : List ℕ) → StandsFor C.interface_of C.number_of C.stands_for self.now text → IfErr result (IsTaken (K.taken sink.old) (K.taken sink.new) (trace_report (ended_part text))) }
+        ensures again { (fault : Fault) → self.now.refused ≡ Some fault → (result ≡ Err fault) × (sink.new ≡ sink.old) }
+    {
+        match self.told() {
+            Ok(report) => match write_report(&report, sink) {
+                Ok(()) => Ok(report.summary),
+                Err(fault) => Err(fault),
+            },
+            Err(fault) => Err(fault),
+        }
+    }
+
+    /// The report of the whole text.
+    fn whole(self) -> Result<Report<A>, Fault>
+        requires fed { IsFed C.interface_of C.number_of C.stands_for self }
+        ensures told { (text : List ℕ) → StandsFor C.interface_of C.number_of C.stands_for self text → IfOk result (IsReportOf text) }
+        ensures refused { (text : List ℕ) → StandsFor C.interface_of C.number_of C.stands_for self text → IfErr result (IsFaultOf (fault text)) }
+        ensures kinds { IfErr result IsTextFault }
+        ensures again { (fault : Fault) → self.refused ≡ Some fault → result ≡ Err fault }
+    {
+        let Live {
+            lines,
+            mut row,
+            observer,
+            refused,
+        } = self;
+        if let Some(fault) = refused {
+            return Err(fault);
+        }
+        let TextEnd { interface, has_row } = match lines.end_row(&mut row) {
+            Ok(end) => end,
+            Err(fault) => return Err(fault),
+        };
+        let alloc = *row.octets.allocator();
+        match observer {
+            Some(observer) => finish(observer, has_row, &row),
+            None => finish(Observer::<A, C>::new(alloc, &interface), has_row, &row),
+        }
+    }
+
+    /// The text has ended, and its last line may lack its LF: writes its report, and answers its last line as numbers.
+    /// It refuses by the first faulty line, for want of memory, and where the sink fails.
+    pub fn end<K: Sink>(self, sink: &mut K) -> Result<Summary, Fault>
+        requires fed { IsFed C.interface_of C.number_of C.stands_for self }
+        ensures reported { (text : List ℕ) → StandsFor C.interface_of C.number_of C.stands_for self text → IfOk result (IsReported text (K.taken sink.old) (K.taken sink.new)) }
+        ensures refused { (text : List ℕ) → StandsFor C.interface_of C.number_of C.stands_for self text → IfErr result (IsRefusal text) }
+        ensures kinds { IfErr result IsReportFault }
+        ensures write_failed { result ≡ Err Fault.Write → K.failures sink.old < K.failures sink.new }
+        ensures unwritten { IfErr result (λ fault. fault ≢ Fault.Write → sink.new ≡ sink.old) }
+        ensures taken { (text : List ℕ) → StandsFor C.interface_of C.number_of C.stands_for self text → IfErr result (IsTaken (K.taken sink.old) (K.taken sink.new) (trace_report text)) }
+        ensures again { (fault : Fault) → self.refused ≡ Some fault → (result ≡ Err fault) × (sink.new ≡ sink.old) }
+    {
+        match self.whole() {
+            Ok(report) => match write_report(&report, sink) {
+                Ok(()) => Ok(report.summary),
+                Err(fault) => Err(fault),
+            },
+            Err(fault) => Err(fault),
+        }
     }
 }

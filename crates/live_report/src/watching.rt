@@ -1,6 +1,11 @@
 //! A chunk of a trace, row by row.
 
-ghost use Rattle.std.specs.Prelude.{◌≡◌, ℕ, ◌+◌, ◌++◌, List, length, IfErr, OnOk};
+ghost use Rattle.std.specs.Prelude.{◌≡◌, ℕ, ◌+◌, ◌++◌, ◌∷◌, [], List, length, IfErr, IfOk, OnOk};
+ghost use Rattle.line_model.specs.Records as records;
+ghost use Rattle.line_model.specs.Report.{report_of};
+ghost use Rattle.line_model.specs.declared.fault.Fault.TheVariants.{Memory};
+ghost use Rattle.trace_text.specs.StandsFor.{last_row};
+ghost use Rattle.live_report.specs.Observing.{AreRows, StandsFor};
 ghost use Rattle.line_model.specs.Text.{early};
 ghost use Rattle.line_model.specs.declared.interface.Interface.{Interface as AnyInterface};
 ghost use Rattle.trace_text.specs.Progress.{bytes_fed};
@@ -10,6 +15,7 @@ ghost use Rattle.live_report.specs.Lives.{IsWatching};
 use crate::observer::Observer;
 use channel_machine::run::Channel;
 use line_model::fault::Fault;
+use line_model::report::Report;
 use line_model::row::Row;
 use std::alloc::Allocator;
 use trace_text::lines::Lines;
@@ -38,4 +44,33 @@ pub fn watch<A: Allocator + Copy, C: Channel<A>>(
             Err(fault) => return Err(fault),
         }
     }
+}
+
+/// The report of an observer, which first takes the row of a last line that no LF ended, if there is one.
+pub fn finish<A: Allocator + Copy, C: Channel<A>>(
+    observer: Observer<A, C>,
+    has_row: bool,
+    row: &Row<A>,
+) -> Result<Report<A>, Fault>
+    requires room { (i : AnyInterface) × (rows : List records.Row) × StandsFor C.interface_of C.number_of C.stands_for i rows observer × AreRows (rows ++ last_row has_row row.now) }
+    ensures report { (i : AnyInterface) (rows : List records.Row) → StandsFor C.interface_of C.number_of C.stands_for i rows observer → AreRows (rows ++ last_row has_row row.now) → IfOk result (λ report. report ≡ report_of i (rows ++ last_row has_row row.now)) }
+    ensures memory { IfErr result (λ fault. fault ≡ Memory) }
+{
+    if has_row {
+        return take_last(observer, row);
+    }
+    observer.end()
+}
+
+/// The report of an observer after one more row.
+fn take_last<A: Allocator + Copy, C: Channel<A>>(
+    mut observer: Observer<A, C>,
+    row: &Row<A>,
+) -> Result<Report<A>, Fault>
+    requires room { (i : AnyInterface) × (rows : List records.Row) × StandsFor C.interface_of C.number_of C.stands_for i rows observer × AreRows (rows ++ row.now ∷ []) }
+    ensures report { (i : AnyInterface) (rows : List records.Row) → StandsFor C.interface_of C.number_of C.stands_for i rows observer → AreRows (rows ++ row.now ∷ []) → IfOk result (λ report. report ≡ report_of i (rows ++ row.now ∷ [])) }
+    ensures memory { IfErr result (λ fault. fault ≡ Memory) }
+{
+    observer.take(row)?;
+    observer.end()
 }

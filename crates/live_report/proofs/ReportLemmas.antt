@@ -1,0 +1,55 @@
+-- The report of a text, from the observer of its rows.
+use Rattle.std.proofs.Common.{◌≡◌, ◌∙◌, sym, ap, refl, subst, ℕ, List, [], ◌++◌, length, take, Option, Some, None, Result, Ok, Err, IfOk, IfErr, append-nil}
+use Rattle.std.proofs.Math.Seq.{take-append_seam}
+use Rattle.line_model.specs.Device.{with_more}
+use Rattle.line_model.specs.Records.{Report, Row}
+use Rattle.line_model.specs.Report.{no_summary, report, report_of, text_of}
+use Rattle.line_model.specs.Text.{early, early_head, early_rows, fault, head, rows}
+use Rattle.line_model.specs.Traces.{trace_report, trace_summary}
+use Rattle.line_model.specs.declared.interface.Interface.{Interface}
+use Rattle.line_model.specs.declared.fault.Fault.{Fault}
+use Rattle.line_model.specs.declared.fault.Fault.TheVariants.{Memory, Write}
+use Rattle.line_model.specs.declared.totals.Summary.{Summary}
+use Rattle.trace_text.specs.Progress.{Progress}
+use Rattle.trace_text.specs.StandsFor.{StandsFor as IsReaderOf}
+use Rattle.trace_text.proofs.Grows.{head_stays}
+use Rattle.trace_text.proofs.RefusalLemmas.{head_stands}
+use Rattle.trace_text.proofs.RowsOfText.{text_numbers, text_octets, text_rises}
+use Rattle.live_report.specs.Observing.{AreRows}
+use Rattle.live_report.specs.Reports.{IsReportOf, IsReported, IsTaken}
+
+-- a report of the rows of a text is the text's
+pub told_at : (text : List ℕ) (i : Interface) (rs : List Row) (answer : Result Report Fault) → IfOk answer (λ r. r ≡ report_of i rs) → fault text ≡ None → head text ≡ Some i → rows text ≡ rs → IfOk answer (IsReportOf text)
+told_at text i rs (Ok r) h sound header same = record { sound = sound; interface = i; header = header; report = h ∙ ap (report_of i) (sym same) }
+told_at text i rs (Err f) h sound header same = tt
+
+pub memory_only : {T : Type 0} → (P : Fault → Type 0) (answer : Result T Fault) → IfErr answer (λ f. f ≡ Memory) → P Memory → IfErr answer P
+memory_only P (Ok x) h m = tt
+memory_only P (Err f) h m = subst P (sym h) m
+
+-- the rows of a text that has no fault
+pub whole_trace : (text : List ℕ) → fault text ≡ None → AreRows (rows text)
+whole_trace text sound = record { rising = text_rises text sound; numbers = text_numbers text sound; octets = text_octets text sound }
+
+-- the header that was read is the text's
+pub whole_header : (reader : Progress) (text : List ℕ) (i : Interface) → IsReaderOf reader text → reader.interface ≡ Some i → head text ≡ Some i
+whole_header reader text i s h = ap head (sym (append-nil text)) ∙ head_stays text [] i s.sound (sym (head_stands reader text s) ∙ h)
+
+-- ---- what was written
+
+report_text : (text : List ℕ) (r : Report) → (is : IsReportOf text r) → text_of r ≡ trace_report text
+report_text text r is = ap text_of is.report ∙ ap (λ o. elim o as (λ _. List ℕ) [ None ↦ [] | Some j ↦ report j (rows text) ]) (sym is.header)
+
+report_sums : (text : List ℕ) (r : Report) → (is : IsReportOf text r) → r.summary ≡ trace_summary text
+report_sums text r is = ap (λ x. x.summary) is.report ∙ ap (λ o. elim o as (λ _. Summary) [ None ↦ no_summary | Some j ↦ (report_of j (rows text)).summary ]) (sym is.header)
+
+pub reported_by : (text : List ℕ) (r : Report) (before after : Option (List ℕ)) → IsReportOf text r → after ≡ with_more before (text_of r) → IsReported text before after r.summary
+reported_by text r before after is taken = record { sound = is.sound; taken = taken ∙ ap (with_more before) (report_text text r is); counted = report_sums text r is }
+
+front_of : (front rest text : List ℕ) → text ≡ front ++ rest → front ≡ take (length front) text
+front_of front rest text e = rw e (sym (take-append_seam front rest))
+
+pub taken_by : (text : List ℕ) (r : Report) (before after : Option (List ℕ)) (f : Fault) → IsReportOf text r → f ≡ Write
+    → (front : List ℕ) × (rest : List ℕ) × (text_of r ≡ front ++ rest) × (after ≡ with_more before front) → IsTaken before after (trace_report text) f
+taken_by text r before after f is w part =
+    rw w (length part.0, part.3 ∙ ap (with_more before) (front_of part.0 part.1 (trace_report text) (sym (report_text text r is) ∙ part.2)))

@@ -1,0 +1,20 @@
+use Rattle.std.proofs.Common.{◌≡◌, ◌++◌, sym, subst, IfOk, append-nil}
+use Rattle.line_model.specs.Report.{report_of}
+use Rattle.trace_text.specs.StandsFor.{last_row}
+use Rattle.live_report.specs.Observing.{AreRows}
+use Rattle.live_report.proofs.watching.finish.Goals as goal
+
+pub take_last-requires : goal.take_last-requires
+take_last-requires g c =
+    let room = c.requires.room in
+    record { room = (room.0, room.1, room.2, subst (λ b. AreRows (room.1 ++ last_row b c.args.row.now)) c.if-has_row.true room.3) }
+
+pub returns-then-has_row-clause-report : goal.returns-then-has_row-clause-report
+returns-then-has_row-clause-report g c i rows s sound =
+    subst (λ b. IfOk c.take_last.result (λ report. report ≡ report_of i (rows ++ last_row b c.args.row.now))) (sym c.if-has_row.true)
+    (c.take_last.ensures.report i rows s (subst (λ b. AreRows (rows ++ last_row b c.args.row.now)) c.if-has_row.true sound))
+
+pub returns-clause-report : goal.returns-clause-report
+returns-clause-report g c i rows s sound =
+    subst (λ b. IfOk c.end.result (λ report. report ≡ report_of i (rows ++ last_row b c.args.row.now))) (sym c.if-has_row.false)
+    (subst (λ l. IfOk c.end.result (λ report. report ≡ report_of i l)) (sym (append-nil rows)) (c.end.ensures.report i rows s))

@@ -1,0 +1,10 @@
+use Rattle.std.proofs.Common.{◌++◌, ◌∷◌, []}
+use Rattle.live_report.proofs.watching.take_last.Goals as goal
+
+pub end-requires : goal.end-requires
+end-requires g c =
+    let room = c.requires.room in
+    record { room = (room.0, room.1 ++ c.args.row.now ∷ [], c.in_ok-take.ensures.stands room.0 room.1 room.2 room.3) }
+
+pub returns-clause-report : goal.returns-clause-report
+returns-clause-report g c i rows s sound = c.end.ensures.report i (rows ++ c.args.row.now ∷ []) (c.in_ok-take.ensures.stands i rows s sound)
