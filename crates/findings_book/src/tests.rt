@@ -167,10 +167,10 @@ fn play_with<R: Threads + Wait + Abort + Sync, L: Ledgers + Sync>(
     requires fresh { book ≡ 0 }
 {
     let mut shares = two_shares(alloc, &mut book)?;
-    play_in_two(rt, alloc, scenario, book.desk(), &mut shares)?;
+    let played = play_in_two(rt, alloc, scenario, book.desk(), &mut shares);
     let (totals, reports) = book.gather(shares);
     end(rt, scenario, totals, &reports);
-    Ok(())
+    played
 }
 
 /// Plays a scenario with a book over the ledgers of these blanks.

@@ -1,6 +1,6 @@
 //! The reports of three epochs in two shares, and a report that comes twice.
 
-use crate::tests::{Scenario, THREE_EPOCHS, comes_back, play, post_all, report};
+use crate::tests::{Scenario, THREE_EPOCHS, comes_back, play, post_all, post_one, report};
 use crate::{Desk, Ledgers, Share};
 use line_model::piece::PieceReport;
 use line_model::totals::Totals;
@@ -55,6 +55,12 @@ const ONCE: Totals = Totals {
     segments: 2,
 };
 
+/// The share and the book have the numbers of the report that was taken.
+fn has_once<R: Wait + Abort, L: Ledgers>(rt: &R, desk: &Desk<Brand, L>, share: &mut Share<L>) {
+    assert_eq!(rt; share.totals(), ONCE);
+    assert_eq!(rt; desk.look(rt, share), ONCE);
+}
+
 /// Posts a report that is taken, and one of its id that comes back.
 pub(super) fn posted_twice<R: Wait + Abort, L: Ledgers>(
     rt: &R,
@@ -62,11 +68,9 @@ pub(super) fn posted_twice<R: Wait + Abort, L: Ledgers>(
     desk: &Desk<Brand, L>,
     share: &mut Share<L>,
 ) -> Result<(), Fail> {
-    let taken = desk.post(rt, report(alloc, 3, 130, 2)?, share).is_ok();
-    assert!(rt; taken);
+    post_one(rt, desk, share, report(alloc, 3, 130, 2)?)?;
     comes_back(rt, desk, report(alloc, 3, 7, 1)?, share);
-    assert_eq!(rt; share.totals(), ONCE);
-    assert_eq!(rt; desk.look(rt, share), ONCE);
+    has_once(rt, desk, share);
     Ok(())
 }
 
