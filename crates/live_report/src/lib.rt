@@ -6,4 +6,6 @@ mod lanes;
 pub mod live;
 pub mod observer;
 mod telling;
+#[cfg(test)]
+mod tests;
 mod watching;
