@@ -1,10 +1,10 @@
 -- One more event of a call, behind those that are counted.
-use Rattle.std.proofs.Common.{◌≡◌, ℕ, zero, suc, ◌+◌, ◌-◌, ◌/◌, ◌^◌, ◌<◌, ◌≤◌, Bool, true, false, cond, List, [], ◌∷◌, ◌++◌, length, map, reverse, filter_map, sum, refl, sym, ap, ◌∙◌, arith, Option, Some, None, unwrap_or, append_assoc, if◌then◌else◌}
-use Rattle.std.specs.Prelude.{option_map, find, sum_by}
-use Rattle.std.specs.List.{slice_get, slice_index_or, cons_option, filter, flat_map, range_with_len}
+use Rattle.std.proofs.Common.{◌≡◌, ℕ, zero, suc, ◌+◌, ◌-◌, ◌/◌, ◌≤◌, Bool, true, false, cond, List, [], ◌∷◌, ◌++◌, length, map, reverse, filter_map, sum, refl, sym, ap, ◌∙◌, arith, Option, Some, None, unwrap_or, append_assoc, if◌then◌else◌}
+use Rattle.std.specs.Prelude.{option_map, find}
+use Rattle.std.specs.List.{slice_get, cons_option, filter, flat_map, range_with_len}
 use Rattle.std.proofs.lemmas.List.{reverse-append, append-nil, length-append, map-append}
 use Rattle.std.proofs.lemmas.List.Elements.{filter_map-append, filter-append}
-use Rattle.std.proofs.lemmas.List.Sums.{sum_by-cons, sum_by-append}
+use Rattle.std.proofs.lemmas.List.Sums.{sum_by-append}
 use Rattle.line_model.specs.declared.state.Side.{Side}
 use Rattle.line_model.specs.declared.state.Side.TheVariants.{T, N}
 use Rattle.line_model.specs.declared.event.Entry.{Entry}
@@ -14,7 +14,7 @@ use Rattle.line_model.specs.declared.event.Event.{Event}
 use Rattle.line_model.specs.declared.call.SettingRecord.{SettingRecord}
 use Rattle.line_model.specs.FlowControl.{is_side}
 use Rattle.line_model.specs.Calls.{is_up, lengths_from, all_lengths, segments_of, entry_said, entry_of, settings_of, is_known}
-use Rattle.line_model.proofs.EventWeights.{total, total-append, weight, heard_by, octets_by, segments_by, octets_weight, segments_weight, sides_weight, fewer_segments}
+use Rattle.line_model.proofs.EventWeights.{octets_weight, segments_weight, sides_weight, fewer_segments}
 use Rattle.call_accounts.specs.declared.pad_table.PadTable.{PadTable}
 use Rattle.call_accounts.specs.declared.counts.CallCounts.{CallCounts}
 use Rattle.call_accounts.specs.Counted.{entry_at, settings_in, Tells, Counts, Adds, first_up, IsCountable}

@@ -1,5 +1,5 @@
 -- The calls of one channel in one epoch, with one more event behind those that were heard.
-use Rattle.std.proofs.Common.{◌≡◌, ℕ, suc, zero, ◌+◌, ◌<◌, Bool, true, false, cond, not, ◌&&◌, ◌||◌, ◌==◌, List, [], ◌∷◌, ◌++◌, map, refl, sym, ap, ◌∙◌, subst, Option, Some, None, append_assoc, arith, length, sum, ◌-◌, ◌≤◌, get_or, take, drop}
+use Rattle.std.proofs.Common.{◌≡◌, ℕ, suc, zero, ◌<◌, Bool, true, false, cond, not, ◌||◌, ◌==◌, List, [], ◌∷◌, ◌++◌, map, refl, sym, ap, ◌∙◌, subst, Option, Some, None, append_assoc, arith, length, sum, ◌-◌, ◌≤◌, get_or, take, drop}
 use Rattle.std.specs.Prelude.{find, take_while, option_map, option_and_then, is_some}
 use Rattle.std.specs.List.{filter, AllByRecursion}
 use Rattle.std.proofs.lemmas.List.{map-append, get_or-take, take-append-drop}
@@ -14,7 +14,7 @@ use Rattle.line_model.specs.Records.{CallRecord}
 use Rattle.line_model.specs.Calls.{is_up, is_end, is_opening, is_alongside, tells_end, lengths_from, all_lengths, segments_of, settings_of, record_of, calls_of}
 use Rattle.call_accounts.specs.Counted.{Counts, Adds, IsCountable}
 use Rattle.call_accounts.proofs.CountedLemmas.{counts_more, countable_part}
-use Rattle.call_accounts.specs.SoFar.{IsOf, IsWithin, AllEnded, opening_of, call_with, ended_by, EndFirst, IsOpenIn, IsClosedIn, HoldsFor, StandsFor}
+use Rattle.call_accounts.specs.SoFar.{IsOf, IsWithin, AllEnded, opening_of, call_with, ended_by, EndFirst, IsOpenIn, IsClosedIn, HoldsFor}
 use Rattle.call_accounts.specs.declared.so_far.OpenCall.{OpenCall}
 
 -- ---- the calls of events that are all alongside

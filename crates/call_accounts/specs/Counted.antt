@@ -1,5 +1,5 @@
 -- What is counted of a call, as its events come.
-use Rattle.std.specs.Prelude.{◌≡◌, ℕ, ◌≤◌, ◌<◌, ◌+◌, ◌-◌, ◌^◌, Bool, true, false, List, [], ◌∷◌, filter, filter_map, find, map, sum, length, slice_index_or, Option, Some, None, option_map, unwrap_or, if◌then◌else◌}
+use Rattle.std.specs.Prelude.{◌≡◌, ℕ, ◌≤◌, ◌<◌, ◌+◌, ◌-◌, ◌^◌, List, [], ◌∷◌, filter, find, map, sum, length, slice_index_or, Option, Some, None, option_map, unwrap_or, if◌then◌else◌}
 use Rattle.line_model.specs.declared.state.Side.{Side}
 use Rattle.line_model.specs.declared.state.Side.TheVariants.{T, N}
 use Rattle.line_model.specs.declared.event.Entry.{Entry}

@@ -1,5 +1,5 @@
 -- The calls of one logical channel in one epoch, as its events come.
-use Rattle.std.specs.Prelude.{◌≡◌, ℕ, ◌++◌, Bool, true, false, ◌||◌, is_some, List, [], ◌∷◌, find, map, sum, length, Option, Some, None, option_map}
+use Rattle.std.specs.Prelude.{◌≡◌, ℕ, ◌++◌, true, false, ◌||◌, is_some, List, [], ◌∷◌, find, sum, length, Option, Some, None, option_map}
 use Rattle.std.specs.List.{AllByRecursion}
 use Rattle.line_model.specs.declared.state.Side.TheVariants.{T, N}
 use Rattle.line_model.specs.declared.event.How.{How}

@@ -5,6 +5,7 @@ ghost use Rattle.std.specs.Prelude.{◌≡◌, [], false};
 use crate::account::accounts_of;
 use crate::call::calls_of;
 use crate::peak::peak_of;
+use crate::so_far::CallsSoFar;
 use line_model::address::Address;
 use line_model::call::{CallRecord, SettingRecord};
 use line_model::event::{Entry, Event, How, What};
@@ -174,6 +175,75 @@ fn a_collision_ends_the_incoming_call(rt: HostRuntime) -> Result<(), Fail> {
     assert_eq!(rt; (first.ended, first.how), (Some(2), Some(How::Collision)));
     assert_eq!(rt; (second.out, second.opened, second.up), (true, 2, Some(3)));
     assert_eq!(rt; (second.ended, second.how), (None, None));
+    Ok(())
+}
+
+/// An outgoing call with a set of the DCE, which is asked for while it is open, and its clear request; and a call that
+/// is open at the end.
+#[test]
+fn calls_are_told_as_their_events_come(rt: HostRuntime) -> Result<(), Fail> {
+    let alloc = rt.alloc();
+    let before = [
+        event(1, 1, open(true)),
+        event(1, 2, What::Up),
+        event(
+            1,
+            3,
+            What::Data {
+                side: Side::N,
+                octets: 65,
+            },
+        ),
+        event(
+            1,
+            3,
+            What::Setting {
+                pad: Side::T,
+                parameter: 2,
+                entry: Entry::Asked(1),
+            },
+        ),
+    ];
+    let behind = [
+        event(1, 4, What::End(How::T)),
+        event(
+            1,
+            5,
+            What::Data {
+                side: Side::N,
+                octets: 7,
+            },
+        ),
+        event(1, 6, open(false)),
+    ];
+    let mut calls = CallsSoFar::new(alloc);
+    for event in &before {
+        calls.hear(event)?;
+    }
+    let so_far = calls.calls(alloc)?;
+    assert_eq!(rt; so_far.len(), 1);
+    assert_eq!(rt; (so_far[0].up, so_far[0].ended), (Some(2), None));
+    assert_eq!(rt;
+        (so_far[0].data_n, so_far[0].oct_n, so_far[0].segments),
+        (1, 65, 2)
+    );
+    for event in &behind {
+        calls.hear(event)?;
+    }
+    let calls = calls.finish()?;
+    assert_eq!(rt; calls.len(), 2);
+    assert_eq!(rt; (calls[0].ended, calls[0].how), (Some(4), Some(How::T)));
+    assert_eq!(rt; (calls[0].data_n, calls[0].oct_n), (1, 65));
+    let asked = SettingRecord {
+        pad: Side::T,
+        parameter: 2,
+        entry: Entry::Asked(1),
+    };
+    assert_eq!(rt; calls[0].settings.as_slice(), [asked].as_slice());
+    assert_eq!(rt;
+        (calls[1].out, calls[1].opened, calls[1].ended),
+        (false, 6, None)
+    );
     Ok(())
 }
 

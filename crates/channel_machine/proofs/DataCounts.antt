@@ -32,7 +32,7 @@ use Rattle.line_model.specs.Channels.{Channel, fresh, is_open, Heard, Opening, T
 use Rattle.line_model.specs.FlowControl.{Counts, count_data}
 use Rattle.line_model.specs.Sequences.{begun, is_alike}
 use Rattle.line_model.specs.Formats.{packet_fault, size_in_force, window_in_force}
-use Rattle.line_model.specs.Classes.{class_of, data_header, header_length}
+use Rattle.line_model.specs.Classes.{class_of, data_header}
 use Rattle.line_model.specs.ChannelStep.{heard_of, completed_message, call_change, judged, verdict, ending_open, after_error, failing, changing, entering, telling, option_found, data_alike, data_counted, data_step, counting, transferring, verdict_step, channel_step, counts_of}
 use Rattle.line_model.proofs.EventWeights.{total, total-append, heard_by, weight}
 

@@ -1,6 +1,6 @@
 -- A piece with one more row, and at its end.
-use Rattle.std.proofs.Common.{◌≡◌, ℕ, zero, suc, ◌+◌, ◌-◌, ◌/◌, ◌<◌, ◌≤◌, ◌^◌, min, Bool, true, false, List, [], ◌∷◌, ◌++◌, length, map, sum, take, drop, get_or, filter_map, Option, Some, None, unwrap_or, refl, sym, ap, ◌∙◌, subst, arith, append_assoc}
-use Rattle.std.specs.Prelude.{option_map, option_to_list, slice_get, sum_by, All}
+use Rattle.std.proofs.Common.{◌≡◌, ℕ, zero, suc, ◌+◌, ◌-◌, ◌/◌, ◌<◌, ◌≤◌, ◌^◌, min, Bool, true, false, List, [], ◌∷◌, ◌++◌, length, map, sum, take, drop, get_or, Option, Some, None, refl, sym, ap, ◌∙◌, subst, arith, append_assoc}
+use Rattle.std.specs.Prelude.{option_map, option_to_list, slice_get}
 use Rattle.std.specs.List.{AllByRecursion}
 use Rattle.std.specs.Option.{option_copied}
 use Rattle.std.specs.Slice.{IsItemAt}
@@ -20,10 +20,10 @@ use Rattle.line_model.specs.Channels.{Channel, fresh, is_open}
 use Rattle.line_model.specs.ChannelStep.{channel_step}
 use Rattle.line_model.specs.MachineEvents.{stamp}
 use Rattle.line_model.specs.Pieces.{piece_value}
-use Rattle.line_model.specs.Observer.{x25, event_of, restart_end_if}
+use Rattle.line_model.specs.Observer.{x25, event_of}
 use Rattle.line_model.specs.Calls.{all_lengths, segments_of}
 use Rattle.line_model.specs.Report.{findings_of}
-use Rattle.line_model.specs.Plans.{row_numbered, piece_events, value}
+use Rattle.line_model.specs.Plans.{row_numbered, piece_events}
 use Rattle.line_model.specs.declared.event.How.TheVariants.{Restart}
 use Rattle.line_model.specs.declared.event.What.TheVariants.{End}
 use Rattle.line_model.proofs.EventWeights.{octets_weight, segments_weight, fewer_segments}
@@ -32,7 +32,7 @@ use Rattle.line_model.proofs.OneFinding.{founds, step_one}
 use Rattle.call_accounts.specs.Counted.{IsCountable}
 use Rattle.call_accounts.specs.SoFar.{IsOf}
 use Rattle.channel_machine.specs.Run.{row_events, end_events}
-use Rattle.channel_machine.specs.Counted.{Counts, IsWithin}
+use Rattle.channel_machine.specs.Counted.{IsWithin}
 use Rattle.channel_machine.specs.Live.{channel_after, channel_so_far, so_far, with_item}
 use Rattle.channel_machine.proofs.DataCounts.{piece_packets}
 

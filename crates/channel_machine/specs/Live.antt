@@ -1,5 +1,5 @@
 -- A channel that takes its rows as they come.
-use Rattle.std.specs.Prelude.{◌≡◌, ℕ, ◌++◌, List, [], ◌∷◌, None, sum}
+use Rattle.std.specs.Prelude.{◌≡◌, ℕ, ◌++◌, List, [], ◌∷◌, None}
 use Rattle.line_model.specs.declared.interface.Interface.{Interface}
 use Rattle.line_model.specs.Records.{Item, Piece}
 use Rattle.line_model.specs.Bounds.{IsPiece}

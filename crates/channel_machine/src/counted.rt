@@ -102,12 +102,7 @@ impl<A: Allocator + Clone> Counted<A> {
     }
 
     /// What the channel is worth when no more events come. It answers `Memory` alone.
-    pub(crate) fn finish(
-        self,
-        id: u32,
-        epoch: u32,
-        channel: u16,
-    ) -> Result<PieceReport<A>, Fault>
+    pub(crate) fn finish(self, id: u32, epoch: u32, channel: u16) -> Result<PieceReport<A>, Fault>
         requires within { (es : List Event) × Counts self epoch channel es × IsWithin es }
         ensures worth { IfOk result (λ report. (es : List Event) → Counts self epoch channel es → report ≡ worth id epoch channel es) }
         ensures memory { IfErr result (λ fault. fault ≡ Memory) }

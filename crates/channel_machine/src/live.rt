@@ -33,12 +33,7 @@ pub struct LiveChannel<A: Allocator, C: Channel<A>> {
 impl<A: Allocator + Clone, C: Channel<A>> LiveChannel<A, C> {
     /// A fresh channel of an epoch, of which no row was taken. It takes no memory, but for that of clones of the
     /// allocator.
-    pub fn fresh(
-        alloc: A,
-        interface: &Interface,
-        channel: u16,
-        epoch: u32,
-    ) -> Result<Self, Fault>
+    pub fn fresh(alloc: A, interface: &Interface, channel: u16, epoch: u32) -> Result<Self, Fault>
         ensures stands { IfOk result (λ live. (p : Piece) → p.interface ≡ interface.now → p.channel ≡ channel → p.epoch ≡ epoch → p.items ≡ [] → StandsFor C.interface_of C.number_of C.stands_for live p) }
         ensures memory { IfErr result (λ fault. fault ≡ Memory) }
     {

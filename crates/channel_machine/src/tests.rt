@@ -16,7 +16,10 @@ use line_model::row::{Item, Row};
 use line_model::state::{ChannelState, PState, Side, StateName};
 use packet_decode::decode::decode;
 use std::alloc::Global;
+use std::process::Abort;
 use std::test::Fail;
+
+mod live;
 
 /// Four two-way channels with window 2, and the packet size 128.
 const INTERFACE: Interface = Interface {
@@ -233,6 +236,41 @@ fn told(alloc: Global, calls: &[CallRecord]) -> Result<Vec<Call>, Fail> {
         })?;
     }
     Ok(told)
+}
+
+/// A call without data that has not ended.
+fn without_data(channel: u16, out: bool, opened: u32, up: Option<u32>) -> Call {
+    Call {
+        channel,
+        out,
+        opened,
+        up,
+        ended: None,
+        how: None,
+        data_t: 0,
+        oct_t: 0,
+        data_n: 0,
+        oct_n: 0,
+        segments: 0,
+    }
+}
+
+/// The rows of a channel give these findings and calls.
+fn gives(
+    rt: &impl Abort,
+    alloc: Global,
+    interface: &Interface,
+    channel: u16,
+    lines: &[Line],
+    findings: &[Finding],
+    calls: &[Call],
+) -> Result<(), Fail>
+    requires few { length lines.now ≤ 1000 }
+{
+    let report = report_of(alloc, interface, channel, lines, None)?;
+    assert_eq!(rt; report.findings.as_slice(), findings);
+    assert_eq!(rt; told(alloc, &report.calls)?.as_slice(), calls);
+    Ok(())
 }
 
 /// The settings that are known at the end of the first call.
@@ -556,28 +594,17 @@ fn packets_are_cut_on_permanent_circuits(rt: HostRuntime) -> Result<(), Fail> {
         (8, Side::N, "2002"),
         (13, Side::T, "2003FB"),
     ];
-    let on_one = report_of(alloc, &LONG, 1, &lines, None)?;
-    let findings = [
+    let on_one = [
         found(1, Side::N, StateName::D1, Code::Number(38)),
         found(2, Side::N, StateName::D1, Code::Number(38)),
         found(3, Side::N, StateName::D1, Code::Number(39)),
         found(4, Side::T, StateName::D1, Code::Number(38)),
     ];
-    assert_eq!(rt; on_one.findings.as_slice(), findings.as_slice());
-    assert!(rt; on_one.calls.is_empty());
-    let on_two = report_of(alloc, &LONG, 2, &lines, None)?;
-    assert_eq!(rt;
-        on_two.findings.as_slice(),
-        [found(8, Side::N, StateName::D1, Code::Number(38))].as_slice()
-    );
-    assert!(rt; on_two.calls.is_empty());
-    let on_three = report_of(alloc, &LONG, 3, &lines, None)?;
-    assert_eq!(rt;
-        on_three.findings.as_slice(),
-        [found(13, Side::T, StateName::D1, Code::Number(41))].as_slice()
-    );
-    assert!(rt; on_three.calls.is_empty());
-    Ok(())
+    let on_two = [found(8, Side::N, StateName::D1, Code::Number(38))];
+    let on_three = [found(13, Side::T, StateName::D1, Code::Number(41))];
+    gives(&rt, alloc, &LONG, 1, &lines, &on_one, &[])?;
+    gives(&rt, alloc, &LONG, 2, &lines, &on_two, &[])?;
+    gives(&rt, alloc, &LONG, 3, &lines, &on_three, &[])
 }
 
 #[test]
@@ -589,48 +616,27 @@ fn calls_go_the_way_of_their_channel(rt: HostRuntime) -> Result<(), Fail> {
         (3, Side::N, "10020B0000"),
         (4, Side::T, "10030B0000"),
     ];
-    let on_one = report_of(alloc, &ONE_WAY, 1, &lines, None)?;
-    assert_eq!(rt;
-        on_one.findings.as_slice(),
-        [found(1, Side::T, StateName::P1, Code::Number(34))].as_slice()
-    );
-    assert!(rt; on_one.calls.is_empty());
-    let on_two = report_of(alloc, &ONE_WAY, 2, &lines, None)?;
-    assert!(rt; on_two.findings.is_empty());
-    let calls = [Call {
-        channel: 2,
-        out: false,
-        opened: 3,
-        up: None,
-        ended: None,
-        how: None,
-        data_t: 0,
-        oct_t: 0,
-        data_n: 0,
-        oct_n: 0,
-        segments: 0,
-    }];
-    assert_eq!(rt; told(alloc, &on_two.calls)?.as_slice(), calls.as_slice());
-    let on_three = report_of(alloc, &ONE_WAY, 3, &lines, None)?;
-    assert_eq!(rt;
-        on_three.findings.as_slice(),
-        [found(2, Side::N, StateName::P1, Code::Number(34))].as_slice()
-    );
-    let calls = [Call {
-        channel: 3,
-        out: true,
-        opened: 4,
-        up: None,
-        ended: None,
-        how: None,
-        data_t: 0,
-        oct_t: 0,
-        data_n: 0,
-        oct_n: 0,
-        segments: 0,
-    }];
-    assert_eq!(rt; told(alloc, &on_three.calls)?.as_slice(), calls.as_slice());
-    Ok(())
+    let on_one = [found(1, Side::T, StateName::P1, Code::Number(34))];
+    let on_three = [found(2, Side::N, StateName::P1, Code::Number(34))];
+    gives(&rt, alloc, &ONE_WAY, 1, &lines, &on_one, &[])?;
+    gives(
+        &rt,
+        alloc,
+        &ONE_WAY,
+        2,
+        &lines,
+        &[],
+        &[without_data(2, false, 3, None)],
+    )?;
+    gives(
+        &rt,
+        alloc,
+        &ONE_WAY,
+        3,
+        &lines,
+        &on_three,
+        &[without_data(3, true, 4, None)],
+    )
 }
 
 #[test]
@@ -649,42 +655,20 @@ fn unknown_channels_let_data_pass(rt: HostRuntime) -> Result<(), Fail> {
         (10, Side::N, "10011B0526"),
         (11, Side::T, "10011F"),
     ];
-    let on_one = report_of(alloc, &JOINED, 1, &lines, None)?;
-    assert_eq!(rt;
-        on_one.findings.as_slice(),
-        [found(9, Side::N, StateName::D1, Code::Number(38))].as_slice()
-    );
-    assert!(rt; on_one.calls.is_empty());
-    let on_two = report_of(alloc, &JOINED, 2, &lines, None)?;
-    assert_eq!(rt;
-        on_two.findings.as_slice(),
-        [found(1, Side::N, StateName::P1, Code::Number(67))].as_slice()
-    );
-    let calls = [Call {
-        channel: 2,
-        out: false,
-        opened: 3,
-        up: Some(4),
-        ended: None,
-        how: None,
-        data_t: 0,
-        oct_t: 0,
-        data_n: 0,
-        oct_n: 0,
-        segments: 0,
-    }];
-    assert_eq!(rt; told(alloc, &on_two.calls)?.as_slice(), calls.as_slice());
-    let on_three = report_of(alloc, &JOINED, 3, &lines, None)?;
-    assert_eq!(rt;
-        on_three.findings.as_slice(),
-        [found(7, Side::T, StateName::P1, Code::Number(38))].as_slice()
-    );
-    assert!(rt; on_three.calls.is_empty());
-    let on_four = report_of(alloc, &JOINED, 4, &lines, None)?;
-    assert_eq!(rt;
-        on_four.findings.as_slice(),
-        [found(5, Side::N, StateName::P1, Code::Number(34))].as_slice()
-    );
-    assert!(rt; on_four.calls.is_empty());
-    Ok(())
+    let on_one = [found(9, Side::N, StateName::D1, Code::Number(38))];
+    let on_two = [found(1, Side::N, StateName::P1, Code::Number(67))];
+    let on_three = [found(7, Side::T, StateName::P1, Code::Number(38))];
+    let on_four = [found(5, Side::N, StateName::P1, Code::Number(34))];
+    gives(&rt, alloc, &JOINED, 1, &lines, &on_one, &[])?;
+    gives(
+        &rt,
+        alloc,
+        &JOINED,
+        2,
+        &lines,
+        &on_two,
+        &[without_data(2, false, 3, Some(4))],
+    )?;
+    gives(&rt, alloc, &JOINED, 3, &lines, &on_three, &[])?;
+    gives(&rt, alloc, &JOINED, 4, &lines, &on_four, &[])
 }

@@ -3,9 +3,11 @@
 mod in_turn;
 mod side_by_side;
 
-ghost use Rattle.std.specs.Prelude.{◌≡◌, ◌≤◌, ◌^◌, vec_len};
+ghost use Rattle.std.specs.Prelude.{◌≡◌, ◌≤◌, ◌^◌, ◌+◌, IfOk, vec_len};
 
-use crate::{Book, Desk, MOST_SHARES, Share};
+use crate::tests::in_turn::{has_one, has_three_epochs, posted_twice, three_epochs};
+use crate::tests::side_by_side::{has_both, has_twelve, post_and_look, twelve_pieces};
+use crate::{Blanks, Book, Desk, Ledgers, Share};
 use line_model::fault::Fault;
 use line_model::finding::{Code, Finding};
 use line_model::piece::PieceReport;
@@ -15,8 +17,8 @@ use std::alloc::Global;
 use std::marker::Brand;
 use std::process::Abort;
 use std::sync::Wait;
-use std::sync::ledger::{Blank, Ledger};
 use std::test::Fail;
+use std::thread::Threads;
 
 /// The totals of three epochs on four channels, where each piece has one finding.
 const THREE_EPOCHS: Totals = Totals {
@@ -63,58 +65,134 @@ fn report(alloc: Global, id: u32, octets: u16, segments: u16) -> Result<PieceRep
     Ok(report_of(alloc, id, findings, octets, segments))
 }
 
+/// Posts a report, and looks. No number that is seen is below that of the share.
+fn post_one<R: Wait + Abort, L: Ledgers>(
+    rt: &R,
+    desk: &Desk<Brand, L>,
+    share: &mut Share<L>,
+    report: PieceReport,
+) -> Result<(), Fault> {
+    if let Err((_, fault)) = desk.post(rt, report, share) {
+        return Err(fault);
+    }
+    let seen = desk.look(rt, share);
+    assert!(rt; share.totals().posts <= seen.posts);
+    assert!(rt; share.totals().findings <= seen.findings);
+    Ok(())
+}
+
+/// A report of an id that was posted comes back.
+fn comes_back<R: Wait + Abort, L: Ledgers>(
+    rt: &R,
+    desk: &Desk<Brand, L>,
+    report: PieceReport,
+    share: &mut Share<L>,
+) {
+    let (id, octets) = (report.id, report.octets);
+    let refused = desk.post(rt, report, share);
+    assert!(rt; refused.is_err());
+    if let Err((back, fault)) = refused {
+        assert_eq!(rt; fault, Fault::Double(id));
+        assert_eq!(rt; (back.id, back.octets), (id, octets));
+    }
+}
+
 /// Posts the reports of some pieces. After each post no number that is seen is below that of the share.
-fn post_all<R: Wait + Abort, N: Ledger, F: Ledger, O: Ledger, S: Ledger>(
+fn post_all<R: Wait + Abort, L: Ledgers>(
     rt: &R,
     alloc: Global,
-    desk: &Desk<Brand, N, F, O, S>,
-    share: &mut Share<N, F, O, S>,
+    desk: &Desk<Brand, L>,
+    share: &mut Share<L>,
     ids: &[u32],
 ) -> Result<(), Fault> {
     for id in ids {
-        if let Err((_, fault)) = desk.post(rt, report(alloc, *id, 0, 0)?, share) {
-            return Err(fault);
-        }
-        let seen = desk.look(rt, share);
-        assert!(rt; share.totals().posts <= seen.posts);
-        assert!(rt; share.totals().findings <= seen.findings);
+        post_one(rt, desk, share, report(alloc, *id, 0, 0)?)?;
     }
     Ok(())
 }
 
-/// What a test does with a book without posts.
-trait Scenario {
-    fn play<R: Wait + Abort, N: Ledger, F: Ledger, O: Ledger, S: Ledger>(
-        rt: &R,
-        alloc: Global,
-        book: Book<Brand, N, F, O, S>,
-    ) -> Result<(), Fail>
-        requires fresh { book ≡ 0 }
-        requires parts { (N.parts ≡ 4096) × (F.parts ≡ 4096) × (O.parts ≡ 4096) × (S.parts ≡ 4096) };
+/// What a test posts to a book without posts, by two shares.
+#[derive(Clone, Copy)]
+enum Scenario {
+    ThreeEpochs,
+    PostedTwice,
+    TwelvePieces,
+    PostAndLook,
 }
 
-fn play_in<T: Scenario, R: Wait + Abort, N: Ledger, F: Ledger, O: Ledger, S: Ledger>(
+/// The two shares of a book that gave none.
+fn two_shares<L: Ledgers>(alloc: Global, book: &mut Book<Brand, L>) -> Result<Vec<Share<L>>, Fail>
+    requires fresh { book.old ≡ 0 }
+    ensures all { IfOk result (λ shares. vec_len shares ≡ book.new) }
+{
+    Ok(vec![in alloc; book.share(), book.share()]?)
+}
+
+/// Posts and looks by two shares.
+fn play_in_two<R: Threads + Wait + Abort + Sync, L: Ledgers + Sync>(
     rt: &R,
     alloc: Global,
-    blanks: (Blank, Blank, Blank, Blank),
+    scenario: Scenario,
+    desk: &Desk<Brand, L>,
+    shares: &mut [Share<L>],
+) -> Result<(), Fail> {
+    let [first, second] = shares else {
+        return Err("there are not two shares")?;
+    };
+    match scenario {
+        Scenario::ThreeEpochs => three_epochs(rt, alloc, desk, first, second),
+        Scenario::PostedTwice => posted_twice(rt, alloc, desk, first),
+        Scenario::TwelvePieces => twelve_pieces(rt, alloc, desk, first, second),
+        Scenario::PostAndLook => post_and_look(rt, alloc, desk, first, second),
+    }
+}
+
+/// Looks at the totals and the reports of the whole.
+fn end<R: Abort>(rt: &R, scenario: Scenario, totals: Totals, reports: &[PieceReport]) {
+    match scenario {
+        Scenario::ThreeEpochs => has_three_epochs(rt, totals, reports),
+        Scenario::PostedTwice => has_one(rt, totals, reports),
+        Scenario::TwelvePieces => has_twelve(rt, totals, reports),
+        Scenario::PostAndLook => has_both(rt, totals, reports),
+    }
+}
+
+/// Plays a scenario with a book and two shares, and with the whole.
+fn play_with<R: Threads + Wait + Abort + Sync, L: Ledgers + Sync>(
+    rt: &R,
+    alloc: Global,
+    scenario: Scenario,
+    mut book: Book<Brand, L>,
 ) -> Result<(), Fail>
-    requires posts { (blanks.0.name ≡ N.name) × (blanks.0.parts ≡ N.parts) × (N.parts ≡ 4096) }
-    requires findings { (blanks.1.name ≡ F.name) × (blanks.1.parts ≡ F.parts) × (F.parts ≡ 4096) }
-    requires octets { (blanks.2.name ≡ O.name) × (blanks.2.parts ≡ O.parts) × (O.parts ≡ 4096) }
-    requires segments { (blanks.3.name ≡ S.name) × (blanks.3.parts ≡ S.parts) × (S.parts ≡ 4096) }
+    requires fresh { book ≡ 0 }
 {
-    let (posts, findings, octets, segments) = blanks;
-    let book = Book::<Brand, N, F, O, S>::new(alloc, posts, findings, octets, segments);
-    T::play(rt, alloc, book)
+    let mut shares = two_shares(alloc, &mut book)?;
+    let played = play_in_two(rt, alloc, scenario, book.desk(), &mut shares);
+    let (totals, reports) = book.gather(shares);
+    end(rt, scenario, totals, &reports);
+    played
+}
+
+/// Plays a scenario with a book over the ledgers of these blanks.
+fn play_in<R: Threads + Wait + Abort + Sync, L: Ledgers + Sync>(
+    rt: &R,
+    alloc: Global,
+    scenario: Scenario,
+    blanks: Blanks,
+) -> Result<(), Fail>
+    requires posts { (blanks.posts.name ≡ L.posts) × (blanks.posts.parts ≡ 4096) }
+    requires findings { (blanks.findings.name ≡ L.findings) × (blanks.findings.parts ≡ 4096) }
+    requires octets { (blanks.octets.name ≡ L.octets) × (blanks.octets.parts ≡ 4096) }
+    requires segments { (blanks.segments.name ≡ L.segments) × (blanks.segments.parts ≡ 4096) }
+{
+    play_with(rt, alloc, scenario, Book::<Brand, L>::new(alloc, blanks))
 }
 
 /// Plays a scenario with a book over four new ledgers.
-fn play<T: Scenario, R: Wait + Abort>(rt: &R, alloc: Global) -> Result<(), Fail> {
-    let blanks = (
-        Blank::new(MOST_SHARES),
-        Blank::new(MOST_SHARES),
-        Blank::new(MOST_SHARES),
-        Blank::new(MOST_SHARES),
-    );
-    play_in::<T, R, Brand, Brand, Brand, Brand>(rt, alloc, blanks)
+fn play<R: Threads + Wait + Abort + Sync>(
+    rt: &R,
+    alloc: Global,
+    scenario: Scenario,
+) -> Result<(), Fail> {
+    play_in::<R, Brand>(rt, alloc, scenario, Blanks::new())
 }

@@ -1,10 +1,13 @@
 //! What no contract says: the texts of faults, and values from outside.
 
 use crate::address::Address;
+use crate::call::{CallRecord, SettingRecord, copies};
+use crate::event::Entry;
 use crate::fault::{Fault, Kind};
-use crate::finding::Xcode;
+use crate::finding::{Code, Finding, Xcode};
 use crate::interface::Interface;
 use crate::packet::{Class, Kind as PacketKind, Packet};
+use crate::piece::PieceReport;
 use crate::state::{ChannelState, DState, PState, RState, Side, StateName};
 use crate::table::{Action, table_n, table_t};
 use std::test::Fail;
@@ -141,4 +144,59 @@ fn addresses_are_digits_in_ascii(rt: HostRuntime) {
     address.push(4);
     assert!(rt; address.as_bytes() == b"34".as_slice());
     assert!(rt; copy.as_bytes() == b"3".as_slice());
+}
+
+#[test]
+fn a_report_is_copied_with_its_calls(rt: HostRuntime) -> Result<(), Fail> {
+    let alloc = rt.alloc();
+    let asked = SettingRecord {
+        pad: Side::T,
+        parameter: 2,
+        entry: Entry::Asked(1),
+    };
+    let finding = Finding {
+        packet: 3,
+        side: Side::T,
+        state: StateName::D1,
+        code: Code::Number(38),
+    };
+    let mut address = Address::absent();
+    address.push(7);
+    let call = CallRecord {
+        epoch: 1,
+        channel: 4,
+        out: true,
+        called: address,
+        calling: Address::absent(),
+        reverse: false,
+        up: Some(2),
+        opened: 1,
+        ended: None,
+        how: None,
+        data_t: 1,
+        oct_t: 5,
+        data_n: 0,
+        oct_n: 0,
+        segments: 1,
+        settings: Vec::from_slice(alloc, &[asked])?,
+    };
+    let mut calls = Vec::new(alloc);
+    calls.push(call)?;
+    let report = PieceReport {
+        id: 0,
+        epoch: 1,
+        channel: 4,
+        findings: Vec::from_slice(alloc, &[finding])?,
+        calls,
+        octets: 5,
+        segments: 1,
+    };
+    let copy = report.copy(alloc)?;
+    assert!(rt; copy.findings.as_slice() == [finding].as_slice());
+    assert!(rt; (copy.octets, copy.segments) == (5, 1));
+    let calls = copies(alloc, &copy.calls)?;
+    assert!(rt; calls.len() == 1);
+    assert!(rt; calls[0].called.as_bytes() == b"7".as_slice());
+    assert!(rt; calls[0].settings.as_slice() == [asked].as_slice());
+    Ok(())
 }

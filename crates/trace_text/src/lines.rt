@@ -262,6 +262,13 @@ impl<A: Allocator> Lines<A> {
     /// Takes the text's next row out of a chunk, and puts it in the place of another, whose octets' room is used again:
     /// `Some` holds what is still to be read of the chunk. `None`: the chunk was read to its end, and has no further row.
     ///
+    /// ```text
+    /// while let Some(rest) = lines.next_row(chunk, &mut row)? {
+    ///     take(&row);
+    ///     chunk = rest;
+    /// }
+    /// ```
+    ///
     /// A line is read where it lies in the chunk. Only one that a chunk's end cuts is copied. What the row holds where
     /// none was taken is not said.
     pub fn next_row<'a>(

@@ -259,8 +259,10 @@ fn octets_of_many_digits_are_those_of_hex(rt: HostRuntime) -> Result<(), Fail> {
         let was = digits[place];
         for byte in 0..=255u8 {
             digits[place] = byte;
-            let ours = read_digits(digits.as_slice(), &mut octets);
-            match hex::decode(rt.alloc(), digits.as_slice()) {
+            let text = digits.as_slice();
+            assert_eq!(rt; text.len() % 2, 0);
+            let ours = read_digits(text, &mut octets);
+            match hex::decode(rt.alloc(), text) {
                 Ok(wanted) => {
                     assert!(rt; ours.is_ok() && octets.as_slice() == wanted.as_slice());
                 }
@@ -272,21 +274,25 @@ fn octets_of_many_digits_are_those_of_hex(rt: HostRuntime) -> Result<(), Fail> {
     Ok(())
 }
 
-/// A row to be wanted.
-type Wanted<'a> = (u32, Side, &'a [u8]);
-
-fn is_wanted(row: &Row<Global>, wanted: &Wanted<'_>) -> bool {
-    row.number == wanted.0 && row.side == wanted.1 && row.octets.as_slice() == wanted.2
+fn is_wanted(row: &Row<Global>, number: u32, side: Side, octets: &[u8]) -> bool {
+    row.number == number && row.side == side && row.octets.as_slice() == octets
 }
 
-/// Takes the rows of a text one by one out of chunks of so many bytes, into one row that is used again. Counts those
-/// that were wanted there, and tells how the text ends.
+/// Appends a row of a number below 256: the number, the side, how many octets it has, and those.
+fn tell(row: &Row<Global>, told: &mut Vec<u8, Global>) -> Result<(), Fault> {
+    told.push((row.number % 256) as u8)?;
+    told.push(if row.side == Side::T { b'T' } else { b'N' })?;
+    told.push((row.octets.len() % 256) as u8)?;
+    told.extend_from_slice(row.octets.as_slice())?;
+    Ok(())
+}
+
+/// Tells the rows of a text, which are taken one by one out of chunks of so many bytes into one row that is used again.
 fn take_rows(
     alloc: Global,
     text: &[u8],
     size: usize,
-    wanted: &[Wanted<'_>],
-    count: &mut usize,
+    told: &mut Vec<u8, Global>,
 ) -> Result<Interface, Fault> {
     let mut lines = Lines::new(alloc);
     let mut row = Row {
@@ -297,54 +303,54 @@ fn take_rows(
     let mut rest = text;
     for _ in 0..text.len() {
         let (mut chunk, more) = rest.split_at(size.min(rest.len()));
-        while let Some(after) = lines.next_row(chunk, &mut row)? {
-            *count += usize::from(*count < wanted.len() && is_wanted(&row, &wanted[*count]));
-            chunk = after;
+        for _ in 0..chunk.len() {
+            match lines.next_row(chunk, &mut row)? {
+                Some(after) => {
+                    tell(&row, told)?;
+                    chunk = after;
+                }
+                None => break,
+            }
         }
         rest = more;
     }
     let end = lines.end_row(&mut row)?;
     if end.has_row {
-        *count += usize::from(*count < wanted.len() && is_wanted(&row, &wanted[*count]));
+        tell(&row, told)?;
     }
     Ok(end.interface)
 }
 
 #[test]
 fn rows_are_taken_one_by_one(rt: HostRuntime) -> Result<(), Fail> {
-    let long = [
-        (1, Side::T, b"\x10\x01\x0b\x00\x00".as_slice()),
-        (2, Side::N, b"\x10\x01\x0f".as_slice()),
-        (3, Side::T, b"\x10\x01\x00\xde\xad\xbe\xef".as_slice()),
-        (7, Side::N, b"".as_slice()),
-        (12, Side::N, b"\x10".as_slice()),
-    ];
-    let long_text = b"# first\nX25 1 MOD 8 WIN 2 SIZE 128 PVC 0 SVC 4\n1 T 10010b0000\n2 N 10010F\n\
-# between\n3 T 100100deadBEEF\n7 N -\n# last\n12 N 10";
     for (text, wanted, end) in [
-        (long_text.as_slice(), long.as_slice(), None),
-        (HEADER, [].as_slice(), None),
+        (
+            b"# first\nX25 1 MOD 8 WIN 2 SIZE 128 PVC 0 SVC 4\n1 T 10010b0000\n2 N 10010F\n# between\n3 T 100100deadBEEF\n7 N -\n# last\n12 N 10".as_slice(),
+            b"\x01T\x05\x10\x01\x0b\x00\x00\x02N\x03\x10\x01\x0f\x03T\x07\x10\x01\x00\xde\xad\xbe\xef\x07N\x00\x0cN\x01\x10".as_slice(),
+            None,
+        ),
+        (HEADER, b"".as_slice(), None),
         (
             b"#\n# no header\n".as_slice(),
-            [].as_slice(),
+            b"".as_slice(),
             Some(Fault::Trace(3, Kind::HeaderMissing)),
         ),
         (
             b"X25 1 MOD 8 WIN 2 SIZE 128 PVC 0 SVC 4\n1 T 10010b0000\n2 N 10010F\n3 T 100\n4 T -\n".as_slice(),
-            &long[..2],
+            b"\x01T\x05\x10\x01\x0b\x00\x00\x02N\x03\x10\x01\x0f".as_slice(),
             Some(Fault::Trace(4, Kind::Hex)),
         ),
         (
             b"X25 1 MOD 8 WIN 2 SIZE 128 PVC 0 SVC 4\n1 T 10010b0000\n2 n -".as_slice(),
-            &long[..1],
+            b"\x01T\x05\x10\x01\x0b\x00\x00".as_slice(),
             Some(Fault::Trace(3, Kind::Side)),
         ),
     ] {
         for size in [1, 7, text.len()] {
-            let mut count = 0;
-            let answer = take_rows(rt.alloc(), text, size, wanted, &mut count);
+            let mut told = Vec::new(rt.alloc());
+            let answer = take_rows(rt.alloc(), text, size, &mut told);
             assert!(rt; answer.err() == end, "in chunks of {size}");
-            assert_eq!(rt; count, wanted.len(), "in chunks of {size}");
+            assert!(rt; told.as_slice() == wanted, "in chunks of {size}");
         }
     }
     Ok(())
@@ -360,9 +366,9 @@ fn room_of_the_octets_is_used_again(rt: HostRuntime) -> Result<(), Fail> {
     };
     assert!(rt; lines.next_row(HEADER, &mut row)?.is_none());
     assert!(rt; lines.next_row(b"1 T 01020304\n", &mut row)?.is_some());
-    assert!(rt; is_wanted(&row, &(1, Side::T, b"\x01\x02\x03\x04".as_slice())));
+    assert!(rt; is_wanted(&row, 1, Side::T, b"\x01\x02\x03\x04".as_slice()));
     assert!(rt; lines.next_row(b"2 N 05\n", &mut row)?.is_some());
-    assert!(rt; is_wanted(&row, &(2, Side::N, b"\x05".as_slice())));
+    assert!(rt; is_wanted(&row, 2, Side::N, b"\x05".as_slice()));
     assert_eq!(rt; row.octets.capacity(), 4);
     Ok(())
 }
@@ -406,7 +412,7 @@ fn rows_before_a_fault_are_appended_to_any_list(rt: HostRuntime) -> Result<(), F
     let answer = lines.feed(b"2 N 02\n3 T 03\n3 T 04\n", &mut rows);
     assert!(rt; answer == Err(Fault::Trace(5, Kind::Number)));
     assert_eq!(rt; rows.len(), 2);
-    assert!(rt; is_wanted(&rows[0], &(2, Side::N, b"\x02".as_slice())));
-    assert!(rt; is_wanted(&rows[1], &(3, Side::T, b"\x03".as_slice())));
+    assert!(rt; is_wanted(&rows[0], 2, Side::N, b"\x02".as_slice()));
+    assert!(rt; is_wanted(&rows[1], 3, Side::T, b"\x03".as_slice()));
     Ok(())
 }

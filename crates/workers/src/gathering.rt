@@ -3,12 +3,11 @@
 ghost use Rattle.std.specs.Prelude.{◌≡◌, IfOk, IfErr, vec_len};
 ghost use Rattle.line_model.specs.Book.{AreOf, totals_of, sum_of};
 
-use findings_book::{Book, Share};
+use findings_book::{Book, Ledgers, Share};
 use line_model::fault::Fault;
 use line_model::piece::{PieceReport, Plan};
 use line_model::totals::Totals;
 use std::alloc::{Allocator, Global};
-use std::sync::ledger::Ledger;
 
 /// The totals of the book, those of each worker's share, and the reports in the order in which they were posted.
 #[derive(Drop)]
@@ -19,9 +18,9 @@ pub struct Gathered<A: Allocator = Global> {
 }
 
 /// The totals of each share.
-fn totals_of_each<N: Ledger, F: Ledger, O: Ledger, S: Ledger, A: Allocator + Copy>(
+fn totals_of_each<L: Ledgers, A: Allocator + Copy>(
     alloc: A,
-    shares: &[Share<N, F, O, S>],
+    shares: &[Share<L>],
 ) -> Result<Vec<Totals, A>, Fault>
     ensures same { IfOk result (λ v. v.items ≡ shares.now) }
     ensures refused { IfErr result (λ fault. fault ≡ Fault.Memory) }
@@ -34,12 +33,11 @@ fn totals_of_each<N: Ledger, F: Ledger, O: Ledger, S: Ledger, A: Allocator + Cop
 }
 
 /// What was posted, from all shares of the book, or want of memory.
-pub fn gather<P: Plan, N: Ledger, F: Ledger, O: Ledger, S: Ledger, A: Allocator + Copy>(
+pub fn gather<P: Plan, L: Ledgers, A: Allocator + Copy>(
     alloc: A,
-    book: Book<P, N, F, O, S, A>,
-    shares: Vec<Share<N, F, O, S>, A>,
+    book: Book<P, L, A>,
+    shares: Vec<Share<L>, A>,
 ) -> Result<Gathered<A>, Fault>
-    requires ledgers { (N.parts ≡ 4096) × (F.parts ≡ 4096) × (O.parts ≡ 4096) × (S.parts ≡ 4096) }
     requires all { vec_len shares ≡ book }
     ensures reports { IfOk result (λ g. AreOf P.pieces g.reports.items) }
     ensures totals { IfOk result (λ g. g.totals ≡ totals_of g.reports.items) }

@@ -4,12 +4,11 @@ ghost use Rattle.std.specs.Prelude.{◌≡◌, ◌+◌, ℕ, OnOk, IfErr};
 ghost use Rattle.line_model.specs.Book.{IsPlanned};
 
 use crate::gate::Gate;
-use findings_book::{Desk, Share};
+use findings_book::{Desk, Ledgers, Share};
 use line_model::fault::Fault;
 use line_model::piece::{Piece, Plan};
 use std::alloc::{Allocator, Global};
 use std::sync::Wait;
-use std::sync::ledger::Ledger;
 
 /// What one worker has posted.
 pub trait Posted {
@@ -17,7 +16,7 @@ pub trait Posted {
     ghost posts: { Self → ℕ };
 }
 
-impl<N: Ledger, F: Ledger, O: Ledger, S: Ledger> Posted for Share<N, F, O, S> {
+impl<L: Ledgers> Posted for Share<L> {
     ghost posts = { λ share. share.posts };
 }
 
@@ -38,22 +37,19 @@ pub trait Handler<P: Plan, A: Allocator, H: Posted> {
 
 /// Runs pieces by a gate, and posts their reports at the desk of a book.
 #[derive(Drop)]
-pub struct Posting<'a, P: Plan, N: Ledger, F: Ledger, O: Ledger, S: Ledger, A: Allocator, G> {
-    pub desk: &'a Desk<P, N, F, O, S, A>,
+pub struct Posting<'a, P: Plan, L: Ledgers, A: Allocator, G> {
+    pub desk: &'a Desk<P, L, A>,
     pub gate: &'a G,
 }
 
-impl<'a, P: Plan, N: Ledger, F: Ledger, O: Ledger, S: Ledger, A: Allocator + Copy, G: Gate> Handler<
-    P,
-    A,
-    Share<N, F, O, S>,
-> for Posting<'a, P, N, F, O, S, A, G> {
+impl<'a, P: Plan, L: Ledgers, A: Allocator + Copy, G: Gate> Handler<P, A, Share<L>>
+    for Posting<'a, P, L, A, G> {
     fn handle<R: Wait>(
         &self,
         rt: &R,
         alloc: A,
         piece: &Piece<A>,
-        share: &mut Share<N, F, O, S>,
+        share: &mut Share<L>,
     ) -> Result<(), Fault> {
         let mut report = self.gate.run(alloc, piece)?;
         for _ in rt.forever() {

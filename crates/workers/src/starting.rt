@@ -6,14 +6,13 @@ ghost use Rattle.workers.specs.Workers.{IsDone, IsSeat};
 
 use crate::handler::{Handler, Posted};
 use crate::worker::{Done, Finishes, work_on};
-use findings_book::{Book, Share};
+use findings_book::{Book, Ledgers, Share};
 use line_model::fault::Fault;
 use line_model::piece::Plan;
 use piece_queue::{FeederPass, Work, WorkerPass};
 use std::alloc::{Allocator, Global};
 use std::marker::Model;
 use std::sync::Wait;
-use std::sync::ledger::Ledger;
 use std::thread::{PromisedHandle, Scope};
 use std::time::Clock;
 
@@ -48,13 +47,13 @@ impl<H: Posted, A: Allocator> Model for Crew<H, A> {
 }
 
 /// A seat for each of so many workers, or want of memory.
-pub fn crew_for<P: Plan, N: Ledger, F: Ledger, O: Ledger, S: Ledger, A: Allocator + Copy>(
+pub fn crew_for<P: Plan, L: Ledgers, A: Allocator + Copy>(
     alloc: A,
     work: &Work<P, A>,
-    book: &mut Book<P, N, F, O, S, A>,
+    book: &mut Book<P, L, A>,
     pass: FeederPass<A>,
     workers: usize,
-) -> Result<Crew<Share<N, F, O, S>, A>, Fault>
+) -> Result<Crew<Share<L>, A>, Fault>
     requires queue { pass.queue ≡ work.now.queue }
     requires fresh { pass.record_of ≡ feeder 0 0 0 0 [] }
     requires few { workers ≤ 64 }

@@ -1,7 +1,8 @@
 //! A plan that is fed by one thread and worked through by others.
 
-ghost use Rattle.std.specs.Prelude.{◌≡◌, ◌<◌, ◌≤◌, ◌⊎◌, IfOk, IfErr};
-ghost use Rattle.workers.specs.Gathers.{HasWorked};
+ghost use Rattle.std.specs.Prelude.{◌≡◌, ◌<◌, ◌≤◌, ◌⊎◌, [], None, IfOk, IfErr, MatchOption, sum_by, vec_len};
+ghost use Rattle.piece_queue.specs.Rule.{feeder};
+ghost use Rattle.workers.specs.Gathers.{HasWorked, IsWhole};
 
 use crate::feeding::Feed;
 use crate::gate::Gate;
@@ -9,14 +10,13 @@ use crate::gathering::{Gathered, gather};
 use crate::handler::Posting;
 use crate::run::{Ran, run_scoped};
 use crate::starting::crew_for;
-use findings_book::{Book, MOST_SHARES};
+use findings_book::{Blanks, Book, Ledgers, Share};
 use line_model::fault::Fault;
 use line_model::piece::Plan;
-use piece_queue::Work;
+use piece_queue::{FeederPass, Work};
 use std::alloc::{Allocator, Global};
 use std::marker::Brand;
 use std::sync::Wait;
-use std::sync::ledger::{Blank, Ledger};
 use std::thread::Threads;
 use std::time::Clock;
 
@@ -27,13 +27,33 @@ pub struct Worked<T, A: Allocator = Global> {
     pub gathered: Result<Gathered<A>, Fault>,
 }
 
-/// As `work_through`, over the four ledgers of these blanks.
-fn work_in<
+/// What the workers made, from the book and what became of their run.
+fn gather_ran<P: Plan, L: Ledgers, A: Allocator + Copy, T: Drop>(
+    alloc: A,
+    book: Book<P, L, A>,
+    ran: Ran<T, Share<L>, A>,
+) -> Worked<T, A>
+    requires all { MatchOption ran.fault (vec_len ran.shares ≡ book) (λ fault. fault ≡ Fault.Memory) }
+    ensures task { result.task ≡ ran.task }
+    ensures whole { IfOk result.gathered (λ g. (ran.fault ≡ None) × IsWhole P.pieces (vec_len ran.shares) (sum_by (λ s. s.posts) ran.shares.items) g) }
+    ensures refused { IfErr result.gathered (λ fault. fault ≡ Fault.Memory) }
+{
+    let Ran {
+        task,
+        shares,
+        fault,
+    } = ran;
+    let gathered = match fault {
+        Some(fault) => Err(fault),
+        None => gather(alloc, book, shares),
+    };
+    Worked { task, gathered }
+}
+
+/// As `work_through`, over this book and this queue.
+fn work_with<
     P: Plan + Send + Sync,
-    N: Ledger + Sync,
-    F: Ledger + Sync,
-    O: Ledger + Sync,
-    S: Ledger + Sync,
+    L: Ledgers + Sync,
     A: Allocator + Copy + Send + Sync,
     G: Gate,
     R: Threads + Wait + Clock + Sync,
@@ -41,47 +61,63 @@ fn work_in<
 >(
     rt: &R,
     alloc: A,
-    blanks: (Blank, Blank, Blank, Blank),
+    mut book: Book<P, L, A>,
+    queue: (&Work<P, A>, FeederPass<A>),
     workers: usize,
-    capacity: usize,
     gate: &G,
     task: T,
 ) -> Result<Worked<T, A>, (T, Fault)>
-    requires posts { (blanks.0.name ≡ N.name) × (blanks.0.parts ≡ N.parts) × (N.parts ≡ 4096) }
-    requires findings { (blanks.1.name ≡ F.name) × (blanks.1.parts ≡ F.parts) × (F.parts ≡ 4096) }
-    requires octets { (blanks.2.name ≡ O.name) × (blanks.2.parts ≡ O.parts) × (O.parts ≡ 4096) }
-    requires segments { (blanks.3.name ≡ S.name) × (blanks.3.parts ≡ S.parts) × (S.parts ≡ 4096) }
+    requires book { book ≡ 0 }
+    requires queue { (queue.1.queue ≡ queue.0.now.queue) × (queue.1.record_of ≡ feeder 0 0 0 0 []) }
     requires workers { (0 < workers) × (workers ≤ 64) }
-    requires capacity { (0 < capacity) × (capacity ≤ 4096) }
     requires able { T.can_feed task }
     ensures worked { IfOk result (HasWorked P.pieces (T.feed_gives task) workers) }
     ensures refused { IfErr result (λ e. T.unfed task e.0 × ((e.1 ≡ Fault.Memory) ⊎ (e.1 ≡ Fault.Start))) }
 {
-    let (posts, findings, octets, segments) = blanks;
-    let Ok((work, pass)) = Work::<P, A>::new(alloc, capacity) else {
-        return Err((task.back(), Fault::Memory));
-    };
-    let mut book = Book::<P, N, F, O, S, A>::new(alloc, posts, findings, octets, segments);
-    let Ok(crew) = crew_for(alloc, &work, &mut book, pass, workers) else {
+    let (work, pass) = queue;
+    let Ok(crew) = crew_for(alloc, work, &mut book, pass, workers) else {
         return Err((task.back(), Fault::Memory));
     };
     let posting = Posting {
         desk: book.desk(),
         gate,
     };
-    let Ran {
-        task,
-        shares,
-        fault,
-    } = run_scoped(rt, alloc, &work, &posting, crew, task)?;
-    if let Some(fault) = fault {
-        return Ok(Worked {
-            task,
-            gathered: Err(fault),
-        });
-    }
-    let gathered = gather(alloc, book, shares);
-    Ok(Worked { task, gathered })
+    let ran = run_scoped(rt, alloc, work, &posting, crew, task)?;
+    Ok(gather_ran(alloc, book, ran))
+}
+
+/// As `work_through`, over the four ledgers of these blanks.
+fn work_in<
+    P: Plan + Send + Sync,
+    L: Ledgers + Sync,
+    A: Allocator + Copy + Send + Sync,
+    G: Gate,
+    R: Threads + Wait + Clock + Sync,
+    T: Feed<P, A> + Drop,
+>(
+    rt: &R,
+    alloc: A,
+    blanks: Blanks,
+    workers: usize,
+    capacity: usize,
+    gate: &G,
+    task: T,
+) -> Result<Worked<T, A>, (T, Fault)>
+    requires posts { (blanks.posts.name ≡ L.posts) × (blanks.posts.parts ≡ 4096) }
+    requires findings { (blanks.findings.name ≡ L.findings) × (blanks.findings.parts ≡ 4096) }
+    requires octets { (blanks.octets.name ≡ L.octets) × (blanks.octets.parts ≡ 4096) }
+    requires segments { (blanks.segments.name ≡ L.segments) × (blanks.segments.parts ≡ 4096) }
+    requires workers { (0 < workers) × (workers ≤ 64) }
+    requires capacity { (0 < capacity) × (capacity ≤ 4096) }
+    requires able { T.can_feed task }
+    ensures worked { IfOk result (HasWorked P.pieces (T.feed_gives task) workers) }
+    ensures refused { IfErr result (λ e. T.unfed task e.0 × ((e.1 ≡ Fault.Memory) ⊎ (e.1 ≡ Fault.Start))) }
+{
+    let Ok((work, pass)) = Work::<P, A>::new(alloc, capacity) else {
+        return Err((task.back(), Fault::Memory));
+    };
+    let book = Book::<P, L, A>::new(alloc, blanks);
+    work_with(rt, alloc, book, (&work, pass), workers, gate, task)
 }
 
 /// Works through the pieces that the task feeds, with 1 to 64 workers and a queue of 1 to 4,096 entries. Where memory
@@ -106,13 +142,5 @@ pub fn work_through<
     ensures worked { IfOk result (HasWorked P.pieces (T.feed_gives task) workers) }
     ensures refused { IfErr result (λ e. T.unfed task e.0 × ((e.1 ≡ Fault.Memory) ⊎ (e.1 ≡ Fault.Start))) }
 {
-    let blanks = (
-        Blank::new(MOST_SHARES),
-        Blank::new(MOST_SHARES),
-        Blank::new(MOST_SHARES),
-        Blank::new(MOST_SHARES),
-    );
-    work_in::<P, Brand, Brand, Brand, Brand, A, G, R, T>(
-        rt, alloc, blanks, workers, capacity, gate, task,
-    )
+    work_in::<P, Brand, A, G, R, T>(rt, alloc, Blanks::new(), workers, capacity, gate, task)
 }

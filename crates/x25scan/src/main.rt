@@ -3,20 +3,7 @@
 
 ghost use Rattle.std.specs.Prelude.{◌≡◌, ◌<◌};
 
-mod gate;
-mod observing;
-mod options;
-mod program;
-mod reading;
-mod scan;
-mod streams;
-#[cfg(test)]
-mod tests;
-mod threaded;
-mod writing;
-
-use crate::program::{OTHER_FAULT, USAGE, program};
-use crate::streams::{ReadSource, WriteSink};
+use command_line::program::{OTHER_FAULT, USAGE, program};
 use line_model::count::Count;
 use std::env;
 use std::io::ErrorKind;
@@ -26,6 +13,7 @@ use std::sync::Wait;
 use std::sync::ledger::{Blank, Ledger};
 use std::thread::Threads;
 use std::time::Clock;
+use streams::io::{ReadSource, WriteSink};
 
 /// Runs the program over the streams of the process.
 fn run_streams<C: Ledger, F: Ledger, K: Ledger, E: Ledger, R: Threads + Wait + Clock + Sync>(

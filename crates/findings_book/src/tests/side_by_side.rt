@@ -1,9 +1,9 @@
 //! Two threads that post side by side, and what each of them sees.
 
-ghost use Rattle.std.specs.Prelude.{◌≡◌};
-
-use crate::tests::{THREE_EPOCHS, finding, post_all, report, report_of};
-use crate::{Book, Desk, MOST_SHARES, Share};
+use crate::tests::{
+    Scenario, THREE_EPOCHS, comes_back, finding, play, post_all, report, report_of,
+};
+use crate::{Desk, Ledgers, Share};
 use line_model::fault::Fault;
 use line_model::piece::PieceReport;
 use line_model::totals::Totals;
@@ -11,24 +11,17 @@ use std::alloc::Global;
 use std::marker::Brand;
 use std::process::Abort;
 use std::sync::Wait;
-use std::sync::ledger::{Blank, Ledger};
 use std::test::Fail;
 use std::thread;
 use std::thread::Threads;
 
 /// Posts the reports of twelve pieces from two threads.
-fn post_side_by_side<
-    R: Threads + Wait + Abort + Sync,
-    N: Ledger + Sync,
-    F: Ledger + Sync,
-    O: Ledger + Sync,
-    S: Ledger + Sync,
->(
+fn post_side_by_side<R: Threads + Wait + Abort + Sync, L: Ledgers + Sync>(
     rt: &R,
     alloc: Global,
-    desk: &Desk<Brand, N, F, O, S>,
-    even: &mut Share<N, F, O, S>,
-    odd: &mut Share<N, F, O, S>,
+    desk: &Desk<Brand, L>,
+    even: &mut Share<L>,
+    odd: &mut Share<L>,
 ) -> Result<(), Fault> {
     let (one, other) = thread::join(
         rt,
@@ -39,41 +32,34 @@ fn post_side_by_side<
     other
 }
 
-/// Two threads post to a book over four new ledgers.
-fn side_by_side<
-    R: Threads + Wait + Abort + Sync,
-    N: Ledger + Sync,
-    F: Ledger + Sync,
-    O: Ledger + Sync,
-    S: Ledger + Sync,
->(rt: &R, alloc: Global, blanks: (Blank, Blank, Blank, Blank)) -> Result<(), Fail>
-    requires posts { (blanks.0.name ≡ N.name) × (blanks.0.parts ≡ N.parts) × (N.parts ≡ 4096) }
-    requires findings { (blanks.1.name ≡ F.name) × (blanks.1.parts ≡ F.parts) × (F.parts ≡ 4096) }
-    requires octets { (blanks.2.name ≡ O.name) × (blanks.2.parts ≡ O.parts) × (O.parts ≡ 4096) }
-    requires segments { (blanks.3.name ≡ S.name) × (blanks.3.parts ≡ S.parts) × (S.parts ≡ 4096) }
-{
-    let (posts, findings, octets, segments) = blanks;
-    let mut book = Book::<Brand, N, F, O, S>::new(alloc, posts, findings, octets, segments);
-    let mut first = book.share();
-    let mut second = book.share();
-    post_side_by_side(rt, alloc, book.desk(), &mut first, &mut second)?;
+/// Either share has posted the reports of six pieces.
+fn have_six_each<R: Abort, L: Ledgers>(rt: &R, first: &Share<L>, second: &Share<L>) {
     assert_eq!(rt; first.totals().posts, 6);
     assert_eq!(rt; second.totals().posts, 6);
-    let (totals, reports) = book.gather(vec![in alloc; first, second]?);
+}
+
+/// Posts the reports of twelve pieces from two threads.
+pub(super) fn twelve_pieces<R: Threads + Wait + Abort + Sync, L: Ledgers + Sync>(
+    rt: &R,
+    alloc: Global,
+    desk: &Desk<Brand, L>,
+    first: &mut Share<L>,
+    second: &mut Share<L>,
+) -> Result<(), Fail> {
+    post_side_by_side(rt, alloc, desk, first, second)?;
+    have_six_each(rt, first, second);
+    Ok(())
+}
+
+/// The book has the reports of twelve pieces.
+pub(super) fn has_twelve<R: Abort>(rt: &R, totals: Totals, reports: &[PieceReport]) {
     assert_eq!(rt; totals, THREE_EPOCHS);
     assert_eq!(rt; reports.len(), 12);
-    Ok(())
 }
 
 #[test]
 fn two_threads_post_side_by_side(rt: HostRuntime) -> Result<(), Fail> {
-    let blanks = (
-        Blank::new(MOST_SHARES),
-        Blank::new(MOST_SHARES),
-        Blank::new(MOST_SHARES),
-        Blank::new(MOST_SHARES),
-    );
-    side_by_side::<_, Brand, Brand, Brand, Brand>(&rt, rt.alloc(), blanks)
+    play(&rt, rt.alloc(), Scenario::TwelvePieces)
 }
 
 /// What the first thread posts.
@@ -115,11 +101,11 @@ fn two_findings(alloc: Global) -> Result<PieceReport, Fault> {
 }
 
 /// Posts a report, and looks.
-fn post_and_look<R: Wait + Abort, N: Ledger, F: Ledger, O: Ledger, S: Ledger>(
+fn post_then_look<R: Wait + Abort, L: Ledgers>(
     rt: &R,
-    desk: &Desk<Brand, N, F, O, S>,
+    desk: &Desk<Brand, L>,
     report: PieceReport,
-    share: &mut Share<N, F, O, S>,
+    share: &mut Share<L>,
     posted: Totals,
 ) -> Result<(), Fault> {
     if let Err((_, fault)) = desk.post(rt, report, share) {
@@ -131,91 +117,57 @@ fn post_and_look<R: Wait + Abort, N: Ledger, F: Ledger, O: Ledger, S: Ledger>(
 }
 
 /// Two threads post a report each, and look.
-fn post_and_look_side_by_side<
-    R: Threads + Wait + Abort + Sync,
-    N: Ledger + Sync,
-    F: Ledger + Sync,
-    O: Ledger + Sync,
-    S: Ledger + Sync,
->(
+fn post_and_look_side_by_side<R: Threads + Wait + Abort + Sync, L: Ledgers + Sync>(
     rt: &R,
-    desk: &Desk<Brand, N, F, O, S>,
+    desk: &Desk<Brand, L>,
     reports: (PieceReport, PieceReport),
-    first: &mut Share<N, F, O, S>,
-    second: &mut Share<N, F, O, S>,
+    first: &mut Share<L>,
+    second: &mut Share<L>,
 ) -> Result<(), Fault> {
     let (two_findings, one_finding) = reports;
     let (one, other) = thread::join(
         rt,
-        move || post_and_look(rt, desk, two_findings, first, FIRST),
-        move || post_and_look(rt, desk, one_finding, second, SECOND),
+        move || post_then_look(rt, desk, two_findings, first, FIRST),
+        move || post_then_look(rt, desk, one_finding, second, SECOND),
     );
     one?;
     other
 }
 
 /// Either share sees what both threads posted.
-fn both_are_seen<R: Wait + Abort, N: Ledger, F: Ledger, O: Ledger, S: Ledger>(
+fn both_are_seen<R: Wait + Abort, L: Ledgers>(
     rt: &R,
-    desk: &Desk<Brand, N, F, O, S>,
-    first: &mut Share<N, F, O, S>,
-    second: &mut Share<N, F, O, S>,
+    desk: &Desk<Brand, L>,
+    first: &mut Share<L>,
+    second: &mut Share<L>,
 ) {
     assert_eq!(rt; desk.look(rt, first), BOTH);
     assert_eq!(rt; desk.look(rt, second), BOTH);
 }
 
-/// A report of an id that was posted comes back.
-fn comes_back<R: Wait + Abort, N: Ledger, F: Ledger, O: Ledger, S: Ledger>(
+/// Each of two threads posts a report and looks, and a report of an id that was posted comes back.
+pub(super) fn post_and_look<R: Threads + Wait + Abort + Sync, L: Ledgers + Sync>(
     rt: &R,
-    desk: &Desk<Brand, N, F, O, S>,
-    report: PieceReport,
-    share: &mut Share<N, F, O, S>,
-) {
-    let (id, octets) = (report.id, report.octets);
-    let refused = desk.post(rt, report, share);
-    assert!(rt; refused.is_err());
-    if let Err((back, fault)) = refused {
-        assert_eq!(rt; fault, Fault::Double(id));
-        assert_eq!(rt; (back.id, back.octets), (id, octets));
-    }
+    alloc: Global,
+    desk: &Desk<Brand, L>,
+    first: &mut Share<L>,
+    second: &mut Share<L>,
+) -> Result<(), Fail> {
+    let reports = (two_findings(alloc)?, report(alloc, 1, 0, 0)?);
+    post_and_look_side_by_side(rt, desk, reports, first, second)?;
+    both_are_seen(rt, desk, first, second);
+    comes_back(rt, desk, report(alloc, 0, 7, 1)?, second);
+    both_are_seen(rt, desk, first, second);
+    Ok(())
 }
 
-/// Two threads post to a book over four new ledgers, and look.
-fn look_side_by_side<
-    R: Threads + Wait + Abort + Sync,
-    N: Ledger + Sync,
-    F: Ledger + Sync,
-    O: Ledger + Sync,
-    S: Ledger + Sync,
->(rt: &R, alloc: Global, blanks: (Blank, Blank, Blank, Blank)) -> Result<(), Fail>
-    requires posts { (blanks.0.name ≡ N.name) × (blanks.0.parts ≡ N.parts) × (N.parts ≡ 4096) }
-    requires findings { (blanks.1.name ≡ F.name) × (blanks.1.parts ≡ F.parts) × (F.parts ≡ 4096) }
-    requires octets { (blanks.2.name ≡ O.name) × (blanks.2.parts ≡ O.parts) × (O.parts ≡ 4096) }
-    requires segments { (blanks.3.name ≡ S.name) × (blanks.3.parts ≡ S.parts) × (S.parts ≡ 4096) }
-{
-    let (posts, findings, octets, segments) = blanks;
-    let mut book = Book::<Brand, N, F, O, S>::new(alloc, posts, findings, octets, segments);
-    let mut first = book.share();
-    let mut second = book.share();
-    let reports = (two_findings(alloc)?, report(alloc, 1, 0, 0)?);
-    post_and_look_side_by_side(rt, book.desk(), reports, &mut first, &mut second)?;
-    both_are_seen(rt, book.desk(), &mut first, &mut second);
-    comes_back(rt, book.desk(), report(alloc, 0, 7, 1)?, &mut second);
-    both_are_seen(rt, book.desk(), &mut first, &mut second);
-    let (totals, reports) = book.gather(vec![in alloc; first, second]?);
+/// The book has the reports of both threads.
+pub(super) fn has_both<R: Abort>(rt: &R, totals: Totals, reports: &[PieceReport]) {
     assert_eq!(rt; totals, BOTH);
     assert_eq!(rt; reports.len(), 2);
-    Ok(())
 }
 
 #[test]
 fn two_threads_post_and_look(rt: HostRuntime) -> Result<(), Fail> {
-    let blanks = (
-        Blank::new(MOST_SHARES),
-        Blank::new(MOST_SHARES),
-        Blank::new(MOST_SHARES),
-        Blank::new(MOST_SHARES),
-    );
-    look_side_by_side::<_, Brand, Brand, Brand, Brand>(&rt, rt.alloc(), blanks)
+    play(&rt, rt.alloc(), Scenario::PostAndLook)
 }

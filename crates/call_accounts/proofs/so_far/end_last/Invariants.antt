@@ -1,4 +1,4 @@
-use Rattle.std.proofs.Common.{◌≡◌, ◌≤◌, ◌++◌, take, drop, map, length}
+use Rattle.std.proofs.Common.{◌≡◌, take, drop, map, length}
 use Rattle.call_accounts.specs.SoFar.{ended_by}
 use Rattle.call_accounts.proofs.so_far.end_last.Given as goal
 

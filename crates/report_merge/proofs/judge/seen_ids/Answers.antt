@@ -1,3 +1,4 @@
+use Rattle.std.proofs.lemmas.Grind.{common_steps}
 use Rattle.std.proofs.Common.{◌≡◌, ℕ, ◌+◌, ◌||◌, false, true, length, get_or, set, drop, count_by, arith, sym, subst, ap, ◌∙◌}
 use Rattle.line_model.specs.Book.{ids_of}
 use Rattle.report_merge.specs.Seen.{is_among, double, double_with}
@@ -38,3 +39,9 @@ loop-report-preserved g c =
           subst (λ n. count_by (λ b. b) (set seen n true) ≡ i + 1) (sym same)
           (count-marked seen p.id (omega (arith, w.0, long)) off ∙ ap (λ n. n + 1) inv.count);
     }
+
+pub loop-report-init : goal.loop-report-init
+loop-report-init g c = grind (arith, common_steps) steps 4000000
+
+pub returns-then-index-clause-refused : goal.returns-then-index-clause-refused
+returns-then-index-clause-refused g c = grind (arith, common_steps) steps 4000000

@@ -1,3 +1,4 @@
+use Rattle.std.proofs.lemmas.Grind.{common_steps}
 use Rattle.std.proofs.Common.{◌≡◌, ◌∙◌, sum_by, sym, ap, arith}
 use Rattle.std.proofs.lemmas.List.{map-id}
 use Rattle.std.proofs.lemmas.Iterator.Adapters.{YieldsList-from_vec}
@@ -18,3 +19,6 @@ returns-clause-gathered g c =
       segments = inv.segments ∙ ap (sum_by (λ p. p.segments)) whole;
       few = omega (arith, inv.within, inv.few_segments, t.1, c.requires.few);
     }
+
+pub loop-report-preserved : goal.loop-report-preserved
+loop-report-preserved g c = grind (arith, common_steps) steps 2000000

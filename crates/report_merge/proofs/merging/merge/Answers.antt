@@ -1,4 +1,5 @@
-use Rattle.std.proofs.Common.{ℕ, List, IfOk, IfErr, Result, Ok, Err, sym, subst, rules, sum_by}
+use Rattle.std.proofs.lemmas.Grind.{common_steps, elements}
+use Rattle.std.proofs.Common.{ℕ, List, IfOk, IfErr, Result, Ok, Err, sym, subst, rules, sum_by, arith}
 use Rattle.line_model.specs.declared.finding.Finding.{Finding}
 use Rattle.line_model.specs.Records.{CallRecord, PieceReport, Report}
 use Rattle.line_model.specs.Book.{ids_of}
@@ -51,3 +52,12 @@ returns-clause-refused g c =
     err_then c.arrange.result _ (λ f. IsRefusal f c.args.pieces (ids_of c.args.reports.items))
     (λ f h. subst (λ e. IsRefusal e c.args.pieces (ids_of c.args.reports.items)) (sym h)
     (subst (λ ps. IsWhole c.args.pieces (ids_of ps)) c.as_slice.ensures.value c.in_ok-judge.ensures.whole).known) c.arrange.ensures.memory
+
+pub gather-requires : goal.gather-requires
+gather-requires g c = grind (arith, common_steps) steps 2000000
+
+pub arrange-requires : goal.arrange-requires
+arrange-requires g c = grind (arith, common_steps) steps 2000000
+
+pub returns-clause-plan : goal.returns-clause-plan
+returns-clause-plan g c = grind (arith, elements) steps 2000000

@@ -1,3 +1,4 @@
+use Rattle.std.proofs.lemmas.Grind.{elements}
 use Rattle.std.proofs.Common.{◌≡◌, ◌∙◌, ◌++◌, ◌∷◌, length-append, ap, subst, sym, List, [], length, true, arith, rules}
 use Rattle.std.specs.Vec.Iter.{into_iter_items}
 use Rattle.std.proofs.lemmas.List.{map-id}
@@ -75,3 +76,6 @@ pub returns-clause-few : goal.returns-clause-few
 returns-clause-few g c =
     let all = ap (λ (l : List Piece). length l) (appended g c) ∙ length-append (given_of c.args.interface.now c.loop-row.yielded) c.in_ok-open.field-0.pieces.items in
     omega (arith, all, c.in_ok-open.ensures.few c.args.interface.now c.loop-row.yielded c.loop-row.invariant.stands)
+
+pub loop-row-init-derived : goal.loop-row-init-derived
+loop-row-init-derived g c = grind (arith, elements) steps 2000000

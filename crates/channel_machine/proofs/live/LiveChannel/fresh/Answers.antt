@@ -1,4 +1,4 @@
-use Rattle.std.proofs.Common.{◌∙◌, ap, sym, subst, map, None, List, []}
+use Rattle.std.proofs.Common.{◌∙◌, sym, subst, map, None, List}
 use Rattle.line_model.specs.Records.{Item}
 use Rattle.line_model.specs.Bounds.{IsPiece}
 use Rattle.line_model.specs.Channels.{fresh}

@@ -1,4 +1,5 @@
-use Rattle.std.proofs.Common.{◌++◌, List, ℕ, subst, append_assoc}
+use Rattle.std.proofs.lemmas.Grind.{common_steps}
+use Rattle.std.proofs.Common.{◌++◌, List, ℕ, subst, append_assoc, arith}
 use Rattle.line_model.specs.Report.{account_line}
 use Rattle.report_merge.specs.Written.{Writes}
 use Rattle.report_merge.proofs.WrittenLemmas.{lines_more}
@@ -14,3 +15,6 @@ loop-account-preserved g c =
       lines_more account_line c.args.accounts.now i x t.0 c.loop-account-test.true c.account-item.is t.1,
       λ before text w. subst (λ l. Writes before (g.W.Sink.taken c.account.new.sink, g.W.Sink.failures c.account.new.sink) c.account.new.self l) (append_assoc text t.0 more) (c.account.ensures before _ (t.2 before text w)),
     )
+
+pub returns : goal.returns
+returns g c = grind (arith, common_steps) steps 2000000

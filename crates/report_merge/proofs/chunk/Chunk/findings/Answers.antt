@@ -1,3 +1,5 @@
+use Rattle.std.proofs.lemmas.Grind.{common_steps}
+use Rattle.std.proofs.Common.{arith}
 use Rattle.line_model.specs.Report.{finding_line}
 use Rattle.report_merge.specs.Written.{Writes}
 use Rattle.report_merge.proofs.WrittenLemmas.{turn}
@@ -10,3 +12,6 @@ loop-finding-preserved g c =
     (λ b text. Writes b (g.W.Sink.taken c.loop-finding.sink, g.W.Sink.failures c.loop-finding.sink) c.loop-finding.self text)
     (λ b text. Writes b (g.W.Sink.taken c.finding.new.sink, g.W.Sink.failures c.finding.new.sink) c.finding.new.self text)
     c.loop-finding-test.true c.loop-finding.invariant c.finding.ensures
+
+pub returns : goal.returns
+returns g c = grind (arith, common_steps) steps 2000000

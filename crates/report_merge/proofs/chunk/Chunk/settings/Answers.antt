@@ -1,3 +1,5 @@
+use Rattle.std.proofs.lemmas.Grind.{common_steps}
+use Rattle.std.proofs.Common.{arith}
 use Rattle.line_model.specs.Report.{setting_line}
 use Rattle.report_merge.specs.Written.{Writes}
 use Rattle.report_merge.proofs.WrittenLemmas.{turn}
@@ -10,3 +12,6 @@ loop-setting-preserved g c =
     (λ b text. Writes b (g.W.Sink.taken c.loop-setting.sink, g.W.Sink.failures c.loop-setting.sink) c.loop-setting.self text)
     (λ b text. Writes b (g.W.Sink.taken c.setting.new.sink, g.W.Sink.failures c.setting.new.sink) c.setting.new.self text)
     c.loop-setting-test.true c.loop-setting.invariant c.setting.ensures
+
+pub returns : goal.returns
+returns g c = grind (arith, common_steps) steps 2000000

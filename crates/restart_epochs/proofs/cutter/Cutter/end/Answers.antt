@@ -1,3 +1,4 @@
+use Rattle.std.proofs.lemmas.Grind.{common_steps, elements}
 use Rattle.std.proofs.Common.{◌≡◌, ◌∙◌, ap, ◌++◌, [], List, length, rules, None, arith}
 use Rattle.line_model.specs.Records.{Piece}
 use Rattle.restart_epochs.specs.OpenRows.{rows_of}
@@ -27,3 +28,36 @@ returns-clause-few g c i rows s =
     ∙ out-length inside.interface inside.epoch None (rows_of inside.open_rows) inside.given inside.open_rows.channels in
     let given : inside.given ≡ length (given_of i rows) = ap (λ v. v.given) c.self.view_is ∙ s.given in
     omega (arith, c.self.invariant.ids, open_channels, given)
+
+pub returns-then-is_err-clause-pieces : goal.returns-then-is_err-clause-pieces
+returns-then-is_err-clause-pieces g c = grind (arith, common_steps) steps 2000000
+
+pub returns-then-is_err-clause-line : goal.returns-then-is_err-clause-line
+returns-then-is_err-clause-line g c = grind (arith, common_steps) steps 2000000
+
+pub returns-then-is_err-clause-packets : goal.returns-then-is_err-clause-packets
+returns-then-is_err-clause-packets g c = grind (arith, common_steps) steps 2000000
+
+pub returns-then-is_err-clause-few : goal.returns-then-is_err-clause-few
+returns-then-is_err-clause-few g c = grind (arith, common_steps) steps 2000000
+
+pub returns-then-is_err-clause-refused : goal.returns-then-is_err-clause-refused
+returns-then-is_err-clause-refused g c = grind (arith, common_steps) steps 2000000
+
+pub same-rows : goal.same-rows
+same-rows g c = grind (arith, common_steps) steps 2000000
+
+pub give_out-requires-clause-room : goal.give_out-requires-clause-room
+give_out-requires-clause-room g c = grind (arith, elements) steps 2000000
+
+pub give_out-requires-clause-ids : goal.give_out-requires-clause-ids
+give_out-requires-clause-ids g c = grind (arith, common_steps) steps 2000000
+
+pub returns-clause-line : goal.returns-clause-line
+returns-clause-line g c = grind (arith, common_steps) steps 2000000
+
+pub returns-clause-packets : goal.returns-clause-packets
+returns-clause-packets g c = grind (arith, common_steps) steps 2000000
+
+pub returns-clause-refused : goal.returns-clause-refused
+returns-clause-refused g c = grind (arith, common_steps) steps 2000000

@@ -5,3 +5,6 @@ use Rattle.workers.proofs.handler.PostingHandlerShare.handle.Goals as goal
 
 pub loop-init : goal.loop-init
 loop-init g c = (subst (IsValue g.P.Plan.pieces) (sym c.in_ok-report.ensures.value) (value_is g.P.Plan.pieces c.args.piece.now c.requires.planned), refl)
+
+pub returns-in-Ok-clause-refused : goal.returns-in-Ok-clause-refused
+returns-in-Ok-clause-refused g c = tt

@@ -1,0 +1,63 @@
+-- The exit status of a scan.
+use Rattle.std.proofs.Common.{◌≡◌, ◌∙◌, sym, ap, refl, ℕ, zero, suc, ◌<◌, List, [], Option, Some, None, arith, take, append-nil, cond, ◌==◌}
+use Rattle.std.proofs.lemmas.Bool.Decides.{nat_tests}
+use Rattle.line_model.specs.Device.{with_more}
+use Rattle.line_model.specs.declared.totals.Summary.{Summary}
+use Rattle.line_model.specs.declared.fault.Fault.{Fault}
+use Rattle.line_model.specs.declared.fault.Fault.TheVariants.{Trace, Write}
+use Rattle.command_line.specs.Program.{IsStatus, fault_status, summary_status}
+use Rattle.piece_feed.specs.Readings.{IsRefusal, IsRefusedBy}
+use Rattle.trace_scan.specs.Scan.{IsReported, IsTaken}
+use Rattle.line_model.specs.Traces.{trace_report, trace_summary}
+
+with_more-nothing : (o : Option (List ℕ)) → o ≡ with_more o []
+with_more-nothing None = refl
+with_more-nothing (Some xs) = ap Some (sym (append-nil xs))
+
+some_status : (m : ℕ) → cond {A = ℕ} (suc m == 0) 0 1 ≡ 1
+some_status m = grind (arith, nat_tests)
+
+counted : (text : List ℕ) (left before after : Option (List ℕ)) (n status : ℕ) → IsReported text before after (trace_summary text) → n ≡ (trace_summary text).findings → status ≡ summary_status (trace_summary text) → IsStatus text left before after status
+counted text left before after zero status r n s = record {
+  clean = λ e. (r, sym n);
+  found = λ e. absurd (let is : status ≡ 0 = rw (← n) at s in omega (arith, is, e));
+  faulty = λ e. absurd (let is : status ≡ 0 = rw (← n) at s in omega (arith, is, e));
+  other = λ e. absurd (let is : status ≡ 0 = rw (← n) at s in omega (arith, is, e));
+  range = let is : status ≡ 0 = rw (← n) at s in omega (arith, is);
+}
+counted text left before after (suc m) status r n s = record {
+  clean = λ e. absurd (let is : status ≡ 1 = (rw (← n) at s) ∙ some_status m in omega (arith, is, e));
+  found = λ e. (r, omega (arith, n));
+  faulty = λ e. absurd (let is : status ≡ 1 = (rw (← n) at s) ∙ some_status m in omega (arith, is, e));
+  other = λ e. absurd (let is : status ≡ 1 = (rw (← n) at s) ∙ some_status m in omega (arith, is, e));
+  range = let is : status ≡ 1 = (rw (← n) at s) ∙ some_status m in omega (arith, is);
+}
+
+pub reported_status : (text : List ℕ) (left before after : Option (List ℕ)) (sums : Summary) (status : ℕ) → IsReported text before after sums → status ≡ summary_status sums → IsStatus text left before after status
+reported_status text left before after sums status r s =
+    let whole : IsReported text before after (trace_summary text) = record { sound = r.sound; taken = r.taken; counted = refl } in
+    counted text left before after (trace_summary text).findings status whole refl (s ∙ ap summary_status r.counted)
+
+other_status : (text : List ℕ) (left before after : Option (List ℕ)) (status : ℕ) → status ≡ 3 → ((n : ℕ) × (after ≡ with_more before (take n (trace_report text)))) → IsStatus text left before after status
+other_status text left before after status s part = record {
+  clean = λ e. absurd (omega (arith, e, s));
+  found = λ e. absurd (omega (arith, e, s));
+  faulty = λ e. absurd (omega (arith, e, s));
+  other = λ e. part;
+  range = omega (arith, s);
+}
+
+pub refused_status : (text : List ℕ) (left before after : Option (List ℕ)) (f : Fault) (status : ℕ) → IsRefusedBy IsRefusal text left f → IsTaken before after (trace_report text) f → status ≡ fault_status f → IsStatus text left before after status
+refused_status text left before after (Trace line kind) status r taken s = record {
+  clean = λ e. absurd (omega (arith, e, s));
+  found = λ e. absurd (omega (arith, e, s));
+  faulty = λ e. (record { line = line; kind = kind; refusal = r }, taken);
+  other = λ e. absurd (omega (arith, e, s));
+  range = omega (arith, s);
+}
+refused_status text left before after Write status r taken s = other_status text left before after status s taken
+refused_status text left before after _ status r taken s = other_status text left before after status s (0, taken ∙ with_more-nothing before)
+
+pub status_range : (f : Fault) (status : ℕ) → status ≡ fault_status f → status < 4
+status_range (Trace line kind) status s = omega (arith, s)
+status_range _ status s = omega (arith, s)

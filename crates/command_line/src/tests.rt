@@ -1,0 +1,100 @@
+//! The words of the program, its exit status, and where its help and its refusals go.
+
+mod runs;
+
+use crate::options::parse;
+use crate::tests::runs::run;
+use std::test::Fail;
+use test_devices::Cuts;
+
+/// A header.
+const HEADER: &str = "X25 1 MOD 8 WIN 2 SIZE 128 PVC 0 SVC 4\n";
+
+#[test]
+fn the_status_follows_the_scan(rt: HostRuntime) -> Result<(), Fail> {
+    let whole = Cuts::of_steps(usize::MAX, usize::MAX);
+    let unread = Cuts {
+        good_bytes: 0,
+        ..whole
+    };
+    let unwritten = Cuts {
+        good_writes: 0,
+        ..whole
+    };
+    for (rows, cuts, status, report, told) in [
+        ("", whole, 0, "P 0 -\nZ 0 0 0 0 0\n", ""),
+        ("1 T -\n", whole, 1, "F 1 T - 38\nP 0 -\nZ 1 1 0 0 0\n", ""),
+        ("5 T -\n5 T -\n", whole, 2, "", "x25scan: line 3: kind 25\n"),
+        ("", unread, 3, "", "x25scan: read failed\n"),
+        ("", unwritten, 3, "", "x25scan: write failed\n"),
+    ] {
+        let text = format!(in rt.alloc(); "{HEADER}{rows}")?;
+        for words in [
+            ["x25scan"].as_slice(),
+            ["x25scan", "--alone"].as_slice(),
+            ["x25scan", "--workers", "1"].as_slice(),
+            ["x25scan", "--alone", "--workers=64"].as_slice(),
+        ] {
+            let ran = run(&rt, rt.alloc(), words, text.as_bytes(), cuts);
+            assert_eq!(rt; ran.status, status, "at {rows}");
+            assert_eq!(rt; ran.taken.as_slice(), report.as_bytes());
+            assert_eq!(rt; ran.told.as_slice(), told.as_bytes());
+        }
+    }
+    Ok(())
+}
+
+#[test]
+fn the_words_choose_the_threads(rt: HostRuntime) -> Result<(), Fail> {
+    for (words, workers, alone) in [
+        (["x25scan"].as_slice(), 4, false),
+        (["x25scan", "--alone"].as_slice(), 4, true),
+        (["x25scan", "--workers", "1"].as_slice(), 1, false),
+        (["x25scan", "--workers=64", "--alone"].as_slice(), 64, true),
+    ] {
+        let Ok(options) = parse(rt.alloc(), words) else {
+            return Err(Fail::new("refused"));
+        };
+        assert_eq!(rt; options.workers, workers);
+        assert_eq!(rt; options.alone, alone);
+    }
+    Ok(())
+}
+
+#[test]
+fn other_words_are_usage(rt: HostRuntime) {
+    for words in [
+        ["x25scan", "--workers", "0"].as_slice(),
+        ["x25scan", "--workers", "65"].as_slice(),
+        ["x25scan", "--workers", "four"].as_slice(),
+        ["x25scan", "--workers"].as_slice(),
+        ["x25scan", "--alone", "--workers", "0"].as_slice(),
+        ["x25scan", "--threads"].as_slice(),
+        ["x25scan", "trace.txt"].as_slice(),
+    ] {
+        let ran = run(&rt, rt.alloc(), words, b"", Cuts::of_steps(1, 1));
+        assert_eq!(rt; ran.status, 64);
+        assert!(rt; ran.taken.is_empty());
+        assert!(rt; ran.told.starts_with(b"error: "));
+    }
+}
+
+#[test]
+fn help_goes_to_the_sink(rt: HostRuntime) {
+    for words in [
+        ["x25scan", "--help"].as_slice(),
+        ["x25scan", "-h"].as_slice(),
+        ["x25scan", "--alone", "--help"].as_slice(),
+    ] {
+        let ran = run(
+            &rt,
+            rt.alloc(),
+            words,
+            b"",
+            Cuts::of_steps(usize::MAX, usize::MAX),
+        );
+        assert_eq!(rt; ran.status, 0);
+        assert!(rt; ran.told.is_empty());
+        assert!(rt; ran.taken.starts_with(b"Reports what an observer"));
+    }
+}

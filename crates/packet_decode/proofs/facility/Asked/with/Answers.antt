@@ -1,0 +1,11 @@
+use Rattle.std.proofs.Common.{rules}
+use Rattle.packet_decode.proofs.facility.Asked.with.Goals as goal
+
+pub returns-in-1-clause-value : goal.returns-in-1-clause-value
+returns-in-1-clause-value c = search rules
+
+pub returns-then-is_bad_size-clause-value : goal.returns-then-is_bad_size-clause-value
+returns-then-is_bad_size-clause-value c = search rules
+
+pub returns-else-is_bad_size-clause-value : goal.returns-else-is_bad_size-clause-value
+returns-else-is_bad_size-clause-value c = search rules

@@ -1,0 +1,12 @@
+use Rattle.std.proofs.lemmas.Grind.{elements}
+use Rattle.std.proofs.Common.{arith}
+use Rattle.packet_decode.proofs.fields.accepting_fields.Goals as goal
+
+pub block_fields-requires-clause-block : goal.block_fields-requires-clause-block
+block_fields-requires-clause-block c = grind (arith, elements) steps 2000000
+
+pub returns-clause-fields : goal.returns-clause-fields
+returns-clause-fields c = grind (arith, elements) steps 2000000
+
+pub returns-clause-usable : goal.returns-clause-usable
+returns-clause-usable c = grind (arith, elements) steps 2000000

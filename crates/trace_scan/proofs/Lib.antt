@@ -1,0 +1,3 @@
+pub mod ReadingLemmas
+pub mod ScanLemmas
+pub mod ThreadedLemmas

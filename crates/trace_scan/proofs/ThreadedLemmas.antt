@@ -1,0 +1,84 @@
+-- Where reading and working stop, and what the workers' reports are.
+use Rattle.std.proofs.Common.{◌≡◌, ◌∙◌, sym, ap, subst, refl, ℕ, true, List, [], Option, Some, None, Result, Ok, Err, ◌⊎◌, inl, inr}
+use Rattle.std.specs.Prelude.{IfErr, IfSome, MatchResult, is_some, is_ok}
+use Rattle.line_model.specs.declared.fault.Fault.{Fault}
+use Rattle.line_model.specs.declared.fault.Fault.TheVariants.{Memory, Trace, Read as ReadFailed}
+use Rattle.piece_feed.specs.declared.reading.Read.{Read}
+use Rattle.piece_feed.specs.Readings.{IsReadingFault}
+use Rattle.piece_feed.specs.Readings.{IsOutcome}
+use Rattle.trace_scan.specs.Threaded.{IsStopFault, IsStopped}
+use Rattle.std.specs.Option.{option_map}
+use Rattle.line_model.specs.declared.interface.Interface.{Interface}
+use Rattle.line_model.specs.declared.totals.Totals.{Totals}
+use Rattle.line_model.specs.Records.{Piece}
+use Rattle.line_model.specs.Text.{head, rows}
+use Rattle.line_model.specs.Traces.{trace_plan}
+use Rattle.line_model.specs.Plans.{plan, channel_totals}
+use Rattle.line_model.specs.Book.{KnownPlan, AreOf}
+use Rattle.line_model.proofs.Posts.{whole}
+use Rattle.line_model.proofs.BookTotals.{totals_law}
+use Rattle.trace_text.proofs.RowsOfText.{text_rises}
+use Rattle.report_merge.specs.Merged.{IsOfWalk}
+use Rattle.report_merge.proofs.Posted.{permuted_posts}
+use Rattle.workers.specs.declared.gathering.Gathered.{Gathered}
+use Rattle.workers.specs.Gathers.{IsWhole}
+use Rattle.piece_feed.specs.Readings.{IsReadOf}
+use Rattle.trace_scan.specs.Threaded.{trace_totals}
+use Rattle.trace_scan.proofs.ScanLemmas.{memory_refused}
+
+reading_stops : (f : Fault) → IsReadingFault f → IsStopFault f
+reading_stops Memory h = tt
+reading_stops (Trace line kind) h = tt
+reading_stops ReadFailed h = tt
+reading_stops _ h = absurd h
+
+memory_stops : (f : Fault) → f ≡ Memory → IsStopFault f
+memory_stops f m = subst IsStopFault (sym m) tt
+
+worker_stopped : {A : Type 0} (o : Option (Result (Read A) Fault)) (before after : Option (List ℕ)) (failed : Type 0) (fed : ℕ) (f : Fault) → IfSome o (λ r. is_ok r ≡ true) → IsOutcome before after failed fed o → f ≡ Memory → IsStopped before after f
+worker_stopped None before after failed fed f k h m = absurd h
+worker_stopped (Some (Err e)) before after failed fed f k h m = absurd (cc)
+worker_stopped (Some (Ok read)) before after failed fed f k h m = record {
+  kinds = memory_stops f m;
+  refused = λ text told. memory_refused text after f m (h.told text told).1;
+}
+
+pub was_read : {A : Type 0} (o : Option (Result (Read A) Fault)) (before after : Option (List ℕ)) (failed : Type 0) (fed : ℕ) → IsOutcome before after failed fed o → is_some o ≡ true
+was_read None before after failed fed h = absurd h
+was_read (Some r) before after failed fed h = refl
+
+pub stopped : {T A W : Type 0} (r : Result T Fault) (o : Option (Result (Read A) Fault)) (g : Result W Fault) (before after : Option (List ℕ)) (failed : Type 0) (fed : ℕ) (made : W → Type 0)
+    → IfErr r (λ f. (o ≡ Some (Err f)) ⊎ (IfSome o (λ p. is_ok p ≡ true) × (g ≡ Err f))) → IsOutcome before after failed fed o → MatchResult g made (λ f. f ≡ Memory)
+    → IfErr r (IsStopped before after)
+stopped (Ok t) o g before after failed fed made first h m = tt
+stopped (Err f) o g before after failed fed made (inl e) h m =
+    let read = subst (λ p. IsOutcome before after failed fed p) e h in
+    record { kinds = reading_stops f read.kinds; refused = λ text told. read.refused text told }
+stopped (Err f) o g before after failed fed made (inr w) h m =
+    worker_stopped o before after failed fed f w.0 h (subst (λ q. MatchResult q made (λ f. f ≡ Memory)) w.1 m)
+
+-- ---- the plan of the text that was told
+
+known_plan : (text : List ℕ) (i : Interface) (before : Option (List ℕ)) (known : KnownPlan) → head text ≡ Some i → before ≡ Some text → known ≡ option_map trace_plan before → known ≡ Some (plan i (rows text))
+known_plan text i before known h told p =
+    p ∙ ap (option_map trace_plan) told ∙ ap (λ o. Some (elim o as (λ _. List Piece) [ None ↦ [] | Some j ↦ plan j (rows text) ])) h
+
+pub of_walk : {A : Type 0} (known : KnownPlan) (workers : ℕ) (text : List ℕ) (before : Option (List ℕ)) (read : Read A) (g : Gathered A)
+    → known ≡ option_map trace_plan before → before ≡ Some text → IsReadOf text read.pieces read → IsWhole known workers read.pieces g
+    → IsOfWalk read.interface (rows text) g.reports.items read.line.items read.packets read.pieces
+of_walk known workers text before read g p told r w = record {
+  rising = text_rises text r.sound;
+  values = permuted_posts (plan read.interface (rows text)) g.reports.items
+      (subst (λ q. AreOf q g.reports.items) (known_plan text read.interface before known r.header told p) w.posted) (w.number ∙ r.cut.all);
+  line_is = r.cut.line;
+  packets_are = r.cut.packets;
+  pieces_are = r.cut.all;
+}
+
+pub totals_are : {A : Type 0} (known : KnownPlan) (workers : ℕ) (text : List ℕ) (before : Option (List ℕ)) (read : Read A) (g : Gathered A)
+    → known ≡ option_map trace_plan before → before ≡ Some text → IsReadOf text read.pieces read → IsWhole known workers read.pieces g → g.totals ≡ trace_totals text
+totals_are known workers text before read g p told r w =
+    w.sums
+    ∙ whole (plan read.interface (rows text)) g.reports.items (subst (λ q. AreOf q g.reports.items) (known_plan text read.interface before known r.header told p) w.posted) (w.number ∙ r.cut.all)
+    ∙ totals_law read.interface (rows text)
+    ∙ sym (ap (λ o. elim o as (λ _. Totals) [ None ↦ record { posts = 0; findings = 0; octets = 0; segments = 0 } | Some i ↦ channel_totals i (rows text) ]) r.header)

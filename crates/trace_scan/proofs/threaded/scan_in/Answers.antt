@@ -1,0 +1,35 @@
+use Rattle.std.proofs.Common.{◌∙◌, ap, refl}
+use Rattle.line_model.specs.Report.{text_of}
+use Rattle.line_model.specs.Text.{rows}
+use Rattle.line_model.specs.Traces.{trace_report}
+use Rattle.trace_scan.proofs.ScanLemmas.{all_reported, memory_refused, report_rows, write_refused, write_taken}
+use Rattle.trace_scan.proofs.ThreadedLemmas.{of_walk, totals_are}
+use Rattle.trace_scan.proofs.threaded.scan_in.Goals as goal
+
+pub returns-in-Err-merge-clause-refused : goal.returns-in-Err-merge-clause-refused
+returns-in-Err-merge-clause-refused g c text told =
+    memory_refused text (g.S.Source.left c.work_on_trace.new.source) c.in-Err-merge.fault
+    (c.in-Err-merge.ensures.plan c.in-Ok.together.read.interface (rows text) (of_walk g.P.Plan.pieces c.args.workers text (g.S.Source.left c.args.source.now) c.in-Ok.together.read c.in-Ok.together.gathered c.requires.plan told (c.in-Ok.ensures.together.told text told).0 c.in-Ok.ensures.together.whole)) (c.in-Ok.ensures.together.told text told).1
+
+pub returns-in-Ok-write_report-clause-reported : goal.returns-in-Ok-write_report-clause-reported
+returns-in-Ok-write_report-clause-reported g c text told =
+    let read = (c.in-Ok.ensures.together.told text told).0 in
+    let reported = all_reported text c.in-Ok.together.read.interface (rows text) c.in-Ok-merge.report (g.K.Sink.taken c.args.sink.now) (g.K.Sink.taken c.write_report.new.sink)
+    read.sound read.header refl (c.in-Ok-merge.ensures.report c.in-Ok.together.read.interface (rows text) (of_walk g.P.Plan.pieces c.args.workers text (g.S.Source.left c.args.source.now) c.in-Ok.together.read c.in-Ok.together.gathered c.requires.plan told (c.in-Ok.ensures.together.told text told).0 c.in-Ok.ensures.together.whole)) c.in-Ok-write_report.ensures.ok in
+    record { sound = reported.sound; taken = reported.taken; counted = ap (λ r. r.summary) c.report.view_is ∙ reported.counted }
+
+pub returns-in-Ok-write_report-clause-totals : goal.returns-in-Ok-write_report-clause-totals
+returns-in-Ok-write_report-clause-totals g c text told =
+    totals_are g.P.Plan.pieces c.args.workers text (g.S.Source.left c.args.source.now) c.in-Ok.together.read c.in-Ok.together.gathered c.requires.plan told
+    (c.in-Ok.ensures.together.told text told).0 c.in-Ok.ensures.together.whole
+
+pub returns-in-Err-write_report-clause-refused : goal.returns-in-Err-write_report-clause-refused
+returns-in-Err-write_report-clause-refused g c text told =
+    let read = c.in-Ok.ensures.together.told text told in
+    write_refused text (g.S.Source.left c.work_on_trace.new.source) c.in-Err-write_report.fault c.in-Err-write_report.ensures.write read.1 read.0.sound
+
+pub returns-in-Err-write_report-clause-taken : goal.returns-in-Err-write_report-clause-taken
+returns-in-Err-write_report-clause-taken g c text told =
+    let read = (c.in-Ok.ensures.together.told text told).0 in
+    write_taken (g.K.Sink.taken c.args.sink.now) (g.K.Sink.taken c.write_report.new.sink) (trace_report text) (text_of c.in-Ok-merge.report) c.in-Err-write_report.fault c.in-Err-write_report.ensures.write
+    (ap text_of (c.in-Ok-merge.ensures.report c.in-Ok.together.read.interface (rows text) (of_walk g.P.Plan.pieces c.args.workers text (g.S.Source.left c.args.source.now) c.in-Ok.together.read c.in-Ok.together.gathered c.requires.plan told (c.in-Ok.ensures.together.told text told).0 c.in-Ok.ensures.together.whole)) ∙ report_rows text c.in-Ok.together.read.interface (rows text) read.header refl) c.in-Err-write_report.ensures.part

@@ -1,0 +1,10 @@
+//! The scan of a trace, in one thread or with workers: from a source's bytes to the report that a sink takes.
+#![tactic(auto)]
+
+pub mod gate;
+mod observing;
+mod reading;
+pub mod scan;
+#[cfg(test)]
+mod tests;
+pub mod threaded;

@@ -1,0 +1,48 @@
+//! A scan of one thread.
+
+ghost use Rattle.std.specs.Prelude.{◌≡◌, ◌≢◌, ℕ, ◌+◌, ◌<◌, ◌≤◌, ◌^◌, List, Some, Err, IfOk, IfErr};
+ghost use Rattle.piece_feed.specs.Readings.{IsRefusal, IsRefusedBy};
+ghost use Rattle.trace_scan.specs.Scan.{IsReported, IsScanFault, IsTaken};
+ghost use Rattle.line_model.specs.Traces.{trace_report};
+
+use crate::observing::observe;
+use crate::reading::read_rows;
+use line_model::device::{Sink, Source};
+use line_model::fault::Fault;
+use line_model::totals::Summary;
+use report_merge::text::write_report;
+use std::alloc::Allocator;
+
+/// Walks a trace in one thread, writes what is found once the whole text was accepted, and answers the report's last
+/// line as numbers. Refuses as reading does, and where the sink fails.
+pub fn scan_alone<A: Allocator + Copy, S: Source, K: Sink>(
+    alloc: A,
+    source: &mut S,
+    sink: &mut K,
+) -> Result<Summary, Fault>
+    // Of a text without a fault the sink took exactly the report.
+    ensures reported { (text : List ℕ) → S.left source.old ≡ Some text → IfOk result (IsReported text (K.taken sink.old) (K.taken sink.new)) }
+    // A refusal is by the bytes that were given.
+    ensures refused { (text : List ℕ) → S.left source.old ≡ Some text → IfErr result (IsRefusedBy IsRefusal text (S.left source.new)) }
+    ensures kinds { IfErr result IsScanFault }
+    ensures read_failed { result ≡ Err Fault.Read → S.failures source.old < S.failures source.new }
+    ensures write_failed { result ≡ Err Fault.Write → K.failures sink.old < K.failures sink.new }
+    // The sink is not asked before the whole text was accepted.
+    ensures unwritten { IfErr result (λ fault. fault ≢ Fault.Write → sink.new ≡ sink.old) }
+    ensures taken { (text : List ℕ) → S.left source.old ≡ Some text → IfErr result (IsTaken (K.taken sink.old) (K.taken sink.new) (trace_report text)) }
+    ensures asked { S.calls source.new ≤ S.calls source.old + (2 ^ 30 + 1) }
+{
+    let mut rows = Vec::new(alloc);
+    let interface = match read_rows(alloc, source, &mut rows) {
+        Ok(interface) => interface,
+        Err(fault) => return Err(fault),
+    };
+    let report = match observe(alloc, &interface, rows) {
+        Ok(report) => report,
+        Err(fault) => return Err(fault),
+    };
+    match write_report(&report, sink) {
+        Ok(()) => Ok(report.summary),
+        Err(fault) => Err(fault),
+    }
+}

@@ -1,0 +1,224 @@
+//! A scan with workers.
+
+ghost use Rattle.std.specs.Prelude.{◌≡◌, ◌≢◌, ℕ, ◌+◌, ◌<◌, ◌≤◌, ◌⊎◌, ◌^◌, List, Some, Ok, Err, IfOk, IfErr, IfSome, is_some, is_ok, true, vec_len};
+ghost use Rattle.std.specs.Option.{option_map};
+ghost use Rattle.line_model.specs.Traces.{trace_plan, trace_report};
+ghost use Rattle.line_model.specs.Book.{sum_of};
+ghost use Rattle.piece_feed.specs.Readings.{IsRefusal, IsRefusedBy};
+ghost use Rattle.trace_scan.specs.Scan.{IsReported, IsTaken};
+ghost use Rattle.trace_scan.specs.Threaded.{IsTogether, IsStopped, trace_totals};
+
+use line_model::device::{Sink, Source};
+use line_model::fault::Fault;
+use line_model::piece::Plan;
+use line_model::totals::{Summary, Totals};
+use piece_feed::{Read, Reading};
+use report_merge::merging::merge;
+use report_merge::text::write_report;
+use std::alloc::{Allocator, Global};
+use std::marker::Brand;
+use std::sync::Wait;
+use std::thread::Threads;
+use std::time::Clock;
+use workers::{Gate, Gathered, Worked, work_through};
+
+/// What the reading thread read, and what the workers made of its pieces.
+#[derive(Drop)]
+struct Together<A: Allocator = Global> {
+    read: Read<A>,
+    gathered: Gathered<A>,
+}
+
+/// The source that comes back is the one that was lent.
+fn take_back<S>(_source: &mut S)
+    ensures { _source.new ≡ _source.old }
+{}
+
+/// The reading thread's fault stands before that of a worker.
+fn both<A: Allocator>(
+    outcome: Option<Result<Read<A>, Fault>>,
+    gathered: Result<Gathered<A>, Fault>,
+) -> Result<Together<A>, Fault>
+    requires some { is_some outcome ≡ true }
+    ensures both { IfOk result (λ t. (outcome ≡ Some (Ok t.read)) × (gathered ≡ Ok t.gathered)) }
+    ensures first { IfErr result (λ f. (outcome ≡ Some (Err f)) ⊎ (IfSome outcome (λ o. is_ok o ≡ true) × (gathered ≡ Err f))) }
+{
+    match outcome {
+        Some(Ok(read)) => match gathered {
+            Ok(gathered) => Ok(Together { read, gathered }),
+            Err(fault) => Err(fault),
+        },
+        Some(Err(fault)) => Err(fault),
+        None => unreachable!(),
+    }
+}
+
+/// Reads a trace and works through its pieces.
+fn work_on_trace<
+    P: Plan + Send + Sync,
+    A: Allocator + Copy + Send + Sync,
+    S: Source,
+    G: Gate,
+    R: Threads + Wait + Clock + Sync,
+>(
+    rt: &R,
+    alloc: A,
+    source: &mut S,
+    workers: usize,
+    capacity: usize,
+    gate: &G,
+) -> Result<Together<A>, Fault>
+    requires plan { P.pieces ≡ option_map trace_plan (S.left source.old) }
+    requires workers { (0 < workers) × (workers ≤ 64) }
+    requires capacity { (0 < capacity) × (capacity ≤ 4096) }
+    ensures together { IfOk result (IsTogether P.pieces workers (S.left source.old) (S.left source.new)) }
+    ensures stopped { IfErr result (IsStopped (S.left source.old) (S.left source.new)) }
+    ensures read_failed { result ≡ Err Fault.Read → S.failures source.old < S.failures source.new }
+    ensures start { result ≡ Err Fault.Start → source.new ≡ source.old }
+    ensures asked { S.calls source.new ≤ S.calls source.old + (2 ^ 30 + 1) }
+{
+    let reading = Reading {
+        source,
+        threads: rt,
+        alloc,
+        outcome: None,
+    };
+    match work_through::<P, A, G, R, Reading<A, S, R>>(
+        rt, alloc, workers, capacity, gate, reading,
+    ) {
+        Ok(worked) => {
+            let Worked { task, gathered } = worked;
+            let Reading {
+                source,
+                outcome,
+                ..
+            } = task;
+            take_back(source);
+            both(outcome, gathered)
+        }
+        Err((reading, fault)) => {
+            let Reading {
+                source,
+                outcome,
+                ..
+            } = reading;
+            take_back(source);
+            drop(outcome);
+            Err(fault)
+        }
+    }
+}
+
+/// What a scan with workers answers: the last line of the report, the totals over the channels, and each worker's share
+/// of them.
+#[derive(Drop)]
+pub struct Scan<A: Allocator = Global> {
+    /// The report's last line.
+    pub summary: Summary,
+    /// The sums over all channels.
+    pub totals: Totals,
+    /// The sums of each worker's posts.
+    pub shares: Vec<Totals, A>,
+}
+
+/// As `scan_with`, under the plan of the text that the source tells.
+fn scan_in<
+    P: Plan + Send + Sync,
+    A: Allocator + Copy + Send + Sync,
+    S: Source,
+    K: Sink,
+    G: Gate,
+    R: Threads + Wait + Clock + Sync,
+>(
+    rt: &R,
+    alloc: A,
+    source: &mut S,
+    sink: &mut K,
+    workers: usize,
+    capacity: usize,
+    gate: &G,
+) -> Result<Scan<A>, Fault>
+    requires plan { P.pieces ≡ option_map trace_plan (S.left source.old) }
+    requires workers { (0 < workers) × (workers ≤ 64) }
+    requires capacity { (0 < capacity) × (capacity ≤ 4096) }
+    // Of a text without a fault the sink took exactly the report of the one observer.
+    ensures reported { (text : List ℕ) → S.left source.old ≡ Some text → IfOk result (λ scan. IsReported text (K.taken sink.old) (K.taken sink.new) scan.summary) }
+    // The totals are that observer's over the channels.
+    ensures totals { (text : List ℕ) → S.left source.old ≡ Some text → IfOk result (λ scan. scan.totals ≡ trace_totals text) }
+    ensures shares { IfOk result (λ scan. (vec_len scan.shares ≡ workers) × (scan.totals ≡ sum_of scan.shares.items)) }
+    // A refusal is by the bytes that were given.
+    ensures refused { (text : List ℕ) → S.left source.old ≡ Some text → IfErr result (IsRefusedBy IsRefusal text (S.left source.new)) }
+    ensures read_failed { result ≡ Err Fault.Read → S.failures source.old < S.failures source.new }
+    ensures write_failed { result ≡ Err Fault.Write → K.failures sink.old < K.failures sink.new }
+    // Where no thread was made the source was not asked.
+    ensures start { result ≡ Err Fault.Start → source.new ≡ source.old }
+    // The sink is not asked before the whole text was accepted and all workers were joined.
+    ensures unwritten { IfErr result (λ fault. fault ≢ Fault.Write → sink.new ≡ sink.old) }
+    ensures taken { (text : List ℕ) → S.left source.old ≡ Some text → IfErr result (IsTaken (K.taken sink.old) (K.taken sink.new) (trace_report text)) }
+    ensures asked { S.calls source.new ≤ S.calls source.old + (2 ^ 30 + 1) }
+{
+    let together = match work_on_trace::<P, A, S, G, R>(
+        rt, alloc, source, workers, capacity, gate,
+    ) {
+        Ok(together) => together,
+        Err(fault) => return Err(fault),
+    };
+    let Together { read, gathered } = together;
+    let Gathered {
+        totals,
+        shares,
+        reports,
+    } = gathered;
+    let report = match merge(alloc, reports, read.line, read.packets, read.pieces) {
+        Ok(report) => report,
+        Err(fault) => return Err(fault),
+    };
+    match write_report(&report, sink) {
+        Ok(()) => Ok(Scan {
+            summary: report.summary,
+            totals,
+            shares,
+        }),
+        Err(fault) => Err(fault),
+    }
+}
+
+/// Reads a trace, and has 1 to 64 workers run its pieces while it is read, over a queue of 1 to 4,096 pieces. Once the
+/// whole text was accepted and all workers were joined, it writes what the one observer finds who walks the trace packet
+/// by packet. Refuses where a thread or memory was refused, as reading does, where a worker wanted memory, and where the
+/// sink fails, in this order.
+pub fn scan_with<
+    A: Allocator + Copy + Send + Sync,
+    S: Source,
+    K: Sink,
+    G: Gate,
+    R: Threads + Wait + Clock + Sync,
+>(
+    rt: &R,
+    alloc: A,
+    source: &mut S,
+    sink: &mut K,
+    workers: usize,
+    capacity: usize,
+    gate: &G,
+) -> Result<Scan<A>, Fault>
+    requires workers { (0 < workers) × (workers ≤ 64) }
+    requires capacity { (0 < capacity) × (capacity ≤ 4096) }
+    // Of a text without a fault the sink took exactly the report of the one observer.
+    ensures reported { (text : List ℕ) → S.left source.old ≡ Some text → IfOk result (λ scan. IsReported text (K.taken sink.old) (K.taken sink.new) scan.summary) }
+    // The totals are that observer's over the channels.
+    ensures totals { (text : List ℕ) → S.left source.old ≡ Some text → IfOk result (λ scan. scan.totals ≡ trace_totals text) }
+    ensures shares { IfOk result (λ scan. (vec_len scan.shares ≡ workers) × (scan.totals ≡ sum_of scan.shares.items)) }
+    // A refusal is by the bytes that were given.
+    ensures refused { (text : List ℕ) → S.left source.old ≡ Some text → IfErr result (IsRefusedBy IsRefusal text (S.left source.new)) }
+    ensures read_failed { result ≡ Err Fault.Read → S.failures source.old < S.failures source.new }
+    ensures write_failed { result ≡ Err Fault.Write → K.failures sink.old < K.failures sink.new }
+    // Where no thread was made the source was not asked.
+    ensures start { result ≡ Err Fault.Start → source.new ≡ source.old }
+    // The sink is not asked before the whole text was accepted and all workers were joined.
+    ensures unwritten { IfErr result (λ fault. fault ≢ Fault.Write → sink.new ≡ sink.old) }
+    ensures taken { (text : List ℕ) → S.left source.old ≡ Some text → IfErr result (IsTaken (K.taken sink.old) (K.taken sink.new) (trace_report text)) }
+    ensures asked { S.calls source.new ≤ S.calls source.old + (2 ^ 30 + 1) }
+{
+    scan_in::<Brand, A, S, K, G, R>(rt, alloc, source, sink, workers, capacity, gate)
+}

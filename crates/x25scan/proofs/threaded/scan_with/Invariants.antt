@@ -1,6 +1,0 @@
-use Rattle.std.specs.Option.{option_map}
-use Rattle.line_model.specs.Traces.{trace_plan}
-use Rattle.x25scan.proofs.threaded.scan_with.Given as goal
-
-abbrev pub ghosts-scan_in : goal.ghosts-scan_in
-ghosts-scan_in g a = record { pieces = option_map trace_plan (g.S.Source.left a.source.now) }

@@ -1,4 +1,0 @@
-pub mod Options
-pub mod Program
-pub mod Scan
-pub mod Threaded

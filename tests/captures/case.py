@@ -1,0 +1,22 @@
+"""A case: a capture, the words it is read with, and what its trace and report have to say."""
+from dataclasses import dataclass, field
+
+
+@dataclass
+class Case:
+    """The rows are the header and the rows of the trace, without its comments; the report is that on the trace."""
+
+    name: str
+    octets: bytes
+    rows: str = ""
+    words: str = ""
+    status: int = 0
+    report: str = ""
+    ending: str = "pcap"
+    # Where tshark reads the file as it is, its dissection is compared too; the words are what it needs for that.
+    tshark: list | None = field(default_factory=list)
+
+
+def text(lines):
+    """The lines of a text that is indented as it stands in a case."""
+    return "".join(line.strip() + "\n" for line in lines.strip().splitlines())

@@ -1,0 +1,13 @@
+"""All cases, topic by topic."""
+import damage_cases
+import header_cases
+import lapb_cases
+import link_cases
+import tcp_cases
+import xot_cases
+
+TOPICS = (link_cases, tcp_cases, xot_cases, lapb_cases, damage_cases, header_cases)
+
+
+def all_cases():
+    return [case for topic in TOPICS for case in topic.cases()]

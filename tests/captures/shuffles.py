@@ -1,0 +1,155 @@
+"""Random connections and links, recorded badly: what is read is what was sent, or a first part of it."""
+import random
+import unittest
+
+from forms import Talk, information, ready, xot
+from x25trace_lib.frames import Direction, Frame
+from x25trace_lib.packets import Side
+from x25trace_lib.reading import Choices, Reading
+from x25trace_lib.told import Ledger, Reason
+
+ROUNDS = 150
+RAW_IP = 101
+LAPB_WITH_DIRECTION = 207
+
+
+def read(link, recorded):
+    """The packets of frames that were recorded, and the ledger."""
+    ledger = Ledger()
+    reading = Reading(ledger, Choices())
+    frames = (Frame(number, link, octets, len(octets), Direction.UNKNOWN) for number, octets in enumerate(recorded, 1))
+    return [packet for _, packet in reading.packets(frames)], ledger
+
+
+class Connections(unittest.TestCase):
+    """Packets in both directions, split into segments anyhow, each of which acknowledges what came before it."""
+
+    def sent(self, source):
+        """Segments; the packets of both sides; and before each packet how many of the other side were acknowledged."""
+        talk = Talk(first=(source.randrange(2**32), source.randrange(2**32)))
+        segments, packets, answered = talk.open(), ([], []), ([], [])
+        for _ in range(source.randrange(1, 12)):
+            side = source.randrange(2)
+            octets = b""
+            for _ in range(source.randrange(1, 4)):
+                packet = "100100" + source.randbytes(source.randrange(30)).hex()
+                octets += xot(packet)
+                packets[side].append(bytes.fromhex(packet))
+                answered[side].append(len(packets[1 - side]))
+            while octets:
+                many = source.choice((1, 3, 10, 100))
+                segments.append(talk.segment(side, octets[:many]))
+                octets = octets[many:]
+        return segments, packets, answered
+
+    def judge(self, found, packets, answered, whole):
+        """Each side's packets are the first ones it sent, and none comes before those that it answers."""
+        seen = [0, 0]
+        for packet in found:
+            side = 0 if packet.side is Side.T else 1
+            self.assertEqual(packet.octets, packets[side][seen[side]])
+            self.assertGreaterEqual(seen[1 - side], answered[side][seen[side]])
+            seen[side] += 1
+        if whole:
+            self.assertEqual(seen, [len(packets[0]), len(packets[1])])
+
+    def test_order_and_repeats(self):
+        for seed in range(ROUNDS):
+            source = random.Random(seed)
+            segments, packets, answered = self.sent(source)
+            recorded = segments[:3] + [one for one in segments[3:] for _ in range(source.choice((1, 1, 1, 2)))]
+            for at in range(3, len(recorded) - 1):
+                if source.random() < 0.3:
+                    recorded[at], recorded[at + 1] = recorded[at + 1], recorded[at]
+            with self.subTest(seed=seed):
+                found, ledger = read(RAW_IP, recorded)
+                self.judge(found, packets, answered, True)
+                self.assertTrue(ledger.whole)
+
+    def test_losses(self):
+        for seed in range(ROUNDS):
+            source = random.Random(seed)
+            segments, packets, answered = self.sent(source)
+            recorded = segments[:3] + [one for one in segments[3:] if source.random() < 0.8]
+            with self.subTest(seed=seed):
+                found, ledger = read(RAW_IP, recorded)
+                self.judge(found, packets, answered, len(recorded) == len(segments))
+
+
+class Link:
+    """A DTE that sends packets by LAPB to a DCE that rejects what is out of sequence, and a recorder between them."""
+
+    def __init__(self, source, modulus, many):
+        self.source, self.modulus = source, modulus
+        self.packets = [f"1001{at >> 8:02X}{at & 255:02X}00" for at in range(many)]
+        # SABM or SABME and UA: without them a first N(S) may be a repeated one.
+        self.recorded = [b"\1\1" + (b"\x3f" if modulus == 8 else b"\x7f"), b"\0\1\x73"]
+        self.unrecorded = set()
+        self.base = self.following = self.taken = 0
+        self.rejected = False
+
+    def send(self, lost, unrecorded):
+        """The next frame of the window goes out; it may be lost behind the recorder, or the recorder may miss it."""
+        window = self.modulus - 1
+        if self.following == min(self.base + window, len(self.packets)):
+            self.following = self.base
+        at = self.following
+        self.following += 1
+        frame = information("T", at % self.modulus, 0, self.packets[at], self.modulus == 128)
+        received = self.source.random() >= lost
+        if received and at == self.taken and self.source.random() < unrecorded:
+            self.unrecorded.add(at)
+        else:
+            self.unrecorded.discard(at)
+            self.recorded.append(b"\1" + frame)
+        if received:
+            self.receive(at)
+
+    def receive(self, at):
+        if at == self.taken:
+            self.taken += 1
+            self.rejected = False
+            if self.source.random() < 0.5:
+                self.answer(False)
+        elif not self.rejected:
+            self.rejected = True
+            self.answer(True)
+
+    def answer(self, reject):
+        self.recorded.append(b"\0" + ready("N", self.taken % self.modulus, reject, self.modulus == 128))
+        self.base = self.taken
+        if reject:
+            self.following = self.base
+
+    def run(self, lost, unrecorded=0.0):
+        while self.taken < len(self.packets):
+            self.send(lost, unrecorded)
+        self.answer(False)
+        return self
+
+
+class Links(unittest.TestCase):
+    def read(self, link):
+        ledger = Ledger()
+        reading = Reading(ledger, Choices())
+        frames = (Frame(number, LAPB_WITH_DIRECTION, octets, len(octets), Direction.UNKNOWN)
+                  for number, octets in enumerate(link.recorded, 1))
+        found = [packet for _, packet in reading.packets(frames)]
+        self.assertTrue(all(packet.side is Side.T for packet in found))
+        return [packet.octets.hex().upper() for packet in found], ledger
+
+    def test_sent_again(self):
+        for seed in range(ROUNDS):
+            with self.subTest(seed=seed):
+                link = Link(random.Random(seed), 8 if seed % 2 else 128, 60).run(0.2)
+                found, ledger = self.read(link)
+                self.assertEqual(found, link.packets)
+                self.assertTrue(ledger.whole)
+
+    def test_not_recorded(self):
+        for seed in range(ROUNDS):
+            with self.subTest(seed=seed):
+                link = Link(random.Random(seed), 8 if seed % 2 else 128, 60).run(0.0, 0.1)
+                found, ledger = self.read(link)
+                self.assertEqual(found, [packet for at, packet in enumerate(link.packets) if at not in link.unrecorded])
+                self.assertEqual(ledger.counts[Reason.LOST_FRAME], len(link.unrecorded))

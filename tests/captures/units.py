@@ -1,0 +1,117 @@
+"""Tests of parts that no small capture reaches."""
+import unittest
+
+from x25trace_lib.channels import assign
+from x25trace_lib.estimate import Header
+from x25trace_lib.internet import Segment
+from x25trace_lib.packets import Packet, Side, Type
+from x25trace_lib.spool import Spool
+from x25trace_lib.tcp import MOST_OF_ONE, Budget, Connection
+from x25trace_lib.told import Ledger, Reason
+from x25trace_lib.xot import Circuit
+
+ENDS = (b"\1\2\3\4\4\1", b"\1\2\3\5\7\xce")
+
+
+def segment(sequence, payload, frame=1):
+    return Segment(frame, *ENDS, sequence, None, False, False, False, payload, 0)
+
+
+class Numbers(unittest.TestCase):
+    """Rows are numbered by frames while these are at most 999,999,999, else they count from 1."""
+
+    def lines(self, frames, last):
+        spool = Spool(last)
+        for frame in frames:
+            spool.add(Packet(frame, Side.T, b"\x10\x01\x0f"), 0)
+        lines = list(spool.replay([]))
+        spool.close()
+        return lines
+
+    def test_by_frames(self):
+        want = ["8 T 10010F\n", "# 9 is of frame 8\n", "9 T 10010F\n", "10 T 10010F\n"]
+        self.assertEqual(self.lines([8, 8, 10], 10), want)
+
+    def test_too_many_frames(self):
+        want = ["# 1 is of frame 8\n", "1 T 10010F\n", "# 2 is of frame 8\n", "2 T 10010F\n", "# 3 is of frame 11\n",
+                "3 T 10010F\n"]
+        self.assertEqual(self.lines([8, 8, 11], 10), want)
+
+    def test_numbers_that_went_on_too_far(self):
+        self.assertEqual(self.lines([10, 10], 10)[1], "1 T 10010F\n")
+
+
+class Memory(unittest.TestCase):
+    """What waits for a missing octet is bounded: then the octet is given up."""
+
+    def test_of_one_connection(self):
+        ledger, budget = Ledger(), Budget()
+        connection = Connection(ledger, budget, ENDS)
+        connection.feed(0, segment(100, b"a"))
+        most, number = 0, 0
+        while connection.lost is None:
+            self.assertEqual(connection.feed(0, segment(102 + 1000 * number, bytes(1000))), [])
+            number += 1
+            most = max(most, budget.used)
+        self.assertLessEqual(most, MOST_OF_ONE)
+        self.assertGreater(number, MOST_OF_ONE // 2000)
+        self.assertEqual((budget.used, connection.lost.octets), (0, 1))
+        self.assertEqual(ledger.counts[Reason.AFTER_GAP], number)
+
+    def test_repeats_in_what_waits(self):
+        connection = Connection(Ledger(), Budget(), ENDS)
+        connection.feed(0, segment(100, b"a"))
+        for sequence, payload in ((104, b"ef"), (102, b"cde"), (104, b"efg")):
+            self.assertEqual(connection.feed(0, segment(sequence, payload)), [])
+        chunks = connection.feed(0, segment(101, b"b"))
+        self.assertEqual(b"".join(chunk.octets for chunk in chunks), b"bcdefg")
+        self.assertEqual(connection.cost, 0)
+
+
+class Channels(unittest.TestCase):
+    """Each circuit has a channel of its own while there are some."""
+
+    def assigned(self, circuits, last=3):
+        header = Header(8, 2, 128, 0, 0, last, last, False, False)
+        made = []
+        for number, (first, end, confirmed) in enumerate(circuits, 1):
+            circuit = Circuit(number, ENDS, (Side.T, Side.N), 1, True, called=True, confirmed=confirmed)
+            circuit.rows, circuit.first_row, circuit.last_row, circuit.caller = 1, first, end, Side.T
+            made.append(circuit)
+        assign(made, header, Ledger())
+        return [circuit.channel for circuit in made]
+
+    def test_own_channels_first(self):
+        self.assertEqual(self.assigned([(1, 2, True), (3, 4, True), (5, 6, True)]), [1, 2, 3])
+
+    def test_longest_free_channel_again(self):
+        circuits = [(1, 20, True), (2, 10, True), (3, 30, True), (25, 40, True), (26, 41, True)]
+        self.assertEqual(self.assigned(circuits), [1, 2, 3, 2, 1])
+
+    def test_not_cleared_is_not_free(self):
+        self.assertEqual(self.assigned([(1, 2, False), (3, 4, True), (5, 6, True), (7, 8, True), (9, 10, True)]),
+                         [1, 2, 3, 2, 3])
+
+    def test_free_only_in_p1(self):
+        """A clear that is confirmed frees a channel, unless it had no cause or the DTE goes on after it."""
+        t, n = Side.T, Side.N
+        end = [(t, Type.CLEAR, 5), (n, Type.CLEAR_CONFIRM, 3)]
+        for free, steps in (
+            (False, []),
+            (False, end[:1]),
+            (True, end),
+            (True, [(n, Type.CLEAR, 5), (t, Type.CLEAR_CONFIRM, 3)]),
+            (True, [(t, Type.CLEAR, 5), (n, Type.CLEAR, 5)]),
+            (False, [(t, Type.CLEAR, 3), (n, Type.CLEAR_CONFIRM, 3)]),
+            (False, [*end, (t, Type.CLEAR_CONFIRM, 3)]),
+            (True, [*end, (n, Type.CLEAR_CONFIRM, 3)]),
+            (False, [*end, (t, Type.CALL, 5)]),
+            (True, [*end, (t, Type.CALL, 5), *end]),
+        ):
+            circuit = Circuit(1, ENDS, (t, n), 1, True)
+            for step in [(t, Type.CALL, 5), *steps]:
+                circuit.step(*step)
+            self.assertEqual(circuit.is_free, free, steps)
+
+    def test_none_left(self):
+        self.assertEqual(self.assigned([(1, 2, False), (3, 4, False)], 1), [1, None])

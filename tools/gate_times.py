@@ -1,0 +1,174 @@
+#!/usr/bin/env python3
+"""gate_times.py watch FILE PARENT: notes into FILE, until it is ended, what each check and each run below the process PARENT costs.
+gate_times.py table FILE: prints what each part of the gate cost, with the ten dearest of each.
+
+`rt ci` says nothing of time, so the watcher reads /proc a few times a second: which checks run, of which crate and with
+which edit, and the processor seconds that each took until it was last seen.
+"""
+import collections
+import json
+import os
+import pathlib
+import signal
+import sys
+import time
+from dataclasses import dataclass
+
+ROOT = pathlib.Path(__file__).resolve().parent.parent
+PAUSE = 0.2
+TICKS = os.sysconf("SC_CLK_TCK")
+PARTS = ("libraries", "tests", "edits", "programs", "traces", "captures")
+DEAREST = 10
+
+
+@dataclass
+class Process:
+    """A process as /proc shows it, with the processor seconds of its own and of the children that have ended."""
+
+    number: int
+    parent: int
+    started: int
+    seconds: float
+    words: list
+
+    @property
+    def name(self):
+        return os.path.basename(self.words[0]) if self.words else ""
+
+
+@dataclass
+class Run:
+    """One check or one run of a program: the part of the gate, what it is of, and what it cost."""
+
+    part: str
+    label: str
+    begun: float
+    ended: float
+    seconds: float
+
+
+def processes():
+    """All processes by their number; one that ends while it is read is left out."""
+    found = {}
+    for folder in pathlib.Path("/proc").iterdir():
+        if folder.name.isdigit():
+            try:
+                fields = (folder / "stat").read_text().rpartition(") ")[2].split()
+                words = (folder / "cmdline").read_text().split("\0")[:-1]
+            except OSError:
+                continue
+            seconds = sum(int(it) for it in fields[11:15]) / TICKS
+            number = int(folder.name)
+            found[number] = Process(number, int(fields[1]), int(fields[19]), seconds, words)
+    return found
+
+
+def below(process, ancestor, found):
+    """Whether a process descends from another."""
+    while process and process.number != ancestor:
+        process = found.get(process.parent)
+    return process is not None
+
+
+def edit_of(crate, room):
+    """The name of the must-fail edit whose text stands in the copy of a crate that is being checked."""
+    for edit in sorted((ROOT / "crates" / crate / "must-fail").glob("*.edit")):
+        file, old = None, None
+        for line in edit.read_text().split("\n"):
+            if line.startswith("file: "):
+                file = line.removeprefix("file: ").strip()
+            elif line.startswith("old: "):
+                old = line.removeprefix("old: ")
+            elif line.startswith("new:") and file and old:
+                new = line.removeprefix("new:").removeprefix(" ")
+                whole, copy = ROOT / "crates" / crate / file, pathlib.Path(room) / file
+                if whole.exists() and copy.exists() and whole.read_text().replace(old, new) == copy.read_text():
+                    return edit.stem
+                break
+    return "as it stands"
+
+
+def kind_of(process):
+    """The part of the gate that a process is, and what it is of; None for others."""
+    words = process.words
+    if process.name == "rattle" and "--crate-name" in words:
+        crate = words[words.index("--crate-name") + 1]
+        room = os.readlink(f"/proc/{process.number}/cwd")
+        if "/rt-edit-" in room:
+            return "edits", f"{crate}/{edit_of(crate, room)}"
+        if "--test" in words:
+            return "tests", crate
+        return ("programs" if "--crate-checked" in words else "libraries"), crate
+    if "/rt-run-" in (words[0] if words else ""):
+        return "tests" if process.name.endswith("_tests") else "programs", f"{process.name} (run)"
+    if words[1:2] and words[1].endswith(("traces/compare", "captures/compare")):
+        return words[1].split("/")[-2], "all"
+    return None
+
+
+def watch(file, ancestor):
+    """Notes all runs below a process until this one is told to end."""
+    runs, parts, going = {}, {}, True
+
+    def end(*_):
+        nonlocal going
+        going = False
+
+    signal.signal(signal.SIGTERM, end)
+    while going:
+        now, found = time.time(), processes()
+        for process in found.values():
+            key = f"{process.number}-{process.started}"
+            if key not in parts:
+                try:
+                    parts[key] = kind_of(process) if below(process, ancestor, found) else None
+                except OSError:
+                    continue
+                parent = found.get(process.parent)
+                if parent and parts.get(f"{parent.number}-{parent.started}"):
+                    parts[key] = None
+            if parts[key]:
+                begun = runs[key].begun if key in runs else now
+                runs[key] = Run(*parts[key], begun, now + PAUSE, process.seconds)
+        time.sleep(PAUSE)
+    pathlib.Path(file).write_text(json.dumps([vars(run) for run in runs.values()]))
+
+
+def united(runs):
+    """The seconds in which at least one of the runs went on."""
+    total, last = 0.0, 0.0
+    for run in sorted(runs, key=lambda it: it.begun):
+        total += max(run.ended - max(run.begun, last), 0)
+        last = max(last, run.ended)
+    return total
+
+
+def table(file):
+    """Prints the parts with their cost, and the dearest of each."""
+    parts = collections.defaultdict(list)
+    for record in json.loads(pathlib.Path(file).read_text()):
+        parts[record["part"]].append(Run(**record))
+    everything = [run for runs in parts.values() for run in runs]
+    print("part        processor s   wall s    runs")
+    for name, runs in [*((part, parts[part]) for part in PARTS), ("all", everything)]:
+        print(f"{name:10} {sum(run.seconds for run in runs):12.0f} {united(runs):8.0f} {len(runs):7}")
+    for part in PARTS:
+        costs = collections.Counter()
+        for run in parts[part]:
+            costs[run.label] += run.seconds
+        if len(costs) > 1:
+            dearest = "; ".join(f"{label} {seconds:.0f}" for label, seconds in costs.most_common(DEAREST))
+            print(f"dearest {part}, processor s: {dearest}")
+
+
+def main(words):
+    if words[:1] == ["watch"] and len(words) == 3:
+        watch(words[1], int(words[2]))
+    elif words[:1] == ["table"] and len(words) == 2:
+        table(words[1])
+    else:
+        sys.exit(__doc__)
+
+
+if __name__ == "__main__":
+    main(sys.argv[1:])

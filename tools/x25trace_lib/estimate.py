@@ -1,0 +1,233 @@
+"""What the header of a trace says, by options or by what was seen."""
+from collections import Counter
+from dataclasses import dataclass, field
+
+from .packets import PACKET_SIZES, SET_UP, WINDOWS, Side, Type, channel_of, facilities_of, modulus_of
+from .told import Refusal, Why
+
+STANDARD_SIZE = 128
+STANDARD_WINDOW = 2
+SMALLEST_SIZE = 16
+LARGEST_SIZE = 4096
+LAST_CHANNEL = 4095
+
+
+@dataclass(slots=True)
+class Way:
+    """The packets of one side on a channel: the lower edge of its window, None where that is not known."""
+
+    acknowledged: int | None
+
+
+@dataclass(slots=True)
+class Seen:
+    """What was seen on a channel: whether data counts now, and which values its call agreed on."""
+
+    ways: dict
+    flows: bool = True
+    agreed: set = field(default_factory=set)
+
+
+@dataclass
+class Wishes:
+    """The numbers of the header that options give; None is to be estimated."""
+
+    modulus: int | None = None
+    window: int | None = None
+    size: int | None = None
+    permanent: int | None = None
+    calls: int | None = None
+    incoming: int | None = None
+    two_way: int | None = None
+    outgoing: int | None = None
+    join: bool | None = None
+
+    @property
+    def one_way(self):
+        return not self.incoming is self.two_way is self.outgoing is None
+
+
+class Estimator:
+    """Sees each packet once, with the key of its channel."""
+
+    def __init__(self):
+        self.moduli = Counter()
+        self.seen = {}
+        self.largest = 0
+        self.most = 0
+        self.restarted = False
+        self.first_is_restart = None
+        self.highest = 0
+        # Channels of a line with calls, and with data where no call is known of.
+        self.with_calls, self.with_data = set(), set()
+
+    def see(self, key, known, side, octets, line):
+        """A packet of a channel; known says that its state was known from its beginning."""
+        if self.first_is_restart is None:
+            self.first_is_restart = line and len(octets) >= 3 and octets[2] == Type.RESTART and not channel_of(octets)
+        if len(octets) < 3:
+            return
+        modulus = modulus_of(octets)
+        self.moduli[modulus] += 1
+        if modulus is None:
+            return
+        kind = octets[2]
+        if line:
+            if key == 0:
+                self.restart(kind)
+                return
+            self.line_channel(key, kind)
+        seen = self.seen.get(key)
+        if seen is None:
+            edge = 0 if known or self.restarted else None
+            seen = self.seen[key] = Seen({Side.T: Way(edge), Side.N: Way(edge)})
+        if not kind & 1:
+            self.data(seen, side, octets, modulus)
+        elif kind & 0x1F in (1, 5, 9) and (modulus == 8 or kind < 16):
+            self.acknowledge(seen, side, octets, modulus)
+        else:
+            self.signal(seen, kind, octets)
+
+    def forget(self, key):
+        """The channel with a key has no more packets."""
+        self.seen.pop(key, None)
+
+    def restart(self, kind):
+        if kind == Type.RESTART:
+            self.restarted = True
+            self.seen.clear()
+
+    def line_channel(self, channel, kind):
+        self.highest = max(self.highest, channel)
+        if kind in SET_UP:
+            self.with_calls.add(channel)
+        elif self.restarted:
+            self.with_data.add(channel)
+
+    def data(self, seen, side, octets, modulus):
+        header = 3 if modulus == 8 else 4
+        if len(octets) < header or not seen.flows:
+            return
+        self.acknowledge(seen, side, octets, modulus)
+        if PACKET_SIZES not in seen.agreed:
+            self.largest = max(self.largest, len(octets) - header)
+        send = octets[2] >> 1 & 7 if modulus == 8 else octets[2] >> 1
+        edge = seen.ways[side].acknowledged
+        if edge is not None and WINDOWS not in seen.agreed:
+            self.most = max(self.most, (send - edge) % modulus + 1)
+
+    @staticmethod
+    def acknowledge(seen, side, octets, modulus):
+        if modulus == 8:
+            seen.ways[side.other].acknowledged = octets[2] >> 5
+        elif len(octets) >= 4:
+            seen.ways[side.other].acknowledged = octets[3] >> 1
+
+    @staticmethod
+    def signal(seen, kind, octets):
+        """A packet that begins or ends the flow of data."""
+        if kind in (Type.CALL, Type.CLEAR):
+            seen.flows = False
+            seen.agreed = facilities_of(octets) if kind == Type.CALL else set()
+        elif kind == Type.RESET:
+            # The second one of two that cross is a confirmation.
+            seen.flows = not seen.flows
+        elif kind == Type.ACCEPTED:
+            seen.flows = True
+            seen.agreed |= facilities_of(octets)
+        elif kind in (Type.RESET_CONFIRM, Type.CLEAR_CONFIRM):
+            seen.flows = True
+        if kind in (Type.CALL, Type.ACCEPTED, Type.CLEAR, Type.RESET, Type.RESET_CONFIRM):
+            for way in seen.ways.values():
+                way.acknowledged = 0
+
+    @property
+    def modulus(self):
+        return 128 if self.moduli[128] > self.moduli[8] else 8
+
+    @property
+    def window(self):
+        return min(self.most, self.modulus - 1) or STANDARD_WINDOW
+
+    @property
+    def size(self):
+        if not self.largest:
+            return STANDARD_SIZE
+        return min(max(SMALLEST_SIZE, 1 << (self.largest - 1).bit_length()), LARGEST_SIZE)
+
+    @property
+    def permanent(self):
+        """The last channel that had data after a restart and no call, below all channels with calls."""
+        first_call = min(self.with_calls, default=LAST_CHANNEL + 1)
+        return max((channel for channel in self.with_data if channel < first_call), default=0)
+
+
+@dataclass
+class Header:
+    """The numbers of a header, and of each whether an option gave it."""
+
+    modulus: int
+    window: int
+    size: int
+    permanent: int
+    incoming: int
+    two_way: int
+    outgoing: int
+    join: bool
+    second_form: bool
+
+    def line(self):
+        start = f"MOD {self.modulus} WIN {self.window} SIZE {self.size} PVC {self.permanent}"
+        if not self.second_form:
+            return f"X25 1 {start} SVC {self.outgoing}"
+        join = " JOIN" if self.join else ""
+        return f"X25 2 {start} IN {self.incoming} TWO {self.two_way} OUT {self.outgoing}{join}"
+
+    def fault(self):
+        """What x25scan would refuse, or None."""
+        if not 1 <= self.window < self.modulus:
+            return f"WIN {self.window} is not 1 to {self.modulus - 1}"
+        if not 0 <= self.permanent <= self.incoming <= self.two_way <= self.outgoing:
+            return f"PVC {self.permanent}, IN {self.incoming}, TWO {self.two_way}, OUT {self.outgoing} must not fall"
+        if not 1 <= self.outgoing <= LAST_CHANNEL:
+            return f"the last channel, {self.outgoing}, is not 1 to {LAST_CHANNEL}"
+        return None
+
+
+def header_of(wishes, estimator, permanent, highest, join):
+    """The header: options first, then what was seen."""
+    join = wishes.join if wishes.join is not None else join
+    permanent = wishes.permanent if wishes.permanent is not None else permanent
+    last = wishes.calls or wishes.outgoing or max(highest, permanent, wishes.two_way or 0, wishes.incoming or 0, 1)
+    two_way = wishes.two_way if wishes.two_way is not None else last
+    incoming = wishes.incoming if wishes.incoming is not None else min(permanent, two_way)
+    header = Header(
+        modulus=wishes.modulus or estimator.modulus,
+        window=wishes.window or estimator.window,
+        size=wishes.size or estimator.size,
+        permanent=permanent,
+        incoming=incoming,
+        two_way=two_way,
+        outgoing=last,
+        join=join,
+        second_form=join or wishes.one_way,
+    )
+    if wishes.window is None:
+        header.window = min(header.window, header.modulus - 1)
+    if header.fault():
+        raise Refusal(Why.HEADER, header.fault())
+    return header
+
+
+def estimates(wishes, header, estimator):
+    """The words of the numbers that no option gave."""
+    standard = "the standard value, as no data tells"
+    last = wishes.calls or wishes.outgoing
+    words = {
+        "MOD": (wishes.modulus, header.modulus, "the general format identifiers"),
+        "WIN": (wishes.window, header.window, "the most data not acknowledged" if estimator.most else standard),
+        "SIZE": (wishes.size, header.size, "the largest user data" if estimator.largest else standard),
+        "PVC": (wishes.permanent, header.permanent, "channels with data and no call"),
+        "OUT" if header.second_form else "SVC": (last, header.outgoing, "the channels used"),
+    }
+    return [f"{name} {value} ({why})" for name, (wish, value, why) in words.items() if wish is None]

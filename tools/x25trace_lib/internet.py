@@ -1,0 +1,169 @@
+"""From an Internet packet to its TCP segment: IPv4 and IPv6, extension headers, fragments."""
+import struct
+from collections import OrderedDict
+from dataclasses import dataclass
+
+from .told import Reason
+
+TCP = 6
+FRAGMENT_HEADER = 44
+# Extension headers whose second octet counts units of eight octets after the first eight.
+EXTENSIONS = frozenset((0, 43, 60, 135, 139, 140))
+AUTHENTICATION = 51
+TCP_HEADER = struct.Struct(">HHIIBB")
+SYN, FIN, RST, ACK = 2, 1, 4, 16
+
+
+@dataclass(slots=True, eq=False)
+class Segment:
+    """A TCP segment; its ends are an address and a port each, in octets; missing octets of its payload were cut off."""
+
+    frame: int
+    source: bytes
+    target: bytes
+    sequence: int
+    acknowledged: int | None
+    syn: bool
+    fin: bool
+    reset: bool
+    payload: bytes
+    missing: int
+
+
+def port_of(end):
+    return int.from_bytes(end[-2:], "big")
+
+
+class Fragments:
+    """Datagrams of which not all fragments were seen: at most so many, the oldest is given up first."""
+
+    MOST = 64
+    LARGEST = 65_535
+
+    def __init__(self, ledger):
+        self.ledger = ledger
+        self.waiting = OrderedDict()
+
+    def add(self, frame, identity, place, octets, last):
+        """The whole datagram's octets once this fragment completes it, else None."""
+        _, parts = self.waiting.setdefault(identity, (frame.number, {}))
+        parts[place] = (octets, last)
+        whole = bytearray()
+        for begin, (part, ends) in sorted(parts.items()):
+            if begin > len(whole) or begin + len(part) > self.LARGEST:
+                break
+            whole[begin:] = part
+            if ends:
+                del self.waiting[identity]
+                return bytes(whole)
+        if len(self.waiting) > self.MOST:
+            self.give_up_oldest()
+        return None
+
+    def give_up_oldest(self):
+        _, (frame, parts) = self.waiting.popitem(last=False)
+        words = f"frame {frame}: it begins a datagram of which not all fragments are there"
+        self.ledger.damaged(Reason.FRAGMENT, words, len(parts))
+
+    def end(self):
+        while self.waiting:
+            self.give_up_oldest()
+
+
+class Internet:
+    """Finds the TCP segments of the ports that are asked for."""
+
+    def __init__(self, ledger, ports):
+        self.ledger = ledger
+        self.ports = frozenset(ports)
+        self.fragments = Fragments(ledger)
+
+    def bad(self, frame, words):
+        self.ledger.damaged(Reason.BAD_HEADER, f"frame {frame.number}: {words}")
+
+    def segment(self, frame, at):
+        """The segment of an Internet packet, or None, which is counted."""
+        octets = frame.octets
+        version = octets[at] >> 4 if len(octets) > at else 0
+        if version == 4 and len(octets) >= at + 20:
+            return self.version_4(frame, octets, at)
+        if version == 6 and len(octets) >= at + 40:
+            return self.version_6(frame, octets, at)
+        if version in (4, 6) or not version:
+            return self.bad(frame, "its Internet header is cut")
+        return self.bad(frame, f"its Internet header has version {version}")
+
+    def version_4(self, frame, octets, at):
+        header = 4 * (octets[at] & 15)
+        total = octets[at + 2] << 8 | octets[at + 3] or frame.length - at
+        if header < 20 or total < header:
+            return self.bad(frame, f"its IPv4 header has length {header}, its packet {total}")
+        if octets[at + 9] != TCP:
+            self.ledger.left_out(Reason.OTHER_PROTOCOL)
+            return None
+        begin, end = at + header, at + total
+        source, target = octets[at + 12:at + 16], octets[at + 16:at + 20]
+        place = (octets[at + 6] & 0x3F) << 8 | octets[at + 7]
+        if place:
+            identity = (source, target, octets[at + 4:at + 6])
+            return self.fragment(frame, identity, 8 * (place & 0x1FFF), begin, end, place < 0x2000)
+        return self.tcp(frame, octets, begin, end, source, target)
+
+    def version_6(self, frame, octets, at):
+        follows, begin = octets[at + 6], at + 40
+        end = begin + (octets[at + 4] << 8 | octets[at + 5] or frame.length - begin)
+        source, target = octets[at + 8:at + 24], octets[at + 24:at + 40]
+        while follows != TCP:
+            if follows not in EXTENSIONS and follows not in (FRAGMENT_HEADER, AUTHENTICATION):
+                self.ledger.left_out(Reason.OTHER_PROTOCOL)
+                return None
+            if len(octets) < begin + 8:
+                return self.bad(frame, "its IPv6 extension headers are cut")
+            size = 4 * (octets[begin + 1] + 2) if follows == AUTHENTICATION else 8 * (octets[begin + 1] + 1)
+            if follows == FRAGMENT_HEADER:
+                size = 8
+                place = octets[begin + 2] << 8 | octets[begin + 3]
+                if place & 0xFFF9:
+                    return self.fragment_6(frame, octets, begin, end, (source, target))
+            follows, begin = octets[begin], begin + size
+        return self.tcp(frame, octets, begin, end, source, target)
+
+    def fragment_6(self, frame, octets, header, end, ends):
+        """A fragment of IPv6: the next header of the first one is the datagram's."""
+        if octets[header] != TCP:
+            self.ledger.left_out(Reason.OTHER_PROTOCOL)
+            return None
+        place = octets[header + 2] << 8 | octets[header + 3]
+        identity = (*ends, octets[header + 4:header + 8])
+        return self.fragment(frame, identity, place & 0xFFF8, header + 8, end, not place & 1)
+
+    def fragment(self, frame, identity, place, begin, end, last):
+        """Keeps a fragment; the segment of the datagram that it completes."""
+        if end > len(frame.octets):
+            self.ledger.damaged(Reason.FRAGMENT, f"frame {frame.number}: a fragment that was cut off")
+            return None
+        whole = self.fragments.add(frame, identity, place, frame.octets[begin:end], last)
+        return self.tcp(frame, whole, 0, len(whole), *identity[:2]) if whole else None
+
+    def tcp(self, frame, octets, begin, end, source, target):
+        if len(octets) < begin + 20 or end < begin + 20:
+            return self.bad(frame, "its TCP header is cut")
+        from_port, to_port, sequence, acknowledged, size, flags = TCP_HEADER.unpack_from(octets, begin)
+        if from_port not in self.ports and to_port not in self.ports:
+            self.ledger.left_out(Reason.OTHER_PORT)
+            return None
+        payload = begin + (size >> 4) * 4
+        if payload > end or size < 0x50:
+            return self.bad(frame, f"its TCP header has length {(size >> 4) * 4}")
+        return Segment(
+            frame.number,
+            source + octets[begin:begin + 2],
+            target + octets[begin + 2:begin + 4],
+            sequence,
+            acknowledged if flags & ACK else None,
+            flags & SYN != 0,
+            flags & FIN != 0,
+            flags & RST != 0,
+            octets[payload:end],
+            max(end - max(len(octets), payload), 0),
+        )

@@ -1,0 +1,256 @@
+"""LAPB: the packets in the I frames of a link, each once, as its receiver took them.
+
+What the recorder knows of one direction, on the circle of the sequence numbers:
+
+    acknowledged        next
+    .....|#################|.......
+           repeats           held: either the receiver refuses them, or frames before them were not recorded
+
+An N(R) of the other side beyond next tells that the receiver took frames that were not recorded.
+"""
+import enum
+from dataclasses import dataclass
+
+from .frames import Direction
+from .packets import Packet, Side
+from .told import Reason
+
+COMMAND_SIDES = {0x01: Side.T, 0x03: Side.N}
+RESPONSE_SIDES = {0x03: Side.T, 0x01: Side.N}
+POLL = 0x10
+REJECT = 0x09
+FLAG = b"\x7e"
+
+
+class Unnumbered(enum.IntEnum):
+    """The frames that set up, end or reject a link, without their poll bit."""
+
+    SABM = 0x2F
+    SABME = 0x6F
+    DISC = 0x43
+    UA = 0x63
+    DM = 0x0F
+    FRMR = 0x87
+
+
+COMMANDS = frozenset((Unnumbered.SABM, Unnumbered.SABME, Unnumbered.DISC))
+NAMES = {kind.value: kind.name for kind in Unnumbered}
+
+
+class SideBy(enum.Enum):
+    """What tells the side of a LAPB frame first."""
+
+    ADDRESS = "address"
+    DIRECTION = "direction"
+
+
+def remainder(rest):
+    """A step of the frame check sequence: eight bits by x^16 + x^12 + x^5 + 1, low bit first."""
+    for _ in range(8):
+        rest = rest >> 1 ^ 0x8408 if rest & 1 else rest >> 1
+    return rest
+
+
+REMAINDERS = [remainder(octet) for octet in range(256)]
+
+
+def is_checked(octets):
+    """Whether the last two octets are the check sequence of those before."""
+    rest = 0xFFFF
+    for octet in octets[:-2]:
+        rest = rest >> 8 ^ REMAINDERS[(rest ^ octet) & 255]
+    return len(octets) >= 4 and rest ^ 0xFFFF == int.from_bytes(octets[-2:], "little")
+
+
+def unframe(octets):
+    """What stands between the flags of a frame, without its check sequence, which may end like a flag; None if wrong."""
+    octets = octets.lstrip(FLAG)
+    while not is_checked(octets):
+        if octets[-1:] != FLAG:
+            return None
+        octets = octets[:-1]
+    return octets[:-2]
+
+
+@dataclass(slots=True)
+class Way:
+    """One direction of the link: the N(S) that comes next, the last N(R) for it, and the frames held."""
+
+    next: int | None = None
+    acknowledged: int | None = None
+    held: dict | None = None
+
+
+class Lapb:
+    """One link."""
+
+    def __init__(self, ledger, modulus, side_by, swapped):
+        self.ledger = ledger
+        self.modulus = self.given = modulus
+        self.side_by = side_by
+        # Which side the recording host is: by what is said, or as the addresses of frames with a direction tell.
+        by_direction = side_by is SideBy.DIRECTION
+        self.host = Side.N if swapped and by_direction else Side.T
+        self.swapped = swapped and not by_direction
+        self.host_known = by_direction
+        self.contradictions = 0
+        self.ways = {side: Way(held={}) for side in Side}
+
+    def directed(self, direction):
+        """The side that sent a frame of a direction, or None where the capture or the host's side does not tell."""
+        if direction is Direction.UNKNOWN or not self.host_known:
+            return None
+        return self.host if direction is Direction.SENT else self.host.other
+
+    def side(self, table, address, direction):
+        """The side of a frame that is known for a command or a response."""
+        by_address, by_direction = table[address], self.directed(direction)
+        self.contradictions += by_direction not in (None, by_address)
+        if self.side_by is SideBy.DIRECTION:
+            return by_direction or by_address
+        if direction is not Direction.UNKNOWN:
+            self.host = by_address if direction is Direction.SENT else by_address.other
+            self.host_known = True
+        return by_address
+
+    def named(self, side):
+        return side.other if self.swapped else side
+
+    def take(self, frame, octets, cut):
+        """The packets that a frame of address, control and information gives."""
+        if len(octets) < 2:
+            self.ledger.damaged(Reason.BAD_HEADER, f"frame {frame.number}: its LAPB header is cut")
+            return
+        if octets[0] not in COMMAND_SIDES:
+            self.ledger.left_out(Reason.OTHER_ADDRESS)
+            return
+        control = octets[1]
+        if control & 3 == 3:
+            self.ledger.left_out(Reason.LINK_FRAME)
+            self.unnumbered(frame, octets[0], control & ~POLL)
+            return
+        size = 1 if self.modulus is None or self.modulus == 8 else 2
+        if len(octets) < 1 + size:
+            self.ledger.damaged(Reason.BAD_HEADER, f"frame {frame.number}: its LAPB header is cut")
+            return
+        receive = control >> 5 if size == 1 else octets[2] >> 1
+        if control & 1:
+            self.ledger.left_out(Reason.LINK_FRAME)
+            final = control & POLL if size == 1 else octets[2] & 1
+            yield from self.supervisory(frame, octets, receive, final)
+            return
+        send = control >> 1 & 7 if size == 1 else control >> 1
+        side = self.side(COMMAND_SIDES, octets[0], frame.direction)
+        yield from self.acknowledge(frame.number, side.other, receive, True)
+        yield from self.information(frame.number, side, send, None if cut else octets[1 + size:])
+
+    @property
+    def circle(self):
+        return self.modulus or 8
+
+    def unnumbered(self, frame, address, kind):
+        """A frame that sets up the link begins its numbers anew; each such frame is told."""
+        if kind not in NAMES:
+            return
+        side = self.side(COMMAND_SIDES if kind in COMMANDS else RESPONSE_SIDES, address, frame.direction)
+        self.ledger.tell(f"frame {frame.number}: {NAMES[kind]} of {self.named(side).name}")
+        if kind in (Unnumbered.SABM, Unnumbered.SABME) and self.given is None:
+            self.modulus = 8 if kind == Unnumbered.SABM else 128
+        if kind in (Unnumbered.SABM, Unnumbered.SABME, Unnumbered.UA):
+            for way in self.ways.values():
+                self.drop_held(way)
+                way.next = way.acknowledged = 0
+
+    def supervisory(self, frame, octets, receive, final):
+        """An RR, RNR or REJ. Without a direction it may be a command or a response; then it proves no loss."""
+        side = self.directed(frame.direction)
+        proves = side is not None
+        if not proves:
+            if final:
+                return
+            side = RESPONSE_SIDES[octets[0]]
+        way = self.ways[side.other]
+        if octets[1] & 0x0F == REJECT and way.acknowledged is None:
+            # What is rejected was sent before, so this N(R) is for frames before the next one.
+            way.acknowledged = receive
+        else:
+            yield from self.acknowledge(frame.number, side.other, receive, proves)
+
+    def acknowledge(self, number, side, receive, proves):
+        """Takes an N(R) for the frames of a side; beyond the next one it proves that frames were not recorded."""
+        way = self.ways[side]
+        if way.next is None:
+            way.acknowledged = receive
+            return
+        if way.acknowledged is None:
+            # Where recording began in the middle a first N(R) may be for frames before; not for one that is held.
+            beyond = (receive - 1) % self.circle in way.held
+            inside = not beyond and (way.next - receive) % self.circle <= self.circle // 2
+            proves = proves and beyond
+        else:
+            inside = (receive - way.acknowledged) % self.circle <= (way.next - way.acknowledged) % self.circle
+        if inside:
+            way.acknowledged = receive
+        elif proves:
+            yield from self.catch_up(number, side, way, receive)
+
+    def catch_up(self, number, side, way, receive):
+        """Goes on to the frame that the receiver waits for: those held are given out, the others are lost."""
+        lost = 0
+        while way.next != receive:
+            frame = way.held.pop(way.next, None)
+            lost += frame is None
+            if frame is not None:
+                yield from self.given_out(side, *frame)
+            way.next = (way.next + 1) % self.circle
+        way.acknowledged = receive
+        if lost:
+            words = f"{lost} I frames of {self.named(side).name} before N(S) {receive} were not recorded"
+            self.ledger.damaged(Reason.LOST_FRAME, f"frame {number}: {words}, but acknowledged", lost)
+
+    def information(self, number, side, send, octets):
+        """An I frame: the next one, one that repeats, or one to hold."""
+        way = self.ways[side]
+        if way.next is not None and len(way.held) == self.circle - 2 and (send + 1 - way.next) % self.circle == 0:
+            # No window reaches so far: the receiver must have acknowledged the frame that is next.
+            yield from self.catch_up(number, side, way, send)
+        if way.next is None or send == way.next:
+            # A held one with this number was not taken, so it came again; those behind it may have been.
+            self.ledger.left_out(Reason.UNTAKEN_FRAME, way.held.pop(send, None) is not None)
+            way.next = (send + 1) % self.circle
+            yield from self.given_out(side, number, octets)
+        elif self.repeats(way, send):
+            self.ledger.left_out(Reason.REPEATED_FRAME)
+        elif send not in way.held:
+            way.held[send] = (number, octets)
+        else:
+            self.ledger.left_out(Reason.UNTAKEN_FRAME)
+
+    def repeats(self, way, send):
+        """Whether N(S) is one that was taken: not acknowledged yet, or just before those, where no window reaches."""
+        follows_held = (send - 1) % self.circle in way.held
+        if way.acknowledged is None:
+            return not follows_held and (way.next - send) % self.circle <= self.circle // 2
+        from_acknowledged = (send - way.acknowledged) % self.circle
+        if from_acknowledged < (way.next - way.acknowledged) % self.circle:
+            return True
+        return not follows_held and from_acknowledged == self.circle - 1
+
+    def drop_held(self, way):
+        if way.held:
+            self.ledger.left_out(Reason.UNTAKEN_FRAME, len(way.held))
+            way.held.clear()
+
+    def given_out(self, side, number, octets):
+        if octets is None:
+            words = f"frame {number}: an I frame of {self.named(side).name} that was cut off"
+            self.ledger.damaged(Reason.CUT_PACKET, words)
+        else:
+            yield Packet(number, self.named(side), octets)
+
+    def end(self):
+        for way in self.ways.values():
+            self.drop_held(way)
+        if self.contradictions:
+            words = "LAPB frames whose direction and address octet contradict each other"
+            self.ledger.tell(f"{words}: {self.contradictions}")

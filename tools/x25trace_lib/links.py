@@ -1,0 +1,163 @@
+"""What a frame carries, by its link type: an Internet packet, a LAPB frame, or a packet of X.25."""
+import enum
+import struct
+
+from .frames import Direction
+
+UNIT = struct.Struct(">H")
+# What a cooked header says of a frame's way; 3 is one of other hosts to each other.
+COOKED_DIRECTIONS = {
+    0: Direction.RECEIVED,
+    1: Direction.RECEIVED,
+    2: Direction.RECEIVED,
+    4: Direction.SENT,
+}
+VLAN_TAGS = frozenset((0x8100, 0x88A8, 0x9100))
+
+
+class Carried(enum.Enum):
+    """What stands behind the link header of a frame."""
+
+    IP = "ip"
+    LAPB = "lapb"
+    HDLC = "hdlc"
+    X25 = "x25"
+    DEVICE = "a Linux X.25 device"
+    OTHER = "other"
+    BROKEN = "broken"
+    UNKNOWN = "unknown"
+
+
+# Protocols of Ethernet and cooked captures: IPv4, IPv6, X.25, LAPB on a Linux HDLC device.
+PROTOCOLS = {0x0800: Carried.IP, 0x86DD: Carried.IP, 0x0805: Carried.DEVICE, 0x0019: Carried.LAPB}
+LAPB_OVER_ETHERNET = 0x6000
+PPP_PROTOCOLS = {0x0021: Carried.IP, 0x0057: Carried.IP}
+
+
+def by_protocol(frame, protocol, at):
+    """What an Ethernet type carries. LAPB over Ethernet has its length before it, the low octet first."""
+    if protocol != LAPB_OVER_ETHERNET:
+        return PROTOCOLS.get(protocol, Carried.OTHER), at
+    if len(frame.octets) < at + 2:
+        return Carried.BROKEN, at
+    end = at + 2 + int.from_bytes(frame.octets[at:at + 2], "little")
+    if end > frame.length:
+        return Carried.OTHER, at
+    frame.octets, frame.length = frame.octets[:end], end
+    return Carried.LAPB, at + 2
+
+
+def ethernet(frame):
+    octets, at = frame.octets, 12
+    while True:
+        if len(octets) < at + 2:
+            return Carried.BROKEN, at
+        protocol = UNIT.unpack_from(octets, at)[0]
+        if protocol not in VLAN_TAGS:
+            return by_protocol(frame, protocol, at + 2)
+        at += 4
+
+
+def cooked(frame, kind_at, protocol_at, size):
+    """A Linux cooked header, with its packet type and its protocol somewhere."""
+    if len(frame.octets) < size:
+        return Carried.BROKEN, 0
+    frame.direction = COOKED_DIRECTIONS.get(frame.octets[kind_at], Direction.UNKNOWN)
+    return by_protocol(frame, UNIT.unpack_from(frame.octets, protocol_at)[0], size)
+
+
+def cooked_1(frame):
+    return cooked(frame, 1, 14, 16)
+
+
+def cooked_2(frame):
+    return cooked(frame, 10, 0, 20)
+
+
+def raw_ip(frame):
+    return Carried.IP, 0
+
+
+def loopback(frame):
+    """A BSD loopback: an address family of four octets, whose numbers differ, then IPv4 or IPv6."""
+    return Carried.IP, 4
+
+
+def cisco(frame):
+    """Cisco's HDLC has an address of its own (0F or 8F) and a protocol; other addresses are LAPB's."""
+    octets = frame.octets
+    if len(octets) < 2:
+        return Carried.BROKEN, 0
+    if octets[0] in (0x0F, 0x8F) and len(octets) >= 4:
+        return by_protocol(frame, UNIT.unpack_from(octets, 2)[0], 4)
+    return Carried.LAPB, 0
+
+
+def ppp(frame):
+    """PPP, with or without its address and control octets; the addresses 01 and 03 are LAPB's."""
+    octets = frame.octets
+    if octets[:1] in (b"\x01", b"\x03"):
+        return Carried.LAPB, 0
+    at = 2 if octets[:2] == b"\xff\x03" else 0
+    if len(octets) < at + 2:
+        return Carried.BROKEN, 0
+    return PPP_PROTOCOLS.get(UNIT.unpack_from(octets, at)[0], Carried.OTHER), at + 2
+
+
+def directed(frame, carried):
+    """A first octet that is 0 for a frame received, else not."""
+    if not frame.octets:
+        return Carried.BROKEN, 0
+    frame.direction = Direction.SENT if frame.octets[0] else Direction.RECEIVED
+    return carried, 1
+
+
+def lapb_directed(frame):
+    return directed(frame, Carried.LAPB)
+
+
+def x25_directed(frame):
+    return directed(frame, Carried.X25)
+
+
+def lapb(frame):
+    return Carried.LAPB, 0
+
+
+def hdlc(frame):
+    return Carried.HDLC, 0
+
+
+def x25(frame):
+    return Carried.X25, 0
+
+
+LINKS = {
+    0: loopback,
+    1: ethernet,
+    9: ppp,
+    12: raw_ip,
+    14: raw_ip,
+    50: ppp,
+    101: raw_ip,
+    104: cisco,
+    108: loopback,
+    113: cooked_1,
+    207: lapb_directed,
+    228: raw_ip,
+    229: raw_ip,
+    276: cooked_2,
+}
+
+# The words of --as.
+KINDS = {
+    "ethernet": ethernet,
+    "sll": cooked_1,
+    "sll2": cooked_2,
+    "ip": raw_ip,
+    "lapb": lapb,
+    "lapb-dir": lapb_directed,
+    "hdlc": hdlc,
+    "x25": x25,
+    "x25-dir": x25_directed,
+}

@@ -1,0 +1,88 @@
+"""A packet of X.25 with its frame and side, and what is read of its octets."""
+import enum
+import ipaddress
+from dataclasses import dataclass
+
+# What a row of a trace takes.
+LONGEST = 4200
+
+
+class Side(enum.Enum):
+    """The DTE or the DCE."""
+
+    T = "T"
+    N = "N"
+
+    @property
+    def other(self):
+        return Side.N if self is Side.T else Side.T
+
+
+class Type(enum.IntEnum):
+    """The third octet of a packet, but for those with sequence numbers."""
+
+    CALL = 0x0B
+    ACCEPTED = 0x0F
+    CLEAR = 0x13
+    CLEAR_CONFIRM = 0x17
+    RESET = 0x1B
+    RESET_CONFIRM = 0x1F
+    INTERRUPT = 0x23
+    INTERRUPT_CONFIRM = 0x27
+    RESTART = 0xFB
+    RESTART_CONFIRM = 0xFF
+    DIAGNOSTIC = 0xF1
+    REGISTRATION = 0xF3
+    REGISTERED = 0xF7
+
+
+SET_UP = frozenset((Type.CALL, Type.ACCEPTED, Type.CLEAR, Type.CLEAR_CONFIRM))
+PACKET_SIZES = 0x42
+WINDOWS = 0x43
+
+
+@dataclass(slots=True)
+class Packet:
+    """One packet; the circuit is that of its XOT connection, None on a line."""
+
+    frame: int
+    side: Side
+    octets: bytes
+    circuit: object = None
+
+
+def channel_of(octets):
+    return (octets[0] & 15) << 8 | octets[1]
+
+
+def modulus_of(octets):
+    """What the general format identifier says: 8, 128, or None."""
+    return {0x10: 8, 0x20: 128}.get(octets[0] & 0x30)
+
+
+def facilities_of(octets):
+    """The codes of a call packet's facilities up to a marker; none where its A bit is 1 or its blocks are cut."""
+    codes = set()
+    if octets[0] & 0x80 or len(octets) < 4:
+        return codes
+    digits = (octets[3] >> 4) + (octets[3] & 15)
+    at = 4 + (digits + 1) // 2
+    if at >= len(octets):
+        return codes
+    end = min(at + 1 + octets[at], len(octets))
+    at += 1
+    while at < end and octets[at]:
+        codes.add(octets[at])
+        size = octets[at] >> 6
+        if size < 3:
+            at += 2 + size
+        elif at + 1 < end:
+            at += 2 + octets[at + 1]
+        else:
+            break
+    return codes
+
+
+def address_text(end):
+    """The address of a connection's end."""
+    return str(ipaddress.ip_address(end[:-2]))

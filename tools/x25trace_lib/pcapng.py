@@ -1,0 +1,202 @@
+"""Frames of a pcapng file: sections of either byte order, interfaces, and the three blocks that hold frames."""
+import enum
+import struct
+from dataclasses import dataclass
+
+from .frames import Direction, Frame
+from .told import Reason, Refusal, Why
+
+MAGIC = b"\x0a\x0d\x0d\x0a"
+ORDERS = {b"\x1a\x2b\x3c\x4d": ">", b"\x4d\x3c\x2b\x1a": "<"}
+SMALLEST = 12
+LARGEST = 1 << 24
+WINDOW = 1 << 20
+FLAGS = 2
+CHECK_LENGTH = 13
+
+
+class Block(enum.IntEnum):
+    """The types of blocks that are read, or that Wireshark numbers like frames."""
+
+    SECTION = 0x0A0D0D0A
+    INTERFACE = 1
+    PACKET = 2
+    SIMPLE = 3
+    NAMES = 4
+    STATISTICS = 5
+    ENHANCED = 6
+    JOURNAL = 9
+    SECRETS = 10
+    CUSTOM = 0xBAD
+    CUSTOM_KEPT = 0x40000BAD
+
+
+KNOWN = frozenset(Block)
+DIRECTIONS = {0: Direction.UNKNOWN, 1: Direction.RECEIVED, 2: Direction.SENT, 3: Direction.UNKNOWN}
+
+
+@dataclass(slots=True)
+class Interface:
+    """What the blocks of an interface need of its description."""
+
+    link: int
+    snap: int
+    check: int
+
+
+class Pcapng:
+    """The blocks of one pcapng file."""
+
+    def __init__(self, source, ledger):
+        self.source, self.ledger = source, ledger
+        if source.peek(SMALLEST)[8:] not in ORDERS:
+            raise Refusal(Why.UNKNOWN_FORMAT, "the section header at offset 0 has no byte-order magic")
+        self.order = "<"
+        self.interfaces = []
+        self.first_interface = 0
+        self.number = 0
+
+    def frames(self):
+        while True:
+            start = self.source.offset
+            head = self.source.peek(SMALLEST)
+            if len(head) < SMALLEST:
+                self.end_inside(start, head)
+                return
+            kind, length = self.measure(head)
+            fault = self.fault(kind, length)
+            if fault:
+                self.seek(start, fault)
+                continue
+            body = self.source.read(length)
+            if len(body) == length and body[-4:] != body[4:8]:
+                self.damage(start, f"the block's two lengths differ, {length} and {self.word(body, length - 4)}")
+            elif len(body) < length:
+                self.damage(start, f"the file ends after {len(body)} of the block's {length} octets")
+            frame = self.frame_of(kind, start, body[8:min(len(body), length - 4)])
+            if frame:
+                yield frame
+
+    def word(self, octets, at):
+        return struct.unpack_from(self.order + "I", octets, at)[0]
+
+    def damage(self, start, words):
+        self.ledger.damaged(Reason.BAD_FILE, f"offset {start}: {words}")
+
+    def measure(self, head):
+        """Type and length of a block; a section's byte order holds from its own header on."""
+        if head[:4] == MAGIC and head[8:12] in ORDERS:
+            self.order = ORDERS[head[8:12]]
+        return struct.unpack_from(self.order + "II", head)
+
+    @staticmethod
+    def fault(kind, length):
+        """What forbids to walk over a block, or None."""
+        if length < SMALLEST or length % 4 or length > LARGEST:
+            return f"a block of type {kind} and {length} octets"
+        return None
+
+    def end_inside(self, start, head):
+        if head:
+            self.source.read(len(head))
+            self.damage(start, f"the file ends inside of a block's head, {len(head)} octets are left out")
+
+    def seek(self, start, what):
+        """Goes to the next place where a block stands whole, and tells how far it was."""
+        while True:
+            window = self.source.peek(WINDOW)
+            at = next((at for at in range(4, len(window) - SMALLEST + 1, 4) if self.stands(window, at)), None)
+            if at is not None:
+                self.source.skip(at)
+                break
+            self.source.skip(WINDOW // 2 if len(window) == WINDOW else len(window))
+            if len(window) < WINDOW:
+                break
+        passed = self.source.offset - start
+        self.damage(start, f"{what} cannot be: {passed} octets are left out, frame numbers go on after them")
+
+    def stands(self, window, at):
+        """Whether a block of a known type, with two equal lengths, is here."""
+        order = self.order
+        if window[at:at + 4] == MAGIC:
+            order = ORDERS.get(window[at + 8:at + 12], order)
+        kind, length = struct.unpack_from(order + "II", window, at)
+        end = at + length
+        if kind not in KNOWN or self.fault(kind, length) or end > len(window):
+            return False
+        return window[at + 4:at + 8] == window[end - 4:end]
+
+    def frame_of(self, kind, start, body):
+        """The frame that a block holds, or None for a block without."""
+        if kind == Block.SECTION:
+            self.first_interface += len(self.interfaces)
+            self.interfaces = []
+        elif kind == Block.INTERFACE and len(body) >= 8:
+            self.describe(body)
+        elif kind in READERS:
+            self.number += 1
+            return self.framed(READERS[kind], start, body)
+        else:
+            # Wireshark numbers journal entries and custom blocks as if they were frames.
+            self.number += kind in (Block.JOURNAL, Block.CUSTOM, Block.CUSTOM_KEPT)
+            self.ledger.left_out(Reason.OTHER_BLOCK)
+        return None
+
+    def describe(self, body):
+        link, snap = struct.unpack_from(self.order + "H2xI", body)
+        check = 0
+        for code, value in self.options(body, 8):
+            if code == CHECK_LENGTH and value:
+                check = value[0] // 8
+        self.interfaces.append(Interface(link, snap, check))
+
+    def options(self, body, at):
+        """The options of a block, code and value."""
+        while at + 4 <= len(body):
+            code, length = struct.unpack_from(self.order + "HH", body, at)
+            if code == 0:
+                return
+            yield code, body[at + 4:at + 4 + length]
+            at += 4 + length + -length % 4
+
+    def framed(self, read, start, body):
+        try:
+            which, at, kept, length = read(self, body)
+        except struct.error:
+            self.damage(start, f"frame {self.number}: the block is too short for its type")
+            return None
+        if which >= len(self.interfaces):
+            self.damage(start, f"frame {self.number}: interface {which} was not described")
+            return None
+        octets = body[at:at + kept]
+        if len(octets) < kept:
+            self.damage(start, f"frame {self.number}: {len(octets)} of its {kept} octets are there")
+        interface = self.interfaces[which]
+        length = max(length, kept)
+        if interface.check:
+            length -= interface.check
+            octets = octets[:length]
+        direction = self.direction(body, at + kept + -kept % 4)
+        return Frame(self.number, interface.link, octets, length, direction, self.first_interface + which)
+
+    def direction(self, body, at):
+        for code, value in self.options(body, at):
+            if code == FLAGS and len(value) == 4:
+                return DIRECTIONS[self.word(value, 0) & 3]
+        return Direction.UNKNOWN
+
+    def enhanced(self, body):
+        which, kept, length = struct.unpack_from(self.order + "I8xII", body)
+        return which, 20, kept, length
+
+    def obsolete(self, body):
+        which, kept, length = struct.unpack_from(self.order + "H10xII", body)
+        return which, 20, kept, length
+
+    def simple(self, body):
+        length = self.word(body, 0)
+        snap = self.interfaces[0].snap if self.interfaces else 0
+        return 0, 4, min(length, snap or length), length
+
+
+READERS = {Block.ENHANCED: Pcapng.enhanced, Block.PACKET: Pcapng.obsolete, Block.SIMPLE: Pcapng.simple}

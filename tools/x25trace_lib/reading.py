@@ -1,0 +1,137 @@
+"""From the frames of a capture to its packets, whatever carries them."""
+import enum
+from dataclasses import dataclass, field
+
+from .frames import Direction
+from .internet import Internet
+from .lapb import Lapb, SideBy, unframe
+from .links import KINDS, LINKS, Carried
+from .packets import Packet, Side
+from .told import Reason
+from .xot import Xot
+
+XOT_PORT = 1998
+
+
+class Carrier(enum.Enum):
+    """What carries packets; a trace is of one."""
+
+    XOT = "xot"
+    LAPB = "lapb"
+    X25 = "x25"
+
+
+CARRIERS = {
+    Carried.IP: Carrier.XOT,
+    Carried.LAPB: Carrier.LAPB,
+    Carried.HDLC: Carrier.LAPB,
+    Carried.X25: Carrier.X25,
+    Carried.DEVICE: Carrier.X25,
+}
+
+
+@dataclass
+class Choices:
+    """How a capture is to be read."""
+
+    kinds: dict = field(default_factory=dict)
+    ports: list = field(default_factory=lambda: [XOT_PORT])
+    dte: bytes | None = None
+    only: Carrier | None = None
+    interfaces: frozenset = frozenset()
+    senders: dict = field(default_factory=dict)
+    swapped: bool = False
+    side_by: SideBy = SideBy.ADDRESS
+    link_modulus: int | None = None
+
+
+class Reading:
+    """The packets of a capture, each with what carried it."""
+
+    def __init__(self, ledger, choices):
+        self.ledger, self.choices = ledger, choices
+        self.internet = Internet(ledger, choices.ports)
+        self.xot = Xot(ledger, choices.ports, choices.dte, choices.swapped)
+        self.lapb = Lapb(ledger, choices.link_modulus, choices.side_by, choices.swapped)
+        self.frames = 0
+        self.openers = dict(LINKS)
+        self.openers.update({link: KINDS[kind] for link, kind in choices.kinds.items() if link is not None})
+        self.other = KINDS.get(choices.kinds.get(None))
+        self.unknown_links = set()
+
+    def packets(self, frames):
+        """Pairs of a carrier and a packet."""
+        take = {
+            Carrier.XOT: self.from_internet,
+            Carrier.LAPB: self.from_link,
+            Carrier.X25: self.from_packet,
+        }
+        wanted, only = self.choices.interfaces, self.choices.only
+        for frame in frames:
+            self.frames += 1
+            if wanted and frame.interface not in wanted:
+                self.ledger.left_out(Reason.OTHER_INTERFACE)
+                continue
+            carried, at = self.opened(frame)
+            carrier = CARRIERS.get(carried)
+            if carrier is None:
+                self.not_carried(frame, carried)
+            elif only is not None and carrier is not only:
+                self.ledger.left_out(Reason.OTHER_CARRIER)
+            else:
+                for packet in take[carrier](frame, carried, at):
+                    yield carrier, packet
+        self.internet.fragments.end()
+        self.xot.end()
+        self.lapb.end()
+
+    def opened(self, frame):
+        opener = self.openers.get(frame.link, self.other)
+        if opener is None:
+            if frame.link not in self.unknown_links:
+                self.unknown_links.add(frame.link)
+                self.ledger.tell(f"frame {frame.number}: link type {frame.link} is not known; --as {frame.link}=KIND")
+            return Carried.UNKNOWN, 0
+        return opener(frame)
+
+    def not_carried(self, frame, carried):
+        if carried is Carried.BROKEN:
+            self.ledger.damaged(Reason.BAD_HEADER, f"frame {frame.number}: its link header is cut")
+        else:
+            self.ledger.left_out(Reason.UNKNOWN_LINK if carried is Carried.UNKNOWN else Reason.OTHER_PROTOCOL)
+
+    def from_internet(self, frame, _, at):
+        segment = self.internet.segment(frame, at)
+        return self.xot.take(segment) if segment else ()
+
+    def from_link(self, frame, carried, at):
+        octets, cut = frame.octets[at:], len(frame.octets) < frame.length
+        if carried is Carried.HDLC:
+            octets = None if cut else unframe(octets)
+            if octets is None:
+                self.ledger.damaged(Reason.BAD_FCS, f"frame {frame.number}: its frame check sequence is wrong")
+                return ()
+        return self.lapb.take(frame, octets, cut)
+
+    def from_packet(self, frame, carried, at):
+        """A packet without a link header; before one of a Linux device an octet says what it is."""
+        octets = frame.octets
+        if carried is Carried.DEVICE and len(octets) > at and octets[at] < 4:
+            if octets[at]:
+                self.ledger.left_out(Reason.DEVICE_WORD)
+                return
+            at += 1
+        side = self.side(frame)
+        if side is None:
+            self.ledger.left_out(Reason.NO_SIDE)
+        elif len(octets) < frame.length:
+            self.ledger.damaged(Reason.CUT_PACKET, f"frame {frame.number}: a packet that was cut off")
+        else:
+            yield Packet(frame.number, side, octets[at:])
+
+    def side(self, frame):
+        """The host that recorded is the DTE; or the interface tells who sends on it."""
+        if frame.interface in self.choices.senders:
+            return self.choices.senders[frame.interface]
+        side = {Direction.SENT: Side.T, Direction.RECEIVED: Side.N}.get(frame.direction)
+        return side.other if side and self.choices.swapped else side

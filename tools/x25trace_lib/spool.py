@@ -1,0 +1,64 @@
+"""The rows and comments of a trace on their way: its header is known only after the last packet."""
+import tempfile
+
+LAST_NUMBER = 999_999_999
+LONGEST_COMMENT = 8_000
+
+
+def comment(words):
+    """A comment line: printable ASCII, far below the longest line."""
+    return "# " + "".join(letter if " " <= letter <= "~" else "?" for letter in words[:LONGEST_COMMENT]) + "\n"
+
+
+class Spool:
+    """A temporary file with a line for each row and comment; memory does not grow with it."""
+
+    def __init__(self, last_number=LAST_NUMBER):
+        self.file = tempfile.TemporaryFile("w+", encoding="ascii", newline="\n", buffering=1 << 16)
+        self.rows = 0
+        self.last_number = last_number
+        self.number = 0
+
+    def tell(self, words):
+        self.file.write(comment(words))
+
+    def add(self, packet, circuit):
+        """Keeps a row; the circuit is 0 for a packet of a line."""
+        self.rows += 1
+        self.number = max(self.number + 1, packet.frame)
+        self.file.write(f"{packet.frame} {packet.side.value} {circuit} {packet.octets.hex().upper() or '-'}\n")
+
+    @property
+    def by_frames(self):
+        """Whether frame numbers can number the rows, or there are too many."""
+        return self.number <= self.last_number
+
+    def replay(self, circuits):
+        """The lines of the trace behind its header."""
+        self.file.seek(0)
+        number, by_frames = 0, self.by_frames
+        for line in self.file:
+            if line[0] == "#":
+                yield line
+                continue
+            frame, side, which, octets = line.split(" ")
+            if which != "0":
+                circuit = circuits[int(which) - 1]
+                if circuit.channel is None:
+                    continue
+                if not circuit.shown:
+                    circuit.shown = True
+                    yield comment(circuit.shown_words())
+                octets = on_channel(octets, circuit.channel)
+            number = max(number + 1, int(frame)) if by_frames else number + 1
+            if number != int(frame):
+                yield f"# {number} is of frame {frame}\n"
+            yield f"{number} {side} {octets}"
+
+    def close(self):
+        self.file.close()
+
+
+def on_channel(octets, channel):
+    """The hex digits of a packet with another logical channel; the general format identifier stays."""
+    return f"{octets[0]}{channel:03X}{octets[4:]}" if len(octets) > 4 else octets

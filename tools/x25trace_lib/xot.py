@@ -1,0 +1,274 @@
+"""XOT: packets of X.25 in TCP connections, one connection a circuit."""
+import struct
+from collections import deque
+from dataclasses import dataclass, field
+
+from .internet import port_of
+from .packets import LONGEST, Packet, Side, Type, address_text, channel_of
+from .tcp import Budget, Connection, ahead
+from .told import Reason
+
+HEAD = struct.Struct(">HH")
+PVC_SETUP = 0xF5
+MOST_OVER = 1000
+LINE_TYPES = frozenset((Type.RESTART, Type.RESTART_CONFIRM, Type.DIAGNOSTIC, Type.REGISTRATION, Type.REGISTERED))
+CALL_TYPES = frozenset((Type.CALL, Type.CLEAR, Type.CLEAR_CONFIRM))
+
+
+@dataclass(slots=True)
+class Circuit:
+    """What one connection is in the trace. The first end is the one that opened it."""
+
+    number: int
+    ends: tuple
+    sides: tuple
+    frame: int
+    from_opening: bool
+    permanent: bool = False
+    line_channel: int | None = None
+    last_line_channel: int | None = None
+    caller: Side | None = None
+    called: bool = False
+    cleared_by: Side | None = None
+    confirmed: bool = False
+    spoiled: bool = False
+    rows: int = 0
+    first_row: int = 0
+    last_row: int = 0
+    channel: int | None = None
+    again: bool = False
+    shown: bool = False
+    rests: list = field(default_factory=lambda: [b"", b""])
+    synchronised: list = field(default_factory=lambda: [True, True])
+    broken: bool = False
+    ended: bool = False
+
+    def who(self):
+        ends = [f"{address_text(end)} port {port_of(end)} ({side.name})" for end, side in zip(self.ends, self.sides)]
+        return " and ".join(ends)
+
+    def shown_words(self):
+        """What stands before the first row."""
+        again = ", which another one had before" if self.again else ""
+        line = "" if self.line_channel is None else f", logical channel {self.line_channel} in the capture"
+        return f"connection {self.number} is channel {self.channel}{again}: {self.who()}{line}"
+
+    @property
+    def is_free(self):
+        """Whether its channel is surely in p1: its call was cleared, that was confirmed, and no error came after it."""
+        return self.confirmed and not self.spoiled and not self.permanent
+
+    def end_words(self):
+        """What is told where the connection ends without a confirmed clear, or None."""
+        if self.permanent:
+            return "the connection of a permanent circuit ends"
+        if self.called and self.cleared_by is None:
+            return "it ends without a clear"
+        if self.called and not self.confirmed:
+            return f"it ends before the clear of {self.cleared_by.name} was confirmed"
+        return None
+
+    def step(self, side, kind, length):
+        """Follows the call by the packets that open and end it."""
+        # What the DTE sends after the clear, and a clear without a cause, are errors that leave p1 or do not reach it.
+        self.spoiled |= self.confirmed and side is Side.T and kind != Type.CALL or kind == Type.CLEAR and length < 4
+        if kind == Type.CALL:
+            self.called, self.cleared_by, self.confirmed = True, None, False
+            self.caller = self.caller or side
+        elif kind == Type.CLEAR:
+            self.confirmed = self.confirmed or self.cleared_by not in (None, side)
+            self.cleared_by = self.cleared_by or side
+        elif kind == Type.CLEAR_CONFIRM and self.cleared_by not in (None, side):
+            self.confirmed = True
+
+
+def looks_like_xot(octets):
+    """Whether a recording that begins in the middle may begin here with a packet."""
+    if len(octets) < 7 or octets[:2] != b"\0\0":
+        return False
+    return 3 <= HEAD.unpack_from(octets)[1] <= LONGEST and octets[4] & 0x30 in (0x10, 0x20)
+
+
+class Xot:
+    """All connections of a capture, and the packets that they carry."""
+
+    def __init__(self, ledger, ports, dte, swapped):
+        self.ledger, self.ports, self.dte = ledger, frozenset(ports), dte
+        self.sides = (Side.N, Side.T) if swapped else (Side.T, Side.N)
+        self.budget = Budget()
+        self.circuits = []
+        self.table = {}
+        # Connections that are over stay in the table for a while: their last segments may be repeated.
+        self.over = deque()
+        self.on_end = None
+
+    def take(self, segment):
+        """The packets that a segment completes."""
+        if self.dte is not None and self.dte not in (segment.source[:-2], segment.target[:-2]):
+            self.ledger.left_out(Reason.OTHER_HOST)
+            return
+        connection, index, circuit = self.table.get((segment.source, segment.target), (None, 0, None))
+        if segment.syn and not (connection and self.goes_on(connection, index, segment)):
+            if connection:
+                self.finish(connection, circuit, segment.frame)
+            connection, index, circuit = self.open(segment, True)
+        elif connection is None:
+            if segment.reset or not segment.payload and not segment.missing:
+                self.ledger.left_out(Reason.NO_OCTETS)
+                return
+            connection, index, circuit = self.open(segment, False)
+        yield from self.feed(connection, index, circuit, segment)
+
+    def goes_on(self, connection, index, segment):
+        """Whether an opening segment belongs to a connection that is there: its second one, or one repeated."""
+        first = connection.streams[index].first
+        if first is not None:
+            return first == segment.sequence
+        return segment.acknowledged is not None and not connection.over
+
+    def open(self, segment, syn):
+        """Begins a connection; the one who opened it is the sender of the first SYN, else who has no XOT port."""
+        answered = syn and segment.acknowledged is not None
+        from_server = not syn and port_of(segment.source) in self.ports and port_of(segment.target) not in self.ports
+        index = 1 if answered or from_server else 0
+        ends = (segment.target, segment.source) if index else (segment.source, segment.target)
+        connection = Connection(self.ledger, self.budget, ends)
+        circuit = self.circuit(ends, segment.frame, syn)
+        self.table[ends] = (connection, 0, circuit)
+        self.table[ends[::-1]] = (connection, 1, circuit)
+        return connection, index, circuit
+
+    def circuit(self, ends, frame, syn):
+        """The circuit of a connection; its DTE is the host that was asked for, else the one that opened it."""
+        sides = self.sides if self.dte in (None, ends[0][:-2]) else self.sides[::-1]
+        circuit = Circuit(len(self.circuits) + 1, ends, sides, frame, syn)
+        circuit.synchronised = [syn, syn]
+        circuit.called = not syn
+        self.circuits.append(circuit)
+        return circuit
+
+    def feed(self, connection, index, circuit, segment):
+        if circuit.ended or circuit.broken:
+            self.pass_over(connection, index, segment)
+        else:
+            for chunk in connection.feed(index, segment):
+                if not circuit.broken:
+                    yield from self.packets(circuit, chunk)
+            self.tell_loss(connection, circuit)
+            if circuit.broken:
+                connection.give_up()
+        if segment.reset or connection.over:
+            self.finish(connection, circuit, segment.frame)
+
+    def pass_over(self, connection, index, segment):
+        """Counts a segment of which nothing is read any more."""
+        end = len(segment.payload) + segment.missing
+        following = connection.streams[index].next
+        if not end:
+            self.ledger.left_out(Reason.NO_OCTETS)
+        elif following is not None and ahead(segment.sequence + end, following) <= 0:
+            self.ledger.left_out(Reason.REPEATED_OCTETS)
+        else:
+            self.ledger.left_out(Reason.AFTER_GAP)
+
+    def tell_loss(self, connection, circuit):
+        if connection.lost and not circuit.broken:
+            circuit.broken = True
+            loss = connection.lost
+            words = f"frame {loss.frame}: {loss.octets} octets of {circuit.sides[loss.index].name} {loss.how}"
+            self.ledger.tell(f"{words}; connection {circuit.number} is left out from here on")
+
+    def finish(self, connection, circuit, frame):
+        """Tells how a connection ended."""
+        if circuit.ended:
+            return
+        circuit.ended = True
+        self.close(connection, circuit)
+        words = circuit.end_words()
+        if words and not circuit.broken:
+            self.ledger.tell(f"frame {frame}: connection {circuit.number}: {words}")
+        circuit.rests = circuit.synchronised = None
+        self.over.append(connection)
+        if len(self.over) > MOST_OVER:
+            self.forget(self.over.popleft())
+        if self.on_end:
+            self.on_end(circuit.number)
+
+    def forget(self, connection):
+        """Takes a connection from the table, unless its ports are used again."""
+        for ends in (connection.ends, connection.ends[::-1]):
+            if self.table.get(ends, (None,))[0] is connection:
+                del self.table[ends]
+
+    def close(self, connection, circuit):
+        """Gives up what still waits."""
+        connection.lose()
+        self.tell_loss(connection, circuit)
+        for index, rest in enumerate(circuit.rests):
+            if rest and not circuit.broken:
+                side = circuit.sides[index].name
+                words = f"connection {circuit.number} ends after {len(rest)} octets of a packet of {side}"
+                self.ledger.damaged(Reason.CUT_XOT, words)
+
+    def end(self):
+        """The recording has ended."""
+        for connection, index, circuit in self.table.values():
+            if index == 0 and not circuit.ended:
+                self.close(connection, circuit)
+
+    def packets(self, circuit, chunk):
+        """The packets that end in a chunk."""
+        index, octets = chunk.index, chunk.octets
+        if not circuit.synchronised[index]:
+            if not looks_like_xot(octets):
+                self.ledger.left_out(Reason.UNSYNCHRONISED)
+                return
+            circuit.synchronised[index] = True
+        if circuit.rests[index]:
+            octets = circuit.rests[index] + octets
+        at, side = 0, circuit.sides[index]
+        while len(octets) - at >= HEAD.size:
+            version, length = HEAD.unpack_from(octets, at)
+            if version:
+                circuit.broken = True
+                words = f"an XOT header of version {version}; connection {circuit.number} is left out from here on"
+                self.ledger.damaged(Reason.NOT_XOT, f"frame {chunk.frame}: {words}")
+                return
+            begin = at + HEAD.size
+            if begin + length > len(octets):
+                break
+            at = begin + length
+            packet = self.packet(circuit, chunk.frame, side, octets[begin:at])
+            if packet:
+                yield packet
+        circuit.rests[index] = octets[at:]
+
+    def packet(self, circuit, frame, side, octets):
+        """A packet of a circuit, or None for one that is left out."""
+        if len(octets) >= 3:
+            kind, line_channel = octets[2], channel_of(octets)
+            if kind == PVC_SETUP and not circuit.called:
+                return self.set_up(circuit, frame, side)
+            if kind in LINE_TYPES and line_channel == 0:
+                words = f"a packet of type {kind:02X} on channel 0, of {side.name}"
+                self.ledger.damaged(Reason.LINE_PACKET, f"frame {frame}: connection {circuit.number}: {words}")
+                return None
+            if circuit.confirmed or kind in CALL_TYPES:
+                circuit.step(side, kind, len(octets))
+            if circuit.last_line_channel != line_channel:
+                self.other_channel(circuit, frame, line_channel)
+        return Packet(frame, side, octets, circuit)
+
+    def set_up(self, circuit, frame, side):
+        """An XOT packet that sets up a permanent circuit is none of X.25."""
+        circuit.permanent = True
+        self.ledger.left_out(Reason.PVC_SETUP)
+        self.ledger.tell(f"frame {frame}: connection {circuit.number}: {side.name} sets up a permanent circuit")
+
+    def other_channel(self, circuit, frame, line_channel):
+        if circuit.line_channel is None:
+            circuit.line_channel = line_channel
+        else:
+            words = f"logical channel {line_channel} after {circuit.last_line_channel}; a connection has one circuit"
+            self.ledger.tell(f"frame {frame}: connection {circuit.number}: {words}")
+        circuit.last_line_channel = line_channel
