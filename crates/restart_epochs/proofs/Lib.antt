@@ -15,3 +15,4 @@ pub mod Heads
 pub mod OpenLaneLemmas
 pub mod Listings
 pub mod States
+pub mod Peeks

@@ -12,6 +12,7 @@ use crate::giving::give_out;
 use crate::open_epoch::OpenEpoch;
 use crate::restart::{Restart, Route};
 use crate::routing::{finding_of, first_machine, logical_channel, note};
+use crate::showing::copy_out;
 use line_model::fault::Fault;
 use line_model::finding::Finding;
 use line_model::interface::Interface;
@@ -241,6 +242,28 @@ impl<A: Allocator + Copy> Cutter<A> {
             Ok(()) => Ok(()),
             Err(back) => Err((back, Fault::Memory)),
         }
+    }
+
+    /// Copies of the pieces that were not given out yet, which have no end. The cutter stays as it is. It answers
+    /// `Memory` alone.
+    pub fn peek(&self) -> Result<Vec<Piece<A>, A>, Fault>
+        ensures pieces { (i : AnyInterface) (rows : List records.Row) → StandsFor i rows self.now → IfOk result (λ pieces. given_of i rows ++ pieces.items ≡ plan i rows) }
+        ensures refused { IfErr result (λ fault. fault ≡ Memory) }
+    {
+        copy_out(
+            *self.findings.allocator(),
+            &self.interface,
+            self.epoch,
+            self.given,
+            &self.open_rows,
+        )
+    }
+
+    /// The findings of the restart machine so far.
+    pub fn line(&self) -> &[Finding]
+        ensures { (i : AnyInterface) (rows : List records.Row) → StandsFor i rows self.now → result.now ≡ line_findings i rows }
+    {
+        self.findings.as_slice()
     }
 
     /// The pieces that were not given out yet, all findings of the restart machine, and the number of rows.

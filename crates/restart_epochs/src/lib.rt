@@ -9,5 +9,6 @@ pub mod open_lanes;
 mod reserved;
 pub mod restart;
 pub mod routing;
+mod showing;
 #[cfg(test)]
 mod tests;

@@ -1,11 +1,13 @@
 //! The rows of the epoch that has not ended, by logical channel.
 
-ghost use Rattle.std.specs.Prelude.{◌≡◌, ◌≢◌, ℕ, ◌<◌, [], ◌∷◌, ◌++◌, IfErr, OnOk, MatchOption, length};
+ghost use Rattle.std.specs.Prelude.{◌≡◌, ◌≢◌, ℕ, ◌<◌, [], ◌∷◌, ◌++◌, IfErr, IfOk, OnOk, MatchOption, length};
+ghost use Rattle.line_model.specs.declared.fault.Fault.TheVariants.{Memory};
 ghost use Rattle.std.specs.Vec.{vec_len, vec_capacity};
 ghost use Rattle.restart_epochs.specs.OpenRows.{no_rows, rows_of, IsSame, HasMore, IsTakenOut};
 
 use crate::reserved::push_reserved;
-use line_model::row::Item;
+use line_model::fault::Fault;
+use line_model::row::{Item, Row};
 use std::alloc::{AllocError, Allocator};
 use std::collections::BTreeSet;
 use std::marker::Model;
@@ -39,6 +41,26 @@ impl<A: Allocator> Model for OpenEpoch<A> {
     ghost Value = { OpenRows };
 
     ghost view = { λ o. record { lanes = o.lanes.items; channels = o.channels.keys } };
+}
+
+/// The same rows once more.
+fn copy_items<A: Allocator + Copy>(alloc: A, items: &[Item<A>]) -> Result<Vec<Item<A>, A>, Fault>
+    ensures same { IfOk result (λ copies. copies.items ≡ items.now) }
+    ensures memory { IfErr result (λ fault. fault ≡ Memory) }
+{
+    let mut copies = Vec::new(alloc);
+    for item in items {
+        let row = Row {
+            number: item.row.number,
+            side: item.row.side,
+            octets: Vec::from_slice(alloc, item.row.octets.as_slice())?,
+        };
+        copies.push(Item {
+            row,
+            packet: item.packet,
+        })?;
+    }
+    Ok(copies)
 }
 
 impl<A: Allocator + Copy> OpenEpoch<A> {
@@ -92,6 +114,26 @@ impl<A: Allocator + Copy> OpenEpoch<A> {
         }
         push_reserved(&mut lane.items, item);
         Ok(())
+    }
+
+    /// The channels that have rows, in ascending order.
+    pub fn channels(&self) -> &BTreeSet<u16, A>
+        ensures { result.now.keys ≡ self.now.channels }
+    {
+        &self.channels
+    }
+
+    /// Copies of the rows of a channel. It answers `Memory` alone.
+    pub fn copies(&self, channel: u16) -> Result<Vec<Item<A>, A>, Fault>
+        ensures rows { IfOk result (λ items. items.items ≡ rows_of self.now channel) }
+        ensures memory { IfErr result (λ fault. fault ≡ Memory) }
+    {
+        let alloc = *self.lanes.allocator();
+        let place = channel as usize;
+        if place < self.lanes.len() {
+            return copy_items(alloc, self.lanes[place].items.as_slice());
+        }
+        Ok(Vec::new(alloc))
     }
 
     /// Takes the rows of a channel out of its lane.

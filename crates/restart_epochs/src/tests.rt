@@ -349,6 +349,33 @@ fn three_epochs_have_a_piece_for_each_channel(rt: HostRuntime) -> Result<(), Fai
     Ok(())
 }
 
+#[test]
+fn pieces_of_the_open_epoch_are_shown_and_stay(rt: HostRuntime) -> Result<(), Fail> {
+    let alloc = rt.alloc();
+    let mut cutter = Cutter::new(alloc, &PLAIN);
+    let mut pieces = Vec::new(alloc);
+    push(
+        alloc,
+        &mut cutter,
+        Side::T,
+        b"\x10\x02\x00\xaa",
+        &mut pieces,
+    )?;
+    push(alloc, &mut cutter, Side::N, b"\x10\x00\xff", &mut pieces)?;
+    for _ in 0..2 {
+        let shown = cutter.peek()?;
+        let [piece] = shown.as_slice() else {
+            return Err("one channel has rows")?;
+        };
+        assert!(rt; shape(piece) == (0, 1, 2, 1, None));
+        let [finding] = cutter.line() else {
+            return Err("one row has a finding")?;
+        };
+        assert!(rt; finding.code == Code::Number(17));
+    }
+    Ok(())
+}
+
 /// The pieces of three epochs.
 const PIECES: [(u32, u32, u16, usize, Option<u32>); 12] = [
     (0, 1, 1, 1, Some(5)),
