@@ -1,5 +1,9 @@
-//! A source and a sink for tests, which cut what they give and take, and fail.
+//! A source and a sink for tests, which cut what they give and take, and fail; and an allocator that refuses.
 #![tactic(auto)]
+
+pub mod scarce;
+#[cfg(test)]
+mod tests;
 
 use line_model::count::Count;
 use line_model::device::{Sink, Source};

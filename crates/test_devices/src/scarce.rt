@@ -1,0 +1,103 @@
+//! An allocator for tests, which refuses growths and counts the blocks that were not given back.
+
+use std::alloc::{AllocError, Allocator};
+use std::sync::atomic::{AtomicU64, Ordering};
+
+/// Which growths are refused, and how many blocks are held. Threads may share it.
+#[derive(Drop)]
+struct Supply {
+    /// The number of the first growth that is refused; the first growth is 0.
+    first: AtomicU64,
+    /// The number of the growth behind the last one that is refused.
+    last: AtomicU64,
+    /// The growths that were asked for.
+    asked: AtomicU64,
+    /// The blocks that were not given back.
+    held: AtomicU64,
+}
+
+/// Whether the next growth is refused; else its block is counted.
+fn refuses(supply: &Supply) -> bool {
+    let number = supply.asked.fetch_add(1, Ordering::SeqCst);
+    let first = supply.first.load(Ordering::SeqCst);
+    let last = supply.last.load(Ordering::SeqCst);
+    let refused = first <= number && number < last;
+    if !refused {
+        supply.held.fetch_add(1, Ordering::SeqCst);
+    }
+    refused
+}
+
+/// A block comes back.
+fn count_back(supply: &Supply) {
+    supply.held.fetch_sub(1, Ordering::SeqCst);
+}
+
+/// Passes on to another allocator what it grants. A `&` to it is an allocator that is `Copy`, for threads too.
+#[derive(Drop)]
+pub struct Scarce<B: Allocator> {
+    inner: B,
+    supply: Supply,
+}
+
+impl<B: Allocator> Scarce<B> {
+    /// Grants all.
+    pub fn new(inner: B) -> Self {
+        Scarce {
+            inner,
+            supply: Supply {
+                first: AtomicU64::new(0),
+                last: AtomicU64::new(0),
+                asked: AtomicU64::new(0),
+                held: AtomicU64::new(0),
+            },
+        }
+    }
+
+    fn refuse(&self, first: u64, last: u64) {
+        self.supply.first.store(first, Ordering::SeqCst);
+        self.supply.last.store(last, Ordering::SeqCst);
+        self.supply.asked.store(0, Ordering::SeqCst);
+    }
+
+    /// Refuses nothing from now on.
+    pub fn grant_all(&self) {
+        self.refuse(0, 0);
+    }
+
+    /// Refuses one growth, after so many from now on that it grants.
+    pub fn refuse_one(&self, good: u64) {
+        self.refuse(good, good.saturating_add(1));
+    }
+
+    /// Refuses all growths after so many from now on that it grants.
+    pub fn refuse_from(&self, good: u64) {
+        self.refuse(good, u64::MAX);
+    }
+
+    /// How many growths were asked for since it was told what to refuse.
+    pub fn asked(&self) -> u64 {
+        self.supply.asked.load(Ordering::SeqCst)
+    }
+
+    /// How many blocks were not given back.
+    pub fn held(&self) -> u64 {
+        self.supply.held.load(Ordering::SeqCst)
+    }
+}
+
+unsafe impl<B: Allocator> Allocator for Scarce<B> {
+    ghost dealloc_token = { λ heap ty ptr. B.dealloc_token heap.inner ty ptr };
+
+    fn allocate(&self, size: usize, align: usize) -> Result<*mut u8, AllocError> {
+        if refuses(&self.supply) {
+            return Err(AllocError);
+        }
+        self.inner.allocate(size, align)
+    }
+
+    unsafe fn deallocate(&self, ptr: *mut u8, size: usize, align: usize) {
+        count_back(&self.supply);
+        self.inner.deallocate(ptr, size, align);
+    }
+}
