@@ -3,6 +3,9 @@
 ghost use Rattle.std.specs.Prelude.{◌≡◌, ◌<◌};
 ghost use Rattle.live_report.specs.Lives.{IsFed};
 
+mod findings;
+mod wanting;
+
 use crate::live::Live;
 use channel_machine::channel::PlainChannel;
 use channel_machine::run::Channel;
