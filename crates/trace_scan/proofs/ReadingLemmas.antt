@@ -1,9 +1,9 @@
 -- How far a source was read.
-use Rattle.std.proofs.Common.{◌≡◌, ◌∙◌, sym, ap, subst, ℕ, ◌<◌, List, [], ◌++◌, Option, Some, None, append-nil}
+use Rattle.std.proofs.Common.{◌≡◌, ◌∙◌, sym, ap, subst, ℕ, ◌<◌, List, [], ◌++◌, Option, Some, append-nil}
 use Rattle.line_model.specs.Device.{Gives}
 use Rattle.line_model.specs.Text.{early}
 use Rattle.line_model.specs.declared.fault.Fault.{Fault}
-use Rattle.line_model.specs.declared.fault.Fault.TheVariants.{Memory, Trace, Read}
+use Rattle.line_model.specs.declared.fault.Fault.TheVariants.{Memory, Trace}
 use Rattle.trace_text.specs.StandsFor.{IsFaultOf, IsTextFault}
 use Rattle.piece_feed.specs.Readings.{IsReadingFault}
 use Rattle.trace_scan.specs.Scan.{IsEarlyRefusal}

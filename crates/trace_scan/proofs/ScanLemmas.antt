@@ -1,5 +1,5 @@
 -- What a refusal says of the bytes that were given, and the report of a text that was read.
-use Rattle.std.proofs.Common.{◌≡◌, sym, ap, refl, subst, ℕ, List, [], Some, None, Option, Result, Ok, Err, IfErr, append-nil, inl, inr}
+use Rattle.std.proofs.Common.{◌≡◌, sym, refl, subst, ℕ, List, [], Some, None, Option, Result, Ok, Err, IfErr, append-nil, inl, inr}
 use Rattle.line_model.specs.Text.{fault, head, rows}
 use Rattle.line_model.specs.Records.{Report}
 use Rattle.line_model.specs.Report.{report_of}
