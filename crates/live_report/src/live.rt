@@ -1,6 +1,6 @@
 //! Reports of a trace that is fed in chunks.
 
-ghost use Rattle.std.specs.Prelude.{◌≡◌, ◌≢◌, ℕ, ◌+◌, ◌<◌, ◌++◌, [], List, Some, Err, length, IfErr, IfOk, OnOk};
+ghost use Rattle.std.specs.Prelude.{◌≡◌, ◌≢◌, ℕ, ◌+◌, ◌<◌, ◌≤◌, ◌^◌, ◌++◌, [], List, Some, Err, length, IfErr, IfOk, OnOk};
 ghost use Rattle.line_model.specs.Text.{early, ended_lines, fault};
 ghost use Rattle.line_model.specs.Traces.{trace_report};
 ghost use Rattle.trace_text.specs.Progress.{bytes_fed};
@@ -57,6 +57,7 @@ impl<A: Allocator + Copy, C: Channel<A>> Live<A, C> {
         ensures stands { (text : List ℕ) → StandsFor C.interface_of C.number_of C.stands_for self.old text → OnOk result (StandsFor C.interface_of C.number_of C.stands_for self.new (text ++ chunk.now)) }
         ensures refused { (text : List ℕ) → StandsFor C.interface_of C.number_of C.stands_for self.old text → IfErr result (IsFaultOf (early (text ++ chunk.now))) }
         ensures size { OnOk result (bytes_fed self.new.lines ≡ bytes_fed self.old.lines + length chunk.now) }
+        ensures limit { OnOk result (bytes_fed self.new.lines ≤ 2 ^ 30) }
         ensures kinds { IfErr result IsTextFault }
     {
         if let Some(observer) = &mut self.observer {
@@ -89,6 +90,7 @@ impl<A: Allocator + Copy, C: Channel<A>> Live<A, C> {
         ensures stands { (text : List ℕ) → StandsFor C.interface_of C.number_of C.stands_for self.old text → OnOk result (StandsFor C.interface_of C.number_of C.stands_for self.new (text ++ chunk.now)) }
         ensures refused { (text : List ℕ) → StandsFor C.interface_of C.number_of C.stands_for self.old text → IfErr result (IsFaultOf (early (text ++ chunk.now))) }
         ensures size { OnOk result (bytes_fed self.new.lines ≡ bytes_fed self.old.lines + length chunk.now) }
+        ensures limit { OnOk result (bytes_fed self.new.lines ≤ 2 ^ 30) }
         ensures kinds { IfErr result IsTextFault }
         ensures refuses { IfErr result (λ fault. self.new.refused ≡ Some fault) }
         ensures again { (fault : Fault) → self.old.refused ≡ Some fault → (result ≡ Err fault) × (self.new ≡ self.old) }

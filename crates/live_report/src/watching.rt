@@ -1,6 +1,6 @@
 //! A chunk of a trace, row by row.
 
-ghost use Rattle.std.specs.Prelude.{◌≡◌, ℕ, ◌+◌, ◌++◌, ◌∷◌, [], List, length, IfErr, IfOk, OnOk};
+ghost use Rattle.std.specs.Prelude.{◌≡◌, ℕ, ◌+◌, ◌≤◌, ◌^◌, ◌++◌, ◌∷◌, [], List, length, IfErr, IfOk, OnOk};
 ghost use Rattle.line_model.specs.Records as records;
 ghost use Rattle.line_model.specs.Report.{report_of};
 ghost use Rattle.line_model.specs.declared.fault.Fault.TheVariants.{Memory};
@@ -31,6 +31,7 @@ pub fn watch<A: Allocator + Copy, C: Channel<A>>(
     ensures watches { (i : AnyInterface) (text : List ℕ) → IsWatching C.interface_of C.number_of C.stands_for i text lines.old observer.old → OnOk result (IsWatching C.interface_of C.number_of C.stands_for i (text ++ chunk.now) lines.new observer.new) }
     ensures refused { (i : AnyInterface) (text : List ℕ) → IsWatching C.interface_of C.number_of C.stands_for i text lines.old observer.old → IfErr result (IsFaultOf (early (text ++ chunk.now))) }
     ensures size { OnOk result (bytes_fed lines.new ≡ bytes_fed lines.old + length chunk.now) }
+    ensures limit { OnOk result (bytes_fed lines.new ≤ 2 ^ 30) }
     ensures kinds { IfErr result IsTextFault }
 {
     let mut rest = chunk;
