@@ -1,10 +1,12 @@
 #!/usr/bin/env python3
-"""Writes a trace text that a busy, well behaved interface could have left.
+"""Writes a trace text that a busy interface could have left.
 
 Each channel makes a call, sends data with random octets in both directions inside
 its windows, is acknowledged by RR packets, and now and then is cleared and called
 again. With --restart-every the DTE restarts the interface after so many rows.
-The same arguments always give the same bytes.
+With --kind calls each call is cleared as soon as it is up, so four rows are a call;
+with --kind findings the DCE sends data outside the window once the calls are up, so
+each row is a finding. The same arguments always give the same bytes.
 """
 
 import argparse
@@ -88,9 +90,27 @@ def next_rows(channel, source, lengths):
     return [data_row(channel, side, source, lengths)]
 
 
+def brief_call_rows(channel, source, lengths):
+    """A call that is cleared as soon as it is up."""
+    return call_rows(channel, source) + clear_rows(channel, "T")
+
+
+def unsound_rows(channel, source, lengths):
+    """A call, and from then on data of the DCE outside the window."""
+    if not channel.up:
+        channel.up = True
+        return call_rows(channel, source)
+    octets = source.randbytes(lengths[source.getrandbits(10)])
+    return [("N", f"{channel.header}{5 << 1:02X}{octets.hex().upper()}")]
+
+
+KINDS = {"busy": next_rows, "calls": brief_call_rows, "findings": unsound_rows}
+
+
 def packets(arguments):
     """Pairs of a side and the packet's octets in hex, without an end."""
     source = random.Random(arguments.seed)
+    rows_of = KINDS[arguments.kind]
     # Lengths of data: many short ones, many full packets.
     lengths = [
         SIZE if source.random() < 0.3 else source.randint(1, SIZE) for _ in range(1024)
@@ -105,7 +125,7 @@ def packets(arguments):
             yield "T", "1000FB0000"
             yield "N", "1000FF"
         channel = channels[source.randrange(len(channels))]
-        for row in next_rows(channel, source, lengths):
+        for row in rows_of(channel, source, lengths):
             since += 1
             yield row
 
@@ -115,6 +135,7 @@ def main():
     parser.add_argument("--rows", type=int, default=1_000_000)
     parser.add_argument("--channels", type=int, default=64)
     parser.add_argument("--restart-every", type=int, default=0)
+    parser.add_argument("--kind", choices=KINDS, default="busy")
     parser.add_argument("--seed", type=int, default=1)
     arguments = parser.parse_args()
     if not 1 <= arguments.channels <= 4095:

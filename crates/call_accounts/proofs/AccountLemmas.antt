@@ -1,6 +1,7 @@
 -- A map of what each address pays for, in the order of the addresses.
 use Rattle.std.proofs.Common.{◌≡◌, ◌≢◌, ℕ, zero, suc, ◌+◌, ◌-◌, ◌<◌, ◌≤◌, ◌==◌, ◌&&◌, ◌||◌, nat_lt, Bool, true, false, cond, List, [], ◌∷◌, length, get_or, drop, map, filter, sum_by, refl, sym, ap, ◌∙◌, subst, arith, Option, Some, None, unwrap_or, Bor}
 use Rattle.std.specs.List.{AllByRecursion}
+use Rattle.arrayvec.specs.ArrayVec.{ArrayVec as Items}
 use Rattle.std.specs.Cmp.Lexicographic.{slice_cmp, lists_total}
 use Rattle.std.specs.Cmp.{nat_cmp_total, ranks, IsTotalOrder}
 use Rattle.std.specs.declared.cmp.Ordering.{Ordering}
@@ -164,80 +165,80 @@ all_same a (b ∷ bs) f g h all =
     let later = all_same a bs f g h all.1 in
     cc
 
-abbrev key_at : List ℕ → Bor (List ℕ) → Ordering
-key_at a x = slice_cmp nat_cmp a x.now
+abbrev key_at : List ℕ → Items ℕ → Ordering
+key_at a x = slice_cmp nat_cmp a x.items
 
-abbrev key_order : Bor (List ℕ) → Bor (List ℕ) → Ordering
-key_order x y = slice_cmp nat_cmp x.now y.now
+abbrev key_order : Items ℕ → Items ℕ → Ordering
+key_order x y = slice_cmp nat_cmp x.items y.items
 
-pub inserted : (es : List (Bor (List ℕ) × Paid)) (bs : List (List ℕ)) (f g : List ℕ → Account) (k : Bor (List ℕ)) (v : Paid)
-    → map account_for es ≡ map f bs → ((b : List ℕ) → (f b).address ≡ b) → ((b : List ℕ) → k.now ≢ b → g b ≡ f b) → g k.now ≡ account_for (k, v) → Ascends bs
-    → map account_for (insert_entry key_order es k v) ≡ map g (with_address k.now bs)
+pub inserted : (es : List (Items ℕ × Paid)) (bs : List (List ℕ)) (f g : List ℕ → Account) (k : Items ℕ) (v : Paid)
+    → map account_for es ≡ map f bs → ((b : List ℕ) → (f b).address ≡ b) → ((b : List ℕ) → k.items ≢ b → g b ≡ f b) → g k.items ≡ account_for (k, v) → Ascends bs
+    → map account_for (insert_entry key_order es k v) ≡ map g (with_address k.items bs)
 inserted [] [] f g k v e names other own up = ap (λ x. x ∷ []) (sym own)
 inserted [] (b ∷ bs) f g k v e names other own up = absurd (cc)
 inserted (p ∷ es) [] f g k v e names other own up = absurd (cc)
 inserted (p ∷ es) (b ∷ bs) f g k v e names other own up =
     let head : account_for p ≡ f b = cc in
     let tail : map account_for es ≡ map f bs = cc in
-    let key : p.0.now ≡ b = ap (λ a. a.address) head ∙ names b in
-    at (order k.now p.0.now) refl key head tail (inserted es bs f g k v tail names other own up.1)
+    let key : p.0.items ≡ b = ap (λ a. a.address) head ∙ names b in
+    at (order k.items p.0.items) refl key head tail (inserted es bs f g k v tail names other own up.1)
   where
-    at : (o : Ordering) → order k.now p.0.now ≡ o → p.0.now ≡ b → account_for p ≡ f b → map account_for es ≡ map f bs
-        → map account_for (insert_entry key_order es k v) ≡ map g (with_address k.now bs)
-        → map account_for (match_ordering o ((k, v) ∷ p ∷ es) ((p.0, v) ∷ es) (p ∷ insert_entry key_order es k v)) ≡ map g (with_address k.now (b ∷ bs))
+    at : (o : Ordering) → order k.items p.0.items ≡ o → p.0.items ≡ b → account_for p ≡ f b → map account_for es ≡ map f bs
+        → map account_for (insert_entry key_order es k v) ≡ map g (with_address k.items bs)
+        → map account_for (match_ordering o ((k, v) ∷ p ∷ es) ((p.0, v) ∷ es) (p ∷ insert_entry key_order es k v)) ≡ map g (with_address k.items (b ∷ bs))
     at Less less key head tail later =
-        let less' : order k.now b ≡ Less = subst (λ x. order k.now x ≡ Less) key less in
-        let e1 : with_address k.now (b ∷ bs) ≡ k.now ∷ b ∷ bs = subst (Placed k.now b bs) less' (placed k.now b bs) in
-        let e2 : g b ≡ f b = other b (apart_from-less k.now b less') in
-        let e3 : map g bs ≡ map f bs = all_same k.now bs f g other (all_below k.now b bs less' up.0) in
-        let e4 : map g (k.now ∷ b ∷ bs) ≡ account_for (k, v) ∷ account_for p ∷ map account_for es = cc in
+        let less' : order k.items b ≡ Less = subst (λ x. order k.items x ≡ Less) key less in
+        let e1 : with_address k.items (b ∷ bs) ≡ k.items ∷ b ∷ bs = subst (Placed k.items b bs) less' (placed k.items b bs) in
+        let e2 : g b ≡ f b = other b (apart_from-less k.items b less') in
+        let e3 : map g bs ≡ map f bs = all_same k.items bs f g other (all_below k.items b bs less' up.0) in
+        let e4 : map g (k.items ∷ b ∷ bs) ≡ account_for (k, v) ∷ account_for p ∷ map account_for es = cc in
         sym (ap (map g) e1 ∙ e4)
     at Equal equal key head tail later =
-        let equal' : order k.now b ≡ Equal = subst (λ x. order k.now x ≡ Equal) key equal in
-        let w : (with_address k.now (b ∷ bs) ≡ b ∷ bs) × (k.now ≡ b) = subst (Placed k.now b bs) equal' (placed k.now b bs) in
-        let e3 : map g bs ≡ map f bs = all_same k.now bs f g other (subst (λ x. AllByRecursion (λ y. order x y ≡ Less) bs) (sym w.1) up.0) in
+        let equal' : order k.items b ≡ Equal = subst (λ x. order k.items x ≡ Equal) key equal in
+        let w : (with_address k.items (b ∷ bs) ≡ b ∷ bs) × (k.items ≡ b) = subst (Placed k.items b bs) equal' (placed k.items b bs) in
+        let e3 : map g bs ≡ map f bs = all_same k.items bs f g other (subst (λ x. AllByRecursion (λ y. order x y ≡ Less) bs) (sym w.1) up.0) in
         let e5 : g b ≡ account_for (p.0, v) = ap g (sym w.1) ∙ own ∙ ap (λ x. record { address = x; calls = v.calls; segments = v.segments }) (w.1 ∙ sym key) in
         let e4 : map g (b ∷ bs) ≡ account_for (p.0, v) ∷ map account_for es = cc in
         sym (ap (map g) w.0 ∙ e4)
     at Greater greater key head tail later =
-        let greater' : order k.now b ≡ Greater = subst (λ x. order k.now x ≡ Greater) key greater in
-        let e1 : with_address k.now (b ∷ bs) ≡ b ∷ with_address k.now bs = subst (Placed k.now b bs) greater' (placed k.now b bs) in
-        let e2 : g b ≡ f b = other b (λ same. apart_from-less b k.now (less_from-greater k.now b greater') (sym same)) in
-        let e4 : map g (b ∷ with_address k.now bs) ≡ account_for p ∷ map account_for (insert_entry key_order es k v) = cc in
+        let greater' : order k.items b ≡ Greater = subst (λ x. order k.items x ≡ Greater) key greater in
+        let e1 : with_address k.items (b ∷ bs) ≡ b ∷ with_address k.items bs = subst (Placed k.items b bs) greater' (placed k.items b bs) in
+        let e2 : g b ≡ f b = other b (λ same. apart_from-less b k.items (less_from-greater k.items b greater') (sym same)) in
+        let e4 : map g (b ∷ with_address k.items bs) ≡ account_for p ∷ map account_for (insert_entry key_order es k v) = cc in
         sym (ap (map g) e1 ∙ e4)
 
 -- ---- what the map holds of an address
 
-found : (a : List ℕ) (es : List (Bor (List ℕ) × Paid)) (bs : List (List ℕ)) (f : List ℕ → Account) → map account_for es ≡ map f bs → ((b : List ℕ) → (f b).address ≡ b) → (p : Paid)
+found : (a : List ℕ) (es : List (Items ℕ × Paid)) (bs : List (List ℕ)) (f : List ℕ → Account) → map account_for es ≡ map f bs → ((b : List ℕ) → (f b).address ≡ b) → (p : Paid)
     → lookup (is_at (key_at a)) es ≡ Some p → f a ≡ record { address = a; calls = p.calls; segments = p.segments }
 found a [] bs f e names p h = absurd (cc)
 found a (x ∷ es) [] f e names p h = absurd (cc)
 found a (x ∷ es) (b ∷ bs) f e names p h =
     let head : account_for x ≡ f b = cc in
     let tail : map account_for es ≡ map f bs = cc in
-    let key : x.0.now ≡ b = ap (λ a. a.address) head ∙ names b in
-    at (order a x.0.now) refl key head h (found a es bs f tail names p)
+    let key : x.0.items ≡ b = ap (λ a. a.address) head ∙ names b in
+    at (order a x.0.items) refl key head h (found a es bs f tail names p)
   where
-    at : (o : Ordering) → order a x.0.now ≡ o → x.0.now ≡ b → account_for x ≡ f b → cond (is_eq o) (Some x.1) (lookup (is_at (key_at a)) es) ≡ Some p
+    at : (o : Ordering) → order a x.0.items ≡ o → x.0.items ≡ b → account_for x ≡ f b → cond (is_eq o) (Some x.1) (lookup (is_at (key_at a)) es) ≡ Some p
         → (lookup (is_at (key_at a)) es ≡ Some p → f a ≡ record { address = a; calls = p.calls; segments = p.segments }) → f a ≡ record { address = a; calls = p.calls; segments = p.segments }
     at Less o key head h later = later h
     at Greater o key head h later = later h
     at Equal o key head h later =
-        let same : a ≡ x.0.now = exact_bytes a x.0.now o in
+        let same : a ≡ x.0.items = exact_bytes a x.0.items o in
         let value : x.1 ≡ p = cc in
         ap f (same ∙ key) ∙ sym head ∙ ap (λ z. record { address = z; calls = x.1.calls; segments = x.1.segments }) (sym same) ∙ ap (λ v. record { address = a; calls = v.calls; segments = v.segments }) value
 
-not_found : (a : List ℕ) (es : List (Bor (List ℕ) × Paid)) (bs : List (List ℕ)) (f : List ℕ → Account) → map account_for es ≡ map f bs → ((b : List ℕ) → (f b).address ≡ b)
+not_found : (a : List ℕ) (es : List (Items ℕ × Paid)) (bs : List (List ℕ)) (f : List ℕ → Account) → map account_for es ≡ map f bs → ((b : List ℕ) → (f b).address ≡ b)
     → lookup (is_at (key_at a)) es ≡ None → AllByRecursion (λ b. a ≢ b) bs
 not_found a es [] f e names h = tt
 not_found a [] (b ∷ bs) f e names h = absurd (cc)
 not_found a (x ∷ es) (b ∷ bs) f e names h =
     let head : account_for x ≡ f b = cc in
     let tail : map account_for es ≡ map f bs = cc in
-    let key : x.0.now ≡ b = ap (λ a. a.address) head ∙ names b in
-    at (order a x.0.now) refl key h (not_found a es bs f tail names)
+    let key : x.0.items ≡ b = ap (λ a. a.address) head ∙ names b in
+    at (order a x.0.items) refl key h (not_found a es bs f tail names)
   where
-    at : (o : Ordering) → order a x.0.now ≡ o → x.0.now ≡ b → cond (is_eq o) (Some x.1) (lookup (is_at (key_at a)) es) ≡ None
+    at : (o : Ordering) → order a x.0.items ≡ o → x.0.items ≡ b → cond (is_eq o) (Some x.1) (lookup (is_at (key_at a)) es) ≡ None
         → (lookup (is_at (key_at a)) es ≡ None → AllByRecursion (λ b. a ≢ b) bs) → AllByRecursion (λ b. a ≢ b) (b ∷ bs)
     at Less o key h later = (apart_from-less a b (subst (λ z. order a z ≡ Less) key o), later h)
     at Greater o key h later = (λ same. apart_from-less b a (less_from-greater a b (subst (λ z. order a z ≡ Greater) key o)) (sym same), later h)
@@ -262,7 +263,7 @@ none_paid a (c ∷ cs) h =
 abbrev pub nothing_paid : Bor (List ℕ) → Paid
 nothing_paid z = record { address = z; calls = 0; segments = 0 }
 
-held_as : (a : List ℕ) (z : Bor (List ℕ)) (cs : List CallRecord) (es : List (Bor (List ℕ) × Paid)) → map account_for es ≡ accounts_of cs → (r : Option Paid) → lookup (is_at (key_at a)) es ≡ r
+held_as : (a : List ℕ) (z : Bor (List ℕ)) (cs : List CallRecord) (es : List (Items ℕ × Paid)) → map account_for es ≡ accounts_of cs → (r : Option Paid) → lookup (is_at (key_at a)) es ≡ r
     → account cs a ≡ record { address = a; calls = (unwrap_or r (nothing_paid z)).calls; segments = (unwrap_or r (nothing_paid z)).segments }
 held_as a z cs es e None h = none_paid a cs (not_found a es (payers cs) (account cs) e (λ b. refl) h)
 held_as a z cs es e (Some p) h = found a es (payers cs) (account cs) e (λ b. refl) p h
@@ -287,7 +288,7 @@ sum_by-filter_le {X} f t (x ∷ xs) = at (t x) (sum_by-filter_le f t xs)
     at false h = omega (arith, sum_by-cons f x xs)
 
 -- what is held of an address that has paid, while a call is added
-pub record IsHeld (xs : List CallRecord) (i : ℕ) (call : CallRecord) (es : List (Bor (List ℕ) × Paid)) (z : Bor (List ℕ)) (before : Paid) : Type 0 where
+pub record IsHeld (xs : List CallRecord) (i : ℕ) (call : CallRecord) (es : List (Items ℕ × Paid)) (z : Bor (List ℕ)) (before : Paid) : Type 0 where
   pub held : map account_for es ≡ accounts_of (drop i xs)
   pub some : 0 < i
   pub within : i ≤ length xs
@@ -305,12 +306,12 @@ drop_before (y ∷ ys) (suc (suc i)) x some le h =
     let later : drop (suc i - 1) ys ≡ x ∷ drop (suc i) ys = drop_before ys (suc i) x (omega arith) (omega arith) h' in
     subst (λ k. drop k (y ∷ ys) ≡ x ∷ drop (suc i) ys) (sym e) (subst (λ k. drop k ys ≡ x ∷ drop (suc i) ys) e' later)
 
-before_is : (xs : List CallRecord) (i : ℕ) (call : CallRecord) (es : List (Bor (List ℕ) × Paid)) (z : Bor (List ℕ)) (before : Paid) → IsHeld xs i call es z before
+before_is : (xs : List CallRecord) (i : ℕ) (call : CallRecord) (es : List (Items ℕ × Paid)) (z : Bor (List ℕ)) (before : Paid) → IsHeld xs i call es z before
     → account (drop i xs) (payer call) ≡ record { address = payer call; calls = before.calls; segments = before.segments }
 before_is xs i call es z before h =
     held_as (payer call) z (drop i xs) es h.held _ refl ∙ ap (λ v. record { address = payer call; calls = v.calls; segments = v.segments }) (sym h.before_is)
 
-pub held_fits : (xs : List CallRecord) (i : ℕ) (call : CallRecord) (es : List (Bor (List ℕ) × Paid)) (z : Bor (List ℕ)) (before : Paid) → IsHeld xs i call es z before
+pub held_fits : (xs : List CallRecord) (i : ℕ) (call : CallRecord) (es : List (Items ℕ × Paid)) (z : Bor (List ℕ)) (before : Paid) → IsHeld xs i call es z before
     → (before.calls < length xs) × (before.segments + call.segments ≤ sum_by segments_paid xs)
 held_fits xs i call es z before h =
     let rest : List CallRecord = drop i xs in
@@ -323,13 +324,13 @@ held_fits xs i call es z before h =
       omega (arith, segments, all, sum_by-cons segments_paid call rest, sum_by-filter_le segments_paid test rest, sum_by-drop_le segments_paid xs (i - 1)),
     )
 
-pub held_more : (xs : List CallRecord) (i : ℕ) (call : CallRecord) (es : List (Bor (List ℕ) × Paid)) (z : Bor (List ℕ)) (before : Paid) → IsHeld xs i call es z before → (k : Bor (List ℕ)) → k.now ≡ payer call
+pub held_more : (xs : List CallRecord) (i : ℕ) (call : CallRecord) (es : List (Items ℕ × Paid)) (z : Bor (List ℕ)) (before : Paid) → IsHeld xs i call es z before → (k : Items ℕ) → k.items ≡ payer call
     → map account_for (insert_entry key_order es k (record { address = z; calls = before.calls + 1; segments = before.segments + call.segments })) ≡ accounts_of (drop (i - 1) xs)
 held_more xs i call es z before h k same =
     let rest : List CallRecord = drop i xs in
     let after : Paid = record { address = z; calls = before.calls + 1; segments = before.segments + call.segments } in
     let e = before_is xs i call es z before h in
-    let own : account (call ∷ rest) k.now ≡ account_for (k, after) =
+    let own : account (call ∷ rest) k.items ≡ account_for (k, after) =
     ap (account (call ∷ rest)) same ∙ account-own call rest
     ∙ ap (λ a. record { address = payer call; calls = a.calls + 1; segments = a.segments + call.segments }) e
     ∙ ap (λ z. record { address = z; calls = before.calls + 1; segments = before.segments + call.segments }) (sym same) in
@@ -339,17 +340,17 @@ held_more xs i call es z before h k same =
 
 -- ---- each entry has its address as its key
 
-pub named_more : (es : List (Bor (List ℕ) × Paid)) (k : Bor (List ℕ)) (v : Paid) → AllByRecursion IsNamed es → v.address.now ≡ k.now → AllByRecursion IsNamed (insert_entry key_order es k v)
+pub named_more : (es : List (Items ℕ × Paid)) (k : Items ℕ) (v : Paid) → AllByRecursion IsNamed es → v.address.now ≡ k.items → AllByRecursion IsNamed (insert_entry key_order es k v)
 named_more [] k v h e = (e, tt)
-named_more (p ∷ es) k v h e = at (order k.now p.0.now) refl (named_more es k v h.1 e)
+named_more (p ∷ es) k v h e = at (order k.items p.0.items) refl (named_more es k v h.1 e)
   where
-    at : (o : Ordering) → order k.now p.0.now ≡ o → AllByRecursion IsNamed (insert_entry key_order es k v)
+    at : (o : Ordering) → order k.items p.0.items ≡ o → AllByRecursion IsNamed (insert_entry key_order es k v)
         → AllByRecursion IsNamed (match_ordering o ((k, v) ∷ p ∷ es) ((p.0, v) ∷ es) (p ∷ insert_entry key_order es k v))
     at Less o later = (e, h)
-    at Equal o later = (e ∙ exact_bytes k.now p.0.now o, h.1)
+    at Equal o later = (e ∙ exact_bytes k.items p.0.items o, h.1)
     at Greater o later = (h.0, later)
 
-pub held_named : (es : List (Bor (List ℕ) × Paid)) → AllByRecursion IsNamed es → map account_held es ≡ map account_for es
+pub held_named : (es : List (Items ℕ × Paid)) → AllByRecursion IsNamed es → map account_held es ≡ map account_for es
 held_named [] h = refl
 held_named (p ∷ es) h =
     let later = held_named es h.1 in

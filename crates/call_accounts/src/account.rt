@@ -5,6 +5,7 @@ ghost use Rattle.line_model.specs.Accounts.{accounts_of, payer};
 ghost use Rattle.std.specs.List.{AllByRecursion};
 ghost use Rattle.call_accounts.specs.PaidAccounts.{account_for, account_held, IsNamed};
 
+use arrayvec::ArrayVec;
 use line_model::address::Address;
 use line_model::call::{Account, CallRecord};
 use line_model::fault::Fault;
@@ -30,11 +31,24 @@ fn payer<A: Allocator>(call: &CallRecord<A>) -> &Address
     }
 }
 
+/// The digits of an address. As keys they stand in the map itself, so a search reads no record of a call.
+type Digits = ArrayVec<u8, 15>;
+
+fn digits_of(address: &Address) -> Digits
+    ensures { result.items ≡ address.now }
+{
+    let mut digits = ArrayVec::new();
+    match digits.try_extend_from_slice(address.as_bytes()) {
+        Ok(()) => digits,
+        Err(_) => unreachable!(),
+    }
+}
+
 /// What each address pays for, by its digits.
 fn paid_by_address<'a, A: Allocator + Clone>(
     alloc: A,
     calls: &'a [CallRecord<A>],
-) -> Result<BTreeMap<&'a [u8], Paid<'a>, A>, Fault>
+) -> Result<BTreeMap<Digits, Paid<'a>, A>, Fault>
     requires few_segments { sum_by (λ c. c.segments) calls.now ≤ 2 ^ 63 }
     ensures accounts { IfOk result (λ m. map account_for m.entries ≡ accounts_of calls.now) }
     ensures named { IfOk result (λ m. AllByRecursion IsNamed m.entries) }
@@ -44,7 +58,7 @@ fn paid_by_address<'a, A: Allocator + Clone>(
     for index in (0..calls.len()).rev() {
         let call = &calls[index];
         let address = payer(call);
-        let digits = address.as_bytes();
+        let digits = digits_of(address);
         let before = paid.get(&digits).copied().unwrap_or(Paid {
             address,
             calls: 0,
@@ -78,7 +92,7 @@ pub fn accounts_of<A: Allocator + Clone>(
 /// What each address pays for, as accounts.
 fn listed<A: Allocator + Clone>(
     alloc: A,
-    paid: &BTreeMap<&[u8], Paid<'_>, A>,
+    paid: &BTreeMap<Digits, Paid<'_>, A>,
 ) -> Result<Vec<Account, A>, Fault>
     ensures accounts { IfOk result (λ v. v.items ≡ map account_held paid.now.entries) }
     ensures memory { IfErr result (λ f. f ≡ Fault.Memory) }

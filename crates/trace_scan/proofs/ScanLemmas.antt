@@ -1,15 +1,17 @@
 -- What a refusal says of the bytes that were given, and the report of a text that was read.
-use Rattle.std.proofs.Common.{◌≡◌, sym, refl, subst, ℕ, List, [], Some, None, Option, Result, Ok, Err, IfErr, append-nil, inl, inr}
+use Rattle.std.proofs.Common.{◌≡◌, sym, refl, subst, ℕ, List, [], Some, None, Option, Result, Ok, Err, IfOk, IfErr, take, append-nil, inl, inr}
+use Rattle.line_model.specs.Device.{with_more}
 use Rattle.line_model.specs.Text.{fault, head, rows}
+use Rattle.line_model.specs.Traces.{trace_report}
 use Rattle.line_model.specs.Records.{Report}
 use Rattle.line_model.specs.Report.{report_of}
 use Rattle.line_model.specs.declared.interface.Interface.{Interface}
 use Rattle.line_model.specs.declared.totals.Summary.{Summary}
 use Rattle.line_model.specs.declared.fault.Fault.{Fault}
 use Rattle.line_model.specs.declared.fault.Fault.TheVariants.{Memory, Trace, Read, Write}
-use Rattle.live_report.specs.Reports.{IsRefusal as IsReportRefusal, IsReportFault, IsReportOf, IsTaken}
+use Rattle.live_report.specs.Reports.{IsRefusal as IsReportRefusal, IsReportFault, IsReportOf, IsReported, IsTaken}
 use Rattle.piece_feed.specs.Readings.{IsReadingFault, IsRefusal, IsRefusedBy}
-use Rattle.trace_scan.specs.Scan.{IsEarlyRefusal, IsScanFault}
+use Rattle.trace_scan.specs.Scan.{IsEarlyRefusal, IsPartTaken, IsScanFault}
 
 pub report_is : (text : List ℕ) (i : Interface) (made : Report) → fault text ≡ None → head text ≡ Some i → made ≡ report_of i (rows text) → IsReportOf text made
 report_is text i made sound h is = record { sound = sound; interface = i; header = h; report = is }
@@ -36,6 +38,16 @@ write_refused text left f w e h = refused_at_end text left f (subst (IsReportRef
 -- memory ran out after the whole text was accepted
 pub memory_refused : (text : List ℕ) (left : Option (List ℕ)) (f : Fault) → f ≡ Memory → left ≡ Some [] → IsRefusedBy IsRefusal text left f
 memory_refused text left f m e = refused_at_end text left f (subst (IsReportRefusal text) (sym m) tt) e
+
+pub end_of_text : (r : Result Summary Fault) (text : List ℕ) (before after : Option (List ℕ)) → IfOk r (IsReported text before after) → IfOk r (λ sums. (x : List ℕ) × IsReported x before after sums)
+end_of_text (Ok sums) text before after h = (text, h)
+end_of_text (Err f) text before after h = tt
+
+pub end_part : (r : Result Summary Fault) (text : List ℕ) (before after : Option (List ℕ)) → IfErr r (IsReportRefusal text) → IfErr r (IsTaken before after (trace_report text)) → r ≡ Err Write → IsPartTaken before after
+end_part r text before after h t w =
+    let sound : fault text ≡ None = subst (λ x. IfErr x (IsReportRefusal text)) w h in
+    let some : (n : ℕ) × (after ≡ with_more before (take n (trace_report text))) = subst (λ x. IfErr x (IsTaken before after (trace_report text))) w t in
+    record { text = text; sound = sound; bytes = some.0; taken = some.1 }
 
 report_scan : (f : Fault) → IsReportFault f → IsScanFault f
 report_scan Memory h = tt

@@ -1,12 +1,12 @@
 -- Where reading and working stop, and what the workers' reports are.
-use Rattle.std.proofs.Common.{◌≡◌, ◌∙◌, sym, ap, subst, refl, ℕ, true, List, [], Option, Some, None, Result, Ok, Err, ◌⊎◌, inl, inr}
+use Rattle.std.proofs.Common.{◌≡◌, ◌∙◌, sym, ap, subst, refl, ℕ, ◌+◌, ◌≤◌, true, List, [], ◌∷◌, Option, Some, None, Result, Ok, Err, ◌⊎◌, inl, inr, arith, eqb, eq-eqb}
 use Rattle.std.specs.Prelude.{IfErr, IfSome, MatchResult, is_some, is_ok}
 use Rattle.line_model.specs.declared.fault.Fault.{Fault}
-use Rattle.line_model.specs.declared.fault.Fault.TheVariants.{Memory, Trace, Read as ReadFailed}
+use Rattle.line_model.specs.declared.fault.Fault.TheVariants.{Memory, Trace, Read as ReadFailed, Write, Start, Stranger, Missing, Double}
 use Rattle.piece_feed.specs.declared.reading.Read.{Read}
 use Rattle.piece_feed.specs.Readings.{IsReadingFault}
 use Rattle.piece_feed.specs.Readings.{IsOutcome}
-use Rattle.trace_scan.specs.Threaded.{IsStopFault, IsStopped}
+use Rattle.trace_scan.specs.Threaded.{IsStopFault, IsStopped, IsWorkedFault}
 use Rattle.std.specs.Option.{option_map}
 use Rattle.line_model.specs.declared.interface.Interface.{Interface}
 use Rattle.line_model.specs.declared.totals.Totals.{Totals}
@@ -19,12 +19,43 @@ use Rattle.line_model.proofs.Posts.{whole}
 use Rattle.line_model.proofs.BookTotals.{totals_law}
 use Rattle.trace_text.proofs.RowsOfText.{text_rises}
 use Rattle.report_merge.specs.Merged.{IsOfWalk}
+use Rattle.report_merge.specs.Refusal.{IsFirstDouble, IsRefusal as IsMergeRefusal}
+use Rattle.line_model.specs.Book.{times}
+use Rattle.line_model.proofs.Counting.{bit, times-append, times-cons}
 use Rattle.report_merge.proofs.Posted.{permuted_posts}
 use Rattle.workers.specs.declared.gathering.Gathered.{Gathered}
 use Rattle.workers.specs.Gathers.{IsWhole}
 use Rattle.piece_feed.specs.Readings.{IsReadOf}
 use Rattle.trace_scan.specs.Threaded.{trace_totals}
 use Rattle.trace_scan.proofs.ScanLemmas.{memory_refused}
+
+-- ---- which faults there are
+
+pub stop_worked : (told : Option (List ℕ)) (f : Fault) → IsStopFault f → IsWorkedFault told f
+stop_worked told Memory h = tt
+stop_worked told (Trace line kind) h = tt
+stop_worked told ReadFailed h = tt
+stop_worked told Start h = tt
+stop_worked told _ h = absurd h
+
+-- no id stands twice, so none is refused as doubled
+no_double : (i : ℕ) (ids : List ℕ) → IsFirstDouble i ids → times i ids ≤ 1 → ⊥
+no_double i ids d once =
+    let all : times i ids ≡ times i d.front + times i (i ∷ d.back) = ap (times i) d.place ∙ times-append i d.front (i ∷ d.back) in
+    let own : bit (eqb i i) ≡ 1 = ap bit (eq-eqb i i refl) in
+    omega (arith, all, own, times-cons i i d.back, d.before, once)
+
+-- what a source told was merged of its plan, so memory alone is refused
+pub merge_worked : (told : Option (List ℕ)) (f : Fault) (pieces : ℕ) (ids : List ℕ) → IsMergeRefusal f pieces ids → ((x : ℕ) → times x ids ≤ 1) → ((text : List ℕ) → told ≡ Some text → f ≡ Memory) → IsWorkedFault told f
+merge_worked told Memory pieces ids h once plan = tt
+merge_worked None (Stranger i) pieces ids h once plan = refl
+merge_worked (Some text) (Stranger i) pieces ids h once plan = absurd (let e = plan text refl in cc)
+merge_worked None (Missing i) pieces ids h once plan = refl
+merge_worked (Some text) (Missing i) pieces ids h once plan = absurd (let e = plan text refl in cc)
+merge_worked told (Double i) pieces ids h once plan = absurd (no_double i ids h.1 (once i))
+merge_worked told _ pieces ids h once plan = absurd h
+
+-- ---- where reading and working stop
 
 reading_stops : (f : Fault) → IsReadingFault f → IsStopFault f
 reading_stops Memory h = tt

@@ -1,7 +1,7 @@
 -- What a scan with workers answers.
 use Rattle.std.specs.Prelude.{◌≡◌, ℕ, List, [], Option, Some, None}
 use Rattle.line_model.specs.declared.fault.Fault.{Fault}
-use Rattle.line_model.specs.declared.fault.Fault.TheVariants.{Memory, Trace, Read, Start}
+use Rattle.line_model.specs.declared.fault.Fault.TheVariants.{Memory, Trace, Read, Write, Start, Stranger, Missing}
 use Rattle.line_model.specs.Book.{KnownPlan}
 use Rattle.line_model.specs.Plans.{channel_totals}
 use Rattle.line_model.specs.Text.{head, rows}
@@ -33,3 +33,14 @@ IsStopFault _ = ⊥
 pub record IsStopped (before after : Option (List ℕ)) (f : Fault) : Type 0 where
   pub kinds : IsStopFault f
   pub refused : (text : List ℕ) → before ≡ Some text → IsRefusedBy IsRefusal text after f
+
+-- the faults that a scan with workers may meet; the merge's only where the source does not tell its bytes
+abbrev pub IsWorkedFault : Option (List ℕ) → Fault → Type 0
+IsWorkedFault told Memory = Unit {0}
+IsWorkedFault told (Trace line kind) = Unit {0}
+IsWorkedFault told Read = Unit {0}
+IsWorkedFault told Write = Unit {0}
+IsWorkedFault told Start = Unit {0}
+IsWorkedFault told (Stranger id) = told ≡ None
+IsWorkedFault told (Missing id) = told ≡ None
+IsWorkedFault told _ = ⊥

@@ -25,6 +25,8 @@ pub fn feed_all<A: Allocator + Copy, C: Channel<A>, S: Source>(
     ensures fed { IsFed C.interface_of C.number_of C.stands_for live.new }
     // The source gave all of a text.
     ensures stands { (text : List ℕ) → S.left source.old ≡ Some text → OnOk result (StandsFor C.interface_of C.number_of C.stands_for live.new text × (S.left source.new ≡ Some [])) }
+    // So it is with a source that does not tell its bytes.
+    ensures of_text { OnOk result ((text : List ℕ) × StandsFor C.interface_of C.number_of C.stands_for live.new text) }
     ensures kinds { IfErr result IsReadingFault }
     // A refusal by the bytes that were given.
     ensures refused { (text : List ℕ) → S.left source.old ≡ Some text → IfErr result (IsRefusedBy IsEarlyRefusal text (S.left source.new)) }

@@ -3,7 +3,7 @@
 ghost use Rattle.std.specs.Prelude.{◌≡◌, ◌≢◌, ℕ, ◌+◌, ◌<◌, ◌≤◌, ◌^◌, List, Some, Err, IfOk, IfErr};
 ghost use Rattle.piece_feed.specs.Readings.{IsRefusal, IsRefusedBy};
 ghost use Rattle.live_report.specs.Reports.{IsReported, IsTaken};
-ghost use Rattle.trace_scan.specs.Scan.{IsScanFault};
+ghost use Rattle.trace_scan.specs.Scan.{IsPartTaken, IsScanFault};
 ghost use Rattle.line_model.specs.Traces.{trace_report};
 
 use crate::reading::feed_all;
@@ -23,6 +23,8 @@ pub fn scan_alone<A: Allocator + Copy, S: Source, K: Sink>(
 ) -> Result<Summary, Fault>
     // Of a text without a fault the sink took exactly the report.
     ensures reported { (text : List ℕ) → S.left source.old ≡ Some text → IfOk result (IsReported text (K.taken sink.old) (K.taken sink.new)) }
+    // So it is with a source that does not tell its bytes.
+    ensures of_text { IfOk result (λ sums. (text : List ℕ) × IsReported text (K.taken sink.old) (K.taken sink.new) sums) }
     // A refusal is by the bytes that were given.
     ensures refused { (text : List ℕ) → S.left source.old ≡ Some text → IfErr result (IsRefusedBy IsRefusal text (S.left source.new)) }
     ensures kinds { IfErr result IsScanFault }
@@ -31,6 +33,8 @@ pub fn scan_alone<A: Allocator + Copy, S: Source, K: Sink>(
     // The sink is not asked before the whole text was accepted.
     ensures unwritten { IfErr result (λ fault. fault ≢ Fault.Write → sink.new ≡ sink.old) }
     ensures taken { (text : List ℕ) → S.left source.old ≡ Some text → IfErr result (IsTaken (K.taken sink.old) (K.taken sink.new) (trace_report text)) }
+    // Whatever the source tells: where the sink failed, it took a first part of the report of a text without a fault.
+    ensures part { result ≡ Err Fault.Write → IsPartTaken (K.taken sink.old) (K.taken sink.new) }
     ensures asked { S.calls source.new ≤ S.calls source.old + (2 ^ 30 + 1) }
 {
     let mut live = Live::<A, PlainChannel<A>>::new(alloc);

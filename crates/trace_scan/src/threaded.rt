@@ -6,7 +6,7 @@ ghost use Rattle.line_model.specs.Traces.{trace_plan, trace_report};
 ghost use Rattle.line_model.specs.Book.{sum_of};
 ghost use Rattle.live_report.specs.Reports.{IsReported, IsTaken};
 ghost use Rattle.piece_feed.specs.Readings.{IsRefusal, IsRefusedBy};
-ghost use Rattle.trace_scan.specs.Threaded.{IsTogether, IsStopped, trace_totals};
+ghost use Rattle.trace_scan.specs.Threaded.{IsTogether, IsStopped, IsWorkedFault, trace_totals};
 
 use line_model::device::{Sink, Source};
 use line_model::fault::Fault;
@@ -155,6 +155,8 @@ fn scan_in<
     // The sink is not asked before the whole text was accepted and all workers were joined.
     ensures unwritten { IfErr result (λ fault. fault ≢ Fault.Write → sink.new ≡ sink.old) }
     ensures taken { (text : List ℕ) → S.left source.old ≡ Some text → IfErr result (IsTaken (K.taken sink.old) (K.taken sink.new) (trace_report text)) }
+    // Never `Double`; the merge's other refusals only where the source does not tell its bytes.
+    ensures kinds { IfErr result (IsWorkedFault (S.left source.old)) }
     ensures asked { S.calls source.new ≤ S.calls source.old + (2 ^ 30 + 1) }
 {
     let together = match work_on_trace::<P, A, S, G, R>(
@@ -218,6 +220,8 @@ pub fn scan_with<
     // The sink is not asked before the whole text was accepted and all workers were joined.
     ensures unwritten { IfErr result (λ fault. fault ≢ Fault.Write → sink.new ≡ sink.old) }
     ensures taken { (text : List ℕ) → S.left source.old ≡ Some text → IfErr result (IsTaken (K.taken sink.old) (K.taken sink.new) (trace_report text)) }
+    // Never `Double`; the merge's other refusals only where the source does not tell its bytes.
+    ensures kinds { IfErr result (IsWorkedFault (S.left source.old)) }
     ensures asked { S.calls source.new ≤ S.calls source.old + (2 ^ 30 + 1) }
 {
     scan_in::<Brand, A, S, K, G, R>(rt, alloc, source, sink, workers, capacity, gate)

@@ -1,6 +1,6 @@
 //! The sequence numbers of one direction of transfer, by their residues.
 
-ghost use Rattle.std.specs.Prelude.{◌≡◌, ◌⊎◌, ◌<◌, ◌≤◌, ℕ, false, IsTrue};
+ghost use Rattle.std.specs.Prelude.{◌≡◌, ◌⊎◌, ◌<◌, ◌≤◌, ℕ, ◌+◌, ◌%◌, false, IsTrue};
 ghost use Rattle.line_model.specs.FlowControl.{is_send_valid};
 ghost use Rattle.window_check.specs.Kept.{outstanding, IsDirection, Residues, IsAcknowledged};
 
@@ -12,6 +12,14 @@ pub(crate) struct Direction {
     pub(crate) sent: u8,
     pub(crate) acknowledged: u8,
     pub(crate) unconfirmed: bool,
+}
+
+/// What is left of a sum of two residues: no division, which would cost more than all else that a data packet asks.
+pub(crate) fn residue(sum: u8, modulus: u8) -> u8
+    requires { sum < modulus + modulus }
+    ensures { result ≡ sum % modulus }
+{
+    if sum < modulus { sum } else { sum - modulus }
 }
 
 impl Direction {
@@ -34,7 +42,7 @@ impl Direction {
         requires acknowledged_below { self.acknowledged < modulus }
         ensures { result ≡ outstanding modulus self.sent self.acknowledged }
     {
-        (self.sent + (modulus - self.acknowledged)) % modulus
+        residue(self.sent + (modulus - self.acknowledged), modulus)
     }
 
     /// Whether a P(R) acknowledges packets that were sent.
@@ -47,7 +55,7 @@ impl Direction {
         ensures counts { (s a : ℕ) → Residues modulus s a self.sent self.acknowledged → IsAcknowledged result modulus s a number }
     {
         number < modulus
-            && (number + (modulus - self.acknowledged)) % modulus <= self.outstanding(modulus)
+            && residue(number + (modulus - self.acknowledged), modulus) <= self.outstanding(modulus)
     }
 
     /// Whether a P(S) is the next number and lies in the window.

@@ -6,7 +6,7 @@ ghost use Rattle.line_model.specs.Channels.{of_side};
 ghost use Rattle.window_check.specs.Kept.{IsDirection, Stands, Answers};
 ghost use Rattle.window_check.specs.Directions.{direction_of, with_direction};
 
-use crate::direction::Direction;
+use crate::direction::{Direction, residue};
 use line_model::state::Side;
 use std::marker::Model;
 
@@ -63,7 +63,7 @@ impl Flow {
         if !sender.is_next(self.modulus, send) {
             return Err(1);
         }
-        let sent = (sender.sent + 1) % self.modulus;
+        let sent = residue(sender.sent + 1, self.modulus);
         self.ack(side, receive)?;
         self.set(side, Direction { sent, ..sender });
         Ok(())

@@ -16,7 +16,7 @@ held g c = record {
   before_is =
       c.unwrap_or-before.ensures
       ∙ ap (λ o. unwrap_or o (nothing_paid c.payer-address.result)) (c.copied.ensures ∙ c.get.ensures.value)
-      ∙ ap (λ a. unwrap_or (lookup (is_at (λ x. slice_cmp nat_cmp a x.now)) c.loop-index.paid.entries) (nothing_paid c.payer-address.result)) (c.as_bytes-digits.ensures.digits ∙ c.payer-address.ensures);
+      ∙ ap (λ a. unwrap_or (lookup (is_at (λ x. slice_cmp nat_cmp a x.items)) c.loop-index.paid.entries) (nothing_paid c.payer-address.result)) (c.digits_of-digits.ensures ∙ c.payer-address.ensures);
 }
 
 pub overflow_add-after : goal.overflow_add-after
@@ -33,6 +33,6 @@ pub loop-index-preserved : goal.loop-index-preserved
 loop-index-preserved g c =
     let h = held g (goal.at.loop-index-preserved g c).After-unwrap_or-before in
     record {
-      accounts = rw (c.in_ok-insert.ensures.entries, ap (λ r. r.segments) c.call.view_is) (held_more c.args.calls.now c.loop-index.index c.index-calls-index.result c.loop-index.paid.entries c.payer-address.result c.unwrap_or-before.result h c.as_bytes-digits.result (c.as_bytes-digits.ensures.digits ∙ c.payer-address.ensures));
-      named = rw c.in_ok-insert.ensures.entries (named_more c.loop-index.paid.entries c.as_bytes-digits.result _ c.loop-index.invariant.named (sym c.as_bytes-digits.ensures.digits));
+      accounts = rw (c.in_ok-insert.ensures.entries, ap (λ r. r.segments) c.call.view_is) (held_more c.args.calls.now c.loop-index.index c.index-calls-index.result c.loop-index.paid.entries c.payer-address.result c.unwrap_or-before.result h c.digits_of-digits.result (c.digits_of-digits.ensures ∙ c.payer-address.ensures));
+      named = rw c.in_ok-insert.ensures.entries (named_more c.loop-index.paid.entries c.digits_of-digits.result _ c.loop-index.invariant.named (sym c.digits_of-digits.ensures));
     }

@@ -11,6 +11,7 @@ loop-n-init g c =
       calls = omega arith;
       room = omega (arith, reader.start, ap (λ (xs : List ℕ). length xs) reader.begun);
       failures = omega arith;
+      some = ([], c.requires.nothing);
       fed = c.requires.fed;
       given = λ text told. record { fed = []; rest = text; whole = refl; source = told; trace = c.requires.nothing };
     }
@@ -20,6 +21,7 @@ loop-n-preserved g c = record {
   calls = grind (arith, common_steps);
   room = c.in-Ok-feed.ensures.limit;
   failures = grind (arith, common_steps);
+  some = let s = c.loop-n.invariant.some in (s.0 ++ _, c.in-Ok-feed.ensures.stands s.0 s.1);
   fed = c.feed.ensures.fed;
   given = λ text told.
       let r = c.loop-n.invariant.given text told in

@@ -2,7 +2,7 @@ use Rattle.std.proofs.Common.{◌∙◌, ap}
 use Rattle.line_model.specs.Text.{rows}
 use Rattle.live_report.proofs.ReportLemmas.{reported_by, taken_by}
 use Rattle.trace_scan.proofs.ScanLemmas.{memory_refused, report_is, write_refused}
-use Rattle.trace_scan.proofs.ThreadedLemmas.{of_walk, totals_are}
+use Rattle.trace_scan.proofs.ThreadedLemmas.{merge_worked, of_walk, stop_worked, totals_are}
 use Rattle.trace_scan.proofs.threaded.scan_in.Goals as goal
 
 pub returns-in-Err-merge-clause-refused : goal.returns-in-Err-merge-clause-refused
@@ -34,3 +34,11 @@ returns-in-Err-write_report-clause-taken g c text told =
     let is = report_is text c.in-Ok.together.read.interface c.in-Ok-merge.report read.sound read.header
     (c.in-Ok-merge.ensures.report c.in-Ok.together.read.interface (rows text) (of_walk g.P.Plan.pieces c.args.workers text (g.S.Source.left c.args.source.now) c.in-Ok.together.read c.in-Ok.together.gathered c.requires.plan told read c.in-Ok.ensures.together.whole)) in
     taken_by text c.in-Ok-merge.report (g.K.Sink.taken c.args.sink.now) (g.K.Sink.taken c.write_report.new.sink) c.in-Err-write_report.fault is c.in-Err-write_report.ensures.write c.in-Err-write_report.ensures.part
+
+pub returns-in-Err-clause-kinds : goal.returns-in-Err-clause-kinds
+returns-in-Err-clause-kinds g c = stop_worked (g.S.Source.left c.args.source.now) c.in-Err.fault c.in-Err.ensures.stopped.kinds
+
+pub returns-in-Err-merge-clause-kinds : goal.returns-in-Err-merge-clause-kinds
+returns-in-Err-merge-clause-kinds g c =
+    merge_worked (g.S.Source.left c.args.source.now) c.in-Err-merge.fault c.in-Ok.together.read.pieces _ c.in-Err-merge.ensures.refused c.in-Ok.ensures.together.whole.posted.distinct
+    (λ text told. c.in-Err-merge.ensures.plan c.in-Ok.together.read.interface (rows text) (of_walk g.P.Plan.pieces c.args.workers text (g.S.Source.left c.args.source.now) c.in-Ok.together.read c.in-Ok.together.gathered c.requires.plan told (c.in-Ok.ensures.together.told text told).0 c.in-Ok.ensures.together.whole))

@@ -5,7 +5,7 @@ use Rattle.window_check.proofs.direction.Direction.acknowledges.Goals as goal
 
 pub returns-then-number-modulus-clause-counts : goal.returns-then-number-modulus-clause-counts
 returns-then-number-modulus-clause-counts c s a r =
-    rw (c.outstanding.ensures, outstanding_by_residue _ s a _ _ c.requires.eight r, ← r.acknowledged_is)
+    rw (c.residue.ensures, c.outstanding.ensures, outstanding_by_residue _ s a _ _ c.requires.eight r, ← r.acknowledged_is)
     (acknowledged_by_test _ s a _ c.requires.eight (grind (arith, c.if-number-modulus.true)) r.ordered _ refl)
 
 pub returns-else-number-modulus-clause-counts : goal.returns-else-number-modulus-clause-counts
