@@ -1,4 +1,5 @@
-use Rattle.std.proofs.Common.{sym, ap, ◌∙◌, cond, List, ℕ, Bool, ◌-◌, length, take, drop}
+use Rattle.std.proofs.lemmas.Grind.{common_steps}
+use Rattle.std.proofs.Common.{sym, ap, ◌∙◌, cond, List, ℕ, Bool, ◌-◌, length, take, drop, arith}
 use Rattle.std.specs.Prelude.{◌||◌, ◌==◌}
 use Rattle.line_model.specs.Octets.{octet}
 use Rattle.packet_decode.specs.Asked.{with_facility}
@@ -31,3 +32,6 @@ loop-left-preserved c =
         | else-not-is_marked w ↦ rw w.asked-is c.loop-left.invariant.in_range
       ];
     }
+
+pub returns-then-rest-size-clause-asked : goal.returns-then-rest-size-clause-asked
+returns-then-rest-size-clause-asked c = grind (arith, common_steps)

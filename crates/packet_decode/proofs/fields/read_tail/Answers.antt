@@ -1,4 +1,4 @@
-use Rattle.std.proofs.lemmas.Grind.{elements}
+use Rattle.std.proofs.lemmas.Grind.{elements, common_steps}
 use Rattle.std.proofs.Common.{arith}
 use Rattle.packet_decode.proofs.fields.read_tail.Goals as goal
 
@@ -70,3 +70,6 @@ returns-clause-usable c = grind (arith, elements) steps 2000000
 
 pub returns-clause-user_data : goal.returns-clause-user_data
 returns-clause-user_data c = grind (arith, elements) steps 2000000
+
+pub returns-clause-fault : goal.returns-clause-fault
+returns-clause-fault c = grind (arith, common_steps)
