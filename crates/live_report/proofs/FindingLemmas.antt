@@ -34,7 +34,7 @@ use Rattle.live_report.specs.declared.observer.Observer.{Observer as Running}
 use Rattle.live_report.specs.Lanes.{begun_piece}
 use Rattle.live_report.specs.Observing.{StandsFor}
 
-findings_append : (us vs : List (RowEvent Row What)) → findings_of (map event_of (us ++ vs)) ≡ findings_of (map event_of us) ++ findings_of (map event_of vs)
+pub findings_append : (us vs : List (RowEvent Row What)) → findings_of (map event_of (us ++ vs)) ≡ findings_of (map event_of us) ++ findings_of (map event_of vs)
 findings_append us vs = ap findings_of (map-append event_of us vs) ∙ filter_map-append _ (map event_of us) (map event_of vs)
 
 -- what one more row finds comes behind
