@@ -9,3 +9,5 @@ pub mod FoundLemmas
 pub mod WatchLemmas
 pub mod LiveLemmas
 pub mod ReportLemmas
+pub mod LawLemmas
+pub mod FollowLemmas

@@ -3,3 +3,5 @@ pub mod Observing
 pub mod Reports
 pub mod Found
 pub mod Lives
+pub mod Follows
+pub mod Laws
