@@ -44,35 +44,36 @@ fed_few reader text s = omega (arith, s.start, ap (λ (xs : List ℕ). length xs
 -- ---- what the sink took
 
 -- a sink took all of some bytes, or has failed and took a first part of them
-pub Part : (old new : Option (List ℕ)) (bytes : List ℕ) → Type 0
-Part old new bytes = (front : List ℕ) × (back : List ℕ) × (bytes ≡ front ++ back) × (new ≡ with_more old front)
-
-pub part_of : {T : Type 0} → (w : Result T Fault) (old new : Option (List ℕ)) (bytes : List ℕ) → OnOk w (new ≡ with_more old bytes)
+part_of : {T : Type 0} → (w : Result T Fault) (old new : Option (List ℕ)) (bytes : List ℕ) → OnOk w (new ≡ with_more old bytes)
     → OnErr w ((front : List ℕ) × (rest : List ℕ) × (bytes ≡ front ++ rest) × (new ≡ with_more old front)) → (front : List ℕ) × (back : List ℕ) × (bytes ≡ front ++ back) × (new ≡ with_more old front)
 part_of (Ok x) old new bytes h e = (bytes, [], sym (append-nil bytes), h)
 part_of (Err f) old new bytes h e = e
 
-pub all_of : {T : Type 0} → (w : Result T Fault) (P : Type 0) (a b : ℕ) → OnOk w P → OnErr w (a < b) → b ≡ a → P
+pub always : {T : Type 0} → (w : Result T Fault) (P : Type 0) → P → OnOk w P
+always (Ok x) P h = h
+always (Err f) P h = tt
+
+all_of : {T : Type 0} → (w : Result T Fault) (P : Type 0) (a b : ℕ) → OnOk w P → OnErr w (a < b) → b ≡ a → P
 all_of (Ok x) P a b h e same = h
 all_of (Err f) P a b h e same = absurd (omega (arith, e, same))
 
 -- the sink took the lines of all that came
-pub told_more : (before old new : Option (List ℕ)) (text all : List ℕ) (out : List Finding) → HasFindings before old text → HasFound [] out (found text) (found all) → new ≡ with_more old (findings_text out) → HasFindings before new all
+told_more : (before old new : Option (List ℕ)) (text all : List ℕ) (out : List Finding) → HasFindings before old text → HasFound [] out (found text) (found all) → new ≡ with_more old (findings_text out) → HasFindings before new all
 told_more before old new text all out h e w =
     w ∙ ap (λ o. with_more o (findings_text out)) h ∙ with_more-append before (found_text text) (findings_text out)
     ∙ ap (with_more before) (sym (ap findings_text (found_here out (found text) (found all) e) ∙ lines_more (found text) out))
 
 -- the sink took a first part of what came
-pub told_first : {T U : Type 0} → (r : Result T Fault) (w : Result U Fault) (before old new : Option (List ℕ)) (text all : List ℕ) (out : List Finding) → HasFindings before old text → IsFoundBy r [] out (found text) (found all)
-    → OnOk w (new ≡ with_more old (findings_text out)) → OnErr w ((front : List ℕ) × (rest : List ℕ) × (findings_text out ≡ front ++ rest) × (new ≡ with_more old front)) → HasFirst before new (found_text all)
-told_first r w before old new text all out h e ok err =
+pub told_first : {T U : Type 0} → (r : Result T Fault) (w : Result U Fault) (before old new : Option (List ℕ)) (text all : List ℕ) (written out : List Finding) → written ≡ out → HasFindings before old text → IsFoundBy r [] out (found text) (found all)
+    → OnOk w (new ≡ with_more old (findings_text written)) → OnErr w ((front : List ℕ) × (rest : List ℕ) × (findings_text written ≡ front ++ rest) × (new ≡ with_more old front)) → HasFirst before new (found_text all)
+told_first r w before old new text all written out same h e ok err =
     let more = found_rest r out (found text) (found all) e in
-    let part = part_of w old new (findings_text out) ok err in
+    let part = part_of w old new (findings_text written) ok err in
     let front = found_text text ++ part.0 in
     let back = part.1 ++ findings_text more.0 in
     let whole : found_text all ≡ front ++ back =
     ap findings_text more.1 ∙ lines_more (found text) (out ++ more.0)
-    ∙ ap (λ xs. found_text text ++ xs) (lines_more out more.0 ∙ ap (λ xs. xs ++ findings_text more.0) part.2 ∙ append_assoc part.0 part.1 (findings_text more.0))
+    ∙ ap (λ xs. found_text text ++ xs) (lines_more out more.0 ∙ ap (λ xs. xs ++ findings_text more.0) (ap findings_text (sym same) ∙ part.2) ∙ append_assoc part.0 part.1 (findings_text more.0))
     ∙ sym (append_assoc (found_text text) part.0 back) in
     (
       length front,
@@ -80,7 +81,7 @@ told_first r w before old new text all out h e ok err =
     )
 
 -- at a faulty line the sink that did not fail took all of them
-pub told_at_line : {U : Type 0} → (f : Fault) (w : Result U Fault) (before old new : Option (List ℕ)) (a b : ℕ) (text all : List ℕ) (out : List Finding) → HasFindings before old text → IsFoundUpTo f [] out (found text) (found all)
+told_at_line : {U : Type 0} → (f : Fault) (w : Result U Fault) (before old new : Option (List ℕ)) (a b : ℕ) (text all : List ℕ) (out : List Finding) → HasFindings before old text → IsFoundUpTo f [] out (found text) (found all)
     → OnOk w (new ≡ with_more old (findings_text out)) → OnErr w (a < b) → b ≡ a → HasFindingsAtLine before new all f
 told_at_line (Trace line kind) w before old new a b text all out h e ok cause same = told_more before old new text all out h e (all_of w _ a b ok cause same)
 told_at_line _ w before old new a b text all out h e ok cause same = tt
@@ -118,12 +119,18 @@ told_split text r told sound is n =
     ∙ append_assoc (found_text text) (findings_text others.0) (rest_text r) ∙ ap (λ xs. found_text text ++ (findings_text xs ++ rest_text r)) (sym behind)
 
 -- two parts were taken behind what was told
-pub taken_whole : (before old mid new : Option (List ℕ)) (a b c : List ℕ) → old ≡ with_more before a → mid ≡ with_more old b → new ≡ with_more mid c → new ≡ with_more before (a ++ (b ++ c))
-taken_whole before old mid new a b c h k l =
-    l ∙ ap (λ o. with_more o c) (k ∙ ap (λ o. with_more o b) h ∙ with_more-append before a b) ∙ with_more-append before (a ++ b) c ∙ ap (with_more before) (append_assoc a b c)
+pub taken_whole : (before old mid new : Option (List ℕ)) (a b c whole : List ℕ) → whole ≡ a ++ (b ++ c) → old ≡ with_more before a → mid ≡ with_more old b → new ≡ with_more mid c → new ≡ with_more before whole
+taken_whole before old mid new a b c whole w h k l =
+    l ∙ ap (λ o. with_more o c) (k ∙ ap (λ o. with_more o b) h ∙ with_more-append before a b) ∙ with_more-append before (a ++ b) c ∙ ap (with_more before) (append_assoc a b c ∙ sym w)
 
--- a first part of the first, or of the second behind the first
+-- a first part of the first of them
 pub taken_first : (before old new : Option (List ℕ)) (a b whole rest front back : List ℕ) → old ≡ with_more before a → whole ≡ a ++ (b ++ rest) → b ≡ front ++ back → new ≡ with_more old front → HasFirst before new whole
 taken_first before old new a b whole rest front back h w split l =
     let all : whole ≡ (a ++ front) ++ (back ++ rest) = w ∙ ap (λ xs. a ++ (xs ++ rest)) split ∙ ap (λ xs. a ++ xs) (append_assoc front back rest) ∙ sym (append_assoc a front (back ++ rest)) in
     (length (a ++ front), l ∙ ap (λ o. with_more o front) h ∙ with_more-append before a front ∙ ap (with_more before) (front_of (a ++ front) (back ++ rest) whole all))
+
+-- a first part of the second behind the first
+pub taken_last : (before old mid new : Option (List ℕ)) (a b c whole front back : List ℕ) → whole ≡ a ++ (b ++ c) → old ≡ with_more before a → mid ≡ with_more old b → c ≡ front ++ back → new ≡ with_more mid front → HasFirst before new whole
+taken_last before old mid new a b c whole front back w h k split l =
+    taken_first before mid new (a ++ b) c whole [] front back (k ∙ ap (λ o. with_more o b) h ∙ with_more-append before a b)
+    (w ∙ sym (append_assoc a b c) ∙ ap (λ xs. (a ++ b) ++ xs) (sym (append-nil c))) split l
