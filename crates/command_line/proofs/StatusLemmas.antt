@@ -7,7 +7,7 @@ use Rattle.line_model.specs.declared.fault.Fault.{Fault}
 use Rattle.line_model.specs.declared.fault.Fault.TheVariants.{Trace, Write}
 use Rattle.command_line.specs.Program.{IsStatus, fault_status, summary_status}
 use Rattle.piece_feed.specs.Readings.{IsRefusal, IsRefusedBy}
-use Rattle.trace_scan.specs.Scan.{IsReported, IsTaken}
+use Rattle.live_report.specs.Reports.{IsReported, IsTaken}
 use Rattle.line_model.specs.Traces.{trace_report, trace_summary}
 
 with_more-nothing : (o : Option (List ℕ)) → o ≡ with_more o []

@@ -9,7 +9,7 @@ use Rattle.line_model.specs.declared.fault.Fault.{Fault}
 use Rattle.line_model.specs.declared.fault.Fault.TheVariants.{Trace}
 use Rattle.line_model.specs.declared.totals.Summary.{Summary}
 use Rattle.piece_feed.specs.Readings.{IsRefusal, IsRefusedBy}
-use Rattle.trace_scan.specs.Scan.{IsReported}
+use Rattle.live_report.specs.Reports.{IsReported}
 use Rattle.line_model.specs.Traces.{trace_report, trace_summary}
 
 -- 0 without findings, else 1

@@ -1,47 +1,71 @@
--- The report of a text, from its header and its rows.
-use Rattle.std.proofs.Common.{◌≡◌, ◌∙◌, sym, ap, refl, ℕ, List, [], Some, None, Option, ◌++◌, length, append-nil}
-use Rattle.line_model.specs.Device.{with_more}
-use Rattle.line_model.specs.Text.{head, rows, fault}
-use Rattle.line_model.specs.Records.{Row, Report}
-use Rattle.line_model.specs.Report.{no_summary, report, report_of, text_of}
-use Rattle.line_model.specs.Traces.{trace_report, trace_summary}
+-- What a refusal says of the bytes that were given, and the report of a text that was read.
+use Rattle.std.proofs.Common.{◌≡◌, sym, refl, subst, ℕ, List, [], Some, None, Option, Result, Ok, Err, IfErr, append-nil, inl, inr}
+use Rattle.line_model.specs.Text.{fault, head, rows}
+use Rattle.line_model.specs.Records.{Report}
+use Rattle.line_model.specs.Report.{report_of}
 use Rattle.line_model.specs.declared.interface.Interface.{Interface}
 use Rattle.line_model.specs.declared.totals.Summary.{Summary}
 use Rattle.line_model.specs.declared.fault.Fault.{Fault}
-use Rattle.line_model.specs.declared.fault.Fault.TheVariants.{Memory, Write}
-use Rattle.piece_feed.specs.Readings.{IsRefusal, IsRefusedBy}
-use Rattle.trace_scan.specs.Scan.{IsReported, IsTaken}
-use Rattle.streams.proofs.WritingLemmas.{front_of}
+use Rattle.line_model.specs.declared.fault.Fault.TheVariants.{Memory, Trace, Read, Write}
+use Rattle.live_report.specs.Reports.{IsRefusal as IsReportRefusal, IsReportFault, IsReportOf, IsTaken}
+use Rattle.piece_feed.specs.Readings.{IsReadingFault, IsRefusal, IsRefusedBy}
+use Rattle.trace_scan.specs.Scan.{IsEarlyRefusal, IsScanFault}
 
-pub report_rows : (text : List ℕ) (i : Interface) (rs : List Row) → head text ≡ Some i → rs ≡ rows text → text_of (report_of i rs) ≡ trace_report text
-report_rows text i rs h r =
-    ap (λ l. text_of (report_of i l)) r ∙ ap (λ o. elim o as (λ _. List ℕ) [ None ↦ [] | Some j ↦ report j (rows text) ]) (sym h)
+pub report_is : (text : List ℕ) (i : Interface) (made : Report) → fault text ≡ None → head text ≡ Some i → made ≡ report_of i (rows text) → IsReportOf text made
+report_is text i made sound h is = record { sound = sound; interface = i; header = h; report = is }
 
-summary_rows : (text : List ℕ) (i : Interface) (rs : List Row) → head text ≡ Some i → rs ≡ rows text → (report_of i rs).summary ≡ trace_summary text
-summary_rows text i rs h r =
-    ap (λ l. (report_of i l).summary) r ∙ ap (λ o. elim o as (λ _. Summary) [ None ↦ no_summary | Some j ↦ (report_of j (rows text)).summary ]) (sym h)
+-- ---- where the whole text was read
 
-pub all_reported : (text : List ℕ) (i : Interface) (rs : List Row) (made : Report) (before after : Option (List ℕ)) →
-    (fault text ≡ None) → head text ≡ Some i → rs ≡ rows text → made ≡ report_of i rs → after ≡ with_more before (text_of made) →
-    IsReported text before after made.summary
-all_reported text i rs made before after sound h r is taken = record {
-  sound = sound;
-  taken = taken ∙ ap (λ q. with_more before (text_of q)) is ∙ ap (with_more before) (report_rows text i rs h r);
-  counted = ap (λ q. q.summary) is ∙ summary_rows text i rs h r;
-}
+at_end : (text : List ℕ) (f : Fault) → IsReportRefusal text f → IsRefusal text [] f
+at_end text Memory h = tt
+at_end text (Trace line kind) h = inr (refl, h)
+at_end text Write h = (refl, h)
+at_end text _ h = absurd h
+
+pub refused_at_end : (text : List ℕ) (left : Option (List ℕ)) (f : Fault) → IsReportRefusal text f → left ≡ Some [] → IsRefusedBy IsRefusal text left f
+refused_at_end text left f h e = record { given = text; rest = []; whole = sym (append-nil text); left = e; refusal = at_end text f h }
+
+pub end_refused : (r : Result Summary Fault) (text : List ℕ) (left : Option (List ℕ)) → IfErr r (IsReportRefusal text) → left ≡ Some [] → IfErr r (IsRefusedBy IsRefusal text left)
+end_refused (Ok sums) text left h e = tt
+end_refused (Err f) text left h e = refused_at_end text left f h e
 
 -- the sink's failure comes where the whole text was accepted
-at_write : (text : List ℕ) (f : Fault) → f ≡ Write → fault text ≡ None → IsRefusal text [] f
-at_write text f w h = rw w (refl, h)
-
 pub write_refused : (text : List ℕ) (left : Option (List ℕ)) (f : Fault) → f ≡ Write → left ≡ Some [] → fault text ≡ None → IsRefusedBy IsRefusal text left f
-write_refused text left f w e h = record { given = text; rest = []; whole = sym (append-nil text); left = e; refusal = at_write text f w h }
+write_refused text left f w e h = refused_at_end text left f (subst (IsReportRefusal text) (sym w) h) e
 
 -- memory ran out after the whole text was accepted
 pub memory_refused : (text : List ℕ) (left : Option (List ℕ)) (f : Fault) → f ≡ Memory → left ≡ Some [] → IsRefusedBy IsRefusal text left f
-memory_refused text left f m e = record { given = text; rest = []; whole = sym (append-nil text); left = e; refusal = rw m tt }
+memory_refused text left f m e = refused_at_end text left f (subst (IsReportRefusal text) (sym m) tt) e
 
-pub write_taken : (before after : Option (List ℕ)) (text bytes : List ℕ) (f : Fault) → f ≡ Write → bytes ≡ text
-    → (front : List ℕ) × (rest : List ℕ) × (bytes ≡ front ++ rest) × (after ≡ with_more before front) → IsTaken before after text f
-write_taken before after text bytes f w e part =
-    rw w (length part.0, part.3 ∙ ap (with_more before) (front_of part.0 part.1 text (sym e ∙ part.2)))
+report_scan : (f : Fault) → IsReportFault f → IsScanFault f
+report_scan Memory h = tt
+report_scan (Trace line kind) h = tt
+report_scan Write h = tt
+report_scan _ h = absurd h
+
+pub end_kinds : (r : Result Summary Fault) → IfErr r IsReportFault → IfErr r IsScanFault
+end_kinds (Ok sums) h = tt
+end_kinds (Err f) h = report_scan f h
+
+-- ---- where reading was refused
+
+early_to_any : (given rest : List ℕ) (f : Fault) → IsEarlyRefusal given rest f → IsRefusal given rest f
+early_to_any given rest Memory h = tt
+early_to_any given rest (Trace line kind) h = inl h
+early_to_any given rest Read h = h
+early_to_any given rest _ h = absurd h
+
+pub refused_early : (text : List ℕ) (left : Option (List ℕ)) (f : Fault) → IsRefusedBy IsEarlyRefusal text left f → IsRefusedBy IsRefusal text left f
+refused_early text left f r = record { given = r.given; rest = r.rest; whole = r.whole; left = r.left; refusal = early_to_any r.given r.rest f r.refusal }
+
+pub reading_scan : (f : Fault) → IsReadingFault f → IsScanFault f
+reading_scan Memory h = tt
+reading_scan (Trace line kind) h = tt
+reading_scan Read h = tt
+reading_scan _ h = absurd h
+
+pub nothing_taken : (taken : Option (List ℕ)) (report : List ℕ) (f : Fault) → IsReadingFault f → IsTaken taken taken report f
+nothing_taken taken report Memory h = refl
+nothing_taken taken report (Trace line kind) h = refl
+nothing_taken taken report Read h = refl
+nothing_taken taken report _ h = absurd h

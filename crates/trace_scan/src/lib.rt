@@ -2,7 +2,6 @@
 #![tactic(auto)]
 
 pub mod gate;
-mod observing;
 mod reading;
 pub mod scan;
 #[cfg(test)]

@@ -1,70 +1,45 @@
-//! A source read to its end.
+//! A source read to its end, in one thread.
 
-ghost use Rattle.std.specs.Prelude.{◌≡◌, ℕ, ◌+◌, ◌<◌, ◌≤◌, ◌^◌, [], List, Some, None, Err, IfOk, IfErr, OnOk};
-ghost use Rattle.line_model.specs.Text.{early_rows, fault, head, rows};
-ghost use Rattle.trace_text.specs.StandsFor.{StandsFor};
-ghost use Rattle.piece_feed.specs.Readings.{IsReadingFault, IsRefusal, IsRefusedBy};
-ghost use Rattle.trace_scan.specs.Scan.{IsEarlyRefusal, IsRead};
+ghost use Rattle.std.specs.Prelude.{◌≡◌, ℕ, ◌+◌, ◌<◌, ◌≤◌, ◌^◌, [], List, Some, Err, IfErr, OnOk};
+ghost use Rattle.live_report.specs.Lives.{IsFed, StandsFor};
+ghost use Rattle.piece_feed.specs.Readings.{IsReadingFault, IsRefusedBy};
+ghost use Rattle.trace_scan.specs.Scan.{IsEarlyRefusal};
 
+use channel_machine::run::Channel;
 use line_model::device::Source;
 use line_model::fault::Fault;
-use line_model::interface::Interface;
-use line_model::row::Row;
+use live_report::live::Live;
 use std::alloc::Allocator;
-use trace_text::lines::Lines;
 
 /// The bytes that are asked for at once.
-const PIECE: usize = 1 << 16;
+const CHUNK: usize = 1 << 16;
 
-/// Feeds a reader all that a source gives.
-fn feed_all<A: Allocator + Clone, S: Source>(
+/// Feeds a trace all that a source gives. Refuses by the first faulty line as soon as it is known, where the source
+/// fails, and for want of memory.
+pub fn feed_all<A: Allocator + Copy, C: Channel<A>, S: Source>(
     source: &mut S,
-    lines: &mut Lines<A>,
-    out: &mut Vec<Row<A>, A>,
+    live: &mut Live<A, C>,
 ) -> Result<(), Fault>
-    requires { StandsFor lines.old [] }
-    ensures stands { (text : List ℕ) → S.left source.old ≡ Some text → OnOk result (StandsFor lines.new text × (S.left source.new ≡ Some [])) }
-    ensures told { (text : List ℕ) → S.left source.old ≡ Some text → out.old.items ≡ [] → OnOk result (out.new.items ≡ early_rows text) }
-    ensures fed { out.old.items ≡ [] → OnOk result ((text : List ℕ) × StandsFor lines.new text × (out.new.items ≡ early_rows text)) }
+    requires fed { IsFed C.interface_of C.number_of C.stands_for live.old }
+    requires nothing { StandsFor C.interface_of C.number_of C.stands_for live.old [] }
+    ensures fed { IsFed C.interface_of C.number_of C.stands_for live.new }
+    // The source gave all of a text.
+    ensures stands { (text : List ℕ) → S.left source.old ≡ Some text → OnOk result (StandsFor C.interface_of C.number_of C.stands_for live.new text × (S.left source.new ≡ Some [])) }
     ensures kinds { IfErr result IsReadingFault }
+    // A refusal by the bytes that were given.
     ensures refused { (text : List ℕ) → S.left source.old ≡ Some text → IfErr result (IsRefusedBy IsEarlyRefusal text (S.left source.new)) }
     ensures read_failed { result ≡ Err Fault.Read → S.failures source.old < S.failures source.new }
     ensures asked { S.calls source.new ≤ S.calls source.old + (2 ^ 30 + 1) }
 {
-    let mut buffer = [0; PIECE];
+    let mut buffer = [0; CHUNK];
     loop {
         match source.read(&mut buffer) {
             Ok(0) => return Ok(()),
-            Ok(n) => match lines.feed(&buffer[..n], out) {
+            Ok(n) => match live.feed(&buffer[..n]) {
                 Ok(()) => {}
                 Err(fault) => return Err(fault),
             },
             Err(()) => return Err(Fault::Read),
         }
-    }
-}
-
-/// Reads the text of a source: answers its header, and puts its rows into an empty list.
-/// Refuses by the first faulty line as soon as it is known, where the source fails, and for want of memory.
-pub fn read_rows<A: Allocator + Clone, S: Source>(
-    alloc: A,
-    source: &mut S,
-    out: &mut Vec<Row<A>, A>,
-) -> Result<Interface, Fault>
-    requires { out.old.items ≡ [] }
-    // The source gave all of a text without a fault.
-    ensures read { (text : List ℕ) → S.left source.old ≡ Some text → IfOk result (λ interface. (fault text ≡ None) × (head text ≡ Some interface) × (out.new.items ≡ rows text) × (S.left source.new ≡ Some [])) }
-    // So it is with a source that does not tell its bytes.
-    ensures of_text { IfOk result (λ interface. IsRead interface out.new.items) }
-    ensures kinds { IfErr result IsReadingFault }
-    // A refusal by the bytes that were given.
-    ensures refused { (text : List ℕ) → S.left source.old ≡ Some text → IfErr result (IsRefusedBy IsRefusal text (S.left source.new)) }
-    ensures read_failed { result ≡ Err Fault.Read → S.failures source.old < S.failures source.new }
-    ensures asked { S.calls source.new ≤ S.calls source.old + (2 ^ 30 + 1) }
-{
-    let mut lines = Lines::new(alloc);
-    match feed_all(source, &mut lines, out) {
-        Ok(()) => lines.end(out),
-        Err(fault) => Err(fault),
     }
 }

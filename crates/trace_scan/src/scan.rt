@@ -2,15 +2,16 @@
 
 ghost use Rattle.std.specs.Prelude.{◌≡◌, ◌≢◌, ℕ, ◌+◌, ◌<◌, ◌≤◌, ◌^◌, List, Some, Err, IfOk, IfErr};
 ghost use Rattle.piece_feed.specs.Readings.{IsRefusal, IsRefusedBy};
-ghost use Rattle.trace_scan.specs.Scan.{IsReported, IsScanFault, IsTaken};
+ghost use Rattle.live_report.specs.Reports.{IsReported, IsTaken};
+ghost use Rattle.trace_scan.specs.Scan.{IsScanFault};
 ghost use Rattle.line_model.specs.Traces.{trace_report};
 
-use crate::observing::observe;
-use crate::reading::read_rows;
+use crate::reading::feed_all;
+use channel_machine::channel::PlainChannel;
 use line_model::device::{Sink, Source};
 use line_model::fault::Fault;
 use line_model::totals::Summary;
-use report_merge::text::write_report;
+use live_report::live::Live;
 use std::alloc::Allocator;
 
 /// Walks a trace in one thread, writes what is found once the whole text was accepted, and answers the report's last
@@ -32,17 +33,9 @@ pub fn scan_alone<A: Allocator + Copy, S: Source, K: Sink>(
     ensures taken { (text : List ℕ) → S.left source.old ≡ Some text → IfErr result (IsTaken (K.taken sink.old) (K.taken sink.new) (trace_report text)) }
     ensures asked { S.calls source.new ≤ S.calls source.old + (2 ^ 30 + 1) }
 {
-    let mut rows = Vec::new(alloc);
-    let interface = match read_rows(alloc, source, &mut rows) {
-        Ok(interface) => interface,
-        Err(fault) => return Err(fault),
-    };
-    let report = match observe(alloc, &interface, rows) {
-        Ok(report) => report,
-        Err(fault) => return Err(fault),
-    };
-    match write_report(&report, sink) {
-        Ok(()) => Ok(report.summary),
+    let mut live = Live::<A, PlainChannel<A>>::new(alloc);
+    match feed_all(source, &mut live) {
+        Ok(()) => live.end(sink),
         Err(fault) => Err(fault),
     }
 }

@@ -4,8 +4,8 @@ ghost use Rattle.std.specs.Prelude.{◌≡◌, ◌≢◌, ℕ, ◌+◌, ◌<◌,
 ghost use Rattle.std.specs.Option.{option_map};
 ghost use Rattle.line_model.specs.Traces.{trace_plan, trace_report};
 ghost use Rattle.line_model.specs.Book.{sum_of};
+ghost use Rattle.live_report.specs.Reports.{IsReported, IsTaken};
 ghost use Rattle.piece_feed.specs.Readings.{IsRefusal, IsRefusedBy};
-ghost use Rattle.trace_scan.specs.Scan.{IsReported, IsTaken};
 ghost use Rattle.trace_scan.specs.Threaded.{IsTogether, IsStopped, trace_totals};
 
 use line_model::device::{Sink, Source};

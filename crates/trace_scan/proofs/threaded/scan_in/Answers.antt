@@ -1,8 +1,7 @@
-use Rattle.std.proofs.Common.{◌∙◌, ap, refl}
-use Rattle.line_model.specs.Report.{text_of}
+use Rattle.std.proofs.Common.{◌∙◌, ap}
 use Rattle.line_model.specs.Text.{rows}
-use Rattle.line_model.specs.Traces.{trace_report}
-use Rattle.trace_scan.proofs.ScanLemmas.{all_reported, memory_refused, report_rows, write_refused, write_taken}
+use Rattle.live_report.proofs.ReportLemmas.{reported_by, taken_by}
+use Rattle.trace_scan.proofs.ScanLemmas.{memory_refused, report_is, write_refused}
 use Rattle.trace_scan.proofs.ThreadedLemmas.{of_walk, totals_are}
 use Rattle.trace_scan.proofs.threaded.scan_in.Goals as goal
 
@@ -14,8 +13,9 @@ returns-in-Err-merge-clause-refused g c text told =
 pub returns-in-Ok-write_report-clause-reported : goal.returns-in-Ok-write_report-clause-reported
 returns-in-Ok-write_report-clause-reported g c text told =
     let read = (c.in-Ok.ensures.together.told text told).0 in
-    let reported = all_reported text c.in-Ok.together.read.interface (rows text) c.in-Ok-merge.report (g.K.Sink.taken c.args.sink.now) (g.K.Sink.taken c.write_report.new.sink)
-    read.sound read.header refl (c.in-Ok-merge.ensures.report c.in-Ok.together.read.interface (rows text) (of_walk g.P.Plan.pieces c.args.workers text (g.S.Source.left c.args.source.now) c.in-Ok.together.read c.in-Ok.together.gathered c.requires.plan told (c.in-Ok.ensures.together.told text told).0 c.in-Ok.ensures.together.whole)) c.in-Ok-write_report.ensures.ok in
+    let is = report_is text c.in-Ok.together.read.interface c.in-Ok-merge.report read.sound read.header
+    (c.in-Ok-merge.ensures.report c.in-Ok.together.read.interface (rows text) (of_walk g.P.Plan.pieces c.args.workers text (g.S.Source.left c.args.source.now) c.in-Ok.together.read c.in-Ok.together.gathered c.requires.plan told read c.in-Ok.ensures.together.whole)) in
+    let reported = reported_by text c.in-Ok-merge.report (g.K.Sink.taken c.args.sink.now) (g.K.Sink.taken c.write_report.new.sink) is c.in-Ok-write_report.ensures.ok in
     record { sound = reported.sound; taken = reported.taken; counted = ap (λ r. r.summary) c.report.view_is ∙ reported.counted }
 
 pub returns-in-Ok-write_report-clause-totals : goal.returns-in-Ok-write_report-clause-totals
@@ -31,5 +31,6 @@ returns-in-Err-write_report-clause-refused g c text told =
 pub returns-in-Err-write_report-clause-taken : goal.returns-in-Err-write_report-clause-taken
 returns-in-Err-write_report-clause-taken g c text told =
     let read = (c.in-Ok.ensures.together.told text told).0 in
-    write_taken (g.K.Sink.taken c.args.sink.now) (g.K.Sink.taken c.write_report.new.sink) (trace_report text) (text_of c.in-Ok-merge.report) c.in-Err-write_report.fault c.in-Err-write_report.ensures.write
-    (ap text_of (c.in-Ok-merge.ensures.report c.in-Ok.together.read.interface (rows text) (of_walk g.P.Plan.pieces c.args.workers text (g.S.Source.left c.args.source.now) c.in-Ok.together.read c.in-Ok.together.gathered c.requires.plan told (c.in-Ok.ensures.together.told text told).0 c.in-Ok.ensures.together.whole)) ∙ report_rows text c.in-Ok.together.read.interface (rows text) read.header refl) c.in-Err-write_report.ensures.part
+    let is = report_is text c.in-Ok.together.read.interface c.in-Ok-merge.report read.sound read.header
+    (c.in-Ok-merge.ensures.report c.in-Ok.together.read.interface (rows text) (of_walk g.P.Plan.pieces c.args.workers text (g.S.Source.left c.args.source.now) c.in-Ok.together.read c.in-Ok.together.gathered c.requires.plan told read c.in-Ok.ensures.together.whole)) in
+    taken_by text c.in-Ok-merge.report (g.K.Sink.taken c.args.sink.now) (g.K.Sink.taken c.write_report.new.sink) c.in-Err-write_report.fault is c.in-Err-write_report.ensures.write c.in-Err-write_report.ensures.part
