@@ -12,13 +12,15 @@ use Rattle.line_model.specs.declared.fault.Fault.TheVariants.{Memory, Trace, Wri
 use Rattle.line_model.specs.declared.finding.Finding.{Finding}
 use Rattle.line_model.proofs.TextLemmas.{size_kind-none}
 use Rattle.report_merge.specs.Parts.{findings_text, rest_text}
-use Rattle.report_merge.proofs.WrittenLemmas.{two_parts, with_more-append}
+use Rattle.report_merge.proofs.WrittenLemmas.{two_parts, with_more-append, with_more-nil}
 use Rattle.trace_text.specs.Progress.{Progress, bytes_fed}
 use Rattle.trace_text.specs.StandsFor.{StandsFor as IsReaderOf, IsFaultOf, IsTextFault}
 use Rattle.trace_text.proofs.FeedLemmas.{size-sound}
 use Rattle.live_report.specs.Follows.{HasFindings, HasFindingsAtLine, HasFirst, IsRefusalOf}
 use Rattle.live_report.specs.Found.{HasFound, IsFoundBy, IsFoundUpTo, found, found_text}
 use Rattle.live_report.specs.Reports.{IsReportFault, IsReportOf}
+use Rattle.line_model.proofs.TextLemmas.{early_rows-nothing}
+use Rattle.live_report.proofs.FoundLemmas.{nothing_found}
 use Rattle.live_report.proofs.LawLemmas.{found_in_report, lines_more}
 use Rattle.live_report.proofs.ReportLemmas.{front_of, report_text}
 
@@ -134,3 +136,7 @@ pub taken_last : (before old mid new : Option (List ℕ)) (a b c whole front bac
 taken_last before old mid new a b c whole front back w h k split l =
     taken_first before mid new (a ++ b) c whole [] front back (k ∙ ap (λ o. with_more o b) h ∙ with_more-append before a b)
     (w ∙ sym (append_assoc a b c) ∙ ap (λ xs. (a ++ b) ++ xs) (sym (append-nil c))) split l
+
+-- a sink that took nothing has the findings of no text
+pub nothing_told : (taken : Option (List ℕ)) → HasFindings taken taken []
+nothing_told taken = sym (with_more-nil taken) ∙ ap (with_more taken) (sym (ap findings_text (nothing_found [] early_rows-nothing)))

@@ -37,7 +37,7 @@ write_refused text left f w e h = refused_at_end text left f (subst (IsReportRef
 pub memory_refused : (text : List ℕ) (left : Option (List ℕ)) (f : Fault) → f ≡ Memory → left ≡ Some [] → IsRefusedBy IsRefusal text left f
 memory_refused text left f m e = refused_at_end text left f (subst (IsReportRefusal text) (sym m) tt) e
 
-report_scan : (f : Fault) → IsReportFault f → IsScanFault f
+pub report_scan : (f : Fault) → IsReportFault f → IsScanFault f
 report_scan Memory h = tt
 report_scan (Trace line kind) h = tt
 report_scan Write h = tt
