@@ -3,6 +3,8 @@
 ghost use Rattle.std.specs.Prelude.{◌≡◌, ◌<◌};
 ghost use Rattle.live_report.specs.Lives.{IsFed};
 
+mod follows;
+
 use crate::live::Live;
 use channel_machine::channel::PlainChannel;
 use channel_machine::run::Channel;
