@@ -8,9 +8,8 @@ use Rattle.line_model.specs.declared.interface.Interface.{Interface}
 use Rattle.line_model.specs.declared.fault.Fault.{Fault}
 use Rattle.line_model.specs.declared.finding.Finding.{Finding}
 use Rattle.line_model.specs.declared.packet.Packet.{Packet}
-use Rattle.line_model.specs.declared.event.Event.{Event}
 use Rattle.line_model.specs.declared.event.What.{What}
-use Rattle.line_model.specs.Records.{Row, Item}
+use Rattle.line_model.specs.Records.{Row}
 use Rattle.line_model.specs.RestartMachine.{LineState, Routing}
 use Rattle.line_model.specs.Channels.{Channel, fresh, is_open}
 use Rattle.line_model.specs.ChannelStep.{channel_step}

@@ -1,14 +1,14 @@
 -- What a follower told.
-use Rattle.std.proofs.Common.{◌≡◌, ◌∙◌, sym, ap, subst, refl, ℕ, ◌+◌, ◌≤◌, ◌<◌, List, [], ◌∷◌, ◌++◌, length, take, drop, Option, Some, None, Result, Ok, Err, OnOk, OnErr, arith, append-nil, append_assoc, length-append}
+use Rattle.std.proofs.Common.{◌≡◌, ◌∙◌, sym, ap, ℕ, ◌+◌, ◌≤◌, ◌<◌, List, [], ◌++◌, length, drop, Option, None, Result, Ok, Err, OnOk, OnErr, arith, append-nil, append_assoc, length-append}
 use Rattle.std.proofs.Math.Seq.{drop-append_seam}
 use Rattle.line_model.specs.Device.{with_more}
-use Rattle.line_model.specs.Text.{begun_line, early, ended_lines, fault, head, rows, size_of}
+use Rattle.line_model.specs.Text.{begun_line, early, ended_lines, head, rows, size_of}
 use Rattle.line_model.specs.Traces.{trace_report}
 use Rattle.line_model.specs.Records.{Report}
-use Rattle.line_model.specs.Report.{report_of, text_of}
+use Rattle.line_model.specs.Report.{report_of}
 use Rattle.line_model.specs.declared.fault.Kind.{Kind}
 use Rattle.line_model.specs.declared.fault.Fault.{Fault}
-use Rattle.line_model.specs.declared.fault.Fault.TheVariants.{Memory, Trace, Write}
+use Rattle.line_model.specs.declared.fault.Fault.TheVariants.{Memory, Trace}
 use Rattle.line_model.specs.declared.finding.Finding.{Finding}
 use Rattle.line_model.proofs.TextLemmas.{size_kind-none}
 use Rattle.report_merge.specs.Parts.{findings_text, rest_text}
@@ -76,8 +76,7 @@ told_first r w before old new text all written out same h e ok err =
     let whole : found_text all ≡ front ++ back =
     ap findings_text more.1 ∙ lines_more (found text) (out ++ more.0)
     ∙ ap (λ xs. found_text text ++ xs) (lines_more out more.0 ∙ ap (λ xs. xs ++ findings_text more.0) (ap findings_text (sym same) ∙ part.2) ∙ append_assoc part.0 part.1 (findings_text more.0))
-    ∙ sym (append_assoc (found_text text) part.0 back) in
-    (
+    ∙ sym (append_assoc (found_text text) part.0 back) in (
       length front,
       part.3 ∙ ap (λ o. with_more o part.0) h ∙ with_more-append before (found_text text) part.0 ∙ ap (with_more before) (front_of front back (found_text all) whole),
     )

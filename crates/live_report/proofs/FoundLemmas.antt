@@ -1,5 +1,5 @@
 -- What a text found so far grows with it.
-use Rattle.std.proofs.Common.{◌≡◌, ◌∙◌, sym, ap, refl, subst, ℕ, ◌≤◌, List, [], ◌∷◌, ◌++◌, map, length, Option, Some, None, append-nil, append_assoc, arith}
+use Rattle.std.proofs.Common.{◌≡◌, ◌∙◌, sym, ap, refl, subst, ℕ, ◌≤◌, List, [], ◌++◌, map, length, Option, Some, None, append-nil, append_assoc, arith}
 use Rattle.std.specs.Option.{option_to_list}
 use Rattle.line_model.specs.declared.interface.Interface.{Interface}
 use Rattle.line_model.specs.declared.finding.Finding.{Finding}
@@ -13,7 +13,7 @@ use Rattle.line_model.specs.Report.{findings_of, report_of}
 use Rattle.line_model.specs.Text.{early_head, early_rows}
 use Rattle.restart_epochs.proofs.LineFindings.{events_append}
 use Rattle.trace_text.specs.StandsFor.{AreKnown}
-use Rattle.live_report.specs.Found.{HasFound, HasFoundSome, IsFoundUpTo, found, found_at}
+use Rattle.live_report.specs.Found.{HasFound, IsFoundUpTo, found, found_at}
 use Rattle.live_report.proofs.FindingLemmas.{findings_append}
 
 -- more rows find more

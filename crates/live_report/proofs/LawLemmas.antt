@@ -7,7 +7,7 @@ use Rattle.line_model.specs.declared.fault.Kind.{Kind}
 use Rattle.line_model.specs.declared.finding.Finding.{Finding}
 use Rattle.line_model.specs.declared.interface.Interface.{Interface}
 use Rattle.line_model.specs.Records.{Report}
-use Rattle.line_model.specs.Report.{finding_line, report, report_of, text_of}
+use Rattle.line_model.specs.Report.{finding_line, report, report_of}
 use Rattle.line_model.specs.Text.{Line, begun_kind, begun_line, early, early_head, early_rows, end_kind, ended_lines, fault, first_fault, good_lines, head, head_of, line_kind, rows, rows_in, size_kind, size_of}
 use Rattle.line_model.specs.Traces.{trace_report}
 use Rattle.line_model.proofs.LineLemmas.{size_kind-zero}
@@ -84,8 +84,7 @@ found_on : (text more : List ℕ) (o : Option Interface) → early_head text ≡
 found_on text more None e h = (found (text ++ more), ap (λ xs. xs ++ found (text ++ more)) (sym (found_unheaded text e)))
 found_on text more (Some i) e h =
     let rs = rows_grow text more h in
-    let grown = findings_grow i (early_rows text) rs.0 in
-    (
+    let grown = findings_grow i (early_rows text) rs.0 in (
       grown.0,
       found_under i (text ++ more) (early_head_stays text more i h e) ∙ ap (λ l. (report_of i l).findings) rs.1 ∙ grown.1 ∙ ap (λ xs. xs ++ grown.0) (sym (found_under i text e)),
     )
@@ -119,8 +118,7 @@ found_in_report given rest i h is = in_report given rest i (early_head given) re
 report_text_in : (text more : List ℕ) (o : Option Interface) → head (text ++ more) ≡ o → early text ≡ None → (rest : List ℕ) × (trace_report (text ++ more) ≡ found_text text ++ rest)
 report_text_in text more (Some i) e h =
     let others = found_in_report text more i h e in
-    let r : Report = report_of i (rows (text ++ more)) in
-    (
+    let r : Report = report_of i (rows (text ++ more)) in (
       findings_text others.0 ++ rest_text r,
       ap (λ o. elim o as (λ _. List ℕ) [ None ↦ [] | Some j ↦ report j (rows (text ++ more)) ]) e ∙ sym (two_parts r)
           ∙ ap (λ xs. xs ++ rest_text r) (ap findings_text others.1 ∙ lines_more (found text) others.0) ∙ append_assoc (found_text text) (findings_text others.0) (rest_text r),

@@ -1,10 +1,10 @@
 -- The report of a text, from the observer of its rows.
-use Rattle.std.proofs.Common.{◌≡◌, ◌∙◌, sym, ap, refl, subst, ℕ, List, [], ◌++◌, length, take, Option, Some, None, Result, Ok, Err, IfOk, IfErr, append-nil}
+use Rattle.std.proofs.Common.{◌≡◌, ◌∙◌, sym, ap, subst, ℕ, List, [], ◌++◌, length, take, Option, Some, None, Result, Ok, Err, IfOk, IfErr, append-nil}
 use Rattle.std.proofs.Math.Seq.{take-append_seam}
 use Rattle.line_model.specs.Device.{with_more}
 use Rattle.line_model.specs.Records.{Report, Row}
 use Rattle.line_model.specs.Report.{no_summary, report, report_of, text_of}
-use Rattle.line_model.specs.Text.{early, early_head, early_rows, fault, head, rows}
+use Rattle.line_model.specs.Text.{fault, head, rows}
 use Rattle.line_model.specs.Traces.{trace_report, trace_summary}
 use Rattle.line_model.specs.declared.interface.Interface.{Interface}
 use Rattle.line_model.specs.declared.fault.Fault.{Fault}

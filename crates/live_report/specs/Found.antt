@@ -1,5 +1,5 @@
 -- What a text found so far.
-use Rattle.std.specs.Prelude.{◌≡◌, ℕ, List, [], ◌++◌, Option, Some, None, Result, Ok, Err}
+use Rattle.std.specs.Prelude.{◌≡◌, ℕ, List, [], ◌++◌, Some, None, Result, Ok, Err}
 use Rattle.line_model.specs.Report.{report_of}
 use Rattle.line_model.specs.Text.{early_head, early_rows}
 use Rattle.line_model.specs.declared.fault.Fault.{Fault}

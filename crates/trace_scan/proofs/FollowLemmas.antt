@@ -1,9 +1,9 @@
 -- What a follower was fed of a source, and what its sink took.
-use Rattle.std.proofs.Common.{◌≡◌, ◌≢◌, ◌∙◌, sym, ap, subst, refl, ℕ, ◌<◌, ◌≤◌, List, [], ◌++◌, length, take, Option, Some, None, Result, Ok, Err, IfOk, IfErr, append-nil, append_assoc, arith, inl, inr}
+use Rattle.std.proofs.Common.{◌≡◌, ◌≢◌, ◌∙◌, sym, ap, subst, refl, ℕ, ◌<◌, ◌≤◌, List, [], ◌++◌, length, Option, Some, None, Result, Ok, Err, IfOk, IfErr, append-nil, append_assoc, arith, inl, inr}
 use Rattle.std.proofs.Math.Seq.{take-length}
 use Rattle.line_model.specs.Channels.{Channel}
 use Rattle.line_model.specs.Device.{Gives, with_more}
-use Rattle.line_model.specs.Text.{early, fault}
+use Rattle.line_model.specs.Text.{early}
 use Rattle.line_model.specs.Traces.{trace_report}
 use Rattle.line_model.specs.declared.interface.Interface.{Interface}
 use Rattle.line_model.specs.declared.totals.Summary.{Summary}
@@ -15,7 +15,7 @@ use Rattle.live_report.specs.Found.{found_text}
 use Rattle.live_report.specs.Reports.{IsRefusal, IsReported}
 use Rattle.live_report.proofs.FollowLemmas.{nothing_told}
 use Rattle.piece_feed.specs.Readings.{IsRefusedBy}
-use Rattle.trace_scan.specs.Follow.{IsAllGiven, IsFollowRefusal, IsFollowed, IsGiven, IsStopped, IsToldOf}
+use Rattle.trace_scan.specs.Follow.{IsFollowRefusal, IsFollowed, IsGiven, IsStopped, IsToldOf}
 
 -- a follower was fed what a source gave, and the sink has the lines of what was found
 pub record Reached {A C : Type 0} (I : C → Interface) (N : C → ℕ) (S : C → Channel → Type 0) (left after before taken : Option (List ℕ)) (f : Follower A C) : Type 0 where
@@ -51,8 +51,7 @@ all_read I N S left after next before taken f bytes room r gives some none = rec
   source = λ text told.
       let before = r.source text told in
       let rest = gives.end before.0 before.2 some none in
-      let more = gives.told before.0 before.2 in
-      (
+      let more = gives.told before.0 before.2 in (
         before.1 ∙ ap (λ xs. r.given ++ xs) rest ∙ append-nil r.given,
         more.1 ∙ ap (λ xs. Some xs) (sym (ap (λ xs. xs ++ more.0) none) ∙ sym more.2 ∙ rest),
       );

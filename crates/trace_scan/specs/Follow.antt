@@ -7,7 +7,7 @@ use Rattle.line_model.specs.declared.fault.Fault.{Fault}
 use Rattle.line_model.specs.declared.fault.Fault.TheVariants.{Memory, Trace, Read, Write}
 use Rattle.line_model.specs.declared.interface.Interface.{Interface}
 use Rattle.live_report.specs.declared.follow.Follower.{Follower}
-use Rattle.live_report.specs.Follows.{HasFindings, HasFindingsAtLine, HasFirst, StandsFor}
+use Rattle.live_report.specs.Follows.{HasFindings, HasFirst, StandsFor}
 use Rattle.live_report.specs.Found.{found_text}
 
 -- what a refusal says of the bytes that were given: a faulty line is told as soon as it is known, else at the end of the text; a device

@@ -35,7 +35,10 @@ fn play_lines<L: Ledger>(rt: &impl Abort, blank: Blank, alloc: Global) -> Result
     trace.feed(b"2 T 20010B0000\n# 3\n", &mut sink)?;
     assert_eq!(rt; sink.as_slice(), b"F 1 T - 38\nF 2 T - 40\n".as_slice());
     trace.feed(b"3 T 10010B0000\n4 T -\n5 T -", &mut sink)?;
-    assert_eq!(rt; sink.as_slice(), b"F 1 T - 38\nF 2 T - 40\nF 4 T - 38\n".as_slice());
+    assert_eq!(rt;
+        sink.as_slice(),
+        b"F 1 T - 38\nF 2 T - 40\nF 4 T - 38\n".as_slice()
+    );
     let summary = trace.end(&mut sink)?;
     assert_eq!(rt; summary.findings, 4);
     assert_eq!(rt;
@@ -60,7 +63,10 @@ fn play_refusal<L: Ledger>(rt: &impl Abort, blank: Blank, alloc: Global) -> Resu
     let mut sink: VecSink<Global, L> = VecSink::new(Vec::new(alloc), Count::open(blank));
     let mut trace = Trace::new(alloc);
     trace.feed(HEADER, &mut sink)?;
-    assert_eq!(rt; trace.feed(b"1 T -\n2 X -\n3 T -\n", &mut sink).err(), refused);
+    assert_eq!(rt;
+        trace.feed(b"1 T -\n2 X -\n3 T -\n", &mut sink).err(),
+        refused
+    );
     assert_eq!(rt; sink.as_slice(), b"F 1 T - 38\n".as_slice());
     assert_eq!(rt; trace.feed(b"4 T -\n", &mut sink).err(), refused);
     assert_eq!(rt; trace.end(&mut sink).err(), refused);

@@ -104,7 +104,11 @@ fn followed_traces_end_with_their_reports(rt: HostRuntime) -> Result<(), Fail> {
 #[test]
 fn findings_stand_before_a_faulty_line(rt: HostRuntime) -> Result<(), Fail> {
     for (rows, fault, found) in [
-        ("1 T -\n2 X -\n", Fault::Trace(3, Kind::Side), "F 1 T - 38\n"),
+        (
+            "1 T -\n2 X -\n",
+            Fault::Trace(3, Kind::Side),
+            "F 1 T - 38\n",
+        ),
         (
             "1 T -\n2 N 10\n2 N 10\n3 T -\n",
             Fault::Trace(4, Kind::Number),
@@ -137,7 +141,11 @@ fn a_failing_source_leaves_the_findings(rt: HostRuntime) -> Result<(), Fail> {
                 ..Cuts::of_steps(step, step)
             };
             let scanned = follow_text(rt.alloc(), text.as_bytes(), cuts);
-            assert_eq!(rt; scanned.answer, Err(Fault::Read), "{good_bytes} bytes by {step}");
+            assert_eq!(rt;
+                scanned.answer,
+                Err(Fault::Read),
+                "{good_bytes} bytes by {step}"
+            );
             assert_eq!(rt; scanned.taken.as_slice(), found.as_bytes());
         }
     }

@@ -1,4 +1,4 @@
-use Rattle.std.proofs.Common.{◌≡◌, ◌≤◌, ap, refl, ℕ, List, length, arith, rules, take}
+use Rattle.std.proofs.Common.{◌≡◌, ap, ℕ, List, length, arith, rules, take}
 use Rattle.std.proofs.lemmas.Grind.{common_steps}
 use Rattle.trace_scan.proofs.FollowLemmas.{all_read, begun, failed_read, fed_more, stopped_at}
 use Rattle.trace_scan.proofs.ScanLemmas.{report_scan}

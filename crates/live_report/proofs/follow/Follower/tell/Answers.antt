@@ -1,4 +1,4 @@
-use Rattle.std.proofs.Common.{◌≡◌, ◌∙◌, ◌+◌, ◌≤◌, ◌++◌, List, ap, length, arith}
+use Rattle.std.proofs.Common.{◌++◌, List, ap, length, arith}
 use Rattle.line_model.specs.declared.finding.Finding.{Finding}
 use Rattle.live_report.specs.Found.{found}
 use Rattle.live_report.proofs.FollowLemmas.{always, fed_few, found_length, told_first}

@@ -1,4 +1,4 @@
-use Rattle.std.proofs.Common.{◌≡◌, ◌∙◌, ◌+◌, ◌<◌, ◌++◌, List, [], Err, ap, subst, sym, refl, length, length-append, arith, rules}
+use Rattle.std.proofs.Common.{◌≡◌, ◌∙◌, ◌<◌, ◌++◌, List, [], Err, ap, subst, sym, refl, length, length-append, arith, rules}
 use Rattle.std.specs.Prelude.{IfErr}
 use Rattle.std.specs.Option.{option_to_list}
 use Rattle.line_model.specs.Text.{early}

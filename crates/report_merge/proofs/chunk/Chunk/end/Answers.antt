@@ -1,4 +1,4 @@
-use Rattle.std.proofs.Common.{◌∙◌, sym}
+use Rattle.std.proofs.Common.{sym}
 use Rattle.report_merge.proofs.WrittenLemmas.{finished}
 use Rattle.report_merge.proofs.chunk.Chunk.end.Goals as goal
 

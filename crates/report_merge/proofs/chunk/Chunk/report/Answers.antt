@@ -1,4 +1,4 @@
-use Rattle.std.proofs.Common.{◌≡◌, ◌++◌, ◌∙◌, List, ℕ, subst, ap, append_assoc}
+use Rattle.std.proofs.Common.{◌++◌, ◌∙◌, subst, ap, append_assoc}
 use Rattle.line_model.specs.Records.{Report}
 use Rattle.report_merge.specs.Parts.{findings_text, rest_text}
 use Rattle.report_merge.specs.Written.{Writes}
