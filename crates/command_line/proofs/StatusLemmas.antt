@@ -4,10 +4,11 @@ use Rattle.std.proofs.lemmas.Bool.Decides.{nat_tests}
 use Rattle.line_model.specs.Device.{with_more}
 use Rattle.line_model.specs.declared.totals.Summary.{Summary}
 use Rattle.line_model.specs.declared.fault.Fault.{Fault}
-use Rattle.line_model.specs.declared.fault.Fault.TheVariants.{Trace, Write}
-use Rattle.command_line.specs.Program.{IsStatus, fault_status, summary_status}
+use Rattle.line_model.specs.declared.fault.Fault.TheVariants.{Memory, Trace, Read, Write, Start, Double, Stranger, Missing}
+use Rattle.command_line.specs.Program.{IsFollowStatus, IsStatus, fault_status, summary_status}
 use Rattle.piece_feed.specs.Readings.{IsRefusal, IsRefusedBy}
 use Rattle.live_report.specs.Reports.{IsReported, IsTaken}
+use Rattle.trace_scan.specs.Follow.{IsFollowRefusal, IsToldOf}
 use Rattle.line_model.specs.Traces.{trace_report, trace_summary}
 
 with_more-nothing : (o : Option (List ℕ)) → o ≡ with_more o []
@@ -61,3 +62,47 @@ refused_status text left before after _ status r taken s = other_status text lef
 pub status_range : (f : Fault) (status : ℕ) → status ≡ fault_status f → status < 4
 status_range (Trace line kind) status s = omega (arith, s)
 status_range _ status s = omega (arith, s)
+
+-- ---- a trace that was followed
+
+small : (n status : ℕ) → status ≡ cond {A = ℕ} (n == 0) 0 1 → status < 2
+small zero status s = omega (arith, s)
+small (suc m) status s = omega (arith, s, some_status m)
+
+pub reported_follow : (text : List ℕ) (left before after : Option (List ℕ)) (well : Type 0) (sums : Summary) (status : ℕ) → IsReported text before after sums → status ≡ summary_status sums → IsFollowStatus text left before after well status
+reported_follow text left before after well sums status r s =
+    let is = reported_status text left before after sums status r s in
+    let few = small sums.findings status s in
+    record {
+      clean = is.clean;
+      found = is.found;
+      faulty = λ e. absurd (omega (arith, e, few));
+      other = λ e. absurd (omega (arith, e, few));
+      range = is.range;
+    }
+
+other_follow : (text : List ℕ) (left before after : Option (List ℕ)) (well : Type 0) (f : Fault) (status : ℕ) → status ≡ 3 → IsRefusedBy (IsToldOf before after well) text left f → IsFollowStatus text left before after well status
+other_follow text left before after well f status s told = record {
+  clean = λ e. absurd (omega (arith, e, s));
+  found = λ e. absurd (omega (arith, e, s));
+  faulty = λ e. absurd (omega (arith, e, s));
+  other = λ e. (f, told);
+  range = omega (arith, s);
+}
+
+pub refused_follow : (text : List ℕ) (left before after : Option (List ℕ)) (well : Type 0) (f : Fault) (status : ℕ) → IsRefusedBy IsFollowRefusal text left f → IsRefusedBy (IsToldOf before after well) text left f → status ≡ fault_status f
+    → IsFollowStatus text left before after well status
+refused_follow text left before after well (Trace line kind) status r told s = record {
+  clean = λ e. absurd (omega (arith, e, s));
+  found = λ e. absurd (omega (arith, e, s));
+  faulty = λ e. record { line = line; kind = kind; refusal = r; told = told };
+  other = λ e. absurd (omega (arith, e, s));
+  range = omega (arith, s);
+}
+refused_follow text left before after well Memory status r told s = other_follow text left before after well Memory status s told
+refused_follow text left before after well Read status r told s = other_follow text left before after well Read status s told
+refused_follow text left before after well Write status r told s = other_follow text left before after well Write status s told
+refused_follow text left before after well Start status r told s = other_follow text left before after well Start status s told
+refused_follow text left before after well (Double i) status r told s = other_follow text left before after well (Double i) status s told
+refused_follow text left before after well (Stranger i) status r told s = other_follow text left before after well (Stranger i) status s told
+refused_follow text left before after well (Missing i) status r told s = other_follow text left before after well (Missing i) status s told

@@ -1,6 +1,7 @@
--- The command line: `x25scan [--workers N] [--alone]` (profile).
-use Rattle.std.specs.Prelude.{List, [], ◌∷◌, Some, codes, pos}
-use Rattle.clap.specs.Words.{App, Kinds, Rule, Text, fault_of, new_app, new_rule, with_rule}
+-- The command line: `x25scan [--workers N] [--alone] [--follow]` (profile).
+use Rattle.std.specs.Prelude.{Bool, false, List, [], ◌∷◌, Option, None, Some, codes, pos}
+use Rattle.std.specs.Str.{bytes_eq}
+use Rattle.clap.specs.Words.{App, Kinds, Rule, Text, fault_of, first_of, matches_of, new_app, new_rule, with_rule}
 use Rattle.clap.specs.declared.builder.action.ArgAction.TheVariants.{Set, SetTrue}
 use Rattle.clap.specs.declared.builder.value_parser.ValueParser.TheVariants.{Signed}
 
@@ -14,13 +15,22 @@ workers_rule = record (new_rule (codes "workers")) {
   parser = Some (Signed (pos 1) (pos 64));
 }
 
--- `--alone`, a flag
-abbrev pub alone_rule : Rule
-alone_rule = record (new_rule (codes "alone")) { long = Some (codes "alone"); action = Some SetTrue }
+-- a flag of this name
+abbrev pub flag_rule : Text → Rule
+flag_rule name = record (new_rule name) { long = Some name; action = Some SetTrue }
 
 abbrev pub command : App
-command = with_rule (with_rule (new_app (codes "x25scan")) workers_rule) alone_rule
+command = with_rule (with_rule (with_rule (new_app (codes "x25scan")) workers_rule) (flag_rule (codes "alone"))) (flag_rule (codes "follow"))
 
 -- the kinds of error that the words have by the rules of `clap`, `--help` among them
 abbrev pub words_fault : List Text → Kinds
 words_fault words = fault_of command words
+
+-- whether the text of a flag says that it was given
+abbrev pub is_given : Option Text → Bool
+is_given None = false
+is_given (Some text) = bytes_eq text (codes "true")
+
+-- whether the words ask that the trace be followed
+abbrev pub follows : List Text → Bool
+follows words = is_given (first_of (codes "follow") (matches_of command words))

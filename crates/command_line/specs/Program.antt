@@ -10,6 +10,7 @@ use Rattle.line_model.specs.declared.fault.Fault.TheVariants.{Trace}
 use Rattle.line_model.specs.declared.totals.Summary.{Summary}
 use Rattle.piece_feed.specs.Readings.{IsRefusal, IsRefusedBy}
 use Rattle.live_report.specs.Reports.{IsReported}
+use Rattle.trace_scan.specs.Follow.{IsFollowRefusal, IsToldOf}
 use Rattle.line_model.specs.Traces.{trace_report, trace_summary}
 
 -- 0 without findings, else 1
@@ -43,6 +44,21 @@ pub record IsStatus (text : List ℕ) (left before after : Option (List ℕ)) (s
   pub found : status ≡ 1 → IsReported text before after (trace_summary text) × (0 < (trace_summary text).findings)
   pub faulty : status ≡ 2 → IsFaulty text left × (after ≡ before)
   pub other : status ≡ 3 → (n : ℕ) × (after ≡ with_more before (take n (trace_report text)))
+  pub range : status < 4
+
+-- a text is refused by a faulty line, behind the lines of what was found before it
+pub record IsFaultyBehind (text : List ℕ) (left before after : Option (List ℕ)) (well : Type 0) : Type 0 where
+  pub line : ℕ
+  pub kind : Kind
+  pub refusal : IsRefusedBy IsFollowRefusal text left (Trace line kind)
+  pub told : IsRefusedBy (IsToldOf before after well) text left (Trace line kind)
+
+-- what the status says of a text that was followed; a sink stood well that did not fail
+pub record IsFollowStatus (text : List ℕ) (left before after : Option (List ℕ)) (well : Type 0) (status : ℕ) : Type 0 where
+  pub clean : status ≡ 0 → IsReported text before after (trace_summary text) × ((trace_summary text).findings ≡ 0)
+  pub found : status ≡ 1 → IsReported text before after (trace_summary text) × (0 < (trace_summary text).findings)
+  pub faulty : status ≡ 2 → IsFaultyBehind text left before after well
+  pub other : status ≡ 3 → (f : Fault) × IsRefusedBy (IsToldOf before after well) text left f
   pub range : status < 4
 
 -- memory ran out before the trace was read: source and sink were not asked

@@ -1,8 +1,8 @@
 //! The command line.
 
-ghost use Rattle.std.specs.Prelude.{◌≡◌, ◌≤◌, IfOk, map};
-ghost use Rattle.clap.specs.Words.{FailsBy, app_of};
-ghost use Rattle.command_line.specs.Options.{command, words_fault};
+ghost use Rattle.std.specs.Prelude.{◌≡◌, ◌≤◌, IfOk, codes, false, map};
+ghost use Rattle.clap.specs.Words.{FailsBy, app_of, first_value, found_of, rule_of};
+ghost use Rattle.command_line.specs.Options.{command, flag_rule, follows, is_given, words_fault, workers_rule};
 
 use clap::{Arg, ArgAction, ArgMatches, Command, Error, value_parser};
 use std::alloc::{AllocError, Global};
@@ -14,43 +14,85 @@ pub struct Options {
     pub workers: u8,
     /// The scan of one thread is asked for.
     pub alone: bool,
+    /// Each finding is asked for as soon as its packet is known, which one thread does.
+    pub follow: bool,
     pub ghost some: { 1 ≤ workers },
     pub ghost few: { workers ≤ 64 },
+}
+
+/// The option that says how many workers there are.
+fn workers<'a>(alloc: Global) -> Arg<'a>
+    ensures rule { rule_of result ≡ workers_rule }
+    ensures local { result.global ≡ false }
+{
+    Arg::new(alloc, "workers")
+        .long("workers")
+        .value_name("N")
+        .help("How many worker threads scan, 1 to 64")
+        .action(ArgAction::Set)
+        .default_value("4")
+        .value_parser(value_parser!(u8).range(1..=64))
+}
+
+/// A flag of this name.
+fn flag<'a>(alloc: Global, name: &'a str, help: &'a str) -> Arg<'a>
+    ensures rule { rule_of result ≡ flag_rule name.entry.now }
+    ensures local { result.global ≡ false }
+{
+    Arg::new(alloc, name)
+        .long(name)
+        .help(help)
+        .action(ArgAction::SetTrue)
 }
 
 /// The command as its reader is told it.
 fn command<'a>(alloc: Global) -> Result<Command<'a>, AllocError>
     ensures { IfOk result (λ told. app_of told ≡ command) }
 {
-    let workers = Arg::new(alloc, "workers")
-        .long("workers")
-        .value_name("N")
-        .help("How many worker threads scan, 1 to 64")
-        .action(ArgAction::Set)
-        .default_value("4")
-        .value_parser(value_parser!(u8).range(1..=64));
-    let alone = Arg::new(alloc, "alone")
-        .long("alone")
-        .help("Scan in one thread")
-        .action(ArgAction::SetTrue);
+    let alone = flag(alloc, "alone", "Scan in one thread");
+    let follow = flag(
+        alloc,
+        "follow",
+        "Write each finding as soon as its packet is known, in one thread",
+    );
     Command::new(alloc, "x25scan")
         .about("Reports what an observer of an X.25 interface finds in the trace on standard input")
-        .arg(workers)?
-        .arg(alone)
+        .arg(workers(alloc))?
+        .arg(alone)?
+        .arg(follow)
+}
+
+/// Whether a flag was given.
+fn is_given(matches: &ArgMatches<'_>, id: &str) -> bool
+    ensures { result ≡ is_given (first_value (found_of matches.now) id.now) }
+{
+    match matches.get_str(id) {
+        Some(text) => text == "true",
+        None => false,
+    }
 }
 
 /// What the matches of the command ask for.
-fn options_in(matches: &ArgMatches<'_>) -> Options {
-    let alone = matches.get_flag("alone");
-    match matches.get_one::<u8>("workers") {
-        Some(workers) if 1 <= workers && workers <= 64 => Options { workers, alone },
-        _ => Options { workers: 4, alone },
+fn options_in(matches: &ArgMatches<'_>) -> Options
+    ensures { result.follow ≡ is_given (first_value (found_of matches.now) (codes "follow")) }
+{
+    let alone = is_given(matches, "alone");
+    let follow = is_given(matches, "follow");
+    let workers = match matches.get_one::<u8>("workers") {
+        Some(workers) => workers.clamp(1, 64),
+        None => 4,
+    };
+    Options {
+        workers,
+        alone,
+        follow,
     }
 }
 
 /// Reads the program's name and its arguments. An error is of a kind that the words have, or memory ran out.
 pub fn parse<'a>(alloc: Global, words: &'a [&'a str]) -> Result<Options, Error>
-    ensures { FailsBy (words_fault (map (λ word. word.now) words.entry.now)) result }
+    ensures kinds { FailsBy (words_fault (map (λ word. word.now) words.entry.now)) result }
+    ensures follow { IfOk result (λ options. options.follow ≡ follows (map (λ word. word.now) words.entry.now)) }
 {
     let command = command(alloc)?;
     match command.try_get_matches_from(words) {

@@ -1,10 +1,10 @@
 //! The program: its words, its exit status, and what it tells of a fault.
 
-ghost use Rattle.std.specs.Prelude.{◌≡◌, ◌≢◌, ℕ, ◌<◌, ◌≤◌, ◌+◌, ◌^◌, ◌⊎◌, List, [], Some, map};
+ghost use Rattle.std.specs.Prelude.{◌≡◌, ◌≢◌, ℕ, ◌<◌, ◌≤◌, ◌+◌, ◌^◌, ◌⊎◌, List, [], Some, false, map, true};
 ghost use Rattle.clap.specs.Words.{kind_of};
 ghost use Rattle.clap.specs.declared.error.kind.ErrorKind.TheVariants.{DisplayHelp};
-ghost use Rattle.command_line.specs.Options.{words_fault};
-ghost use Rattle.command_line.specs.Program.{IsStatus, IsUnread, IsWordsStatus, fault_status, summary_status, words_status};
+ghost use Rattle.command_line.specs.Options.{follows, words_fault};
+ghost use Rattle.command_line.specs.Program.{IsFollowStatus, IsStatus, IsUnread, IsWordsStatus, fault_status, summary_status, words_status};
 
 use crate::options::{Options, parse};
 use clap::Error;
@@ -17,6 +17,7 @@ use std::sync::Wait;
 use std::thread::Threads;
 use std::time::Clock;
 use streams::writing::write_all;
+use trace_scan::following::follow;
 use trace_scan::gate::OpenGate;
 use trace_scan::scan::scan_alone;
 use trace_scan::threaded::scan_with;
@@ -84,6 +85,23 @@ fn run_alone<S: Source, K: Sink, E: Sink>(
     }
 }
 
+/// Follows the trace in one thread, and answers the exit status.
+fn run_follow<S: Source, K: Sink, E: Sink>(
+    alloc: Global,
+    source: &mut S,
+    sink: &mut K,
+    errors: &mut E,
+) -> u8
+    ensures status { (text : List ℕ) → S.left source.old ≡ Some text → IsFollowStatus text (S.left source.new) (K.taken sink.old) (K.taken sink.new) (K.failures sink.new ≡ K.failures sink.old) result }
+    ensures range { result < 4 }
+    ensures asked { S.calls source.new ≤ S.calls source.old + (2 ^ 30 + 1) }
+{
+    match follow(alloc, source, sink) {
+        Ok(summary) => summary_status(&summary),
+        Err(fault) => refuse(alloc, errors, fault),
+    }
+}
+
 /// Scans the trace with workers, and answers the exit status.
 fn run_with<S: Source, K: Sink, E: Sink, R: Threads + Wait + Clock + Sync>(
     rt: &R,
@@ -121,11 +139,14 @@ fn run<S: Source, K: Sink, E: Sink, R: Threads + Wait + Clock + Sync>(
     sink: &mut K,
     errors: &mut E,
 ) -> u8
-    ensures status { (text : List ℕ) → S.left source.old ≡ Some text → IsStatus text (S.left source.new) (K.taken sink.old) (K.taken sink.new) result }
+    ensures status { options.follow ≡ false → (text : List ℕ) → S.left source.old ≡ Some text → IsStatus text (S.left source.new) (K.taken sink.old) (K.taken sink.new) result }
+    ensures followed { options.follow ≡ true → (text : List ℕ) → S.left source.old ≡ Some text → IsFollowStatus text (S.left source.new) (K.taken sink.old) (K.taken sink.new) (K.failures sink.new ≡ K.failures sink.old) result }
     ensures range { result < 4 }
     ensures asked { S.calls source.new ≤ S.calls source.old + (2 ^ 30 + 1) }
 {
-    if options.alone {
+    if options.follow {
+        run_follow(alloc, source, sink, errors)
+    } else if options.alone {
         run_alone(alloc, source, sink, errors)
     } else {
         run_with(rt, alloc, options.workers, source, sink, errors)
@@ -164,9 +185,12 @@ pub fn program<S: Source, K: Sink, E: Sink, R: Threads + Wait + Clock + Sync>(
     errors: &mut E,
 ) -> u8
     // Where the words are right, the status and the bytes are those of a scan of the text that the source tells.
-    ensures scanned { words_fault (map (λ word. word.now) words.now) ≡ [] → IsUnread source.old source.new sink.old sink.new result
+    ensures scanned { words_fault (map (λ word. word.now) words.now) ≡ [] → follows (map (λ word. word.now) words.now) ≡ false → IsUnread source.old source.new sink.old sink.new result
         ⊎ ((text : List ℕ) → S.left source.old ≡ Some text → IsStatus text (S.left source.new) (K.taken sink.old) (K.taken sink.new) result) }
-    // Else the source is not asked, and help alone goes to the sink.
+    // Where they ask that the trace be followed, those of a scan that does.
+    ensures followed { words_fault (map (λ word. word.now) words.now) ≡ [] → follows (map (λ word. word.now) words.now) ≡ true → IsUnread source.old source.new sink.old sink.new result
+        ⊎ ((text : List ℕ) → S.left source.old ≡ Some text → IsFollowStatus text (S.left source.new) (K.taken sink.old) (K.taken sink.new) (K.failures sink.new ≡ K.failures sink.old) result) }
+    // Where the words are wrong the source is not asked, and help alone goes to the sink.
     ensures usage { words_fault (map (λ word. word.now) words.now) ≢ [] → (source.new ≡ source.old) × IsWordsStatus (words_fault (map (λ word. word.now) words.now)) result }
     ensures unwritten { result ≡ 64 → sink.new ≡ sink.old }
     ensures asked { S.calls source.new ≤ S.calls source.old + (2 ^ 30 + 1) }

@@ -45,18 +45,59 @@ fn the_status_follows_the_scan(rt: HostRuntime) -> Result<(), Fail> {
 }
 
 #[test]
+fn a_trace_is_followed(rt: HostRuntime) -> Result<(), Fail> {
+    for (rows, status, report, told) in [
+        ("", 0, "P 0 -\nZ 0 0 0 0 0\n", ""),
+        ("1 T -\n", 1, "F 1 T - 38\nP 0 -\nZ 1 1 0 0 0\n", ""),
+        (
+            "5 T -\n5 T -\n",
+            2,
+            "F 5 T - 38\n",
+            "x25scan: line 3: kind 25\n",
+        ),
+    ] {
+        let text = format!(in rt.alloc(); "{HEADER}{rows}")?;
+        for words in [
+            ["x25scan", "--follow"].as_slice(),
+            ["x25scan", "--follow", "--workers", "1"].as_slice(),
+            ["x25scan", "--alone", "--follow"].as_slice(),
+        ] {
+            let cuts = Cuts::of_steps(7, 3);
+            let ran = run(&rt, rt.alloc(), words, text.as_bytes(), cuts);
+            assert_eq!(rt; ran.status, status, "at {rows}");
+            assert_eq!(rt; ran.taken.as_slice(), report.as_bytes());
+            assert_eq!(rt; ran.told.as_slice(), told.as_bytes());
+        }
+    }
+    Ok(())
+}
+
+#[test]
 fn the_words_choose_the_threads(rt: HostRuntime) -> Result<(), Fail> {
-    for (words, workers, alone) in [
-        (["x25scan"].as_slice(), 4, false),
-        (["x25scan", "--alone"].as_slice(), 4, true),
-        (["x25scan", "--workers", "1"].as_slice(), 1, false),
-        (["x25scan", "--workers=64", "--alone"].as_slice(), 64, true),
+    for (words, workers, alone, follow) in [
+        (["x25scan"].as_slice(), 4, false, false),
+        (["x25scan", "--alone"].as_slice(), 4, true, false),
+        (["x25scan", "--follow"].as_slice(), 4, false, true),
+        (["x25scan", "--workers", "1"].as_slice(), 1, false, false),
+        (
+            ["x25scan", "--workers=64", "--alone"].as_slice(),
+            64,
+            true,
+            false,
+        ),
+        (
+            ["x25scan", "--follow", "--workers=2"].as_slice(),
+            2,
+            false,
+            true,
+        ),
     ] {
         let Ok(options) = parse(rt.alloc(), words) else {
             return Err(Fail::new("refused"));
         };
         assert_eq!(rt; options.workers, workers);
         assert_eq!(rt; options.alone, alone);
+        assert_eq!(rt; options.follow, follow);
     }
     Ok(())
 }
@@ -69,6 +110,7 @@ fn other_words_are_usage(rt: HostRuntime) {
         ["x25scan", "--workers", "four"].as_slice(),
         ["x25scan", "--workers"].as_slice(),
         ["x25scan", "--alone", "--workers", "0"].as_slice(),
+        ["x25scan", "--follow", "--workers", "0"].as_slice(),
         ["x25scan", "--threads"].as_slice(),
         ["x25scan", "trace.txt"].as_slice(),
     ] {

@@ -8,9 +8,8 @@ use Rattle.line_model.specs.declared.interface.Interface.{Interface}
 use Rattle.line_model.specs.declared.fault.Fault.{Fault}
 use Rattle.line_model.specs.declared.finding.Finding.{Finding}
 use Rattle.line_model.specs.declared.packet.Packet.{Packet}
-use Rattle.line_model.specs.declared.event.Event.{Event}
 use Rattle.line_model.specs.declared.event.What.{What}
-use Rattle.line_model.specs.Records.{Row, Item}
+use Rattle.line_model.specs.Records.{Row}
 use Rattle.line_model.specs.RestartMachine.{LineState, Routing}
 use Rattle.line_model.specs.Channels.{Channel, fresh, is_open}
 use Rattle.line_model.specs.ChannelStep.{channel_step}
@@ -34,7 +33,7 @@ use Rattle.live_report.specs.declared.observer.Observer.{Observer as Running}
 use Rattle.live_report.specs.Lanes.{begun_piece}
 use Rattle.live_report.specs.Observing.{StandsFor}
 
-findings_append : (us vs : List (RowEvent Row What)) → findings_of (map event_of (us ++ vs)) ≡ findings_of (map event_of us) ++ findings_of (map event_of vs)
+pub findings_append : (us vs : List (RowEvent Row What)) → findings_of (map event_of (us ++ vs)) ≡ findings_of (map event_of us) ++ findings_of (map event_of vs)
 findings_append us vs = ap findings_of (map-append event_of us vs) ∙ filter_map-append _ (map event_of us) (map event_of vs)
 
 -- what one more row finds comes behind

@@ -5,6 +5,9 @@ pub mod TakeLemmas
 pub mod TellingLemmas
 pub mod WholeLemmas
 pub mod FindingLemmas
+pub mod FoundLemmas
 pub mod WatchLemmas
 pub mod LiveLemmas
 pub mod ReportLemmas
+pub mod LawLemmas
+pub mod FollowLemmas

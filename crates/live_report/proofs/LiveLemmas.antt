@@ -1,15 +1,23 @@
 -- A trace that is fed: its first row begins the observer.
-use Rattle.std.proofs.Common.{◌≡◌, ◌∙◌, sym, ap, subst, refl, ℕ, List, [], ◌∷◌, ◌++◌, Option, Some, None, append_assoc}
+use Rattle.std.proofs.Common.{◌≡◌, ◌∙◌, sym, ap, subst, ℕ, List, [], ◌∷◌, ◌++◌, Some, None, Result, append_assoc}
 use Rattle.line_model.specs.declared.interface.Interface.{Interface}
 use Rattle.line_model.specs.Channels.{Channel}
 use Rattle.line_model.specs.Records.{Row}
+use Rattle.line_model.specs.Report.{report_of}
+use Rattle.line_model.specs.declared.fault.Fault.{Fault}
+use Rattle.line_model.specs.declared.fault.Fault.TheVariants.{Memory}
+use Rattle.line_model.specs.declared.finding.Finding.{Finding}
 use Rattle.line_model.specs.Text.{early_rows}
 use Rattle.trace_text.specs.Progress.{Progress}
 use Rattle.trace_text.specs.StandsFor.{StandsFor as IsReaderOf, TakesRow, ReadsChunk}
+use Rattle.trace_text.proofs.Grows.{early_head_stays}
+use Rattle.trace_text.proofs.RefusalLemmas.{head_stands, known-here}
 use Rattle.live_report.specs.declared.live.Live.{Live}
 use Rattle.live_report.specs.declared.observer.Observer.{Observer}
 use Rattle.live_report.specs.Observing.{AreRows, StandsFor as IsObserverOf}
 use Rattle.live_report.specs.Lives.{IsObserved, IsWatching, StandsFor}
+use Rattle.live_report.specs.Found.{HasFound, IsFoundBy, IsFoundUpTo, found, found_at}
+use Rattle.live_report.proofs.FoundLemmas.{found_none, found_under, found_unheaded, nothing_found}
 use Rattle.live_report.proofs.WatchLemmas.{next_rows, watched_row}
 
 pub watching_of : {A C : Type 0} → (I : C → Interface) (N : C → ℕ) (S : C → Channel → Type 0) (live : Live A C) (text : List ℕ) (o : Observer A C) → StandsFor I N S live text → live.observer ≡ Some o
@@ -40,3 +48,33 @@ first_watched I N S i text chunk rest row reader after o s none t h took =
 -- the text with the chunk
 pub chunk_text : (reader after : Progress) (text chunk rest : List ℕ) (row : Row) → (t : TakesRow reader after chunk rest row) → (text ++ t.taken) ++ rest ≡ text ++ chunk
 chunk_text reader after text chunk rest row t = append_assoc text t.taken rest ∙ ap (λ x. text ++ x) (sym t.whole)
+
+-- ---- what was found
+
+-- under the header that was read
+pub found_headed : (reader : Progress) (text more : List ℕ) (i : Interface) → IsReaderOf reader text → reader.interface ≡ Some i → (found text ≡ found_at i text) × (found (text ++ more) ≡ found_at i (text ++ more))
+found_headed reader text more i s h =
+    let head = sym (head_stands reader text s) ∙ h in
+    (found_under i text head, found_under i (text ++ more) (early_head_stays text more i s.sound head))
+
+pub found_as : {T : Type 0} → (r : Result T Fault) (a b k l m n : List Finding) → l ≡ k → n ≡ m → IsFoundBy r a b k m → IsFoundBy r a b l n
+found_as r a b k l m n e f h = subst (λ x. IsFoundBy r a b x n) (sym e) (subst (λ x. IsFoundBy r a b k x) (sym f) h)
+
+-- no row came
+pub found_no_row : (reader after : Progress) (text chunk : List ℕ) (out : List Finding) → IsReaderOf reader text → early_rows text ≡ [] → ReadsChunk reader after chunk → HasFound out out (found text) (found (text ++ chunk))
+found_no_row reader after text chunk out s none t =
+    subst (λ x. HasFound out out (found text) x) (nothing_found text none ∙ sym (nothing_found (text ++ chunk) (t.rows text s ∙ none))) (found_none out (found text))
+
+-- memory ran out at the first row
+pub found_no_more : (reader : Progress) (text chunk : List ℕ) (out out_after : List Finding) → IsReaderOf reader text → early_rows text ≡ [] → out_after ≡ out → IsFoundUpTo Memory out out_after (found text) (found (text ++ chunk))
+found_no_more reader text chunk out out_after s none e =
+    subst (λ l. IsFoundUpTo Memory out l (found text) (found (text ++ chunk))) (sym e) (found_unheaded Memory text (text ++ chunk) out none (known-here reader text chunk Memory s tt tt))
+
+-- what the first row found
+pub first_found : (i : Interface) (text chunk rest : List ℕ) (row : Row) (reader after : Progress) (out out_after more : List Finding) → IsReaderOf reader text → early_rows text ≡ [] → (t : TakesRow reader after chunk rest row)
+    → out_after ≡ out ++ more → (report_of i ([] ++ row ∷ [])).findings ≡ (report_of i []).findings ++ more → HasFound out out_after (found text) (found_at i (text ++ t.taken))
+first_found i text chunk rest row reader after out out_after more s none t has finds = record {
+  more = more;
+  out_has = has;
+  known_has = ap (λ rows. (report_of i rows).findings) (t.rows text s ∙ ap (λ rows. rows ++ row ∷ []) none) ∙ finds ∙ ap (λ xs. xs ++ more) (sym (nothing_found text none));
+}

@@ -1,10 +1,10 @@
 -- The report of a text, from the observer of its rows.
-use Rattle.std.proofs.Common.{◌≡◌, ◌∙◌, sym, ap, refl, subst, ℕ, List, [], ◌++◌, length, take, Option, Some, None, Result, Ok, Err, IfOk, IfErr, append-nil}
+use Rattle.std.proofs.Common.{◌≡◌, ◌∙◌, sym, ap, subst, ℕ, List, [], ◌++◌, length, take, Option, Some, None, Result, Ok, Err, IfOk, IfErr, append-nil}
 use Rattle.std.proofs.Math.Seq.{take-append_seam}
 use Rattle.line_model.specs.Device.{with_more}
 use Rattle.line_model.specs.Records.{Report, Row}
 use Rattle.line_model.specs.Report.{no_summary, report, report_of, text_of}
-use Rattle.line_model.specs.Text.{early, early_head, early_rows, fault, head, rows}
+use Rattle.line_model.specs.Text.{fault, head, rows}
 use Rattle.line_model.specs.Traces.{trace_report, trace_summary}
 use Rattle.line_model.specs.declared.interface.Interface.{Interface}
 use Rattle.line_model.specs.declared.fault.Fault.{Fault}
@@ -37,16 +37,16 @@ whole_header reader text i s h = ap head (sym (append-nil text)) ∙ head_stays 
 
 -- ---- what was written
 
-report_text : (text : List ℕ) (r : Report) → (is : IsReportOf text r) → text_of r ≡ trace_report text
+pub report_text : (text : List ℕ) (r : Report) → (is : IsReportOf text r) → text_of r ≡ trace_report text
 report_text text r is = ap text_of is.report ∙ ap (λ o. elim o as (λ _. List ℕ) [ None ↦ [] | Some j ↦ report j (rows text) ]) (sym is.header)
 
-report_sums : (text : List ℕ) (r : Report) → (is : IsReportOf text r) → r.summary ≡ trace_summary text
+pub report_sums : (text : List ℕ) (r : Report) → (is : IsReportOf text r) → r.summary ≡ trace_summary text
 report_sums text r is = ap (λ x. x.summary) is.report ∙ ap (λ o. elim o as (λ _. Summary) [ None ↦ no_summary | Some j ↦ (report_of j (rows text)).summary ]) (sym is.header)
 
 pub reported_by : (text : List ℕ) (r : Report) (before after : Option (List ℕ)) → IsReportOf text r → after ≡ with_more before (text_of r) → IsReported text before after r.summary
 reported_by text r before after is taken = record { sound = is.sound; taken = taken ∙ ap (with_more before) (report_text text r is); counted = report_sums text r is }
 
-front_of : (front rest text : List ℕ) → text ≡ front ++ rest → front ≡ take (length front) text
+pub front_of : (front rest text : List ℕ) → text ≡ front ++ rest → front ≡ take (length front) text
 front_of front rest text e = rw e (sym (take-append_seam front rest))
 
 pub taken_by : (text : List ℕ) (r : Report) (before after : Option (List ℕ)) (f : Fault) → IsReportOf text r → f ≡ Write

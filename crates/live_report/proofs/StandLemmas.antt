@@ -1,21 +1,18 @@
 -- An observer that stands for some rows stands for one more after it took it.
-use Rattle.std.proofs.Common.{◌≡◌, ◌∙◌, sym, ap, subst, refl, ℕ, zero, suc, ◌+◌, ◌<◌, ◌≤◌, ◌^◌, true, false, true≢false, List, [], ◌∷◌, ◌++◌, map, length, Option, Some, None, arith, append-nil, length-append, get_or}
+use Rattle.std.proofs.Common.{◌≡◌, ◌∙◌, sym, ap, subst, refl, ℕ, suc, ◌+◌, ◌<◌, ◌≤◌, true≢false, List, [], ◌∷◌, ◌++◌, map, length, Option, Some, None, arith}
 use Rattle.std.specs.Prelude.{All, sum_by}
-use Rattle.std.specs.List.Sorted.{IsStrictlyIncreasing}
 use Rattle.std.proofs.lemmas.List.{map-append}
 use Rattle.std.proofs.lemmas.List.Sums.{sum_by_push}
 use Rattle.line_model.specs.declared.interface.Interface.{Interface}
-use Rattle.line_model.specs.declared.finding.Finding.{Finding}
-use Rattle.line_model.specs.Records.{Row, Item, Piece, PieceReport}
+use Rattle.line_model.specs.Records.{Row, Item, Piece}
 use Rattle.line_model.specs.Channels.{Channel}
-use Rattle.line_model.specs.RestartMachine.{LineState}
 use Rattle.line_model.specs.Plan.{has_some}
 use Rattle.line_model.specs.Plans.{value}
 use Rattle.line_model.specs.Text.{last_or}
 use Rattle.line_model.proofs.Rising.{RisesFrom, rises-from_index}
 use Rattle.restart_epochs.specs.OpenRows.{OpenRows, no_rows, rows_of, IsSame}
 use Rattle.restart_epochs.specs.OpenLanes.{OpenLanes, value_at, IsEmpty}
-use Rattle.restart_epochs.specs.Cutting.{Cutting, IsCutting, StandsFor as IsCutterOf, IsCounted, IsKeptOn, IsStepped, given_of, no_cutting}
+use Rattle.restart_epochs.specs.Cutting.{Cutting, IsCutting, IsCounted, given_of, no_cutting}
 use Rattle.restart_epochs.proofs.Pushes.{Pushed}
 use Rattle.restart_epochs.proofs.Listings.{nothing_cut, nothing_bound}
 use Rattle.channel_machine.specs.declared.live.LiveChannel.{LiveChannel}

@@ -5,7 +5,7 @@ use Rattle.line_model.specs.declared.finding.Finding.{Finding}
 use Rattle.line_model.specs.declared.packet.Packet.{Packet}
 use Rattle.line_model.specs.declared.state.Side.{Side}
 use Rattle.line_model.specs.declared.verdict.Route.TheVariants.{Leave, Enter}
-use Rattle.line_model.specs.Records.{Row, Item, Piece, PieceReport}
+use Rattle.line_model.specs.Records.{Row, Item, Piece}
 use Rattle.line_model.specs.Channels.{Channel}
 use Rattle.line_model.specs.Classes.{packet_of, packet_class}
 use Rattle.line_model.specs.Octets.{channel_of}
@@ -13,7 +13,7 @@ use Rattle.line_model.specs.RestartMachine.{LineState, Routing, line_step}
 use Rattle.line_model.specs.Bounds.{IsPiece}
 use Rattle.line_model.specs.Plans.{value}
 use Rattle.restart_epochs.specs.OpenRows.{no_rows, rows_of}
-use Rattle.restart_epochs.specs.Cutting.{Cutting, IsCutting, StandsFor as IsCutterOf, IsCounted, IsKeptOn, IsStepped, IsLeft, given_of, pieces_out, route_finding}
+use Rattle.restart_epochs.specs.Cutting.{Cutting, IsCutting, IsKeptOn, IsStepped, IsLeft, given_of, pieces_out, route_finding}
 use Rattle.restart_epochs.proofs.Bounds.{kept_bounds, stepped_bounds, left_bounds, lane_piece}
 use Rattle.restart_epochs.proofs.Routes.{is_to_channel, is_quiet}
 use Rattle.restart_epochs.proofs.Taken.{Told, takes_channel, takes_quietly, takes_entering, takes_leaving}

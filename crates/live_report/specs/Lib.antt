@@ -1,4 +1,7 @@
 pub mod Lanes
 pub mod Observing
 pub mod Reports
+pub mod Found
 pub mod Lives
+pub mod Follows
+pub mod Laws

@@ -1,5 +1,5 @@
 -- What a report says of a text, and what a sink took of it.
-use Rattle.std.specs.Prelude.{◌≡◌, ℕ, ◌+◌, List, Option, Some, None, length, take}
+use Rattle.std.specs.Prelude.{◌≡◌, ℕ, List, Option, Some, None, take}
 use Rattle.line_model.specs.Device.{with_more}
 use Rattle.line_model.specs.Records.{Report}
 use Rattle.line_model.specs.Report.{report_of}

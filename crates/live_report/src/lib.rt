@@ -2,7 +2,9 @@
 #![tactic(auto)]
 
 mod ending;
+pub mod follow;
 mod lanes;
+pub mod laws;
 pub mod live;
 pub mod observer;
 mod telling;

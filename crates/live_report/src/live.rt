@@ -1,11 +1,12 @@
 //! Reports of a trace that is fed in chunks.
 
-ghost use Rattle.std.specs.Prelude.{◌≡◌, ◌≢◌, ℕ, ◌+◌, ◌<◌, ◌≤◌, ◌^◌, ◌++◌, [], List, Some, Err, length, IfErr, IfOk, OnOk};
+ghost use Rattle.std.specs.Prelude.{◌≡◌, ◌≢◌, ℕ, ◌+◌, ◌<◌, ◌≤◌, ◌^◌, ◌++◌, [], List, Some, None, Err, length, IfErr, IfOk, OnOk};
 ghost use Rattle.line_model.specs.Text.{early, ended_lines, fault};
 ghost use Rattle.line_model.specs.Traces.{trace_report};
 ghost use Rattle.trace_text.specs.Progress.{bytes_fed};
 ghost use Rattle.trace_text.specs.StandsFor.{IsFaultOf, IsTextFault};
 ghost use Rattle.trace_text.specs.EndedPart.{ended_part};
+ghost use Rattle.live_report.specs.Found.{IsFoundBy, found};
 ghost use Rattle.live_report.specs.Lives.{IsFed, StandsFor};
 ghost use Rattle.live_report.specs.Reports.{IsMissing, IsRefusal, IsReportFault, IsReportOf, IsReported, IsTaken};
 
@@ -14,11 +15,13 @@ use crate::watching::{finish, watch};
 use channel_machine::run::Channel;
 use line_model::device::Sink;
 use line_model::fault::Fault;
+use line_model::finding::Finding;
 use line_model::report::Report;
 use line_model::row::Row;
 use line_model::state::Side;
 use line_model::totals::Summary;
 use report_merge::text::write_report;
+use restart_epochs::routing::note;
 use std::alloc::Allocator;
 use trace_text::lines::{Lines, TextEnd};
 
@@ -30,6 +33,8 @@ pub struct Live<A: Allocator, C: Channel<A>> {
     row: Row<A>,
     /// Made once the first row was read.
     observer: Option<Observer<A, C>>,
+    /// What the rows of the last chunk found.
+    found: Vec<Finding, A>,
     refused: Option<Fault>,
 }
 
@@ -47,21 +52,37 @@ impl<A: Allocator + Copy, C: Channel<A>> Live<A, C> {
                 octets: Vec::new(alloc),
             },
             observer: None,
+            found: Vec::new(alloc),
             refused: None,
         }
     }
 
-    /// Takes the rows of a chunk.
+    /// What the rows of the last chunk found, in their order.
+    pub fn found(&self) -> &[Finding]
+        ensures { result.now ≡ self.now.found.items }
+    {
+        self.found.as_slice()
+    }
+
+    /// Takes the rows of a chunk, and appends what they find.
     fn feed_rows(&mut self, chunk: &[u8]) -> Result<(), Fault>
         requires { (text : List ℕ) × StandsFor C.interface_of C.number_of C.stands_for self.old text }
         ensures stands { (text : List ℕ) → StandsFor C.interface_of C.number_of C.stands_for self.old text → OnOk result (StandsFor C.interface_of C.number_of C.stands_for self.new (text ++ chunk.now)) }
         ensures refused { (text : List ℕ) → StandsFor C.interface_of C.number_of C.stands_for self.old text → IfErr result (IsFaultOf (early (text ++ chunk.now))) }
+        ensures found { (text : List ℕ) → StandsFor C.interface_of C.number_of C.stands_for self.old text → IsFoundBy result self.old.found.items self.new.found.items (found text) (found (text ++ chunk.now)) }
+        ensures few { length self.new.found.items ≤ length self.old.found.items + length chunk.now }
         ensures size { OnOk result (bytes_fed self.new.lines ≡ bytes_fed self.old.lines + length chunk.now) }
         ensures limit { OnOk result (bytes_fed self.new.lines ≤ 2 ^ 30) }
         ensures kinds { IfErr result IsTextFault }
     {
         if let Some(observer) = &mut self.observer {
-            return watch(chunk, &mut self.lines, &mut self.row, observer);
+            return watch(
+                chunk,
+                &mut self.lines,
+                &mut self.row,
+                observer,
+                &mut self.found,
+            );
         }
         let rest = match self.lines.next_row(chunk, &mut self.row)? {
             Some(rest) => rest,
@@ -71,8 +92,15 @@ impl<A: Allocator + Copy, C: Channel<A>> Live<A, C> {
             return Ok(());
         };
         let mut observer = Observer::new(*self.row.octets.allocator(), &interface);
-        observer.take(&self.row)?;
-        match watch(rest, &mut self.lines, &mut self.row, &mut observer) {
+        let first = observer.take(&self.row)?;
+        note(&mut self.found, first)?;
+        match watch(
+            rest,
+            &mut self.lines,
+            &mut self.row,
+            &mut observer,
+            &mut self.found,
+        ) {
             Ok(()) => {
                 self.observer = Some(observer);
                 Ok(())
@@ -89,6 +117,9 @@ impl<A: Allocator + Copy, C: Channel<A>> Live<A, C> {
         // Of any text that it was fed: it was fed that text with the chunk.
         ensures stands { (text : List ℕ) → StandsFor C.interface_of C.number_of C.stands_for self.old text → OnOk result (StandsFor C.interface_of C.number_of C.stands_for self.new (text ++ chunk.now)) }
         ensures refused { (text : List ℕ) → StandsFor C.interface_of C.number_of C.stands_for self.old text → IfErr result (IsFaultOf (early (text ++ chunk.now))) }
+        // What the rows of the chunk found stands behind what all rows before it did; for want of memory some first of it.
+        ensures found { (text : List ℕ) → StandsFor C.interface_of C.number_of C.stands_for self.old text → IsFoundBy result [] self.new.found.items (found text) (found (text ++ chunk.now)) }
+        ensures few { self.old.refused ≡ None → length self.new.found.items ≤ length chunk.now }
         ensures size { OnOk result (bytes_fed self.new.lines ≡ bytes_fed self.old.lines + length chunk.now) }
         ensures limit { OnOk result (bytes_fed self.new.lines ≤ 2 ^ 30) }
         ensures kinds { IfErr result IsTextFault }
@@ -98,6 +129,7 @@ impl<A: Allocator + Copy, C: Channel<A>> Live<A, C> {
         if let Some(fault) = self.refused {
             return Err(fault);
         }
+        self.found.clear();
         let answer = self.feed_rows(chunk);
         self.refused = answer.err();
         answer
@@ -150,7 +182,7 @@ impl<A: Allocator + Copy, C: Channel<A>> Live<A, C> {
     }
 
     /// The report of the whole text.
-    fn whole(self) -> Result<Report<A>, Fault>
+    pub(crate) fn whole(self) -> Result<Report<A>, Fault>
         requires fed { IsFed C.interface_of C.number_of C.stands_for self }
         ensures told { (text : List ℕ) → StandsFor C.interface_of C.number_of C.stands_for self text → IfOk result (IsReportOf text) }
         ensures refused { (text : List ℕ) → StandsFor C.interface_of C.number_of C.stands_for self text → IfErr result (IsFaultOf (fault text)) }
@@ -162,6 +194,7 @@ impl<A: Allocator + Copy, C: Channel<A>> Live<A, C> {
             mut row,
             observer,
             refused,
+            ..
         } = self;
         if let Some(fault) = refused {
             return Err(fault);

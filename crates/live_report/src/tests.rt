@@ -4,6 +4,7 @@ ghost use Rattle.std.specs.Prelude.{◌≡◌, ◌<◌};
 ghost use Rattle.live_report.specs.Lives.{IsFed};
 
 mod findings;
+mod follows;
 mod wanting;
 
 use crate::live::Live;

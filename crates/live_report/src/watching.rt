@@ -10,26 +10,32 @@ ghost use Rattle.line_model.specs.Text.{early};
 ghost use Rattle.line_model.specs.declared.interface.Interface.{Interface as AnyInterface};
 ghost use Rattle.trace_text.specs.Progress.{bytes_fed};
 ghost use Rattle.trace_text.specs.StandsFor.{IsFaultOf, IsTextFault};
+ghost use Rattle.live_report.specs.Found.{IsFoundBy, found_at};
 ghost use Rattle.live_report.specs.Lives.{IsWatching};
 
 use crate::observer::Observer;
 use channel_machine::run::Channel;
 use line_model::fault::Fault;
+use line_model::finding::Finding;
 use line_model::report::Report;
 use line_model::row::Row;
+use restart_epochs::routing::note;
 use std::alloc::Allocator;
 use trace_text::lines::Lines;
 
-/// Has an observer take the rows of a chunk, each in the place of the one before it.
+/// Has an observer take the rows of a chunk, each in the place of the one before it, and appends what they find.
 pub fn watch<A: Allocator + Copy, C: Channel<A>>(
     chunk: &[u8],
     lines: &mut Lines<A>,
     row: &mut Row<A>,
     observer: &mut Observer<A, C>,
+    found: &mut Vec<Finding, A>,
 ) -> Result<(), Fault>
     requires { (i : AnyInterface) × (text : List ℕ) × IsWatching C.interface_of C.number_of C.stands_for i text lines.old observer.old }
     ensures watches { (i : AnyInterface) (text : List ℕ) → IsWatching C.interface_of C.number_of C.stands_for i text lines.old observer.old → OnOk result (IsWatching C.interface_of C.number_of C.stands_for i (text ++ chunk.now) lines.new observer.new) }
     ensures refused { (i : AnyInterface) (text : List ℕ) → IsWatching C.interface_of C.number_of C.stands_for i text lines.old observer.old → IfErr result (IsFaultOf (early (text ++ chunk.now))) }
+    ensures found { (i : AnyInterface) (text : List ℕ) → IsWatching C.interface_of C.number_of C.stands_for i text lines.old observer.old → IsFoundBy result found.old.items found.new.items (found_at i text) (found_at i (text ++ chunk.now)) }
+    ensures few { length found.new.items ≤ length found.old.items + length chunk.now }
     ensures size { OnOk result (bytes_fed lines.new ≡ bytes_fed lines.old + length chunk.now) }
     ensures limit { OnOk result (bytes_fed lines.new ≤ 2 ^ 30) }
     ensures kinds { IfErr result IsTextFault }
@@ -38,7 +44,7 @@ pub fn watch<A: Allocator + Copy, C: Channel<A>>(
     loop {
         match lines.next_row(rest, row) {
             Ok(Some(after)) => {
-                observer.take(row)?;
+                note(found, observer.take(row)?)?;
                 rest = after;
             }
             Ok(None) => return Ok(()),

@@ -5,7 +5,9 @@ use Rattle.std.proofs.lemmas.Grind.{common_steps}
 use Rattle.std.specs.List.{flat_map, enumerate_from}
 use Rattle.line_model.specs.Device.{with_more}
 use Rattle.report_merge.specs.declared.chunk.Chunk.{Chunk}
-use Rattle.line_model.specs.Report.{line}
+use Rattle.line_model.specs.Records.{Report}
+use Rattle.line_model.specs.Report.{account_line, call_line, finding_line, line, peak_line, setting_lines, summary_line, text_of}
+use Rattle.report_merge.specs.Parts.{findings_text, rest_text}
 use Rattle.report_merge.specs.Written.{Writes}
 
 pub with_more-append : (o : Option (List ℕ)) (a b : List ℕ) → with_more (with_more o a) b ≡ with_more o (a ++ b)
@@ -136,3 +138,11 @@ pub turn : {X B : Type 0} → (f : X → List ℕ) (xs : List X) (i : ℕ) (d : 
 turn f xs i d first before after lt t step =
     let x = get_or xs i d in
     (t.0 ++ f x, lines_more f xs i x t.0 lt (any_default xs i d x lt) t.1, λ b text w. subst (after b) (append_assoc text t.0 (f x)) (step b (text ++ t.0) (t.2 b text w)))
+
+-- ---- the two parts of a report
+
+in_two : (f c s a p z : List ℕ) → f ++ ((((c ++ s) ++ a) ++ p) ++ z) ≡ ((((f ++ c) ++ s) ++ a) ++ p) ++ z
+in_two f c s a p z = simp append_assoc
+
+pub two_parts : (r : Report) → findings_text r.findings ++ rest_text r ≡ text_of r
+two_parts r = in_two (flat_map finding_line r.findings) (flat_map call_line (enumerate_from 1 r.calls)) (flat_map setting_lines (enumerate_from 1 r.calls)) (flat_map account_line r.accounts) (peak_line r.peak) (summary_line r.summary)

@@ -1,12 +1,13 @@
 //! Bytes on their way to a sink.
 
-ghost use Rattle.std.specs.Prelude.{◌≡◌, ℕ, List, [], ◌∷◌, ◌++◌, ◌<◌, ◌≤◌, Option, OnOk, OnErr, false, decimal};
+ghost use Rattle.std.specs.Prelude.{◌≡◌, ℕ, List, [], ◌∷◌, ◌++◌, ◌<◌, ◌≤◌, Option, OnOk, OnErr, IfErr, false, decimal};
 ghost use Rattle.line_model.specs.Device.{with_more};
 ghost use Rattle.report_merge.specs.Written.{Writes, Puts};
 
 use arrayvec::ArrayVec;
 use itoa::Buffer;
 use line_model::device::Sink;
+use line_model::fault::Fault;
 
 /// The last bytes of a text that are not sent yet. Once the sink has failed nothing more is sent.
 #[derive(Drop)]
@@ -43,13 +44,6 @@ impl Chunk {
         }
     }
 
-    /// Whether the sink has failed.
-    pub fn failed(&self) -> bool
-        ensures { result ≡ self.now.failed }
-    {
-        self.failed
-    }
-
     /// Sends what is held.
     pub fn flush<W: Sink>(&mut self, sink: &mut W)
         ensures sent { (before : Option (List ℕ) × ℕ) (text : List ℕ) → Writes before (W.taken sink.old, W.failures sink.old) self.old text → Writes before (W.taken sink.new, W.failures sink.new) self.new text }
@@ -65,6 +59,22 @@ impl Chunk {
                 self.failed = true;
                 self.bytes.clear();
             }
+        }
+    }
+
+    /// Sends what is held. The sink took the text that was on its way, or it has failed and took a first part of it.
+    pub fn end<W: Sink>(mut self, sink: &mut W) -> Result<(), Fault>
+        ensures ok { (before : Option (List ℕ) × ℕ) (text : List ℕ) → Writes before (W.taken sink.old, W.failures sink.old) self text → OnOk result (W.taken sink.new ≡ with_more before.0 text) }
+        ensures part { (before : Option (List ℕ) × ℕ) (text : List ℕ) → Writes before (W.taken sink.old, W.failures sink.old) self text → OnErr result ((front : List ℕ) × (rest : List ℕ) × (text ≡ front ++ rest) × (W.taken sink.new ≡ with_more before.0 front)) }
+        ensures rising { (before : Option (List ℕ) × ℕ) (text : List ℕ) → Writes before (W.taken sink.old, W.failures sink.old) self text → before.1 ≤ W.failures sink.new }
+        ensures cause { (before : Option (List ℕ) × ℕ) (text : List ℕ) → Writes before (W.taken sink.old, W.failures sink.old) self text → OnErr result (before.1 < W.failures sink.new) }
+        ensures write { IfErr result (λ f. f ≡ Fault.Write) }
+    {
+        self.flush(sink);
+        if self.failed {
+            Err(Fault::Write)
+        } else {
+            Ok(())
         }
     }
 

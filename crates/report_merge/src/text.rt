@@ -1,9 +1,10 @@
 //! The text of a report.
 
-ghost use Rattle.std.specs.Prelude.{◌≡◌, ℕ, List, ◌++◌, ◌<◌, ◌+◌, OnOk, OnErr, IfErr};
+ghost use Rattle.std.specs.Prelude.{◌≡◌, ℕ, List, ◌++◌, ◌<◌, ◌≤◌, ◌+◌, OnOk, OnErr, IfErr};
 ghost use Rattle.std.specs.List.{flat_map, enumerate_from};
 ghost use Rattle.line_model.specs.Device.{with_more};
-ghost use Rattle.line_model.specs.Report.{text_of, finding_line, call_line, setting_line, setting_lines, account_line};
+ghost use Rattle.line_model.specs.Report.{text_of, call_line, setting_line, setting_lines, account_line};
+ghost use Rattle.report_merge.specs.Parts.{findings_text, rest_text};
 ghost use Rattle.report_merge.specs.Written.{Writes, Puts};
 
 use crate::chunk::Chunk;
@@ -17,7 +18,7 @@ use std::alloc::Allocator;
 impl Chunk {
     /// Puts the lines of findings.
     fn findings<W: Sink>(&mut self, sink: &mut W, findings: &[Finding])
-        ensures { Puts (W.taken sink.old, W.failures sink.old) (W.taken sink.new, W.failures sink.new) self.old self.new (flat_map finding_line findings.now) }
+        ensures { Puts (W.taken sink.old, W.failures sink.old) (W.taken sink.new, W.failures sink.new) self.old self.new (findings_text findings.now) }
     {
         for finding in findings {
             self.finding(sink, finding);
@@ -60,16 +61,23 @@ impl Chunk {
         }
     }
 
-    /// Puts all the lines of a report.
-    fn report<W: Sink, A: Allocator>(&mut self, sink: &mut W, report: &Report<A>)
-        ensures { Puts (W.taken sink.old, W.failures sink.old) (W.taken sink.new, W.failures sink.new) self.old self.new (text_of report.now) }
+    /// Puts the lines of a report behind its findings.
+    fn rest<W: Sink, A: Allocator>(&mut self, sink: &mut W, report: &Report<A>)
+        ensures { Puts (W.taken sink.old, W.failures sink.old) (W.taken sink.new, W.failures sink.new) self.old self.new (rest_text report.now) }
     {
-        self.findings(sink, report.findings.as_slice());
         self.calls(sink, report.calls.as_slice());
         self.all_settings(sink, report.calls.as_slice());
         self.accounts(sink, report.accounts.as_slice());
         self.peak(sink, report.peak);
         self.summary(sink, &report.summary);
+    }
+
+    /// Puts all the lines of a report.
+    fn report<W: Sink, A: Allocator>(&mut self, sink: &mut W, report: &Report<A>)
+        ensures { Puts (W.taken sink.old, W.failures sink.old) (W.taken sink.new, W.failures sink.new) self.old self.new (text_of report.now) }
+    {
+        self.findings(sink, report.findings.as_slice());
+        self.rest(sink, report);
     }
 }
 
@@ -83,10 +91,31 @@ pub fn write_report<W: Sink, A: Allocator>(report: &Report<A>, sink: &mut W) -> 
 {
     let mut chunk = Chunk::new();
     chunk.report(sink, report);
-    chunk.flush(sink);
-    if chunk.failed() {
-        Err(Fault::Write)
-    } else {
-        Ok(())
-    }
+    chunk.end(sink)
+}
+
+/// Writes the lines of findings to a sink, as `write_report` writes those of a report.
+pub fn write_findings<W: Sink>(findings: &[Finding], sink: &mut W) -> Result<(), Fault>
+    ensures ok { OnOk result (W.taken sink.new ≡ with_more (W.taken sink.old) (findings_text findings.now)) }
+    ensures part { OnErr result ((front : List ℕ) × (rest : List ℕ) × (findings_text findings.now ≡ front ++ rest) × (W.taken sink.new ≡ with_more (W.taken sink.old) front)) }
+    ensures rising { W.failures sink.old ≤ W.failures sink.new }
+    ensures cause { OnErr result (W.failures sink.old < W.failures sink.new) }
+    ensures write { IfErr result (λ f. f ≡ Fault.Write) }
+{
+    let mut chunk = Chunk::new();
+    chunk.findings(sink, findings);
+    chunk.end(sink)
+}
+
+/// Writes to a sink what stands in the text of a report behind the lines of its findings.
+pub fn write_rest<W: Sink, A: Allocator>(report: &Report<A>, sink: &mut W) -> Result<(), Fault>
+    ensures ok { OnOk result (W.taken sink.new ≡ with_more (W.taken sink.old) (rest_text report.now)) }
+    ensures part { OnErr result ((front : List ℕ) × (rest : List ℕ) × (rest_text report.now ≡ front ++ rest) × (W.taken sink.new ≡ with_more (W.taken sink.old) front)) }
+    ensures rising { W.failures sink.old ≤ W.failures sink.new }
+    ensures cause { OnErr result (W.failures sink.old < W.failures sink.new) }
+    ensures write { IfErr result (λ f. f ≡ Fault.Write) }
+{
+    let mut chunk = Chunk::new();
+    chunk.rest(sink, report);
+    chunk.end(sink)
 }

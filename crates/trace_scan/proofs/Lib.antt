@@ -1,3 +1,4 @@
 pub mod ReadingLemmas
 pub mod ScanLemmas
 pub mod ThreadedLemmas
+pub mod FollowLemmas

@@ -49,7 +49,7 @@ end_part r text before after h t w =
     let some : (n : ℕ) × (after ≡ with_more before (take n (trace_report text))) = subst (λ x. IfErr x (IsTaken before after (trace_report text))) w t in
     record { text = text; sound = sound; bytes = some.0; taken = some.1 }
 
-report_scan : (f : Fault) → IsReportFault f → IsScanFault f
+pub report_scan : (f : Fault) → IsReportFault f → IsScanFault f
 report_scan Memory h = tt
 report_scan (Trace line kind) h = tt
 report_scan Write h = tt

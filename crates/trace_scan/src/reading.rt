@@ -12,7 +12,7 @@ use live_report::live::Live;
 use std::alloc::Allocator;
 
 /// The bytes that are asked for at once.
-const CHUNK: usize = 1 << 16;
+pub const CHUNK: usize = 1 << 16;
 
 /// Feeds a trace all that a source gives. Refuses by the first faulty line as soon as it is known, where the source
 /// fails, and for want of memory.

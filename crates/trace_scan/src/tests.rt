@@ -1,6 +1,7 @@
 //! Worked traces, refused texts and failing devices.
 
 mod crews;
+mod following;
 mod gated;
 mod held;
 mod runs;

@@ -102,7 +102,7 @@ early_rows-sound : (text : List ℕ) → early text ≡ None → early_rows text
 unfolding early_rows
 early_rows-sound text h = rw h refl
 
-rows_grow : (text more : List ℕ) → early text ≡ None → (others : List Row) × (early_rows (text ++ more) ≡ early_rows text ++ others)
+pub rows_grow : (text more : List ℕ) → early text ≡ None → (others : List Row) × (early_rows (text ++ more) ≡ early_rows text ++ others)
 unfolding early_rows
 rows_grow text more h =
     let lines = more_lines text more in

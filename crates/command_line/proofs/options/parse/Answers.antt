@@ -1,14 +1,26 @@
-use Rattle.std.proofs.Common.{◌≡◌, ◌∙◌, ap, refl, sym, true, map}
-use Rattle.clap.specs.Words.{app_of, fault_of, is_simple_and_free}
+use Rattle.std.proofs.Common.{◌≡◌, ◌∙◌, ap, refl, sym, true, map, codes}
+use Rattle.clap.specs.Words.{app_of, fault_of, found_of, is_simple, is_simple_and_free, matches_of, first_of}
 use Rattle.clap.proofs.OnLiterals.{clap_on_literals}
-use Rattle.command_line.specs.Options.{command}
+use Rattle.clap.proofs.WalkLemmas.{first_value-rows}
+use Rattle.command_line.specs.Options.{command, is_given}
 use Rattle.command_line.proofs.options.parse.Goals as goal
 
 is_free : is_simple_and_free command ≡ true
 unfolding clap_on_literals
 is_free = refl
 
-pub returns-in-Ok : goal.returns-in-Ok
-returns-in-Ok c =
+is_plain : is_simple command ≡ true
+unfolding clap_on_literals
+is_plain = refl
+
+pub returns-in-Ok-clause-kinds : goal.returns-in-Ok-clause-kinds
+returns-in-Ok-clause-kinds c =
     let told : app_of c.in_ok-command.command ≡ command = c.in_ok-command.ensures in
     sym (ap (λ app. fault_of app (map (λ word. word.now) c.args.words.now)) told) ∙ c.in-Ok.ensures.kinds (ap is_simple_and_free told ∙ is_free)
+
+pub returns-in-Ok-clause-follow : goal.returns-in-Ok-clause-follow
+returns-in-Ok-clause-follow c =
+    let told : app_of c.in_ok-command.command ≡ command = c.in_ok-command.ensures in
+    let rows = (c.in-Ok.ensures.matches (ap is_simple told ∙ is_plain)).0 in
+    c.options_in.ensures ∙ ap is_given (first_value-rows (found_of c.in-Ok.matches) (codes "follow")
+    ∙ ap (first_of (codes "follow")) (rows ∙ ap (λ app. matches_of app (map (λ word. word.now) c.args.words.now)) told))

@@ -1,11 +1,10 @@
-use Rattle.std.proofs.Common.{◌∙◌, ap, sym, subst, Some, None, length, ◌≡◌, ◌++◌, ◌∷◌, [], arith}
+use Rattle.std.proofs.Common.{◌∙◌, ap, sym, subst, Some, length, ◌≡◌, [], arith}
 use Rattle.std.specs.Option.{option_map}
-use Rattle.std.specs.Vec.{vec_len}
 use Rattle.line_model.specs.Plans.{value}
 use Rattle.restart_epochs.specs.OpenRows.{rows_of}
 use Rattle.restart_epochs.specs.OpenLanes.{HasPopped}
 use Rattle.live_report.specs.Lanes.{begun_piece}
-use Rattle.live_report.proofs.EndingLemmas.{Ending, ended_piece, ending_none, ending_more, ending_all, popped_live, popped_some}
+use Rattle.live_report.proofs.EndingLemmas.{Ending, ended_piece, ending_more, ending_all, popped_live, popped_some}
 use Rattle.live_report.proofs.ending.end_channels.Given.{Over}
 use Rattle.live_report.proofs.ending.end_channels.Goals as goal
 

@@ -1,4 +1,4 @@
-use Rattle.std.proofs.Common.{◌≡◌, ap, sym, subst, None}
+use Rattle.std.proofs.Common.{◌≡◌, ap, sym, subst}
 use Rattle.std.specs.Option.{option_map}
 use Rattle.restart_epochs.specs.OpenLanes.{HasTaken}
 use Rattle.channel_machine.specs.Live.{StandsFor as IsLive}

@@ -1,7 +1,6 @@
-use Rattle.std.proofs.Common.{◌≡◌, ◌∙◌, ◌∷◌, ap, subst, sym, Some, None, length, arith}
+use Rattle.std.proofs.Common.{◌≡◌, ◌∙◌, ◌∷◌, ap, subst, sym, None, length, arith}
 use Rattle.line_model.specs.Plans.{value}
 use Rattle.restart_epochs.specs.OpenRows.{rows_of}
-use Rattle.restart_epochs.specs.OpenLanes.{value_at}
 use Rattle.live_report.specs.Lanes.{begun_piece}
 use Rattle.live_report.proofs.EndingLemmas.{ended_piece}
 use Rattle.live_report.proofs.TellingLemmas.{Telling, telling_more, told_live}

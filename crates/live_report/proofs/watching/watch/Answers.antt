@@ -1,14 +1,20 @@
-use Rattle.std.proofs.Common.{◌≡◌, ◌∙◌, ◌+◌, ◌++◌, ap, subst, sym, refl, length, arith}
+use Rattle.std.proofs.Common.{◌≡◌, ◌∙◌, ◌+◌, ◌<◌, ◌++◌, List, Err, ap, subst, sym, refl, length, length-append, arith, rules}
+use Rattle.std.specs.Option.{option_to_list}
 use Rattle.line_model.specs.Text.{early, early_rows}
+use Rattle.line_model.specs.declared.fault.Fault.TheVariants.{Memory}
+use Rattle.line_model.specs.declared.finding.Finding.{Finding}
 use Rattle.trace_text.specs.Progress.{bytes_fed}
 use Rattle.trace_text.specs.StandsFor.{IsFaultOf, ReadsChunk, TakesRow}
-use Rattle.live_report.proofs.WatchLemmas.{course_begun, course_end, course_row, course_text, next_rows}
+use Rattle.live_report.specs.Found.{IsFoundBy, IsFoundUpTo, found_at}
+use Rattle.live_report.proofs.FoundLemmas.{at_most_one}
+use Rattle.live_report.proofs.WatchLemmas.{course_begun, course_end, course_found, course_refused, course_row, course_stopped, course_text, next_rows}
 use Rattle.live_report.proofs.watching.watch.Goals as goal
 
 pub loop-after-init : goal.loop-after-init
 loop-after-init g c = record {
+  few = omega arith;
   size = refl;
-  course = λ i text w. course_begun g.C.Channel.interface_of g.C.Channel.number_of g.C.Channel.stands_for i text c.args.chunk.now c.args.lines.now c.args.observer.now w;
+  course = λ i text w. course_begun g.C.Channel.interface_of g.C.Channel.number_of g.C.Channel.stands_for i text c.args.chunk.now c.args.lines.now c.args.observer.now c.args.found.now.items w;
 }
 
 pub take-requires : goal.take-requires
@@ -29,25 +35,57 @@ pub loop-after-preserved : goal.loop-after-preserved
 loop-after-preserved g c =
     let row : TakesRow c.loop-after.lines c.next_row.new.self c.loop-after.rest.now c.in-Ok-Some.after.now c.next_row.new.row = rw c.in-Ok-Some.field-0-is at c.in-Ok-Some.ensures.ok in
     let size : bytes_fed c.next_row.new.self + length c.in-Ok-Some.after.now ≡ bytes_fed c.loop-after.lines + length c.loop-after.rest.now = rw c.in-Ok-Some.field-0-is at c.in-Ok-Some.ensures.size in
+    let shorter : length c.in-Ok-Some.after.now < length c.loop-after.rest.now = rw c.in-Ok-Some.field-0-is at c.in-Ok-Some.ensures.shorter in
+    let finding = c.in_ok-take-in-Ok-Some.field-0 in
+    let noted = c.in_ok-note-in-Ok-Some.ensures.ok in
+    let few = c.loop-after.invariant.few in
     record {
+      few = omega (arith, few, shorter, ap (λ (xs : List Finding). length xs) noted, length-append c.loop-after.found.items (option_to_list finding), at_most_one finding);
       size = size ∙ c.loop-after.invariant.size;
       course = λ i text w.
           let course = c.loop-after.invariant.course i text w in
           course_row g.C.Channel.interface_of g.C.Channel.number_of g.C.Channel.stands_for i text c.args.chunk.now c.loop-after.rest.now c.in-Ok-Some.after.now c.next_row.new.row c.loop-after.lines c.next_row.new.self c.loop-after.observer c.take.new.self
+          c.args.found.now.items c.loop-after.found.items c.note.new.findings.items (option_to_list finding)
           course row (c.in-Ok-Some.ensures.header (text ++ course.read) course.watching.reads)
           (c.in_ok-take-in-Ok-Some.ensures.stands i (early_rows (text ++ course.read)) course.watching.observes
-          (next_rows c.loop-after.lines c.next_row.new.self (text ++ course.read) c.loop-after.rest.now c.in-Ok-Some.after.now c.next_row.new.row course.watching.reads row));
+          (next_rows c.loop-after.lines c.next_row.new.self (text ++ course.read) c.loop-after.rest.now c.in-Ok-Some.after.now c.next_row.new.row course.watching.reads row))
+          noted (c.in_ok-take-in-Ok-Some.ensures.finding i (early_rows (text ++ course.read)) course.watching.observes);
     }
 
 pub returns-in-Ok-None-clause-watches : goal.returns-in-Ok-None-clause-watches
 returns-in-Ok-None-clause-watches g c i text w =
     let course = c.loop-after.invariant.course i text w in
     let end : ReadsChunk c.loop-after.lines c.next_row.new.self c.loop-after.rest.now = rw c.in-Ok-None.field-0-is at c.in-Ok-None.ensures.ok in
-    course_end g.C.Channel.interface_of g.C.Channel.number_of g.C.Channel.stands_for i text c.args.chunk.now c.loop-after.rest.now c.loop-after.lines c.next_row.new.self c.loop-after.observer course end
+    course_end g.C.Channel.interface_of g.C.Channel.number_of g.C.Channel.stands_for i text c.args.chunk.now c.loop-after.rest.now c.loop-after.lines c.next_row.new.self c.loop-after.observer _ _ course end
     (c.in-Ok-None.ensures.header (text ++ course.read) course.watching.reads)
+
+pub returns-in-Ok-None-clause-found : goal.returns-in-Ok-None-clause-found
+returns-in-Ok-None-clause-found g c i text w =
+    let course = c.loop-after.invariant.course i text w in
+    let end : ReadsChunk c.loop-after.lines c.next_row.new.self c.loop-after.rest.now = rw c.in-Ok-None.field-0-is at c.in-Ok-None.ensures.ok in
+    course_found g.C.Channel.interface_of g.C.Channel.number_of g.C.Channel.stands_for i text c.args.chunk.now c.loop-after.rest.now c.loop-after.lines c.next_row.new.self c.loop-after.observer _ _ course end
 
 pub returns-in-Err-clause-refused : goal.returns-in-Err-clause-refused
 returns-in-Err-clause-refused g c i text w =
     let course = c.loop-after.invariant.course i text w in
-    subst (λ x. IsFaultOf (early x) c.in-Err.fault) (course_text g.C.Channel.interface_of g.C.Channel.number_of g.C.Channel.stands_for i text c.args.chunk.now c.loop-after.rest.now c.loop-after.lines c.loop-after.observer course)
+    subst (λ x. IsFaultOf (early x) c.in-Err.fault) (course_text g.C.Channel.interface_of g.C.Channel.number_of g.C.Channel.stands_for i text c.args.chunk.now c.loop-after.rest.now c.loop-after.lines c.loop-after.observer _ _ course)
     (c.in-Err.ensures.refused (text ++ course.read) course.watching.reads)
+
+pub returns-in-Err-clause-found : goal.returns-in-Err-clause-found
+returns-in-Err-clause-found g c i text w =
+    let course = c.loop-after.invariant.course i text w in
+    course_refused g.C.Channel.interface_of g.C.Channel.number_of g.C.Channel.stands_for i text c.args.chunk.now c.loop-after.rest.now c.loop-after.lines c.loop-after.observer _ _ c.in-Err.fault course
+    (c.in-Err.ensures.known (text ++ course.read) course.watching.reads)
+
+pub returns-in_err-take-in-Ok-Some-clause-found : goal.returns-in_err-take-in-Ok-Some-clause-found
+returns-in_err-take-in-Ok-Some-clause-found g c i text w =
+    let memory : c.from_residual.result ≡ Err Memory = search rules in
+    subst (λ r. IsFoundBy r c.args.found.now.items c.loop-after.found.items (found_at i text) (found_at i (text ++ c.args.chunk.now))) (sym memory)
+    (course_stopped g.C.Channel.interface_of g.C.Channel.number_of g.C.Channel.stands_for i text c.args.chunk.now c.loop-after.rest.now c.loop-after.lines c.loop-after.observer _ _ (c.loop-after.invariant.course i text w))
+
+pub returns-in_err-note-in-Ok-Some-clause-found : goal.returns-in_err-note-in-Ok-Some-clause-found
+returns-in_err-note-in-Ok-Some-clause-found g c i text w =
+    let memory : c.from_residual-in_err-note-in-Ok-Some.result ≡ Err Memory = search rules in
+    subst (λ r. IsFoundBy r c.args.found.now.items c.note.new.findings.items (found_at i text) (found_at i (text ++ c.args.chunk.now))) (sym memory)
+    (subst (λ l. IsFoundUpTo Memory c.args.found.now.items l (found_at i text) (found_at i (text ++ c.args.chunk.now))) (sym c.in_err-note-in-Ok-Some.ensures.refused)
+    (course_stopped g.C.Channel.interface_of g.C.Channel.number_of g.C.Channel.stands_for i text c.args.chunk.now c.loop-after.rest.now c.loop-after.lines c.loop-after.observer _ _ (c.loop-after.invariant.course i text w)))

@@ -1,21 +1,17 @@
-use Rattle.std.proofs.Common.{◌∙◌, sym, Option, List, ℕ}
-use Rattle.report_merge.proofs.WrittenLemmas.{finished}
+use Rattle.std.proofs.Common.{Option, List, ℕ}
 use Rattle.report_merge.proofs.text.write_report.Goals as goal
 
-pub returns-else-failed-clause-ok : goal.returns-else-failed-clause-ok
-returns-else-failed-clause-ok g c =
+pub returns-clause-ok : goal.returns-clause-ok
+returns-clause-ok g c =
     let before : Option (List ℕ) × ℕ = (g.W.Sink.taken c.args.sink.now, g.W.Sink.failures c.args.sink.now) in
-    let w = c.flush.ensures.sent before _ (c.report.ensures before _ (c.new-chunk.ensures before)) in
-    finished before _ c.flush.new.self _ w (sym c.failed.ensures ∙ c.if-failed.false) c.flush.ensures.empty
+    c.end.ensures.ok before _ (c.report.ensures before _ (c.new-chunk.ensures before))
 
-pub returns-then-failed-clause-part : goal.returns-then-failed-clause-part
-returns-then-failed-clause-part g c =
+pub returns-clause-part : goal.returns-clause-part
+returns-clause-part g c =
     let before : Option (List ℕ) × ℕ = (g.W.Sink.taken c.args.sink.now, g.W.Sink.failures c.args.sink.now) in
-    let w = c.flush.ensures.sent before _ (c.report.ensures before _ (c.new-chunk.ensures before)) in
-    (w.sent, w.left, sym w.whole, w.took)
+    c.end.ensures.part before _ (c.report.ensures before _ (c.new-chunk.ensures before))
 
-pub returns-then-failed-clause-cause : goal.returns-then-failed-clause-cause
-returns-then-failed-clause-cause g c =
+pub returns-clause-cause : goal.returns-clause-cause
+returns-clause-cause g c =
     let before : Option (List ℕ) × ℕ = (g.W.Sink.taken c.args.sink.now, g.W.Sink.failures c.args.sink.now) in
-    let w = c.flush.ensures.sent before _ (c.report.ensures before _ (c.new-chunk.ensures before)) in
-    w.cause (sym c.failed.ensures ∙ c.if-failed.true)
+    c.end.ensures.cause before _ (c.report.ensures before _ (c.new-chunk.ensures before))

@@ -1,4 +1,4 @@
-use Rattle.std.proofs.Common.{refl, [], None}
+use Rattle.std.proofs.Common.{refl, []}
 use Rattle.line_model.proofs.TextLemmas.{early_rows-nothing}
 use Rattle.live_report.proofs.live.Live.new.Goals as goal
 

@@ -1,4 +1,3 @@
-use Rattle.std.proofs.Common.{◌∙◌, ap}
 use Rattle.trace_text.specs.EndedPart.{ended_part}
 use Rattle.live_report.proofs.ReportLemmas.{taken_by}
 use Rattle.live_report.proofs.live.Live.report.Goals as goal

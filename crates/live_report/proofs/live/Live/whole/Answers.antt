@@ -1,4 +1,4 @@
-use Rattle.std.proofs.Common.{◌≡◌, ◌∙◌, ◌++◌, [], ap, subst, sym}
+use Rattle.std.proofs.Common.{◌∙◌, ◌++◌, [], ap, subst}
 use Rattle.line_model.specs.Text.{early_rows, fault}
 use Rattle.trace_text.specs.StandsFor.{IsFaultOf, last_row}
 use Rattle.live_report.specs.Observing.{AreRows}

@@ -1,8 +1,5 @@
-use Rattle.std.proofs.Common.{◌≡◌, ◌∙◌, ◌≤◌, ◌++◌, ap, refl, sym, length, map, None, arith}
+use Rattle.std.proofs.Common.{◌∙◌, refl, arith}
 use Rattle.std.proofs.lemmas.Result.{IfErr-weaker, IfOk-weaker}
-use Rattle.line_model.specs.Plans.{value}
-use Rattle.restart_epochs.specs.OpenRows.{rows_of}
-use Rattle.restart_epochs.specs.Cutting.{pieces_out}
 use Rattle.restart_epochs.proofs.Listings.{listing}
 use Rattle.live_report.proofs.WholeLemmas.{few_told, of_walk}
 use Rattle.live_report.proofs.observer.Observer.end.Goals as goal

@@ -1,4 +1,4 @@
-use Rattle.std.proofs.Common.{ap, refl}
+use Rattle.std.proofs.Common.{refl}
 use Rattle.restart_epochs.specs.OpenRows.{no_rows}
 use Rattle.live_report.proofs.StandLemmas.{lanes_none, nothing_taken}
 use Rattle.live_report.proofs.observer.Observer.new.Goals as goal

@@ -1,4 +1,4 @@
-use Rattle.std.proofs.Common.{◌≡◌, ◌∙◌, ◌≤◌, ◌++◌, ap, refl, sym, length, map, None, arith}
+use Rattle.std.proofs.Common.{◌∙◌, ◌++◌, ap, refl, length, map, None, arith}
 use Rattle.std.proofs.lemmas.Result.{IfErr-weaker, IfOk-weaker}
 use Rattle.line_model.specs.Plans.{value}
 use Rattle.restart_epochs.specs.OpenRows.{rows_of}

@@ -1,4 +1,4 @@
-use Rattle.std.proofs.Common.{◌≡◌, ◌∙◌, ap, subst, sym, refl, ℕ, ◌+◌, ◌++◌, ◌∷◌, [], length, map, Some, rules}
+use Rattle.std.proofs.Common.{◌≡◌, ◌∙◌, ap, subst, sym, refl, ◌+◌, ◌++◌, ◌∷◌, [], length, map, Some}
 use Rattle.std.specs.Option.{option_to_list}
 use Rattle.line_model.specs.Bounds.{IsPiece}
 use Rattle.line_model.specs.Octets.{channel_of}
@@ -6,7 +6,7 @@ use Rattle.line_model.specs.Plans.{value}
 use Rattle.line_model.specs.RestartMachine.{Routing}
 use Rattle.restart_epochs.specs.OpenRows.{rows_of}
 use Rattle.restart_epochs.specs.Cutting.{IsKeptOn, given_of, pieces_out}
-use Rattle.restart_epochs.proofs.Listings.{bare, has_one_more, listing, rows_with}
+use Rattle.restart_epochs.proofs.Listings.{bare, has_one_more, listing}
 use Rattle.restart_epochs.proofs.Routes.{is_to_channel, is_quiet}
 use Rattle.restart_epochs.proofs.Taken.{enters_unready, on_ok}
 use Rattle.live_report.specs.Observing.{Holds}

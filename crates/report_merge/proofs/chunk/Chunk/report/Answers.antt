@@ -1,42 +1,16 @@
-use Rattle.std.proofs.Common.{◌≡◌, ◌++◌, ◌∙◌, List, ℕ, subst, ap, append_assoc}
-use Rattle.std.specs.List.{flat_map, enumerate_from}
-use Rattle.line_model.specs.declared.finding.Finding.{Finding}
-use Rattle.line_model.specs.Records.{CallRecord}
-use Rattle.line_model.specs.declared.call.Account.{Account}
+use Rattle.std.proofs.Common.{◌++◌, ◌∙◌, subst, ap, append_assoc}
 use Rattle.line_model.specs.Records.{Report}
-use Rattle.line_model.specs.Report.{text_of, finding_line, call_line, setting_lines, account_line, peak_line, summary_line}
+use Rattle.report_merge.specs.Parts.{findings_text, rest_text}
 use Rattle.report_merge.specs.Written.{Writes}
+use Rattle.report_merge.proofs.WrittenLemmas.{two_parts}
 use Rattle.report_merge.proofs.chunk.Chunk.report.Goals as goal
-
-joined : (t a b c d p z : List ℕ) → (((((t ++ a) ++ b) ++ c) ++ d) ++ p) ++ z ≡ t ++ (a ++ (b ++ (c ++ (d ++ (p ++ z)))))
-joined t a b c d p z = simp append_assoc
-
-regrouped : (a b c d p z : List ℕ) → a ++ (b ++ (c ++ (d ++ (p ++ z)))) ≡ ((((a ++ b) ++ c) ++ d) ++ p) ++ z
-regrouped a b c d p z = simp append_assoc
-
-same : (r : Report) → flat_map finding_line r.findings ++ (flat_map call_line (enumerate_from 1 r.calls) ++ (flat_map setting_lines (enumerate_from 1 r.calls) ++ (flat_map account_line r.accounts ++ (peak_line r.peak ++ summary_line r.summary)))) ≡ text_of r
-same r = regrouped (flat_map finding_line r.findings) (flat_map call_line (enumerate_from 1 r.calls)) (flat_map setting_lines (enumerate_from 1 r.calls)) (flat_map account_line r.accounts) (peak_line r.peak) (summary_line r.summary)
 
 pub returns : goal.returns
 returns g c = λ before text w.
-    let v = c.report.inside in
-    let r : Report = record { findings = v.findings.items; calls = v.calls.items; accounts = v.accounts.items; peak = v.peak; summary = v.summary } in
-    let f : List Finding → List ℕ = λ xs. flat_map finding_line xs in
-    let k : List CallRecord → List ℕ = λ xs. flat_map call_line (enumerate_from 1 xs) in
-    let s : List CallRecord → List ℕ = λ xs. flat_map setting_lines (enumerate_from 1 xs) in
-    let a : List Account → List ℕ = λ xs. flat_map account_line xs in
-    let p : List ℕ = peak_line r.peak in
-    let z : List ℕ = summary_line r.summary in
-    let x1 = c.as_slice.result.now in
-    let x2 = c.as_slice-2.result.now in
-    let x3 = c.as_slice-3.result.now in
-    let x4 = c.as_slice-4.result.now in
-    let e = joined text (f x1) (k x2) (s x3) (a x4) p z
-    ∙ ap (λ l. text ++ (l ++ (k x2 ++ (s x3 ++ (a x4 ++ (p ++ z)))))) (ap f c.as_slice.ensures.value)
-    ∙ ap (λ l. text ++ (f r.findings ++ (l ++ (s x3 ++ (a x4 ++ (p ++ z)))))) (ap k c.as_slice-2.ensures.value)
-    ∙ ap (λ l. text ++ (f r.findings ++ (k r.calls ++ (l ++ (a x4 ++ (p ++ z)))))) (ap s c.as_slice-3.ensures.value)
-    ∙ ap (λ l. text ++ (f r.findings ++ (k r.calls ++ (s r.calls ++ (l ++ (p ++ z)))))) (ap a c.as_slice-4.ensures.value)
-    ∙ ap (λ l. text ++ l) (same r)
-    ∙ ap (λ x. text ++ text_of x) c.report.view_is in
-    subst (λ l. Writes before (g.W.Sink.taken c.summary.new.sink, g.W.Sink.failures c.summary.new.sink) c.summary.new.self l) e
-    (c.summary.ensures before _ (c.peak.ensures before _ (c.accounts.ensures before _ (c.all_settings.ensures before _ (c.calls.ensures before _ (c.findings.ensures before text w))))))
+    let r : Report = c.args.report.now in
+    let found = ap findings_text (c.as_slice.ensures.value ∙ ap (λ (x : Report). x.findings) c.report.view_is) in
+    let e = append_assoc text (findings_text c.as_slice.result.now) (rest_text r)
+    ∙ ap (λ l. text ++ (l ++ rest_text r)) found
+    ∙ ap (λ l. text ++ l) (two_parts r) in
+    subst (λ l. Writes before (g.W.Sink.taken c.rest.new.sink, g.W.Sink.failures c.rest.new.sink) c.rest.new.self l) e
+    (c.rest.ensures before _ (c.findings.ensures before text w))

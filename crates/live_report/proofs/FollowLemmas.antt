@@ -1,0 +1,141 @@
+-- What a follower told.
+use Rattle.std.proofs.Common.{◌≡◌, ◌∙◌, sym, ap, ℕ, ◌+◌, ◌≤◌, ◌<◌, List, [], ◌++◌, length, drop, Option, None, Result, Ok, Err, OnOk, OnErr, arith, append-nil, append_assoc, length-append}
+use Rattle.std.proofs.Math.Seq.{drop-append_seam}
+use Rattle.line_model.specs.Device.{with_more}
+use Rattle.line_model.specs.Text.{begun_line, early, ended_lines, head, rows, size_of}
+use Rattle.line_model.specs.Traces.{trace_report}
+use Rattle.line_model.specs.Records.{Report}
+use Rattle.line_model.specs.Report.{report_of}
+use Rattle.line_model.specs.declared.fault.Kind.{Kind}
+use Rattle.line_model.specs.declared.fault.Fault.{Fault}
+use Rattle.line_model.specs.declared.fault.Fault.TheVariants.{Memory, Trace}
+use Rattle.line_model.specs.declared.finding.Finding.{Finding}
+use Rattle.line_model.proofs.TextLemmas.{size_kind-none}
+use Rattle.report_merge.specs.Parts.{findings_text, rest_text}
+use Rattle.report_merge.proofs.WrittenLemmas.{two_parts, with_more-append, with_more-nil}
+use Rattle.trace_text.specs.Progress.{Progress, bytes_fed}
+use Rattle.trace_text.specs.StandsFor.{StandsFor as IsReaderOf, IsFaultOf, IsTextFault}
+use Rattle.trace_text.proofs.FeedLemmas.{size-sound}
+use Rattle.live_report.specs.Follows.{HasFindings, HasFindingsAtLine, HasFirst, IsRefusalOf}
+use Rattle.live_report.specs.Found.{HasFound, IsFoundBy, IsFoundUpTo, found, found_text}
+use Rattle.live_report.specs.Reports.{IsReportFault, IsReportOf}
+use Rattle.line_model.proofs.TextLemmas.{early_rows-nothing}
+use Rattle.live_report.proofs.FoundLemmas.{nothing_found}
+use Rattle.live_report.proofs.LawLemmas.{found_in_report, lines_more}
+use Rattle.live_report.proofs.ReportLemmas.{front_of, report_text}
+
+-- ---- what a chunk found
+
+found_here : (out known all : List Finding) → HasFound [] out known all → all ≡ known ++ out
+found_here out known all h = h.known_has ∙ ap (λ xs. known ++ xs) (sym h.out_has)
+
+found_first_of : (f : Fault) (out known all : List Finding) → IsFoundUpTo f [] out known all → (rest : List Finding) × (all ≡ known ++ (out ++ rest))
+found_first_of Memory out known all h = (h.rest, h.known_has ∙ ap (λ xs. known ++ (xs ++ h.rest)) (sym h.out_has))
+found_first_of _ out known all h = ([], found_here out known all h ∙ ap (λ xs. known ++ xs) (sym (append-nil out)))
+
+pub found_rest : {T : Type 0} → (r : Result T Fault) (out known all : List Finding) → IsFoundBy r [] out known all → (rest : List Finding) × (all ≡ known ++ (out ++ rest))
+found_rest (Ok x) out known all h = ([], found_here out known all h ∙ ap (λ xs. known ++ xs) (sym (append-nil out)))
+found_rest (Err f) out known all h = found_first_of f out known all h
+
+pub found_length : (out known all : List Finding) → HasFound [] out known all → length known + length out ≡ length all
+found_length out known all h = omega (arith, ap (λ (xs : List Finding). length xs) (found_here out known all h), length-append known out)
+
+pub fed_few : (reader : Progress) (text : List ℕ) → IsReaderOf reader text → bytes_fed reader ≤ 1073741824
+fed_few reader text s = omega (arith, s.start, ap (λ (xs : List ℕ). length xs) s.begun, (size_kind-none (size_of (ended_lines text)) 0 (length (begun_line text)) (size-sound text s.sound)).1)
+
+-- ---- what the sink took
+
+-- a sink took all of some bytes, or has failed and took a first part of them
+part_of : {T : Type 0} → (w : Result T Fault) (old new : Option (List ℕ)) (bytes : List ℕ) → OnOk w (new ≡ with_more old bytes)
+    → OnErr w ((front : List ℕ) × (rest : List ℕ) × (bytes ≡ front ++ rest) × (new ≡ with_more old front)) → (front : List ℕ) × (back : List ℕ) × (bytes ≡ front ++ back) × (new ≡ with_more old front)
+part_of (Ok x) old new bytes h e = (bytes, [], sym (append-nil bytes), h)
+part_of (Err f) old new bytes h e = e
+
+pub always : {T : Type 0} → (w : Result T Fault) (P : Type 0) → P → OnOk w P
+always (Ok x) P h = h
+always (Err f) P h = tt
+
+all_of : {T : Type 0} → (w : Result T Fault) (P : Type 0) (a b : ℕ) → OnOk w P → OnErr w (a < b) → b ≡ a → P
+all_of (Ok x) P a b h e same = h
+all_of (Err f) P a b h e same = absurd (omega (arith, e, same))
+
+-- the sink took the lines of all that came
+told_more : (before old new : Option (List ℕ)) (text all : List ℕ) (out : List Finding) → HasFindings before old text → HasFound [] out (found text) (found all) → new ≡ with_more old (findings_text out) → HasFindings before new all
+told_more before old new text all out h e w =
+    w ∙ ap (λ o. with_more o (findings_text out)) h ∙ with_more-append before (found_text text) (findings_text out)
+    ∙ ap (with_more before) (sym (ap findings_text (found_here out (found text) (found all) e) ∙ lines_more (found text) out))
+
+-- the sink took a first part of what came
+pub told_first : {T U : Type 0} → (r : Result T Fault) (w : Result U Fault) (before old new : Option (List ℕ)) (text all : List ℕ) (written out : List Finding) → written ≡ out → HasFindings before old text → IsFoundBy r [] out (found text) (found all)
+    → OnOk w (new ≡ with_more old (findings_text written)) → OnErr w ((front : List ℕ) × (rest : List ℕ) × (findings_text written ≡ front ++ rest) × (new ≡ with_more old front)) → HasFirst before new (found_text all)
+told_first r w before old new text all written out same h e ok err =
+    let more = found_rest r out (found text) (found all) e in
+    let part = part_of w old new (findings_text written) ok err in
+    let front = found_text text ++ part.0 in
+    let back = part.1 ++ findings_text more.0 in
+    let whole : found_text all ≡ front ++ back =
+    ap findings_text more.1 ∙ lines_more (found text) (out ++ more.0)
+    ∙ ap (λ xs. found_text text ++ xs) (lines_more out more.0 ∙ ap (λ xs. xs ++ findings_text more.0) (ap findings_text (sym same) ∙ part.2) ∙ append_assoc part.0 part.1 (findings_text more.0))
+    ∙ sym (append_assoc (found_text text) part.0 back) in (
+      length front,
+      part.3 ∙ ap (λ o. with_more o part.0) h ∙ with_more-append before (found_text text) part.0 ∙ ap (with_more before) (front_of front back (found_text all) whole),
+    )
+
+-- at a faulty line the sink that did not fail took all of them
+told_at_line : {U : Type 0} → (f : Fault) (w : Result U Fault) (before old new : Option (List ℕ)) (a b : ℕ) (text all : List ℕ) (out : List Finding) → HasFindings before old text → IsFoundUpTo f [] out (found text) (found all)
+    → OnOk w (new ≡ with_more old (findings_text out)) → OnErr w (a < b) → b ≡ a → HasFindingsAtLine before new all f
+told_at_line (Trace line kind) w before old new a b text all out h e ok cause same = told_more before old new text all out h e (all_of w _ a b ok cause same)
+told_at_line _ w before old new a b text all out h e ok cause same = tt
+
+pub refusal_of : (at : Option (ℕ × Kind)) (f : Fault) → IsFaultOf at f → IsRefusalOf at f
+refusal_of at Memory h = tt
+refusal_of at (Trace line kind) h = h
+refusal_of at _ h = absurd h
+
+pub text_report : (f : Fault) → IsTextFault f → IsReportFault f
+text_report Memory h = tt
+text_report (Trace line kind) h = tt
+text_report _ h = absurd h
+
+-- ---- the rest of the report
+
+-- the findings that were told stand first in a report
+pub told_front : (text : List ℕ) (r : Report) → early text ≡ None → IsReportOf text r → (others : List Finding) × (r.findings ≡ found text ++ others)
+told_front text r sound is =
+    let nil = append-nil text in
+    let others = found_in_report text [] is.interface sound (ap head nil ∙ is.header) in
+    (others.0, ap (λ (x : Report). x.findings) is.report ∙ ap (λ x. (report_of is.interface (rows x)).findings) (sym nil) ∙ others.1)
+
+pub told_within : (text : List ℕ) (r : Report) (told : ℕ) → early text ≡ None → IsReportOf text r → told ≡ length (found text) → told ≤ length r.findings
+told_within text r told sound is n =
+    let others = told_front text r sound is in
+    omega (arith, n, ap (λ (xs : List Finding). length xs) others.1, length-append (found text) others.0)
+
+-- the others stand behind them
+pub told_split : (text : List ℕ) (r : Report) (told : ℕ) → early text ≡ None → IsReportOf text r → told ≡ length (found text) → trace_report text ≡ found_text text ++ (findings_text (drop told r.findings) ++ rest_text r)
+told_split text r told sound is n =
+    let others = told_front text r sound is in
+    let behind : drop told r.findings ≡ others.0 = ap (λ k. drop k r.findings) n ∙ ap (drop (length (found text))) others.1 ∙ drop-append_seam (found text) others.0 in
+    sym (report_text text r is) ∙ sym (two_parts r) ∙ ap (λ xs. xs ++ rest_text r) (ap findings_text others.1 ∙ lines_more (found text) others.0)
+    ∙ append_assoc (found_text text) (findings_text others.0) (rest_text r) ∙ ap (λ xs. found_text text ++ (findings_text xs ++ rest_text r)) (sym behind)
+
+-- two parts were taken behind what was told
+pub taken_whole : (before old mid new : Option (List ℕ)) (a b c whole : List ℕ) → whole ≡ a ++ (b ++ c) → old ≡ with_more before a → mid ≡ with_more old b → new ≡ with_more mid c → new ≡ with_more before whole
+taken_whole before old mid new a b c whole w h k l =
+    l ∙ ap (λ o. with_more o c) (k ∙ ap (λ o. with_more o b) h ∙ with_more-append before a b) ∙ with_more-append before (a ++ b) c ∙ ap (with_more before) (append_assoc a b c ∙ sym w)
+
+-- a first part of the first of them
+pub taken_first : (before old new : Option (List ℕ)) (a b whole rest front back : List ℕ) → old ≡ with_more before a → whole ≡ a ++ (b ++ rest) → b ≡ front ++ back → new ≡ with_more old front → HasFirst before new whole
+taken_first before old new a b whole rest front back h w split l =
+    let all : whole ≡ (a ++ front) ++ (back ++ rest) = w ∙ ap (λ xs. a ++ (xs ++ rest)) split ∙ ap (λ xs. a ++ xs) (append_assoc front back rest) ∙ sym (append_assoc a front (back ++ rest)) in
+    (length (a ++ front), l ∙ ap (λ o. with_more o front) h ∙ with_more-append before a front ∙ ap (with_more before) (front_of (a ++ front) (back ++ rest) whole all))
+
+-- a first part of the second behind the first
+pub taken_last : (before old mid new : Option (List ℕ)) (a b c whole front back : List ℕ) → whole ≡ a ++ (b ++ c) → old ≡ with_more before a → mid ≡ with_more old b → c ≡ front ++ back → new ≡ with_more mid front → HasFirst before new whole
+taken_last before old mid new a b c whole front back w h k split l =
+    taken_first before mid new (a ++ b) c whole [] front back (k ∙ ap (λ o. with_more o b) h ∙ with_more-append before a b)
+    (w ∙ sym (append_assoc a b c) ∙ ap (λ xs. (a ++ b) ++ xs) (sym (append-nil c))) split l
+
+-- a sink that took nothing has the findings of no text
+pub nothing_told : (taken : Option (List ℕ)) → HasFindings taken taken []
+nothing_told taken = sym (with_more-nil taken) ∙ ap (with_more taken) (sym (ap findings_text (nothing_found [] early_rows-nothing)))

@@ -1,0 +1,173 @@
+-- What was found so far stands first in what is found of each text that goes on, and in its report.
+use Rattle.std.proofs.Common.{◌≡◌, ◌∙◌, sym, ap, subst, refl, ℕ, ◌+◌, ◌-◌, ◌≤◌, List, [], ◌∷◌, ◌++◌, length, Option, Some, None, take, arith, append-nil, append_assoc, length-append}
+use Rattle.std.specs.Option.{option_or, option_map}
+use Rattle.std.proofs.lemmas.Grind.{flat_map-append}
+use Rattle.std.proofs.lemmas.List.{take-append-le}
+use Rattle.line_model.specs.declared.fault.Kind.{Kind}
+use Rattle.line_model.specs.declared.finding.Finding.{Finding}
+use Rattle.line_model.specs.declared.interface.Interface.{Interface}
+use Rattle.line_model.specs.Records.{Report}
+use Rattle.line_model.specs.Report.{finding_line, report, report_of}
+use Rattle.line_model.specs.Text.{Line, begun_kind, begun_line, early, early_head, early_rows, end_kind, ended_lines, fault, first_fault, good_lines, head, head_of, line_kind, rows, rows_in, size_kind, size_of}
+use Rattle.line_model.specs.Traces.{trace_report}
+use Rattle.line_model.proofs.LineLemmas.{size_kind-zero}
+use Rattle.line_model.proofs.TextLemmas.{size_kind-none, size_of-append}
+use Rattle.report_merge.specs.Parts.{findings_text, rest_text}
+use Rattle.report_merge.proofs.WrittenLemmas.{two_parts}
+use Rattle.trace_text.proofs.FeedLemmas.{early-append, early-none}
+use Rattle.trace_text.proofs.Grows.{early_head_stays, head_stays, rows_first}
+use Rattle.trace_text.proofs.RefusalLemmas.{more_lines, rows_grow}
+use Rattle.live_report.specs.Found.{found, found_at, found_text}
+use Rattle.live_report.specs.Laws.{GrowthLaw, ReportLaw}
+use Rattle.live_report.proofs.FoundLemmas.{findings_grow, found_under}
+
+pub lines_more : (a b : List Finding) → findings_text (a ++ b) ≡ findings_text a ++ findings_text b
+lines_more a b = flat_map-append finding_line a b
+
+-- without a header nothing is found
+found_unheaded : (text : List ℕ) → early_head text ≡ None → found text ≡ []
+found_unheaded text h = ap (λ o. elim o as (λ _. List Finding) [ None ↦ [] | Some j ↦ found_at j text ]) h
+
+-- ---- a faulty line stays
+
+line_within : (before ls : List Line) (at : ℕ × Kind) → first_fault before ls ≡ Some at → at.0 ≤ length before + length ls
+line_within before [] at h = absurd (cc)
+line_within before (l ∷ ls) at h = here (line_kind before 1 l) h (line_within (before ++ l ∷ []) ls at)
+  where
+    here : (o : Option Kind) → (elim o as (λ _. Option (ℕ × Kind)) [ Some kind ↦ Some (length before + 1, kind) | None ↦ first_fault (before ++ l ∷ []) ls ]) ≡ Some at
+        → (first_fault (before ++ l ∷ []) ls ≡ Some at → at.0 ≤ length (before ++ l ∷ []) + length ls) → at.0 ≤ length before + length (l ∷ ls)
+    here (Some kind) e later = let same : (length before + 1, kind) ≡ at = cc in omega (arith, ap (λ p. p.0) same)
+    here None e later = omega (arith, later e, length-append before (l ∷ []))
+
+either : (a b : Option (ℕ × Kind)) (n : ℕ) (at : ℕ × Kind) → option_or a b ≡ Some at → (a ≡ Some at → at.0 ≤ n) → (b ≡ Some at → at.0 ≤ n) → at.0 ≤ n
+either (Some x) b n at h f g = f h
+either None b n at h f g = g h
+
+at_last : (o : Option Kind) (n : ℕ) (at : ℕ × Kind) → option_map (λ kind. (n, kind)) o ≡ Some at → at.0 ≤ n
+at_last (Some kind) n at h = let same : (n, kind) ≡ at = cc in omega (arith, ap (λ p. p.0) same)
+at_last None n at h = absurd (cc)
+
+early_line : (text : List ℕ) (at : ℕ × Kind) → early text ≡ Some at → at.0 - 1 ≤ length (ended_lines text)
+unfolding early
+early_line text at h =
+    let size = size_kind (size_of (ended_lines text)) 0 (length (begun_line text)) in
+    let n = length (ended_lines text) in
+    let le : at.0 ≤ n + 1 = either (first_fault [] (ended_lines text)) (option_map (λ kind. (n + 1, kind)) size) (n + 1) at h
+    (λ e. let within = line_within [] (ended_lines text) at e in omega (arith, within)) (at_last size (n + 1) at) in
+    omega (arith, le)
+
+same_good : (text more : List ℕ) (at : ℕ × Kind) → early text ≡ Some at → good_lines (Some at) (ended_lines (text ++ more)) ≡ good_lines (Some at) (ended_lines text)
+same_good text more at h =
+    let lines = more_lines text more in
+    ap (take (at.0 - 1)) lines.1 ∙ take-append-le (at.0 - 1) (ended_lines text) lines.0 (early_line text at h)
+
+head_kept : (text more : List ℕ) (at : ℕ × Kind) → early text ≡ Some at → early_head (text ++ more) ≡ early_head text
+unfolding early_head
+head_kept text more at h =
+    ap (λ a. head_of (good_lines a (ended_lines (text ++ more)))) (early-append text more at h) ∙ ap head_of (same_good text more at h)
+    ∙ ap (λ a. head_of (good_lines a (ended_lines text))) (sym h)
+
+rows_kept : (text more : List ℕ) (at : ℕ × Kind) → early text ≡ Some at → early_rows (text ++ more) ≡ early_rows text
+unfolding early_rows
+rows_kept text more at h =
+    ap (λ a. rows_in (good_lines a (ended_lines (text ++ more)))) (early-append text more at h) ∙ ap rows_in (same_good text more at h)
+    ∙ ap (λ a. rows_in (good_lines a (ended_lines text))) (sym h)
+
+found_kept : (text more : List ℕ) (at : ℕ × Kind) → early text ≡ Some at → found (text ++ more) ≡ found text
+found_kept text more at h =
+    ap (λ o. elim o as (λ _. List Finding) [ None ↦ [] | Some j ↦ found_at j (text ++ more) ]) (head_kept text more at h)
+    ∙ ap (λ rs. elim (early_head text) as (λ _. List Finding) [ None ↦ [] | Some j ↦ (report_of j rs).findings ]) (rows_kept text more at h)
+
+-- ---- a text without a fault so far
+
+found_on : (text more : List ℕ) (o : Option Interface) → early_head text ≡ o → early text ≡ None → (rest : List Finding) × (found (text ++ more) ≡ found text ++ rest)
+found_on text more None e h = (found (text ++ more), ap (λ xs. xs ++ found (text ++ more)) (sym (found_unheaded text e)))
+found_on text more (Some i) e h =
+    let rs = rows_grow text more h in
+    let grown = findings_grow i (early_rows text) rs.0 in (
+      grown.0,
+      found_under i (text ++ more) (early_head_stays text more i h e) ∙ ap (λ l. (report_of i l).findings) rs.1 ∙ grown.1 ∙ ap (λ xs. xs ++ grown.0) (sym (found_under i text e)),
+    )
+
+found_grows : (text more : List ℕ) (o : Option (ℕ × Kind)) → early text ≡ o → (rest : List Finding) × (found (text ++ more) ≡ found text ++ rest)
+found_grows text more (Some at) h = ([], found_kept text more at h ∙ sym (append-nil (found text)))
+found_grows text more None h = found_on text more (early_head text) refl h
+
+pub growth : GrowthLaw
+growth text more =
+    let grown = found_grows text more (early text) refl in
+    (findings_text grown.0, ap findings_text grown.1 ∙ lines_more (found text) grown.0)
+
+-- ---- the report
+
+some_same : (i j : Interface) → Some i ≡ Some j → i ≡ j
+some_same i j h = cc
+
+in_report : (given rest : List ℕ) (i : Interface) (o : Option Interface) → early_head given ≡ o → early given ≡ None → head (given ++ rest) ≡ Some i → (others : List Finding) × ((report_of i (rows (given ++ rest))).findings ≡ found given ++ others)
+in_report given rest i None e h is = ((report_of i (rows (given ++ rest))).findings, ap (λ xs. xs ++ (report_of i (rows (given ++ rest))).findings) (sym (found_unheaded given e)))
+in_report given rest i (Some j) e h is =
+    let same : j ≡ i = some_same j i (sym (head_stays given rest j h e) ∙ is) in
+    let rs = rows_first given rest h in
+    let grown = findings_grow i (early_rows given) rs.0 in
+    (grown.0, ap (λ l. (report_of i l).findings) rs.1 ∙ grown.1 ∙ ap (λ xs. xs ++ grown.0) (ap (λ k. found_at k given) (sym same) ∙ sym (found_under j given e)))
+
+-- the findings so far stand first in the report of a text
+pub found_in_report : (given rest : List ℕ) (i : Interface) → early given ≡ None → head (given ++ rest) ≡ Some i → (others : List Finding) × ((report_of i (rows (given ++ rest))).findings ≡ found given ++ others)
+found_in_report given rest i h is = in_report given rest i (early_head given) refl h is
+
+report_text_in : (text more : List ℕ) (o : Option Interface) → head (text ++ more) ≡ o → early text ≡ None → (rest : List ℕ) × (trace_report (text ++ more) ≡ found_text text ++ rest)
+report_text_in text more (Some i) e h =
+    let others = found_in_report text more i h e in
+    let r : Report = report_of i (rows (text ++ more)) in (
+      findings_text others.0 ++ rest_text r,
+      ap (λ o. elim o as (λ _. List ℕ) [ None ↦ [] | Some j ↦ report j (rows (text ++ more)) ]) e ∙ sym (two_parts r)
+          ∙ ap (λ xs. xs ++ rest_text r) (ap findings_text others.1 ∙ lines_more (found text) others.0) ∙ append_assoc (found_text text) (findings_text others.0) (rest_text r),
+    )
+report_text_in text more None e h =
+    let none : found_text text ≡ [] = headless (early_head text) refl in
+    (trace_report (text ++ more), ap (λ xs. xs ++ trace_report (text ++ more)) (sym none))
+  where
+    headless : (o : Option Interface) → early_head text ≡ o → found_text text ≡ []
+    headless None k = ap findings_text (found_unheaded text k)
+    headless (Some j) k = absurd (let bad : None ≡ Some j = sym e ∙ head_stays text more j h k in cc)
+
+-- ---- a text without a fault has none so far
+
+both_none : {T : Type 0} (a b : Option T) → option_or a b ≡ None → (a ≡ None) × (b ≡ None)
+both_none None b h = (refl, h)
+both_none (Some x) b h = absurd (cc)
+
+map_none : {A B : Type 0} (f : A → B) (o : Option A) → option_map f o ≡ None → o ≡ None
+map_none f None h = refl
+map_none f (Some x) h = absurd (cc)
+
+small_lines : (before ls : List Line) → size_of before ≤ 1073741824 → first_fault before ls ≡ None → size_of (before ++ ls) ≤ 1073741824
+small_lines before [] few h = subst (λ ls. size_of ls ≤ 1073741824) (sym (append-nil before)) few
+small_lines before (l ∷ ls) few h = here (line_kind before 1 l) refl h (small_lines (before ++ l ∷ []) ls)
+  where
+    here : (o : Option Kind) → line_kind before 1 l ≡ o → (elim o as (λ _. Option (ℕ × Kind)) [ Some kind ↦ Some (length before + 1, kind) | None ↦ first_fault (before ++ l ∷ []) ls ]) ≡ None
+        → (size_of (before ++ l ∷ []) ≤ 1073741824 → first_fault (before ++ l ∷ []) ls ≡ None → size_of ((before ++ l ∷ []) ++ ls) ≤ 1073741824) → size_of (before ++ l ∷ ls) ≤ 1073741824
+    here (Some kind) e k later = absurd (cc)
+    here None e k later =
+        let size = size_kind-none (size_of before) 1 (length l) (both_none _ _ e).0 in
+        subst (λ xs. size_of xs ≤ 1073741824) (append_assoc before (l ∷ []) ls) (later (omega (arith, size.1, size_of-append before (l ∷ []))) k)
+
+no_size_fault : (es : List Line) (b : Line) → size_of es ≤ 1073741824 → begun_kind es b ≡ None → size_kind (size_of es) 0 (length b) ≡ None
+no_size_fault es [] few h = size_kind-zero (size_of es) few
+no_size_fault es (b ∷ bs) few h = (both_none _ _ h).0
+
+pub no_fault_so_far : (text : List ℕ) → fault text ≡ None → early text ≡ None
+unfolding fault
+no_fault_so_far text h =
+    let es = ended_lines text in
+    let b = begun_line text in
+    let p = both_none (first_fault [] es) (end_kind es b) h in
+    let begun = map_none (λ kind. (length es + 1, kind)) (begun_kind es b) (both_none _ _ p.1).0 in
+    early-none text p.0 (no_size_fault es b (small_lines [] es (omega arith) p.0) begun)
+
+sound_before : (text more : List ℕ) (o : Option (ℕ × Kind)) → early text ≡ o → early (text ++ more) ≡ None → o ≡ None
+sound_before text more None e h = refl
+sound_before text more (Some at) e h = absurd (let bad : Some at ≡ None = sym (early-append text more at e) ∙ h in cc)
+
+pub reported : ReportLaw
+reported text more h = report_text_in text more (head (text ++ more)) refl (sound_before text more (early text) refl (no_fault_so_far (text ++ more) h))

@@ -1,0 +1,45 @@
+-- A follower: a trace that is fed, and how many of its findings were told.
+use Rattle.std.specs.Prelude.{◌≡◌, ℕ, ◌≤◌, List, Option, Some, None, IfSome, length, take}
+use Rattle.line_model.specs.Channels.{Channel}
+use Rattle.line_model.specs.Device.{with_more}
+use Rattle.line_model.specs.declared.fault.Kind.{Kind}
+use Rattle.line_model.specs.declared.fault.Fault.{Fault}
+use Rattle.line_model.specs.declared.fault.Fault.TheVariants.{Memory, Trace, Write}
+use Rattle.line_model.specs.declared.interface.Interface.{Interface}
+use Rattle.trace_text.specs.Progress.{bytes_fed}
+use Rattle.live_report.specs.declared.follow.Follower.{Follower}
+use Rattle.live_report.specs.Found.{found, found_text}
+use Rattle.live_report.specs.Lives.{StandsFor as IsLive}
+use Rattle.live_report.specs.Reports.{IsReportFault}
+
+-- it was fed this text, refused none of it, and told all of its findings
+pub record StandsFor {A C : Type 0} (interface_of : C → Interface) (number_of : C → ℕ) (stands_for : C → Channel → Type 0) (f : Follower A C) (text : List ℕ) : Type 0 where
+  pub live : IsLive interface_of number_of stands_for f.live text
+  pub running : f.refused ≡ None
+  pub told : f.told ≡ length (found text)
+  pub few : f.told ≤ bytes_fed f.live.lines
+
+-- it was fed some text, or it refused
+pub record IsFed {A C : Type 0} (interface_of : C → Interface) (number_of : C → ℕ) (stands_for : C → Channel → Type 0) (f : Follower A C) : Type 0 where
+  pub fed : f.refused ≡ None → (text : List ℕ) × StandsFor interface_of number_of stands_for f text
+  pub kinds : IfSome f.refused IsReportFault
+
+-- a sink that had `before` has the lines of what the text found so far
+abbrev pub HasFindings : (before taken : Option (List ℕ)) (text : List ℕ) → Type 0
+HasFindings before taken text = taken ≡ with_more before (found_text text)
+
+-- it has a first part of some bytes
+abbrev pub HasFirst : (before taken : Option (List ℕ)) (bytes : List ℕ) → Type 0
+HasFirst before taken bytes = (n : ℕ) × (taken ≡ with_more before (take n bytes))
+
+-- it has all of those lines where the text was refused by a faulty line
+abbrev pub HasFindingsAtLine : (before taken : Option (List ℕ)) (text : List ℕ) → Fault → Type 0
+HasFindingsAtLine before taken text (Trace line kind) = HasFindings before taken text
+HasFindingsAtLine before taken text _ = Unit {0}
+
+-- why a text is refused while it grows: memory ran out, a line is faulty however it goes on, or the sink failed and no line is
+abbrev pub IsRefusalOf : Option (ℕ × Kind) → Fault → Type 0
+IsRefusalOf at Memory = Unit {0}
+IsRefusalOf at (Trace line kind) = at ≡ Some (line, kind)
+IsRefusalOf at Write = at ≡ None
+IsRefusalOf at _ = ⊥

@@ -1,0 +1,131 @@
+//! A trace whose findings are written as it grows.
+
+ghost use Rattle.std.specs.Prelude.{◌≡◌, ◌≢◌, ℕ, ◌+◌, ◌<◌, ◌≤◌, ◌^◌, ◌++◌, [], List, Option, Some, Err, length, IfErr, IfOk, OnOk};
+ghost use Rattle.line_model.specs.Text.{early};
+ghost use Rattle.line_model.specs.Traces.{trace_report};
+ghost use Rattle.trace_text.specs.Progress.{bytes_fed};
+ghost use Rattle.live_report.specs.Found.{found_text};
+ghost use Rattle.live_report.specs.Follows.{HasFindings, HasFindingsAtLine, HasFirst, IsFed, IsRefusalOf, StandsFor};
+ghost use Rattle.live_report.specs.Reports.{IsRefusal, IsReportFault, IsReported};
+
+use crate::live::Live;
+use channel_machine::run::Channel;
+use line_model::device::Sink;
+use line_model::fault::Fault;
+use line_model::totals::Summary;
+use report_merge::text::{write_findings, write_rest};
+use std::alloc::Allocator;
+
+/// A trace that grows, of which each finding is written as soon as its row is known.
+#[derive(Drop)]
+pub struct Follower<A: Allocator, C: Channel<A>> {
+    live: Live<A, C>,
+    /// How many findings were told.
+    told: usize,
+    refused: Option<Fault>,
+}
+
+impl<A: Allocator + Copy, C: Channel<A>> Follower<A, C> {
+    /// A trace of which nothing was fed. It takes no memory.
+    pub fn new(alloc: A) -> Self
+        ensures fed { IsFed C.interface_of C.number_of C.stands_for result }
+        ensures stands { StandsFor C.interface_of C.number_of C.stands_for result [] }
+    {
+        Follower {
+            live: Live::new(alloc),
+            told: 0,
+            refused: None,
+        }
+    }
+
+    /// Takes the rows of a chunk, and writes the lines of what they found.
+    fn tell<K: Sink>(&mut self, chunk: &[u8], sink: &mut K) -> Result<(), Fault>
+        requires { (text : List ℕ) × StandsFor C.interface_of C.number_of C.stands_for self.old text }
+        ensures stands { (text : List ℕ) → StandsFor C.interface_of C.number_of C.stands_for self.old text → OnOk result (StandsFor C.interface_of C.number_of C.stands_for self.new (text ++ chunk.now)) }
+        ensures refused { (text : List ℕ) → StandsFor C.interface_of C.number_of C.stands_for self.old text → IfErr result (IsRefusalOf (early (text ++ chunk.now))) }
+        ensures told { (text : List ℕ) (before : Option (List ℕ)) → StandsFor C.interface_of C.number_of C.stands_for self.old text → HasFindings before (K.taken sink.old) text → OnOk result (HasFindings before (K.taken sink.new) (text ++ chunk.now)) }
+        ensures taken { (text : List ℕ) (before : Option (List ℕ)) → StandsFor C.interface_of C.number_of C.stands_for self.old text → HasFindings before (K.taken sink.old) text → HasFirst before (K.taken sink.new) (found_text (text ++ chunk.now)) }
+        ensures at_line { (text : List ℕ) (before : Option (List ℕ)) → StandsFor C.interface_of C.number_of C.stands_for self.old text → HasFindings before (K.taken sink.old) text → K.failures sink.new ≡ K.failures sink.old → IfErr result (HasFindingsAtLine before (K.taken sink.new) (text ++ chunk.now)) }
+        ensures size { OnOk result (bytes_fed self.new.live.lines ≡ bytes_fed self.old.live.lines + length chunk.now) }
+        ensures limit { OnOk result (bytes_fed self.new.live.lines ≤ 2 ^ 30) }
+        ensures kinds { IfErr result IsReportFault }
+        ensures rising { K.failures sink.old ≤ K.failures sink.new }
+        ensures write_failed { result ≡ Err Fault.Write → K.failures sink.old < K.failures sink.new }
+    {
+        let read = self.live.feed(chunk);
+        let found = self.live.found();
+        self.told += found.len();
+        let written = write_findings(found, sink);
+        match read {
+            Ok(()) => written,
+            Err(fault) => Err(fault),
+        }
+    }
+
+    /// Takes the next chunk of the text, of any size, and then writes the lines of what its rows found. It refuses by the
+    /// first line that is faulty however the text goes on, behind what was found before that line; else where the sink
+    /// fails; and for want of memory. From then on it answers the same, and the sink is not asked.
+    pub fn feed<K: Sink>(&mut self, chunk: &[u8], sink: &mut K) -> Result<(), Fault>
+        requires fed { IsFed C.interface_of C.number_of C.stands_for self.old }
+        ensures fed { IsFed C.interface_of C.number_of C.stands_for self.new }
+        // Of any text that it was fed: it was fed that text with the chunk.
+        ensures stands { (text : List ℕ) → StandsFor C.interface_of C.number_of C.stands_for self.old text → OnOk result (StandsFor C.interface_of C.number_of C.stands_for self.new (text ++ chunk.now)) }
+        ensures refused { (text : List ℕ) → StandsFor C.interface_of C.number_of C.stands_for self.old text → IfErr result (IsRefusalOf (early (text ++ chunk.now))) }
+        // A sink that has the lines of what was found so far has them of the text with the chunk.
+        ensures told { (text : List ℕ) (before : Option (List ℕ)) → StandsFor C.interface_of C.number_of C.stands_for self.old text → HasFindings before (K.taken sink.old) text → OnOk result (HasFindings before (K.taken sink.new) (text ++ chunk.now)) }
+        // Whatever is answered, it has a first part of them; at a faulty line all, if it did not fail.
+        ensures taken { (text : List ℕ) (before : Option (List ℕ)) → StandsFor C.interface_of C.number_of C.stands_for self.old text → HasFindings before (K.taken sink.old) text → HasFirst before (K.taken sink.new) (found_text (text ++ chunk.now)) }
+        ensures at_line { (text : List ℕ) (before : Option (List ℕ)) → StandsFor C.interface_of C.number_of C.stands_for self.old text → HasFindings before (K.taken sink.old) text → K.failures sink.new ≡ K.failures sink.old → IfErr result (HasFindingsAtLine before (K.taken sink.new) (text ++ chunk.now)) }
+        ensures size { OnOk result (bytes_fed self.new.live.lines ≡ bytes_fed self.old.live.lines + length chunk.now) }
+        ensures limit { OnOk result (bytes_fed self.new.live.lines ≤ 2 ^ 30) }
+        ensures kinds { IfErr result IsReportFault }
+        ensures rising { K.failures sink.old ≤ K.failures sink.new }
+        ensures write_failed { (text : List ℕ) → StandsFor C.interface_of C.number_of C.stands_for self.old text → result ≡ Err Fault.Write → K.failures sink.old < K.failures sink.new }
+        ensures refuses { IfErr result (λ fault. self.new.refused ≡ Some fault) }
+        ensures again { (fault : Fault) → self.old.refused ≡ Some fault → (result ≡ Err fault) × (self.new ≡ self.old) × (sink.new ≡ sink.old) }
+    {
+        if let Some(fault) = self.refused {
+            return Err(fault);
+        }
+        let answer = self.tell(chunk, sink);
+        self.refused = answer.err();
+        answer
+    }
+
+    /// The text has ended, and its last line may lack its LF: writes the rest of its report, and answers its last line as
+    /// numbers. It refuses by the first faulty line, for want of memory, and where the sink fails; once `feed` has
+    /// refused, it answers the same.
+    pub fn end<K: Sink>(self, sink: &mut K) -> Result<Summary, Fault>
+        requires fed { IsFed C.interface_of C.number_of C.stands_for self }
+        // A sink that has the lines of what was found so far has the report.
+        ensures reported { (text : List ℕ) (before : Option (List ℕ)) → StandsFor C.interface_of C.number_of C.stands_for self text → HasFindings before (K.taken sink.old) text → IfOk result (IsReported text before (K.taken sink.new)) }
+        ensures refused { (text : List ℕ) → StandsFor C.interface_of C.number_of C.stands_for self text → IfErr result (IsRefusal text) }
+        ensures kinds { IfErr result IsReportFault }
+        ensures write_failed { (text : List ℕ) → StandsFor C.interface_of C.number_of C.stands_for self text → result ≡ Err Fault.Write → K.failures sink.old < K.failures sink.new }
+        ensures unwritten { IfErr result (λ fault. fault ≢ Fault.Write → sink.new ≡ sink.old) }
+        ensures taken { (text : List ℕ) (before : Option (List ℕ)) → StandsFor C.interface_of C.number_of C.stands_for self text → HasFindings before (K.taken sink.old) text → result ≡ Err Fault.Write → HasFirst before (K.taken sink.new) (trace_report text) }
+        ensures again { (fault : Fault) → self.refused ≡ Some fault → (result ≡ Err fault) × (sink.new ≡ sink.old) }
+    {
+        let Follower {
+            live,
+            told,
+            refused,
+        } = self;
+        if let Some(fault) = refused {
+            return Err(fault);
+        }
+        let report = match live.whole() {
+            Ok(report) => report,
+            Err(fault) => return Err(fault),
+        };
+        let (_, untold) = report.findings.as_slice().split_at(told);
+        match write_findings(untold, sink) {
+            Ok(()) => {}
+            Err(fault) => return Err(fault),
+        }
+        match write_rest(&report, sink) {
+            Ok(()) => Ok(report.summary),
+            Err(fault) => Err(fault),
+        }
+    }
+}

@@ -1,0 +1,19 @@
+-- The text of a report in two parts.
+use Rattle.std.specs.Prelude.{ℕ, List, ◌++◌}
+use Rattle.std.specs.List.{flat_map, enumerate_from}
+use Rattle.line_model.specs.Records.{Report}
+use Rattle.line_model.specs.Report.{account_line, call_line, finding_line, peak_line, setting_lines, summary_line}
+use Rattle.line_model.specs.declared.finding.Finding.{Finding}
+
+-- the lines of findings
+abbrev pub findings_text : List Finding → List ℕ
+findings_text findings = flat_map finding_line findings
+
+-- the lines of a report behind its findings
+abbrev pub rest_text : Report → List ℕ
+rest_text r =
+    flat_map call_line (enumerate_from 1 r.calls)
+    ++ flat_map setting_lines (enumerate_from 1 r.calls)
+    ++ flat_map account_line r.accounts
+    ++ peak_line r.peak
+    ++ summary_line r.summary
