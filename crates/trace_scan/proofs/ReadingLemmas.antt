@@ -21,8 +21,7 @@ pub all_read : (left after : Option (List ℕ)) (stands : List ℕ → Type 0) (
     → stands text × (after ≡ Some [])
 all_read left after stands text r bytes room given some none =
     let rest = given.end r.rest r.source some none in
-    let more = given.told r.rest r.source in
-    (
+    let more = given.told r.rest r.source in (
       subst stands (sym (r.whole ∙ ap (λ xs. r.fed ++ xs) rest ∙ append-nil r.fed)) r.trace,
       more.1 ∙ ap (λ xs. Some xs) (sym (ap (λ xs. xs ++ more.0) none) ∙ sym more.2 ∙ rest),
     )
