@@ -1,9 +1,13 @@
 //! Worked traces, refused texts and failing devices.
 
 mod crews;
+mod failing;
 mod following;
 mod gated;
+mod growing;
 mod held;
+mod refused;
+mod refused_crews;
 mod runs;
 mod wanting;
 mod worked;

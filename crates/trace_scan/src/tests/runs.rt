@@ -6,7 +6,7 @@ use crate::scan::scan_alone;
 use line_model::count::Count;
 use line_model::fault::Fault;
 use line_model::totals::Summary;
-use std::alloc::Global;
+use std::alloc::{Allocator, Global};
 use std::marker::Brand;
 use std::sync::ledger::{Blank, Ledger};
 use test_devices::{CutSink, CutSource, Cuts};
@@ -18,7 +18,8 @@ pub struct Scanned {
     pub taken: Vec<u8, Global>,
 }
 
-fn scan_on<C: Ledger, F: Ledger, K: Ledger>(
+fn scan_on<A: Allocator + Copy, C: Ledger, F: Ledger, K: Ledger>(
+    heap: A,
     alloc: Global,
     text: &[u8],
     cuts: Cuts,
@@ -49,16 +50,17 @@ fn scan_on<C: Ledger, F: Ledger, K: Ledger>(
         good_calls: cuts.good_writes,
         failures: Count::<K>::open(write_failures),
     };
-    let answer = scan_alone(alloc, &mut source, &mut sink);
+    let answer = scan_alone(heap, &mut source, &mut sink);
     Scanned {
         answer,
         taken: sink.taken,
     }
 }
 
-/// Scans a text.
-pub fn scan(alloc: Global, text: &[u8], cuts: Cuts) -> Scanned {
-    scan_on::<Brand, Brand, Brand>(
+/// Scans a text with a heap of its own, into a sink of another.
+pub fn scan_in<A: Allocator + Copy>(heap: A, alloc: Global, text: &[u8], cuts: Cuts) -> Scanned {
+    scan_on::<A, Brand, Brand, Brand>(
+        heap,
         alloc,
         text,
         cuts,
@@ -66,4 +68,9 @@ pub fn scan(alloc: Global, text: &[u8], cuts: Cuts) -> Scanned {
         Blank::new(1),
         Blank::new(1),
     )
+}
+
+/// Scans a text.
+pub fn scan(alloc: Global, text: &[u8], cuts: Cuts) -> Scanned {
+    scan_in(alloc, alloc, text, cuts)
 }
