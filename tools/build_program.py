@@ -1,7 +1,8 @@
 #!/usr/bin/env python3
 """build_program.py: proves and builds the program where it is not built or a source is newer, with a line a crate on the errors.
 
-Libraries that do not stand on each other are proved side by side, as many as there are processors and memory for.
+Libraries that do not stand on each other are proved side by side, as many as there are processors and memory for. A
+library that each other one stands on, or stands below, has nothing beside it and is proved by all processors.
 """
 import os
 import pathlib
@@ -15,19 +16,33 @@ CRATES = ROOT / "crates"
 PROGRAM = CRATES / "x25scan" / "out" / "x25scan"
 # What the proof of one crate takes at the most, in bytes.
 MEMORY = 3_000_000_000
-# The last library that others can be proved beside; what stands on it comes one after the other.
-WIDEST = "trace_scan"
 
 
 def say(text):
     print(f"x25scan: {text}", file=sys.stderr, flush=True)
 
 
-def libraries():
-    """The repository's libraries that the program uses."""
+def uses():
+    """What each crate of the repository uses."""
     lines = (ROOT / "crates.txt").read_text().split("\n")
-    uses = {line.split()[0].rstrip(":"): line.partition(":")[2].split() for line in lines if line and line[0] != "#"}
-    return [name for name in uses["x25scan"] if name in uses]
+    return {line.split()[0].rstrip(":"): line.partition(":")[2].split() for line in lines if line and line[0] != "#"}
+
+
+def libraries():
+    """The repository's libraries that the program uses, each with those below it, lowest first."""
+    used = uses()
+
+    def below(name):
+        mine = [it for it in used[name] if it in used]
+        return set(mine).union(*map(below, mine))
+
+    found = {name: below(name) for name in below("x25scan")}
+    return dict(sorted(found.items(), key=lambda it: len(it[1])))
+
+
+def lone(below):
+    """The libraries that each other one stands on, or stands below, lowest first."""
+    return [name for name in below if all(name in below[it] or it in below[name] for it in below if it != name)]
 
 
 def is_stale():
@@ -78,10 +93,14 @@ def build():
     """Builds the program, and returns whether it stands."""
     say("proving and building the program, which takes some minutes the first time")
     going, jobs = Build(), ["--jobs", str(lanes())]
-    if going.run(WIDEST, "all", "check", *jobs) == 0:
-        for name in libraries():
-            if name in going.left and going.run(name, "lib", *jobs) == 0:
-                going.tell(name)
+    below = libraries()
+    for name in lone(below):
+        # Those below it that are left are proved side by side, with one processor each, and then the library itself.
+        beside = going.left & below[name]
+        if going.run(name, *(["all", "check"] if beside else ["lib"]), *jobs) != 0:
+            break
+        going.tell(name)
+    else:
         # The run is on an empty text, which the program refuses: what counts is the program itself.
         going.run("x25scan", "run", *jobs)
     if is_stale():
