@@ -2,6 +2,8 @@
 
 ghost use Rattle.std.specs.Prelude.{◌≡◌, ◌<◌, ◌+◌, sum_by, None};
 
+mod refused;
+
 use crate::merging::merge;
 use crate::text::write_report;
 use line_model::address::Address;

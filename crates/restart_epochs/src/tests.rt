@@ -3,6 +3,8 @@
 ghost use Rattle.std.specs.Prelude.{◌≡◌, ◌≤◌, ◌∷◌, ◌^◌, All, IfOk, length, map, sum_by};
 ghost use Rattle.std.specs.List.Sorted.{IsStrictlyIncreasing};
 
+mod refused;
+
 use crate::cut::cut;
 use crate::cutter::Cutter;
 use crate::open_epoch::OpenEpoch;
@@ -14,7 +16,7 @@ use line_model::piece::Piece;
 use line_model::row::{Item, Row};
 use line_model::state::{RState, Side, StateName};
 use packet_decode::decode::decode;
-use std::alloc::Global;
+use std::alloc::{Allocator, Global};
 use std::test::Fail;
 
 /// Channels 1 to 4 are virtual.
@@ -301,7 +303,7 @@ fn row_that_leaves_r1_gives_out_its_epoch(rt: HostRuntime) -> Result<(), Fail> {
 }
 
 /// The rows of a trace, which count from 1.
-fn rows_of(alloc: Global, packets: &[(Side, &[u8])]) -> Result<Vec<Row>, Fail>
+fn rows_of<A: Allocator + Copy>(alloc: A, packets: &[(Side, &[u8])]) -> Result<Vec<Row<A>, A>, Fail>
     ensures rising { IfOk result (λ rows. IsStrictlyIncreasing (0 ∷ map (λ r. r.number) rows.items)) }
     ensures numbers { IfOk result (λ rows. All (λ r. r.number ≤ 999999999) rows.items) }
     ensures octets { IfOk result (λ rows. sum_by (λ r. length r.octets) rows.items ≤ 2 ^ 31) }

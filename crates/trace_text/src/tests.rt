@@ -1,5 +1,7 @@
 //! Texts from outside, read in chunks of several sizes.
 
+mod refused;
+
 use crate::digits::read_digits;
 use crate::lines::Lines;
 use line_model::fault::{Fault, Kind};

@@ -14,10 +14,10 @@ one_more n rs xs r h e number few =
     })
 
 pub loop-side-preserved : goal.loop-side-preserved
-loop-side-preserved c = record {
+loop-side-preserved g c = record {
   few = omega (arith, c.if-number-ge1000.false, c.loop-side.invariant.few);
   rows = one_more c.loop-side.number c.loop-side.rows.items c.push.new.self.items _ c.loop-side.invariant.rows c.in_ok-push.ensures.items (search rules) (search rules);
 }
 
 pub returns-clause-rising : goal.returns-clause-rising
-returns-clause-rising c = rows_rise c.loop-side.number (c.loop-side.number * 1000) c.loop-side.rows.items c.loop-side.invariant.rows
+returns-clause-rising g c = rows_rise c.loop-side.number (c.loop-side.number * 1000) c.loop-side.rows.items c.loop-side.invariant.rows
