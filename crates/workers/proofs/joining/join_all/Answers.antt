@@ -1,5 +1,6 @@
-use Rattle.std.proofs.Common.{◌≡◌, ◌+◌, length, arith, rules, ap, sym, ◌∙◌}
-use Rattle.std.specs.Prelude.{sum_by, if◌then◌else◌}
+use Rattle.std.specs.Vec.Iter.{into_iter_items}
+use Rattle.std.proofs.Common.{◌≡◌, ◌+◌, length, arith, rules, ap, refl, subst, sym, ◌∙◌}
+use Rattle.std.specs.Prelude.{All, sum_by, if◌then◌else◌}
 use Rattle.std.proofs.lemmas.List.Sums.{sum_by_push}
 use Rattle.std.proofs.Common.{length-append}
 use Rattle.workers.proofs.Lists.{All-rest, sum-of-none}
@@ -10,10 +11,10 @@ pub loop-one-preserved-then-is_none : goal.loop-one-preserved-then-is_none
 loop-one-preserved-then-is_none g c =
     let i = c.loop-one.invariant in
     let rec = c.join.ensures.joined in record {
-      promised = All-rest (λ h. h.promise.work.now.queue ≡ c.args.work.now.queue) _ _ _ c.in-Some.ensures.steps.0 i.promised;
-      count = search rules;
-      room = search rules;
-      queue = search rules;
+      promised = All-rest (λ h. h.promise.work.now.queue ≡ c.args.work.now.queue) (into_iter_items c.loop-one.one-iterator) (into_iter_items c.next.new.self) c.in-Some.one c.in-Some.ensures.steps.0 i.promised;
+      count = omega (arith, i.count, c.push_reserved.ensures.len, c.in-Some.ensures.steps.1);
+      room = omega (arith, i.room, c.push_reserved.ensures.capacity);
+      queue = c.join.ensures.queue ∙ i.queue;
       pending = omega (arith, ap (λ v. v.pending) rec, i.pending, c.push_reserved.ensures.len);
       done = ap (λ v. v.done) rec ∙ (ap (λ b. if b then c.loop-one.pass.record_of.done + 1 else c.loop-one.pass.record_of.done) c.join-done.ensures.finished ∙ omega (arith, i.done, c.push_reserved.ensures.len));
       fed = ap (λ v. v.fed) rec ∙ i.fed;
@@ -27,10 +28,10 @@ pub loop-one-preserved : goal.loop-one-preserved
 loop-one-preserved g c =
     let i = c.loop-one.invariant in
     let rec = c.join.ensures.joined in record {
-      promised = All-rest (λ h. h.promise.work.now.queue ≡ c.args.work.now.queue) _ _ _ c.in-Some.ensures.steps.0 i.promised;
-      count = search rules;
-      room = search rules;
-      queue = search rules;
+      promised = All-rest (λ h. h.promise.work.now.queue ≡ c.args.work.now.queue) (into_iter_items c.loop-one.one-iterator) (into_iter_items c.next.new.self) c.in-Some.one c.in-Some.ensures.steps.0 i.promised;
+      count = omega (arith, i.count, c.push_reserved.ensures.len, c.in-Some.ensures.steps.1);
+      room = omega (arith, i.room, c.push_reserved.ensures.capacity);
+      queue = c.join.ensures.queue ∙ i.queue;
       pending = omega (arith, ap (λ v. v.pending) rec, i.pending, c.push_reserved.ensures.len);
       done = ap (λ v. v.done) rec ∙ (ap (λ b. if b then c.loop-one.pass.record_of.done + 1 else c.loop-one.pass.record_of.done) c.join-done.ensures.finished ∙ omega (arith, i.done, c.push_reserved.ensures.len));
       fed = ap (λ v. v.fed) rec ∙ i.fed;
@@ -40,14 +41,15 @@ loop-one-preserved g c =
 
 pub loop-one-init : goal.loop-one-init
 loop-one-init g c =
+    let given = c.into_iter-one-iterator.ensures.into_iter_gives in
     let none : length c.args.shares.items ≡ 0 = search rules in record {
-      promised = search rules;
-      count = search rules;
-      room = search rules;
-      queue = search rules;
-      pending = search rules;
-      done = search rules;
-      fed = search rules;
+      promised = subst (λ l. All (λ h. h.promise.work.now.queue ≡ c.args.work.now.queue) l) (sym given.0) c.requires.promised;
+      count = omega (arith, given.1, c.requires.room.0);
+      room = c.requires.room.1;
+      queue = c.requires.queue;
+      pending = omega (arith, c.requires.room.0);
+      done = c.requires.fresh.0 ∙ sym c.requires.room.0;
+      fed = refl;
       fault = sum-of-none g.H.Posted.posts c.args.shares.items none ∙ sym c.requires.fresh.1;
-      all = search rules;
+      all = λ some. absurd (omega (arith, some, c.requires.room.0));
     }

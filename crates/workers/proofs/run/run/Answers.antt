@@ -1,5 +1,6 @@
-use Rattle.std.proofs.Common.{◌≡◌, ◌<◌, inr, refl, rules, arith}
-use Rattle.std.specs.Prelude.{vec_len}
+use Rattle.std.proofs.Common.{◌≡◌, ◌<◌, ◌∙◌, ap, length, subst, inl, inr, refl, rules, arith}
+use Rattle.std.specs.Prelude.{All, vec_len}
+use Rattle.workers.specs.Workers.{IsSeat}
 use Rattle.workers.proofs.Ends.{ended}
 use Rattle.workers.proofs.run.run.Goals as goal
 
@@ -14,3 +15,62 @@ returns-clause-ran g c =
 
 pub returns-then-not-start_all-clause-refused : goal.returns-then-not-start_all-clause-refused
 returns-then-not-start_all-clause-refused g c = (c.back-then-not-start_all.ensures, inr refl)
+
+pub feed_ends-requires : goal.feed_ends-requires
+feed_ends-requires g c = record { queue = ap (λ crew. crew.queue) c.crew.view_is ∙ c.requires.queue }
+
+pub join_all-requires-clause-queue : goal.join_all-requires-clause-queue
+join_all-requires-clause-queue g c = c.feed_ends.ensures.queue ∙ ap (λ crew. crew.queue) c.crew.view_is ∙ c.requires.queue
+
+pub join_all-requires-clause-promised : goal.join_all-requires-clause-promised
+join_all-requires-clause-promised g c = c.start_all.ensures.promised
+
+pub join_all-requires-clause-fresh : goal.join_all-requires-clause-fresh
+join_all-requires-clause-fresh g c =
+    (c.feed_ends.ensures.done ∙ ap (λ v. v.done) c.crew.invariant.0, ap length (c.feed_ends.ensures.taken ∙ ap (λ v. v.taken) c.crew.invariant.0))
+
+pub feed-task-requires-clause-able : goal.feed-task-requires-clause-able
+feed-task-requires-clause-able g c = c.requires.able
+
+pub feed-task-requires-clause-queue : goal.feed-task-requires-clause-queue
+feed-task-requires-clause-queue g c = ap (λ crew. crew.queue) c.crew.view_is ∙ c.requires.queue
+
+pub feed-task-requires-clause-first : goal.feed-task-requires-clause-first
+feed-task-requires-clause-first g c = (ap (λ v. v.fed) c.crew.invariant.0, ap (λ v. v.ends) c.crew.invariant.0)
+
+pub feed_ends-requires-2 : goal.feed_ends-requires-2
+feed_ends-requires-2 g c = record { queue = c.feed-task.ensures.queue ∙ ap (λ crew. crew.queue) c.crew.view_is ∙ c.requires.queue }
+
+pub join_all-joined-requires-clause-queue : goal.join_all-joined-requires-clause-queue
+join_all-joined-requires-clause-queue g c =
+    c.feed_ends-2.ensures.queue ∙ c.feed-task.ensures.queue ∙ ap (λ crew. crew.queue) c.crew.view_is ∙ c.requires.queue
+
+pub join_all-joined-requires-clause-promised : goal.join_all-joined-requires-clause-promised
+join_all-joined-requires-clause-promised g c = c.start_all.ensures.promised
+
+pub returns-in_default-clause-refused : goal.returns-in_default-clause-refused
+returns-in_default-clause-refused g c = (c.back.ensures, inl refl)
+
+pub returns-in_default-with_capacity-clause-refused : goal.returns-in_default-with_capacity-clause-refused
+returns-in_default-with_capacity-clause-refused g c = (c.back-in_default-with_capacity.ensures, inl refl)
+
+pub start_all-requires : goal.start_all-requires
+start_all-requires g c =
+    let b = c.type_bounds in
+    let queue = ap (λ crew. crew.queue) c.crew.view_is ∙ c.requires.queue in
+    let seats = subst (λ q. All (IsSeat g.H.Posted.posts q) c.crew.inside.seats.items) queue c.crew.invariant.1 in
+    (b.send-P, (b.send-H, (b.send-A, (b.sync-P, (b.sync-A, (b.sync-W, (b.sync-R, (b.frees-A-Allocator, (seats, (c.in-Ok.ensures.len, omega (arith, c.in-Ok.ensures.capacity, c.len-count.ensures)))))))))))
+
+pub join_all-requires-clause-room : goal.join_all-requires-clause-room
+join_all-requires-clause-room g c =
+    (c.in-Ok-with_capacity.ensures.len, omega (arith, c.start_all.ensures.most, c.in-Ok-with_capacity.ensures.capacity, c.len-count.ensures))
+
+pub join_all-joined-requires-clause-fresh : goal.join_all-joined-requires-clause-fresh
+join_all-joined-requires-clause-fresh g c = (
+  c.feed_ends-2.ensures.done ∙ c.feed-task.ensures.fed.done ∙ ap (λ v. v.done) c.crew.invariant.0,
+  ap length (c.feed_ends-2.ensures.taken ∙ c.feed-task.ensures.fed.taken ∙ ap (λ v. v.taken) c.crew.invariant.0),
+)
+
+pub join_all-joined-requires-clause-room : goal.join_all-joined-requires-clause-room
+join_all-joined-requires-clause-room g c =
+    (c.in-Ok-with_capacity.ensures.len, omega (arith, c.start_all.ensures.most, c.in-Ok-with_capacity.ensures.capacity, c.len-count.ensures))

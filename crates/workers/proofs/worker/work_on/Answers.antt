@@ -1,0 +1,33 @@
+use Rattle.std.proofs.Common.{◌≡◌, ◌∷◌, ◌∙◌, [], ap, arith, length, length-append, sym}
+use Rattle.line_model.specs.declared.fault.Fault.TheVariants.{Memory}
+use Rattle.workers.proofs.Faults.{fault_next, fault_stands}
+use Rattle.workers.proofs.worker.work_on.Goals as goal
+
+pub loop-init : goal.loop-init
+loop-init g c = record {
+  queue = c.requires.pass.0;
+  unfinished = ap (λ v. v.finished) c.requires.pass.1;
+  fault = c.requires.share ∙ sym (ap (λ v. length v.taken) c.requires.pass.1);
+}
+
+pub take-requires-clause-queue : goal.take-requires-clause-queue
+take-requires-clause-queue g c = c.loop.invariant.queue
+
+pub take-requires-clause-unfinished : goal.take-requires-clause-unfinished
+take-requires-clause-unfinished g c = c.loop.invariant.unfinished
+
+pub handle_unless-fault-requires-clause-planned : goal.handle_unless-fault-requires-clause-planned
+handle_unless-fault-requires-clause-planned g c = c.in-Got.ensures.taken.0
+
+pub handle_unless-fault-requires-clause-memory : goal.handle_unless-fault-requires-clause-memory
+handle_unless-fault-requires-clause-memory g c = fault_stands c.loop.fault _ (λ f. f ≡ Memory) c.loop.invariant.fault
+
+pub loop-preserved-in-Got : goal.loop-preserved-in-Got
+loop-preserved-in-Got g c =
+    let taken = c.in-Got.ensures.taken.1 in record {
+      queue = c.take.ensures.queue ∙ c.loop.invariant.queue;
+      unfinished = ap (λ v. v.finished) taken;
+      fault =
+          fault_next c.loop.fault c.handle_unless-fault.result _ _ _ (λ f. f ≡ Memory) c.handle_unless-fault.ensures.posted c.handle_unless-fault.ensures.memory c.loop.invariant.fault
+          (λ old new. omega (arith, old, new, ap (λ v. length v.taken) taken, length-append c.loop.pass.record_of.taken (c.in-Got.piece.id ∷ [])));
+    }
