@@ -15,11 +15,12 @@ use line_model::piece::{Piece, PieceReport};
 use line_model::row::{Item, Row};
 use line_model::state::{ChannelState, PState, Side, StateName};
 use packet_decode::decode::decode;
-use std::alloc::Global;
+use std::alloc::{Allocator, Global};
 use std::process::Abort;
 use std::test::Fail;
 
 mod live;
+mod refused;
 
 /// Four two-way channels with window 2, and the packet size 128.
 const INTERFACE: Interface = Interface {
@@ -124,12 +125,12 @@ fn logical_channel(octets: &[u8]) -> u16
 }
 
 /// A row with its packet, if it is one of the channel and not longer than a trace has it.
-fn item(
-    alloc: Global,
+fn item<A: Allocator + Copy>(
+    alloc: A,
     interface: &Interface,
     channel: u16,
     line: &Line,
-) -> Result<Option<Item>, Fail>
+) -> Result<Option<Item<A>>, Fail>
     ensures of_channel { IfOk result (λ o. IfSome o (λ i. IsItem interface.now channel i)) }
     ensures short { IfOk result (λ o. IfSome o (λ i. length i.row.octets ≤ 4200)) }
 {
@@ -148,12 +149,12 @@ fn item(
 }
 
 /// Adds a row, if it is one of the channel.
-fn add_item(
-    alloc: Global,
+fn add_item<A: Allocator + Copy>(
+    alloc: A,
     interface: &Interface,
     channel: u16,
     line: &Line,
-    items: &mut Vec<Item>,
+    items: &mut Vec<Item<A>, A>,
 ) -> Result<(), Fail>
     ensures of_channel { All (IsItem interface.now channel) items.old.items → OnOk result (All (IsItem interface.now channel) items.new.items) }
     ensures short { all_octets items.old.items ≤ 4200 * length items.old.items → OnOk result (all_octets items.new.items ≤ 4200 * length items.new.items) }
@@ -169,12 +170,12 @@ fn add_item(
 }
 
 /// The rows of a channel among some lines.
-fn items(
-    alloc: Global,
+fn items<A: Allocator + Copy>(
+    alloc: A,
     interface: &Interface,
     channel: u16,
     lines: &[Line],
-) -> Result<Vec<Item>, Fail>
+) -> Result<Vec<Item<A>, A>, Fail>
     ensures of_channel { IfOk result (λ v. All (IsItem interface.now channel) v.items) }
     ensures short { IfOk result (λ v. all_octets v.items ≤ 4200 * length v.items) }
     ensures few { IfOk result (λ v. length v.items ≤ length lines.now) }

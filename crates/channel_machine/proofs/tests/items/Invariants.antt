@@ -4,7 +4,7 @@ use Rattle.line_model.specs.Bounds.{IsItem, all_octets}
 use Rattle.channel_machine.proofs.tests.items.Given as goal
 
 abbrev pub invariant-loop-line : goal.invariant-loop-line
-invariant-loop-line l = record {
+invariant-loop-line g l = record {
   of_channel : All (IsItem l.interface l.channel) l.items.items;
   short : all_octets l.items.items ≤ 4200 * length l.items.items;
   few : length l.items.items ≤ l.line-index;
