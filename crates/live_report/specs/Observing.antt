@@ -7,6 +7,7 @@ use Rattle.line_model.specs.Channels.{Channel}
 use Rattle.line_model.specs.Plans.{value}
 use Rattle.line_model.specs.Text.{last_or}
 use Rattle.restart_epochs.specs.Cutting.{Cutting, IsCutting, StandsFor as IsCutterOf, given_of}
+use Rattle.report_merge.specs.Gathered.{gathered}
 use Rattle.live_report.specs.declared.observer.Observer.{Observer}
 use Rattle.live_report.specs.Lanes.{OpenFor}
 
@@ -17,7 +18,7 @@ pub record AreRows (rs : List Row) : Type 0 where
   pub octets : sum_by (λ r. length r.octets) rs ≤ 2 ^ 31
 
 -- an observer holds what a cutter does, with a live channel in place of the rows of each channel of the open epoch, and
--- these reports of the pieces whose epochs have ended
+-- what these reports of the pieces give whose epochs have ended
 pub record Holds {A C : Type 0} (interface_of : C → Interface) (number_of : C → ℕ) (stands_for : C → Channel → Type 0)
     (c : Cutting) (reports : List PieceReport) (o : Observer A C) : Type 0 where
   pub interface : o.interface ≡ c.interface
@@ -25,7 +26,7 @@ pub record Holds {A C : Type 0} (interface_of : C → Interface) (number_of : C 
   pub epoch : o.epoch ≡ c.epoch
   pub packets : o.packets ≡ c.packets
   pub findings : o.findings.items ≡ c.findings
-  pub ended : o.ended.items ≡ reports
+  pub ended : o.ended ≡ gathered reports
   pub lanes : OpenFor interface_of number_of stands_for c.interface c.epoch c.open_rows o.lanes
 
 -- an observer took these rows of an interface: it holds what a cutter of them does, and the values of the pieces that

@@ -18,7 +18,7 @@ ghost use Rattle.live_report.specs.Observing.{AreRows, Holds, StandsFor};
 
 use crate::ending::end_channels;
 use crate::lanes::step_channel;
-use crate::telling::{copies, tell_channels};
+use crate::telling::tell_channels;
 use channel_machine::live::LiveChannel;
 use channel_machine::run::Channel;
 use line_model::event::Event;
@@ -26,11 +26,10 @@ use line_model::fault::Fault;
 use line_model::finding::Finding;
 use line_model::interface::Interface;
 use line_model::packet::Packet;
-use line_model::piece::PieceReport;
 use line_model::report::Report;
 use line_model::row::Row;
 use packet_decode::decode::decode;
-use report_merge::merging::merge;
+use report_merge::parts::Parts;
 use restart_epochs::open_lanes::Lanes;
 use restart_epochs::restart::{Restart, Route};
 use restart_epochs::routing::{finding_of, first_machine, logical_channel, note};
@@ -45,8 +44,8 @@ pub struct Observer<A: Allocator, C: Channel<A>> {
     packets: u32,
     /// The findings of the restart machine.
     findings: Vec<Finding, A>,
-    /// What the pieces are worth whose epochs have ended.
-    ended: Vec<PieceReport<A>, A>,
+    /// What the pieces give whose epochs have ended.
+    ended: Parts<A>,
     /// The channels that have rows in the epoch that has not ended.
     lanes: Lanes<LiveChannel<A, C>, A>,
     /// The events of the last row.
@@ -64,7 +63,7 @@ impl<A: Allocator + Copy, C: Channel<A>> Observer<A, C> {
             epoch: 1,
             packets: 0,
             findings: Vec::new(alloc),
-            ended: Vec::new(alloc),
+            ended: Parts::new(alloc),
             lanes: Lanes::new(alloc),
             events: Vec::new(alloc),
         }
@@ -138,7 +137,7 @@ impl<A: Allocator + Copy, C: Channel<A>> Observer<A, C> {
     ) -> Result<Option<Finding>, Fault>
         requires room { (c : Cutting) × (reports : List records.PieceReport) × Holds C.interface_of C.number_of C.stands_for c reports self.old × IsListing c.open_rows }
         requires packets { self.old.packets + 1 < 2 ^ 32 }
-        requires ids { length self.old.ended.items + length self.old.lanes.channels < 2 ^ 32 }
+        requires pieces { self.old.ended.pieces + length self.old.lanes.channels < 2 ^ 32 }
         ensures holds { (c after : Cutting) (reports : List records.PieceReport) (row : records.Row) → Holds C.interface_of C.number_of C.stands_for c reports self.old → IsListing c.open_rows → row.number ≡ number → after.open_rows ≡ no_rows → IsLeft row machine (option_to_list finding) c after
             → OnOk result (Holds C.interface_of C.number_of C.stands_for after (reports ++ map value (pieces_out c.interface c.epoch (Some number) (rows_of c.open_rows) (length reports) c.open_rows.channels)) self.new) }
         ensures found { IfOk result (λ found. found ≡ finding) }
@@ -182,11 +181,10 @@ impl<A: Allocator + Copy, C: Channel<A>> Observer<A, C> {
         ensures memory { IfErr result (λ fault. fault ≡ Memory) }
     {
         let alloc = *self.findings.allocator();
-        let mut reports = copies(alloc, self.ended.as_slice())?;
-        tell_channels(alloc, &self.lanes, &mut reports)?;
-        let pieces = reports.len() as u32;
+        let mut parts = self.ended.copy()?;
+        tell_channels(alloc, &self.lanes, &mut parts)?;
         let findings = Vec::from_slice(alloc, self.findings.as_slice())?;
-        merge(alloc, reports, findings, self.packets, pieces)
+        parts.finish(findings, self.packets)
     }
 
     /// The report of the rows that were taken. It refuses for want of memory alone.
@@ -202,9 +200,7 @@ impl<A: Allocator + Copy, C: Channel<A>> Observer<A, C> {
             mut lanes,
             ..
         } = self;
-        let alloc = *findings.allocator();
         end_channels(None, &mut lanes, &mut ended)?;
-        let pieces = ended.len() as u32;
-        merge(alloc, ended, findings, packets, pieces)
+        ended.finish(findings, packets)
     }
 }

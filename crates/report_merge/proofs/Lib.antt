@@ -6,3 +6,4 @@ pub mod OnePeak
 pub mod AnyOrder
 pub mod OfWalk
 pub mod Posted
+pub mod GatheredLemmas

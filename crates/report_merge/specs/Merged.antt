@@ -1,6 +1,5 @@
 -- What a merged report is of the reports of the pieces and of the findings of the restart machine (profile).
-use Rattle.std.specs.Prelude.{◌≡◌, ℕ, ◌≤◌, ◌^◌, ◌++◌, ◌∷◌, List, length, map, sum_by}
-use Rattle.std.specs.List.{flat_map}
+use Rattle.std.specs.Prelude.{◌≡◌, ℕ, ◌++◌, ◌∷◌, List, length, map, sum_by}
 use Rattle.std.specs.List.Sorted.{IsPermutation, IsNonDecreasingBy, IsStrictlyIncreasing}
 use Rattle.line_model.specs.declared.interface.Interface.{Interface}
 use Rattle.line_model.specs.declared.finding.Finding.{Finding}
@@ -9,23 +8,11 @@ use Rattle.line_model.specs.Accounts.{accounts_of}
 use Rattle.line_model.specs.Calls.{up_at}
 use Rattle.line_model.specs.Peak.{IsPeakOfTimes}
 use Rattle.line_model.specs.Plans.{plan, value, line_findings}
-use Rattle.report_merge.specs.declared.merging.Parts.{Parts}
+use Rattle.report_merge.specs.Gathered.{all_calls, piece_findings}
 
 -- the findings of the line and of the pieces
 abbrev pub all_findings : List PieceReport → List Finding → List Finding
-all_findings ps line = line ++ flat_map (λ p. p.findings) ps
-
--- the calls of the pieces
-abbrev pub all_calls : List PieceReport → List CallRecord
-all_calls ps = flat_map (λ p. p.calls) ps
-
--- what pieces and line give, put together
-pub record IsGathered {A : Type 0} (g : Parts A) (ps : List PieceReport) (line : List Finding) : Type 0 where
-  pub findings : g.findings.items ≡ all_findings ps line
-  pub calls : g.calls.items ≡ all_calls ps
-  pub octets : g.octets ≡ sum_by (λ p. p.octets) ps
-  pub segments : g.segments ≡ sum_by (λ p. p.segments) ps
-  pub few : sum_by (λ c. c.segments) g.calls.items ≤ 2 ^ 63
+all_findings ps line = line ++ piece_findings ps
 
 -- the lists of a report in their orders, and its numbers
 pub record IsArranged (r : Report) (findings : List Finding) (calls : List CallRecord) (octets segments packets : ℕ) : Type 0 where

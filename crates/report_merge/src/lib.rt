@@ -5,6 +5,7 @@ mod chunk;
 mod judge;
 mod lines;
 pub mod merging;
+pub mod parts;
 #[cfg(test)]
 mod tests;
 pub mod text;

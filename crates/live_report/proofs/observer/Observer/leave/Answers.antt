@@ -1,8 +1,5 @@
-use Rattle.std.proofs.Common.{◌∙◌, ◌+◌, ◌++◌, ap, sym, map, length, Some}
+use Rattle.std.proofs.Common.{◌∙◌, ◌+◌, ◌++◌, ap, sym}
 use Rattle.std.specs.Option.{option_to_list}
-use Rattle.line_model.specs.Plans.{value}
-use Rattle.restart_epochs.specs.OpenRows.{rows_of}
-use Rattle.restart_epochs.specs.Cutting.{pieces_out}
 use Rattle.live_report.proofs.StandLemmas.{lanes_none}
 use Rattle.live_report.proofs.observer.Observer.leave.Goals as goal
 
@@ -15,8 +12,7 @@ returns-clause-holds g c was after reports row h listing number none left =
       epoch = h.epoch ∙ sym left.epoch;
       packets = ap (λ n. n + 1) h.packets ∙ sym left.counted.packets;
       findings = c.in_ok-note.ensures.ok ∙ ap (λ l. l ++ option_to_list c.args.finding) h.findings ∙ sym left.findings;
-      ended = ended.values was.interface was.epoch was.open_rows h.lanes listing
-          ∙ ap (λ l. l ++ map value (pieces_out was.interface was.epoch (Some c.args.number) (rows_of was.open_rows) (length l) was.open_rows.channels)) h.ended;
+      ended = ended.values was.interface was.epoch was.open_rows reports h.lanes listing h.ended;
       lanes = lanes_none g.C.Channel.interface_of g.C.Channel.number_of g.C.Channel.stands_for after.interface after.epoch after.open_rows c.end_channels.new.lanes
           (ended.emptied was.interface was.epoch was.open_rows h.lanes listing) none;
     }

@@ -12,6 +12,6 @@ returns g c =
       epoch = refl;
       packets = refl;
       findings = c.new.ensures.items;
-      ended = c.new-2.ensures.items;
+      ended = c.new-2.ensures;
       lanes = lanes_none g.C.Channel.interface_of g.C.Channel.number_of g.C.Channel.stands_for c.args.interface.now 1 no_rows c.new-3.result c.new-3.ensures refl;
     })
