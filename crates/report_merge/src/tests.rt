@@ -5,6 +5,7 @@ ghost use Rattle.std.specs.Prelude.{◌≡◌, ◌<◌, ◌+◌, sum_by, None};
 mod refused;
 
 use crate::merging::merge;
+use crate::parts::Parts;
 use crate::text::write_report;
 use line_model::address::Address;
 use line_model::call::CallRecord;
@@ -192,6 +193,19 @@ fn pieces_in_any_order_give_the_report_of_the_trace(rt: HostRuntime) -> Result<(
     forwards.reverse();
     let report = merge(alloc, forwards, Vec::new(alloc), 16, 12)?;
     check(&rt, alloc, &report, THREE_EPOCHS)
+}
+
+#[test]
+fn pieces_that_come_one_by_one_give_the_report_so_far(rt: HostRuntime) -> Result<(), Fail> {
+    let alloc = rt.alloc();
+    let mut parts = Parts::new(alloc);
+    let none = parts.copy()?.finish(Vec::new(alloc), 0)?;
+    check(&rt, alloc, &none, b"P 0 -\nZ 0 0 0 0 0\n")?;
+    parts.add(finding_report(alloc, 0, 1, 2, 3)?)?;
+    parts.add(finding_report(alloc, 1, 1, 3, 2)?)?;
+    assert_eq!(rt; parts.pieces(), 2);
+    let two = parts.finish(Vec::new(alloc), 5)?;
+    check(&rt, alloc, &two, b"F 2 T p1 20\nF 3 T p1 20\nP 0 -\nZ 5 2 0 0 0\n")
 }
 
 #[test]
