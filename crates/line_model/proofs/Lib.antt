@@ -1,5 +1,6 @@
 pub mod TextLemmas
 pub mod LineLemmas
+pub mod FinalFaults
 pub mod Rearranged
 pub mod Lanes
 pub mod Walks

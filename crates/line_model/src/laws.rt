@@ -1,7 +1,7 @@
 //! What holds of the definitions alone.
 
 ghost use Rattle.line_model.specs.WorkedTraces.{WorkedTraces};
-ghost use Rattle.line_model.specs.Laws.{ShuffleLaw, PiecesLaw, PlanLaw, FindingsLaw, FindingsOrderLaw, TotalsLaw, NumbersLaw, PeakLaw, CallsLaw, CallsOrderLaw, CallsPeakLaw};
+ghost use Rattle.line_model.specs.Laws.{ShuffleLaw, PiecesLaw, PlanLaw, FindingsLaw, FindingsOrderLaw, TotalsLaw, NumbersLaw, PeakLaw, CallsLaw, CallsOrderLaw, CallsPeakLaw, FaultLaw};
 
 /// Rows of different channels may be walked in any order.
 pub fn shuffle()
@@ -57,4 +57,9 @@ pub fn calls_order()
 /// The worked traces are refused, or have their reports.
 pub fn worked_traces()
     ensures { WorkedTraces }
+{}
+
+/// A text whose first lines are faulty, however it goes on, has that fault; and so has each text that goes on from it.
+pub fn fault()
+    ensures { FaultLaw }
 {}

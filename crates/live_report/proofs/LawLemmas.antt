@@ -14,7 +14,8 @@ use Rattle.line_model.proofs.LineLemmas.{size_kind-zero}
 use Rattle.line_model.proofs.TextLemmas.{size_kind-none, size_of-append}
 use Rattle.report_merge.specs.Parts.{findings_text, rest_text}
 use Rattle.report_merge.proofs.WrittenLemmas.{two_parts}
-use Rattle.trace_text.proofs.FeedLemmas.{early-append, early-none}
+use Rattle.line_model.proofs.FinalFaults.{early-append, no_size_fault, small_lines}
+use Rattle.trace_text.proofs.FeedLemmas.{early-none}
 use Rattle.trace_text.proofs.Grows.{early_head_stays, head_stays, rows_first}
 use Rattle.trace_text.proofs.RefusalLemmas.{more_lines, rows_grow}
 use Rattle.live_report.specs.Found.{found, found_at, found_text}
@@ -140,21 +141,6 @@ both_none (Some x) b h = absurd (cc)
 map_none : {A B : Type 0} (f : A → B) (o : Option A) → option_map f o ≡ None → o ≡ None
 map_none f None h = refl
 map_none f (Some x) h = absurd (cc)
-
-small_lines : (before ls : List Line) → size_of before ≤ 1073741824 → first_fault before ls ≡ None → size_of (before ++ ls) ≤ 1073741824
-small_lines before [] few h = subst (λ ls. size_of ls ≤ 1073741824) (sym (append-nil before)) few
-small_lines before (l ∷ ls) few h = here (line_kind before 1 l) refl h (small_lines (before ++ l ∷ []) ls)
-  where
-    here : (o : Option Kind) → line_kind before 1 l ≡ o → (elim o as (λ _. Option (ℕ × Kind)) [ Some kind ↦ Some (length before + 1, kind) | None ↦ first_fault (before ++ l ∷ []) ls ]) ≡ None
-        → (size_of (before ++ l ∷ []) ≤ 1073741824 → first_fault (before ++ l ∷ []) ls ≡ None → size_of ((before ++ l ∷ []) ++ ls) ≤ 1073741824) → size_of (before ++ l ∷ ls) ≤ 1073741824
-    here (Some kind) e k later = absurd (cc)
-    here None e k later =
-        let size = size_kind-none (size_of before) 1 (length l) (both_none _ _ e).0 in
-        subst (λ xs. size_of xs ≤ 1073741824) (append_assoc before (l ∷ []) ls) (later (omega (arith, size.1, size_of-append before (l ∷ []))) k)
-
-no_size_fault : (es : List Line) (b : Line) → size_of es ≤ 1073741824 → begun_kind es b ≡ None → size_kind (size_of es) 0 (length b) ≡ None
-no_size_fault es [] few h = size_kind-zero (size_of es) few
-no_size_fault es (b ∷ bs) few h = (both_none _ _ h).0
 
 pub no_fault_so_far : (text : List ℕ) → fault text ≡ None → early text ≡ None
 unfolding fault
