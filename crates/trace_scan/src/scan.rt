@@ -15,7 +15,8 @@ use live_report::live::Live;
 use std::alloc::Allocator;
 
 /// Walks a trace in one thread, writes what is found once the whole text was accepted, and answers the report's last
-/// line as numbers. Refuses as reading does, and where the sink fails.
+/// line as numbers. Refuses as reading does, and where the sink fails. The fault of a line is the text's however it goes
+/// on (`line_model::laws::fault`).
 pub fn scan_alone<A: Allocator + Copy, S: Source, K: Sink>(
     alloc: A,
     source: &mut S,

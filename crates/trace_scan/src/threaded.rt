@@ -188,7 +188,7 @@ fn scan_in<
 /// Reads a trace, and has 1 to 64 workers run its pieces while it is read, over a queue of 1 to 4,096 pieces. Once the
 /// whole text was accepted and all workers were joined, it writes what the one observer finds who walks the trace packet
 /// by packet. Refuses where a thread or memory was refused, as reading does, where a worker wanted memory, and where the
-/// sink fails, in this order.
+/// sink fails, in this order. The fault of a line is the text's however it goes on (`line_model::laws::fault`).
 pub fn scan_with<
     A: Allocator + Copy + Send + Sync,
     S: Source,
