@@ -8,17 +8,25 @@ use Rattle.line_model.specs.Header.{header_numbers, interface_with, interface_of
 use Rattle.line_model.specs.RowLine.{row_words, octets_of, row_kind, row_of}
 use Rattle.line_model.specs.Text.{fault, head, rows, head_of, rows_in, last_number, size_kind, header_kind, contents_kind, has_header}
 use Rattle.line_model.specs.Traces.{IsReported, trace_plan}
-use Rattle.line_model.specs.WorkedTexts.{addresses_reverse_charging-text, call_formats-text, collision_dce_first-text, collision_dte_first-text, comment_of_8500_bytes-text, cut_packets_modulo_128-text, dce_faults-text, empty_trace-text, error_clears_channel-text, full_window-text, incoming_call_short_clear-text, invalid_receive_number-text, join_in_the_middle-text, join_unknown_channels-text, mixed_qualifier-text, modulo_128_cut_header-text, negotiated_size_and_window-text, one_piece-text, one_way_channels-text, pad_message_1023-text, pad_message_1024-text, pad_message_1025-text, pad_message_faults-text, pad_pairs_cut-text, pad_read_only_parameter_asked-text, pad_return_to_initial-text, pad_setting_asked-text, pad_setting_said-text, permanent_circuit_interrupts-text, permanent_circuit-text, refused_empty_line-text, refused_header_form-text, refused_incoming_below_permanent-text, refused_join_first_form-text, refused_leading_zero-text, refused_long_comment-text, refused_modulus-text, refused_no_header-text, refused_number_order-text, refused_odd_hex-text, refused_side-text, refused_too_many_octets-text, refused_word_behind_join-text, reset_drops_begun_message-text, restart_confirmations-text, restart_ends_call-text, restart_formats-text, restart_machine_by_channel_packet-text, sequence_wrap-text, short_data_ends_sequence-text, short_packet-text, three_epochs-text, two_calls_at_once-text, unassigned_channel-text, wrong_format-text}
-use Rattle.line_model.specs.WorkedReports.{addresses_reverse_charging-report, call_formats-report, collision_dce_first-report, collision_dte_first-report, comment_of_8500_bytes-report, cut_packets_modulo_128-report, dce_faults-report, empty_trace-report, error_clears_channel-report, full_window-report, incoming_call_short_clear-report, invalid_receive_number-report, join_in_the_middle-report, join_unknown_channels-report, mixed_qualifier-report, modulo_128_cut_header-report, negotiated_size_and_window-report, one_piece-report, one_way_channels-report, pad_message_1023-report, pad_message_1024-report, pad_message_1025-report, pad_message_faults-report, pad_pairs_cut-report, pad_read_only_parameter_asked-report, pad_return_to_initial-report, pad_setting_asked-report, pad_setting_said-report, permanent_circuit_interrupts-report, permanent_circuit-report, reset_drops_begun_message-report, restart_confirmations-report, restart_ends_call-report, restart_formats-report, restart_machine_by_channel_packet-report, sequence_wrap-report, short_data_ends_sequence-report, short_packet-report, three_epochs-report, two_calls_at_once-report, unassigned_channel-report, wrong_format-report}
+use Rattle.line_model.specs.WorkedTexts.{addresses_reverse_charging-text, call_faults_in_order-text, call_formats-text, classes_in_order-text, collision_dce_first-text, collision_dte_first-text, comment_of_8500_bytes-text, cut_packets_modulo_128-text, data_faults_in_order-text, dce_faults-text, empty_trace-text, error_clears_channel-text, full_window-text, incoming_call_short_clear-text, invalid_receive_number-text, join_in_the_middle-text, join_unknown_channels-text, message_faults_in_order-text, mixed_qualifier-text, modulo_128_cut_header-text, negotiated_size_and_window-text, one_piece-text, one_way_channels-text, pad_message_1023-text, pad_message_1024-text, pad_message_1025-text, pad_message_faults-text, pad_pairs_cut-text, pad_read_only_parameter_asked-text, pad_return_to_initial-text, pad_setting_asked-text, pad_setting_said-text, permanent_circuit_interrupts-text, permanent_circuit-text, refused_empty_line-text, refused_form_before_number-text, refused_header_form_before_range-text, refused_header_form-text, refused_incoming_below_permanent-text, refused_join_first_form-text, refused_leading_zero-text, refused_long_comment-text, refused_modulus-text, refused_no_header-text, refused_number_before_side-text, refused_number_order-text, refused_odd_hex-text, refused_side_before_hex-text, refused_side-text, refused_too_many_octets-text, refused_word_behind_join-text, reset_drops_begun_message-text, restart_confirmations-text, restart_ends_call-text, restart_formats-text, restart_machine_by_channel_packet-text, sequence_wrap-text, short_data_ends_sequence-text, short_packet-text, three_epochs-text, two_calls_at_once-text, unassigned_channel-text, wrong_format-text}
+use Rattle.line_model.specs.WorkedReports.{addresses_reverse_charging-report, call_faults_in_order-report, call_formats-report, classes_in_order-report, collision_dce_first-report, collision_dte_first-report, comment_of_8500_bytes-report, cut_packets_modulo_128-report, data_faults_in_order-report, dce_faults-report, empty_trace-report, error_clears_channel-report, full_window-report, incoming_call_short_clear-report, invalid_receive_number-report, join_in_the_middle-report, join_unknown_channels-report, message_faults_in_order-report, mixed_qualifier-report, modulo_128_cut_header-report, negotiated_size_and_window-report, one_piece-report, one_way_channels-report, pad_message_1023-report, pad_message_1024-report, pad_message_1025-report, pad_message_faults-report, pad_pairs_cut-report, pad_read_only_parameter_asked-report, pad_return_to_initial-report, pad_setting_asked-report, pad_setting_said-report, permanent_circuit_interrupts-report, permanent_circuit-report, reset_drops_begun_message-report, restart_confirmations-report, restart_ends_call-report, restart_formats-report, restart_machine_by_channel_packet-report, sequence_wrap-report, short_data_ends_sequence-report, short_packet-report, three_epochs-report, two_calls_at_once-report, unassigned_channel-report, wrong_format-report}
 use Rattle.line_model.specs.WorkedTraces.{WorkedTraces}
 
 addresses_reverse_charging-holds : IsReported addresses_reverse_charging-text addresses_reverse_charging-report
 unfolding digits decode_pairs fault head rows head_of rows_in last_number size_kind header_kind contents_kind has_header header_numbers interface_with interface_of row_words octets_of row_kind row_of
 addresses_reverse_charging-holds = record { sound = refl; report = refl }
 
+call_faults_in_order-holds : IsReported call_faults_in_order-text call_faults_in_order-report
+unfolding digits decode_pairs fault head rows head_of rows_in last_number size_kind header_kind contents_kind has_header header_numbers interface_with interface_of row_words octets_of row_kind row_of
+call_faults_in_order-holds = record { sound = refl; report = refl }
+
 call_formats-holds : IsReported call_formats-text call_formats-report
 unfolding digits decode_pairs fault head rows head_of rows_in last_number size_kind header_kind contents_kind has_header header_numbers interface_with interface_of row_words octets_of row_kind row_of
 call_formats-holds = record { sound = refl; report = refl }
+
+classes_in_order-holds : IsReported classes_in_order-text classes_in_order-report
+unfolding digits decode_pairs fault head rows head_of rows_in last_number size_kind header_kind contents_kind has_header header_numbers interface_with interface_of row_words octets_of row_kind row_of
+classes_in_order-holds = record { sound = refl; report = refl }
 
 collision_dce_first-holds : IsReported collision_dce_first-text collision_dce_first-report
 unfolding digits decode_pairs fault head rows head_of rows_in last_number size_kind header_kind contents_kind has_header header_numbers interface_with interface_of row_words octets_of row_kind row_of
@@ -35,6 +43,10 @@ comment_of_8500_bytes-holds = record { sound = refl; report = refl }
 cut_packets_modulo_128-holds : IsReported cut_packets_modulo_128-text cut_packets_modulo_128-report
 unfolding digits decode_pairs fault head rows head_of rows_in last_number size_kind header_kind contents_kind has_header header_numbers interface_with interface_of row_words octets_of row_kind row_of
 cut_packets_modulo_128-holds = record { sound = refl; report = refl }
+
+data_faults_in_order-holds : IsReported data_faults_in_order-text data_faults_in_order-report
+unfolding digits decode_pairs fault head rows head_of rows_in last_number size_kind header_kind contents_kind has_header header_numbers interface_with interface_of row_words octets_of row_kind row_of
+data_faults_in_order-holds = record { sound = refl; report = refl }
 
 dce_faults-holds : IsReported dce_faults-text dce_faults-report
 unfolding digits decode_pairs fault head rows head_of rows_in last_number size_kind header_kind contents_kind has_header header_numbers interface_with interface_of row_words octets_of row_kind row_of
@@ -67,6 +79,10 @@ join_in_the_middle-holds = record { sound = refl; report = refl }
 join_unknown_channels-holds : IsReported join_unknown_channels-text join_unknown_channels-report
 unfolding digits decode_pairs fault head rows head_of rows_in last_number size_kind header_kind contents_kind has_header header_numbers interface_with interface_of row_words octets_of row_kind row_of
 join_unknown_channels-holds = record { sound = refl; report = refl }
+
+message_faults_in_order-holds : IsReported message_faults_in_order-text message_faults_in_order-report
+unfolding digits decode_pairs fault head rows head_of rows_in last_number size_kind header_kind contents_kind has_header header_numbers interface_with interface_of row_words octets_of row_kind row_of
+message_faults_in_order-holds = record { sound = refl; report = refl }
 
 mixed_qualifier-holds : IsReported mixed_qualifier-text mixed_qualifier-report
 unfolding digits decode_pairs fault head rows head_of rows_in last_number size_kind header_kind contents_kind has_header header_numbers interface_with interface_of row_words octets_of row_kind row_of
@@ -136,6 +152,14 @@ refused_empty_line-holds : fault refused_empty_line-text ≡ Some (2, LineForm)
 unfolding digits decode_pairs fault head rows head_of rows_in last_number size_kind header_kind contents_kind has_header header_numbers interface_with interface_of row_words octets_of row_kind row_of
 refused_empty_line-holds = refl
 
+refused_form_before_number-holds : fault refused_form_before_number-text ≡ Some (2, LineForm)
+unfolding digits decode_pairs fault head rows head_of rows_in last_number size_kind header_kind contents_kind has_header header_numbers interface_with interface_of row_words octets_of row_kind row_of
+refused_form_before_number-holds = refl
+
+refused_header_form_before_range-holds : fault refused_header_form_before_range-text ≡ Some (1, HeaderForm)
+unfolding digits decode_pairs fault head rows head_of rows_in last_number size_kind header_kind contents_kind has_header header_numbers interface_with interface_of row_words octets_of row_kind row_of
+refused_header_form_before_range-holds = refl
+
 refused_header_form-holds : fault refused_header_form-text ≡ Some (1, HeaderForm)
 unfolding digits decode_pairs fault head rows head_of rows_in last_number size_kind header_kind contents_kind has_header header_numbers interface_with interface_of row_words octets_of row_kind row_of
 refused_header_form-holds = refl
@@ -164,6 +188,10 @@ refused_no_header-holds : fault refused_no_header-text ≡ Some (1, HeaderMissin
 unfolding digits decode_pairs fault head rows head_of rows_in last_number size_kind header_kind contents_kind has_header header_numbers interface_with interface_of row_words octets_of row_kind row_of
 refused_no_header-holds = refl
 
+refused_number_before_side-holds : fault refused_number_before_side-text ≡ Some (2, Number)
+unfolding digits decode_pairs fault head rows head_of rows_in last_number size_kind header_kind contents_kind has_header header_numbers interface_with interface_of row_words octets_of row_kind row_of
+refused_number_before_side-holds = refl
+
 refused_number_order-holds : fault refused_number_order-text ≡ Some (3, Number)
 unfolding digits decode_pairs fault head rows head_of rows_in last_number size_kind header_kind contents_kind has_header header_numbers interface_with interface_of row_words octets_of row_kind row_of
 refused_number_order-holds = refl
@@ -171,6 +199,10 @@ refused_number_order-holds = refl
 refused_odd_hex-holds : fault refused_odd_hex-text ≡ Some (2, Hex)
 unfolding digits decode_pairs fault head rows head_of rows_in last_number size_kind header_kind contents_kind has_header header_numbers interface_with interface_of row_words octets_of row_kind row_of
 refused_odd_hex-holds = refl
+
+refused_side_before_hex-holds : fault refused_side_before_hex-text ≡ Some (2, Side)
+unfolding digits decode_pairs fault head rows head_of rows_in last_number size_kind header_kind contents_kind has_header header_numbers interface_with interface_of row_words octets_of row_kind row_of
+refused_side_before_hex-holds = refl
 
 refused_side-holds : fault refused_side-text ≡ Some (2, Side)
 unfolding digits decode_pairs fault head rows head_of rows_in last_number size_kind header_kind contents_kind has_header header_numbers interface_with interface_of row_words octets_of row_kind row_of
@@ -239,11 +271,14 @@ three_epochs-planned = refl
 pub worked : WorkedTraces
 worked = record {
   addresses_reverse_charging = addresses_reverse_charging-holds;
+  call_faults_in_order = call_faults_in_order-holds;
   call_formats = call_formats-holds;
+  classes_in_order = classes_in_order-holds;
   collision_dce_first = collision_dce_first-holds;
   collision_dte_first = collision_dte_first-holds;
   comment_of_8500_bytes = comment_of_8500_bytes-holds;
   cut_packets_modulo_128 = cut_packets_modulo_128-holds;
+  data_faults_in_order = data_faults_in_order-holds;
   dce_faults = dce_faults-holds;
   empty_trace = empty_trace-holds;
   error_clears_channel = error_clears_channel-holds;
@@ -252,6 +287,7 @@ worked = record {
   invalid_receive_number = invalid_receive_number-holds;
   join_in_the_middle = join_in_the_middle-holds;
   join_unknown_channels = join_unknown_channels-holds;
+  message_faults_in_order = message_faults_in_order-holds;
   mixed_qualifier = mixed_qualifier-holds;
   modulo_128_cut_header = modulo_128_cut_header-holds;
   negotiated_size_and_window = negotiated_size_and_window-holds;
@@ -269,6 +305,8 @@ worked = record {
   permanent_circuit_interrupts = permanent_circuit_interrupts-holds;
   permanent_circuit = permanent_circuit-holds;
   refused_empty_line = refused_empty_line-holds;
+  refused_form_before_number = refused_form_before_number-holds;
+  refused_header_form_before_range = refused_header_form_before_range-holds;
   refused_header_form = refused_header_form-holds;
   refused_incoming_below_permanent = refused_incoming_below_permanent-holds;
   refused_join_first_form = refused_join_first_form-holds;
@@ -276,8 +314,10 @@ worked = record {
   refused_long_comment = refused_long_comment-holds;
   refused_modulus = refused_modulus-holds;
   refused_no_header = refused_no_header-holds;
+  refused_number_before_side = refused_number_before_side-holds;
   refused_number_order = refused_number_order-holds;
   refused_odd_hex = refused_odd_hex-holds;
+  refused_side_before_hex = refused_side_before_hex-holds;
   refused_side = refused_side-holds;
   refused_too_many_octets = refused_too_many_octets-holds;
   refused_word_behind_join = refused_word_behind_join-holds;

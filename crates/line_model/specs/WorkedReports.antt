@@ -1,7 +1,7 @@
 -- The reports of the worked traces that are not refused.
 -- tools/worked_traces.py writes this file from tests/traces/worked.
-use Rattle.std.specs.Prelude.{ℕ, List, [], ◌∷◌, codes}
-use Rattle.line_model.specs.Traces.{text}
+use Rattle.std.specs.Prelude.{ℕ, List, [], ◌∷◌, ◌++◌, codes}
+use Rattle.line_model.specs.Traces.{text, repeated}
 
 abbrev pub addresses_reverse_charging-report : List ℕ
 addresses_reverse_charging-report =
@@ -9,6 +9,21 @@ addresses_reverse_charging-report =
     codes "A 12 1 3" ∷
     codes "P 1 2" ∷
     codes "Z 5 0 1 129 3" ∷
+    [])
+
+abbrev pub call_faults_in_order-report : List ℕ
+call_faults_in_order-report =
+    text (codes "F 1 T p1 34" ∷
+    codes "F 2 T p1 38" ∷
+    codes "F 3 T p1 38" ∷
+    codes "F 4 T p1 67" ∷
+    codes "F 5 T p1 68" ∷
+    codes "F 6 T p1 67" ∷
+    codes "F 7 T p1 69" ∷
+    codes "F 8 T p1 66" ∷
+    codes "F 9 T p1 69" ∷
+    codes "P 0 -" ∷
+    codes "Z 9 9 0 0 0" ∷
     [])
 
 abbrev pub call_formats-report : List ℕ
@@ -24,6 +39,17 @@ call_formats-report =
     codes "A - 1 0" ∷
     codes "P 0 -" ∷
     codes "Z 10 7 1 0 0" ∷
+    [])
+
+abbrev pub classes_in_order-report : List ℕ
+classes_in_order-report =
+    text (codes "F 1 N p1 41" ∷
+    codes "F 2 T - 38" ∷
+    codes "F 3 T - 40" ∷
+    codes "F 4 T - 36" ∷
+    codes "F 5 T p1 41" ∷
+    codes "P 0 -" ∷
+    codes "Z 5 5 0 0 0" ∷
     [])
 
 abbrev pub collision_dce_first-report : List ℕ
@@ -64,6 +90,17 @@ cut_packets_modulo_128-report =
     codes "F 13 T d1 41" ∷
     codes "P 0 -" ∷
     codes "Z 13 11 0 0 0" ∷
+    [])
+
+abbrev pub data_faults_in_order-report : List ℕ
+data_faults_in_order-report =
+    text (codes "F 1 T d1 39" ∷
+    codes "F 2 T d1 1" ∷
+    codes "F 4 T d1 2" ∷
+    codes "F 6 T d1 1" ∷
+    codes "F 8 T d1 83" ∷
+    codes "P 0 -" ∷
+    codes "Z 8 5 0 48 3" ∷
     [])
 
 abbrev pub dce_faults-report : List ℕ
@@ -135,6 +172,18 @@ join_unknown_channels-report =
     codes "A - 1 0" ∷
     codes "P 1 4" ∷
     codes "Z 12 4 1 0 0" ∷
+    [])
+
+abbrev pub message_faults_in_order-report : List ℕ
+message_faults_in_order-report =
+    text (codes "F 3 N d1 X1" ∷
+    codes "F 4 N d1 XL" ∷
+    codes "F 5 N d1 X2" ∷
+    codes "F 6 N d1 X4" ∷
+    codes "C 1 1 1 out - - 1 2 - open 0 0 4 2056 36" ∷
+    codes "A - 1 36" ∷
+    codes "P 1 2" ∷
+    codes "Z 6 4 1 2056 36" ∷
     [])
 
 abbrev pub mixed_qualifier-report : List ℕ

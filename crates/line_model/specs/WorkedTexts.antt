@@ -13,6 +13,20 @@ addresses_reverse_charging-text =
     (codes "5 T 100104" ++ repeated 65 (codes "00")) ∷
     [])
 
+abbrev pub call_faults_in_order-text : List ℕ
+call_faults_in_order-text =
+    text (codes "X25 2 MOD 8 WIN 2 SIZE 128 PVC 0 IN 1 TWO 9 OUT 9" ∷
+    codes "1 T 10010B" ∷
+    codes "2 T 10020B04A0" ∷
+    codes "3 T 10030B01A0" ∷
+    codes "4 T 10040B11AA00" ∷
+    codes "5 T 10050B10A06E" ∷
+    codes "6 T 10060B01A06E" ∷
+    codes "7 T 10070B0004420303AA" ∷
+    codes "8 T 10080B0003420303000000000000000000000000000000000000" ∷
+    codes "9 T 10090B00044203034300" ∷
+    [])
+
 abbrev pub call_formats-text : List ℕ
 call_formats-text =
     text (codes "X25 1 MOD 8 WIN 2 SIZE 128 PVC 0 SVC 6" ∷
@@ -26,6 +40,20 @@ call_formats-text =
     codes "8 T 10060F20" ∷
     codes "9 N 1006130000" ∷
     codes "10 T 100617" ∷
+    [])
+
+abbrev pub classes_in_order-text : List ℕ
+classes_in_order-text =
+    text (codes "X25 1 MOD 8 WIN 2 SIZE 128 PVC 0 SVC 1" ∷
+    codes "1 N 1001FF" ∷
+    codes "# one octet, of another modulus" ∷
+    codes "2 T 20" ∷
+    codes "# another modulus, on a channel that is not assigned" ∷
+    codes "3 T 200900" ∷
+    codes "# a channel that is not assigned, and two octets" ∷
+    codes "4 T 1009" ∷
+    codes "# restart on an assigned channel" ∷
+    codes "5 T 1001FB00" ∷
     [])
 
 abbrev pub collision_dce_first-text : List ℕ
@@ -66,6 +94,24 @@ cut_packets_modulo_128-text =
     codes "11 N 2000F1" ∷
     codes "12 T 2000FB" ∷
     codes "13 T 2003FB" ∷
+    [])
+
+abbrev pub data_faults_in_order-text : List ℕ
+data_faults_in_order-text =
+    text (codes "X25 1 MOD 8 WIN 2 SIZE 16 PVC 5 SVC 5" ∷
+    codes "# too long, and P(S) 1 where 0 comes next" ∷
+    codes "1 T 1001020000000000000000000000000000000000" ∷
+    codes "# P(S) 1 where 0 comes next, and P(R) 1 of nothing" ∷
+    codes "2 T 10022200" ∷
+    codes "# P(R) 1 of nothing, and Q 1 in a sequence begun with Q 0" ∷
+    codes "3 T 10031000000000000000000000000000000000" ∷
+    codes "4 T 9003220000" ∷
+    codes "# P(S) 0 where 1 comes next, and Q 1 in a sequence begun with Q 0" ∷
+    codes "5 T 10041000000000000000000000000000000000" ∷
+    codes "6 T 9004000000" ∷
+    codes "# Q 1 in a sequence begun with Q 0, and nothing else" ∷
+    codes "7 T 10051000000000000000000000000000000000" ∷
+    codes "8 T 9005020000" ∷
     [])
 
 abbrev pub dce_faults-text : List ℕ
@@ -157,6 +203,22 @@ join_unknown_channels-text =
     codes "10 N 10011B0526" ∷
     codes "11 T 10011F" ∷
     codes "12 T 1000FFFFFFFF" ∷
+    [])
+
+abbrev pub message_faults_in_order-text : List ℕ
+message_faults_in_order-text =
+    text (codes "# Each message has two faults, and its finding is the first of their order." ∷
+    codes "X25 1 MOD 8 WIN 4 SIZE 2048 PVC 0 SVC 4" ∷
+    codes "1 T 10010B000001000000" ∷
+    codes "2 N 10010F" ∷
+    codes "# 1,025 octets, and a code over 8" ∷
+    (codes "3 N 900100" ++ repeated 1025 (codes "09")) ∷
+    codes "# 1,026 octets, and pairs that are cut" ∷
+    (codes "4 N 9001" ++ repeated 1027 (codes "02")) ∷
+    codes "# an indication of a PAD that nothing asked, and pairs that are cut" ∷
+    codes "5 N 9001040002" ∷
+    codes "# an indication of a PAD that nothing asked, and nothing else" ∷
+    codes "6 N 900106000201" ∷
     [])
 
 abbrev pub mixed_qualifier-text : List ℕ
@@ -315,6 +377,17 @@ refused_empty_line-text =
     codes "" ∷
     [])
 
+abbrev pub refused_form_before_number-text : List ℕ
+refused_form_before_number-text =
+    text (codes "X25 1 MOD 8 WIN 2 SIZE 128 PVC 0 SVC 4" ∷
+    codes "0 T" ∷
+    [])
+
+abbrev pub refused_header_form_before_range-text : List ℕ
+refused_header_form_before_range-text =
+    text (codes "X25 1 MOD 9 WIN 2" ∷
+    [])
+
 abbrev pub refused_header_form-text : List ℕ
 refused_header_form-text =
     text (codes "X25 2 MOD 8 WIN 2 SIZE 128 PVC 0 SVC 4" ∷
@@ -351,6 +424,12 @@ abbrev pub refused_no_header-text : List ℕ
 refused_no_header-text =
     text ([])
 
+abbrev pub refused_number_before_side-text : List ℕ
+refused_number_before_side-text =
+    text (codes "X25 1 MOD 8 WIN 2 SIZE 128 PVC 0 SVC 4" ∷
+    codes "0 X 1001" ∷
+    [])
+
 abbrev pub refused_number_order-text : List ℕ
 refused_number_order-text =
     text (codes "X25 1 MOD 8 WIN 2 SIZE 128 PVC 0 SVC 4" ∷
@@ -362,6 +441,12 @@ abbrev pub refused_odd_hex-text : List ℕ
 refused_odd_hex-text =
     text (codes "X25 1 MOD 8 WIN 2 SIZE 128 PVC 0 SVC 4" ∷
     codes "1 T 100" ∷
+    [])
+
+abbrev pub refused_side_before_hex-text : List ℕ
+refused_side_before_hex-text =
+    text (codes "X25 1 MOD 8 WIN 2 SIZE 128 PVC 0 SVC 4" ∷
+    codes "1 X 100" ∷
     [])
 
 abbrev pub refused_side-text : List ℕ
