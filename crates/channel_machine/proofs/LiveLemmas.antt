@@ -118,9 +118,6 @@ piece_countable p h =
 pub piece_within : (p : Piece) → IsPiece p.interface p.channel p.items → IsWithin (piece_events p)
 piece_within p h = value_bounds p h
 
-pub last_short : (items : List Item) (item : Item) → all_octets (items ++ item ∷ []) ≤ 2 ^ 31 → length item.row.octets ≤ 2 ^ 31
-last_short items item h = omega (arith, sum_by-append (λ (i : Item). length i.row.octets) items (item ∷ []))
-
 -- ---- what is counted
 
 findings-more : (es : List Event) (vs : List Event) → findings_of (es ++ vs) ≡ findings_of es ++ findings_of vs

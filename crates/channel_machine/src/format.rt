@@ -89,8 +89,9 @@ impl<A: Allocator + Clone> PlainChannel<A> {
     #[tactic(auto, using(crate::proofs::Steps::first_fault_is))]
     pub(crate) fn packet_fault(&self, side: Side, class: Class, octets: &[u8]) -> Option<u8>
         requires class { class_of self.now.terms.interface octets.now ≡ class }
-        requires short { length octets.now ≤ 2 ^ 31 }
-        ensures { (c : Channel) → Stands self.now c → result ≡ packet_fault self.now.terms.interface self.now.channel c side class octets.now }
+        ensures fault { (c : Channel) → Stands self.now c → result ≡ packet_fault self.now.terms.interface self.now.channel c side class octets.now }
+        // A data packet without fault is no longer than the sizes in force allow.
+        ensures short { class ≡ Class.Data → result ≡ None → length octets.now ≤ 2 ^ 31 }
     {
         match self.direction_fault(side, class) {
             Some(code) => Some(code),
@@ -118,8 +119,8 @@ impl<A: Allocator + Clone> PlainChannel<A> {
     #[tactic(auto, using(crate::proofs::InForce::size_stands, crate::proofs::InForce::fast_stands))]
     fn format_fault(&self, side: Side, class: Class, octets: &[u8]) -> Option<u8>
         requires class { class_of self.now.terms.interface octets.now ≡ class }
-        requires short { length octets.now ≤ 2 ^ 31 }
-        ensures { (c : Channel) → Stands self.now c → result ≡ format_fault self.now.terms.interface c side class octets.now }
+        ensures fault { (c : Channel) → Stands self.now c → result ≡ format_fault self.now.terms.interface c side class octets.now }
+        ensures short { class ≡ Class.Data → result ≡ None → length octets.now ≤ 2 ^ 31 }
     {
         let interface = &self.terms.interface;
         let header = header_length(interface);

@@ -58,7 +58,6 @@ pub trait Channel<A: Allocator>: Drop {
         events: &mut Vec<Event, A>,
     ) -> Result<(), Fault>
         requires item { IsItem (interface_of self.old) (number_of self.old) (record { row = row.now; packet = packet.now }) }
-        requires short { length row.now.octets ≤ 2 ^ 31 }
         ensures interface { (c : channels.Channel) → stands_for self.old c → IfOk result (λ _. interface_of self.new ≡ interface_of self.old) }
         ensures number { (c : channels.Channel) → stands_for self.old c → IfOk result (λ _. number_of self.new ≡ number_of self.old) }
         ensures stands { (c : channels.Channel) → stands_for self.old c → IfOk result (λ _. stands_for self.new (channel_step (interface_of self.old) (number_of self.old) c row.now).after) }

@@ -163,7 +163,7 @@ impl<A: Allocator + Clone> PlainChannel<A> {
         requires class { class_of self.old.terms.interface octets.now ≡ class }
         requires packet { packet.now ≡ packet_of self.old.terms.interface octets.now }
         requires carried { is_carried class ≡ true }
-        requires short { length octets.now ≤ 2 ^ 31 }
+        requires short { class ≡ Class.Data → length octets.now ≤ 2 ^ 31 }
         ensures does { (c : Channel) → Stands self.old c → IfOk result (λ _. Does stamp self.old self.new report.old.items report.new.items (transferring self.old.terms.interface side state class octets.now c)) }
         ensures unchanged { OnErr result ((self.new ≡ self.old) × (report.new.items ≡ report.old.items)) }
         ensures memory { IfErr result (λ fault. fault ≡ Memory) }
@@ -180,9 +180,9 @@ impl<A: Allocator + Clone> PlainChannel<A> {
     #[tactic(auto, using(crate::proofs::Steps::decided, crate::proofs::Carried::carried))]
     fn decide(&self, side: Side, class: Class, octets: &[u8]) -> (StateName, Verdict)
         requires class { class_of self.now.terms.interface octets.now ≡ class }
-        requires short { length octets.now ≤ 2 ^ 31 }
         ensures carried { IsCarried result.1 class }
         ensures decided { (c : Channel) → Stands self.now c → IsDecided result.0 result.1 (judged (is_permanent self.now.terms.interface self.now.channel) side c.state c.owed class) (packet_fault self.now.terms.interface self.now.channel c side class octets.now) }
+        ensures short { class ≡ Class.Data → result.1 ≡ Verdict.Transfers → length octets.now ≤ 2 ^ 31 }
     {
         let (state, entry) = judged(
             self.terms.interface.is_permanent(self.channel),
@@ -210,7 +210,7 @@ impl<A: Allocator + Clone> PlainChannel<A> {
         requires class { class_of self.old.terms.interface octets.now ≡ class }
         requires packet { packet.now ≡ packet_of self.old.terms.interface octets.now }
         requires carried { IsCarried verdict class }
-        requires short { length octets.now ≤ 2 ^ 31 }
+        requires short { class ≡ Class.Data → verdict ≡ Verdict.Transfers → length octets.now ≤ 2 ^ 31 }
         ensures does { (c : Channel) → IsUnfaulted verdict (packet_fault self.old.terms.interface self.old.channel c side class octets.now) → Stands self.old c → IfOk result (λ _. Does stamp self.old self.new report.old.items report.new.items (verdict_step self.old.terms.interface side state class octets.now verdict c)) }
         ensures unchanged { OnErr result ((self.new ≡ self.old) × (report.new.items ≡ report.old.items)) }
         ensures memory { IfErr result (λ fault. fault ≡ Memory) }
@@ -237,7 +237,6 @@ impl<A: Allocator + Clone> PlainChannel<A> {
         report: &mut Vec<Event, A>,
     ) -> Result<(), Fault>
         requires packet { packet.now ≡ packet_of self.old.terms.interface octets.now }
-        requires short { length octets.now ≤ 2 ^ 31 }
         ensures does { (c : Channel) → Stands self.old c → IfOk result (λ _. Does stamp self.old self.new report.old.items report.new.items (channel_step self.old.terms.interface self.old.channel c (record { number = stamp.packet; side = side; octets = octets.now }))) }
         ensures unchanged { OnErr result ((self.new ≡ self.old) × (report.new.items ≡ report.old.items)) }
         ensures memory { IfErr result (λ fault. fault ≡ Memory) }

@@ -14,13 +14,15 @@ use Rattle.channel_machine.specs.Run.{row_events}
 use Rattle.channel_machine.proofs.LiveLemmas.{last_item, piece_more, channel_more, row_of_channel, one_finding, piece_countable}
 use Rattle.channel_machine.proofs.live.LiveChannel.take.Goals as goal
 
-pub step-requires-clause-item : goal.step-requires-clause-item
-step-requires-clause-item g c =
+pub step-requires : goal.step-requires
+step-requires g c =
     let p = c.requires.room.0 in
     let s = c.requires.room.1 in
     let item : Item = record { row = c.args.row.now; packet = c.args.packet.now } in
-    subst (λ i. IsItem i (g.C.Channel.number_of c.args.self.now.machine) item) (sym s.interface)
-    (subst (λ k. IsItem p.interface k item) (sym s.number) (last_item p.interface p.channel p.items item c.requires.room.2))
+    record {
+      item = subst (λ i. IsItem i (g.C.Channel.number_of c.args.self.now.machine) item) (sym s.interface)
+          (subst (λ k. IsItem p.interface k item) (sym s.number) (last_item p.interface p.channel p.items item c.requires.room.2));
+    }
 
 pub returns-clause-stands : goal.returns-clause-stands
 returns-clause-stands g c = λ p s small.
