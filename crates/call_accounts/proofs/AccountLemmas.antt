@@ -220,7 +220,7 @@ first-ledger : (k : Account) (r s : ℕ) (es : List Entry) → IsRank r k.addres
 first-ledger k r s [] h lt up ranked = tt
 first-ledger k r s (e ∷ es) h lt up ranked =
     let lower : r < e.rank = let le = up.0 in omega (arith, le) in
-    first-put k (account_of_entry e) (ledger (map account_of_entry es)) (less_from-ranks r e.rank k.address e.address.now h ranked.0 lower)
+    first-put k (account_of_entry e) (ledger (map account_of_entry es)) (less_from-ranks r e.rank k.address e.address h ranked.0 lower)
     (first-ledger k r e.rank es h lower up.1 ranked.1)
 
 summed_from-ledger : (es : List Entry) (k : Account) (r : ℕ) → IsRank r k.address → Climbs r es → AllByRecursion IsRanked es → summed_from k r es ≡ ledger (k ∷ map account_of_entry es)
@@ -240,13 +240,13 @@ summed_from-ledger (e ∷ es) k r h up ranked =
         → elim b [ true ↦ summed_from (sum_of k own) r es | false ↦ k ∷ summed_from own e.rank es ] ≡ put k (put own rest)
     at true t joined apart =
         let same : r ≡ e.rank = grind (arith, nat_tests) in
-        let address : k.address ≡ e.address.now = same_from-ranks r e.rank k.address e.address.now h ranked.0 same in
+        let address : k.address ≡ e.address = same_from-ranks r e.rank k.address e.address h ranked.0 same in
         joined same ∙ ap (λ s. put s rest) (sum_of-comm own k (sym address)) ∙ sym (put-sum k own rest address)
     at false t joined apart =
         let le : r ≤ e.rank = up.0 in
         let lower : r < e.rank = grind (arith, nat_tests) in
         ap (λ l. k ∷ l) apart
-        ∙ sym (put-first k (put own rest) (first-put k own rest (less_from-ranks r e.rank k.address e.address.now h ranked.0 lower) (first-ledger k r e.rank es h lower up.1 ranked.1)))
+        ∙ sym (put-first k (put own rest) (first-put k own rest (less_from-ranks r e.rank k.address e.address h ranked.0 lower) (first-ledger k r e.rank es h lower up.1 ranked.1)))
 
 summed-ledger : (es : List Entry) → IsNonDecreasingBy (λ e. e.rank) es → AllByRecursion IsRanked es → summed es ≡ ledger (map account_of_entry es)
 summed-ledger [] up ranked = refl

@@ -24,14 +24,14 @@ pub record IsRank (rank : ℕ) (address : List ℕ) : Type 0 where
 
 -- an entry has the rank of its address
 abbrev pub IsRanked : Entry → Type 0
-IsRanked e = IsRank e.rank e.address.now
+IsRanked e = IsRank e.rank e.address
 
 -- the account of one call, by its record and by its entry
 abbrev pub account_of_call : CallRecord → Account
 account_of_call c = record { address = payer c; calls = 1; segments = c.segments }
 
 abbrev pub account_of_entry : Entry → Account
-account_of_entry e = record { address = e.address.now; calls = 1; segments = e.segments }
+account_of_entry e = record { address = e.address; calls = 1; segments = e.segments }
 
 -- what the address of the first of two accounts pays for, where they have one address
 abbrev pub sum_of : Account → Account → Account

@@ -13,14 +13,15 @@ use std::alloc::Allocator;
 
 /// A call by the address that pays for it.
 #[derive(Drop)]
-struct Entry<'a> {
-    /// A number that is in the order of the addresses, so that a sort reads no address.
+struct Entry {
+    /// A number that is in the order of the addresses, so that a sort compares numbers.
     rank: u128,
-    address: &'a Address,
+    /// It stands in the entry itself, so that what reads the sorted entries reads no record of a call.
+    address: Address,
     segments: u64,
 }
 
-impl Entry<'_> {
+impl Entry {
     /// The account of the call alone.
     fn account(&self) -> Account
         ensures { result ≡ account_of_entry self.now }
@@ -68,10 +69,7 @@ fn rank(address: &Address) -> u128
 }
 
 /// The calls as entries, in their order.
-fn entries<'a, A: Allocator>(
-    alloc: A,
-    calls: &'a [CallRecord<A>],
-) -> Result<Vec<Entry<'a>, A>, Fault>
+fn entries<A: Allocator>(alloc: A, calls: &[CallRecord<A>]) -> Result<Vec<Entry, A>, Fault>
     ensures entries { IfOk result (λ v. map account_of_entry v.items ≡ map account_of_call calls.now) }
     ensures ranked { IfOk result (λ v. AllByRecursion IsRanked v.items) }
     ensures memory { IfErr result (λ f. f ≡ Fault.Memory) }
@@ -81,7 +79,7 @@ fn entries<'a, A: Allocator>(
         let address = payer(call);
         entries.push(Entry {
             rank: rank(address),
-            address,
+            address: address.copied(),
             segments: call.segments,
         })?;
     }
@@ -89,8 +87,8 @@ fn entries<'a, A: Allocator>(
 }
 
 /// Entries in the order of their addresses.
-fn by_address<'a, A: Allocator>(mut entries: Vec<Entry<'a>, A>) -> Vec<Entry<'a>, A>
-    ensures permutation { IsPermutation entries.entry.items result.items }
+fn by_address<A: Allocator>(mut entries: Vec<Entry, A>) -> Vec<Entry, A>
+    ensures permutation { IsPermutation entries.items result.items }
     ensures sorted { IsNonDecreasingBy (λ e. e.rank) result.items }
 {
     entries.sort_unstable_by_key(|entry| entry.rank);
@@ -98,7 +96,7 @@ fn by_address<'a, A: Allocator>(mut entries: Vec<Entry<'a>, A>) -> Vec<Entry<'a>
 }
 
 /// The accounts of sorted entries: those of one address are neighbours, and are added up.
-fn added_up<A: Allocator>(alloc: A, entries: &[Entry<'_>]) -> Result<Vec<Account, A>, Fault>
+fn added_up<A: Allocator>(alloc: A, entries: &[Entry]) -> Result<Vec<Account, A>, Fault>
     requires few_segments { sum_by (λ e. e.segments) entries.now ≤ 2 ^ 63 }
     ensures accounts { IfOk result (λ v. v.items ≡ summed entries.now) }
     ensures memory { IfErr result (λ f. f ≡ Fault.Memory) }
