@@ -1,7 +1,6 @@
 -- The tallies of all places, one more event in front.
 use Rattle.std.proofs.Common.{◌≡◌, ◌≢◌, ℕ, zero, suc, ◌+◌, ◌-◌, ◌/◌, ◌^◌, ◌<◌, ◌≤◌, ◌==◌, ◌&&◌, ◌||◌, not, Bool, true, false, cond, List, [], ◌∷◌, ◌++◌, length, get_or, map, reverse, drop, sum, refl, sym, ap, ◌∙◌, subst, arith, Option, Some, None, unwrap_or, if◌then◌else◌, option_map, option_and_then}
 use Rattle.std.specs.List.{find, filter, take_while, cons_option}
-use Rattle.call_accounts.proofs.AccountLemmas.{drop_before}
 use Rattle.std.specs.BTreeMap.{BTreeMap, get, is_at}
 use Rattle.std.specs.Map.{lookup}
 use Rattle.std.specs.Ordering.{ordering_then, nat_cmp, is_eq, MatchOrdering}
@@ -22,6 +21,17 @@ use Rattle.call_accounts.specs.declared.call.Tally.{Tally}
 use Rattle.call_accounts.specs.declared.call.Tallies.{Tallies}
 use Rattle.call_accounts.specs.Heard.{Hears, IsFew, heard_with}
 use Rattle.call_accounts.specs.Tallied.{Stands, own_events, members_of, opened_by, tally_at, no_tally, place_order, IsKept}
+
+drop_before : {X : Type 0} → (xs : List X) (i : ℕ) (x : X) → 0 < i → i ≤ length xs → x ≡ get_or xs (i - 1) x → drop (i - 1) xs ≡ x ∷ drop i xs
+drop_before [] i x some le h = absurd (omega arith)
+drop_before (y ∷ ys) zero x some le h = absurd (omega arith)
+drop_before (y ∷ ys) (suc zero) x some le h = ap (λ z. z ∷ ys) (sym h)
+drop_before (y ∷ ys) (suc (suc i)) x some le h =
+    let e : suc (suc i) - 1 ≡ suc i = omega arith in
+    let e' : suc i - 1 ≡ i = omega arith in
+    let h' : x ≡ get_or ys (suc i - 1) x = subst (λ k. x ≡ get_or ys k x) (sym e') (subst (λ k. x ≡ get_or (y ∷ ys) k x) e h) in
+    let later : drop (suc i - 1) ys ≡ x ∷ drop (suc i) ys = drop_before ys (suc i) x (omega arith) (omega arith) h' in
+    subst (λ k. drop k (y ∷ ys) ≡ x ∷ drop (suc i) ys) (sym e) (subst (λ k. drop k ys ≡ x ∷ drop (suc i) ys) e' later)
 
 members_of-cons : (e : Event) (own : List Event) → members_of (e ∷ own) ≡ heard_with e (members_of own)
 members_of-cons e own = take_while-cons (λ f. not (is_end f || is_opening f)) e own ∙ at (is_end e || is_opening e)

@@ -1,23 +1,37 @@
 //! What each address pays for.
 
 ghost use Rattle.std.specs.Prelude.{◌≡◌, ◌≤◌, ◌^◌, IfOk, IfErr, sum_by, map};
-ghost use Rattle.line_model.specs.Accounts.{accounts_of, payer};
 ghost use Rattle.std.specs.List.{AllByRecursion};
-ghost use Rattle.call_accounts.specs.PaidAccounts.{account_for, account_held, IsNamed};
+ghost use Rattle.std.specs.List.Sorted.{IsPermutation, IsNonDecreasingBy};
+ghost use Rattle.line_model.specs.Accounts.{accounts_of, payer};
+ghost use Rattle.call_accounts.specs.Entries.{digit_at, IsRank, IsRanked, account_of_call, account_of_entry, summed};
 
-use arrayvec::ArrayVec;
 use line_model::address::Address;
 use line_model::call::{Account, CallRecord};
 use line_model::fault::Fault;
 use std::alloc::Allocator;
-use std::collections::BTreeMap;
 
-/// What an address pays for: calls and segments.
-#[derive(Clone, Copy)]
-struct Paid<'a> {
-    address: &'a Address,
-    calls: u64,
+/// A call by the address that pays for it.
+#[derive(Drop)]
+struct Entry {
+    /// A number that is in the order of the addresses, so that a sort compares numbers.
+    rank: u128,
+    /// It stands in the entry itself, so that what reads the sorted entries reads no record of a call.
+    address: Address,
     segments: u64,
+}
+
+impl Entry {
+    /// The account of the call alone.
+    fn account(&self) -> Account
+        ensures { result ≡ account_of_entry self.now }
+    {
+        Account {
+            address: self.address.copied(),
+            calls: 1,
+            segments: self.segments,
+        }
+    }
 }
 
 /// The address that pays for a call.
@@ -31,47 +45,80 @@ fn payer<A: Allocator>(call: &CallRecord<A>) -> &Address
     }
 }
 
-/// The digits of an address. As keys they stand in the map itself, so a search reads no record of a call.
-type Digits = ArrayVec<u8, 15>;
-
-fn digits_of(address: &Address) -> Digits
-    ensures { result.items ≡ address.now }
+/// The digit of the octet at an index, from 1 on, and 0 past the end.
+fn digit(octets: &[u8], index: usize) -> u128
+    ensures digit { result ≡ digit_at octets.now index }
+    ensures few { result ≤ 256 }
 {
-    let mut digits = ArrayVec::new();
-    match digits.try_extend_from_slice(address.as_bytes()) {
-        Ok(()) => digits,
-        Err(_) => unreachable!(),
+    match octets.get(index) {
+        Some(octet) => u128::from(*octet) + 1,
+        None => 0,
     }
 }
 
-/// What each address pays for, by its digits.
-fn paid_by_address<'a, A: Allocator + Clone>(
-    alloc: A,
-    calls: &'a [CallRecord<A>],
-) -> Result<BTreeMap<Digits, Paid<'a>, A>, Fault>
-    requires few_segments { sum_by (λ c. c.segments) calls.now ≤ 2 ^ 63 }
-    ensures accounts { IfOk result (λ m. map account_for m.entries ≡ accounts_of calls.now) }
-    ensures named { IfOk result (λ m. AllByRecursion IsNamed m.entries) }
+/// The digits of an address as a number of base 257, which is in the order of the addresses.
+fn rank(address: &Address) -> u128
+    ensures { IsRank result address.now }
+{
+    let octets = address.as_bytes();
+    let mut rank = 0;
+    for index in 0..15 {
+        rank = rank * 257 + digit(octets, index);
+    }
+    rank
+}
+
+/// The calls as entries, in their order.
+fn entries<A: Allocator>(alloc: A, calls: &[CallRecord<A>]) -> Result<Vec<Entry, A>, Fault>
+    ensures entries { IfOk result (λ v. map account_of_entry v.items ≡ map account_of_call calls.now) }
+    ensures ranked { IfOk result (λ v. AllByRecursion IsRanked v.items) }
     ensures memory { IfErr result (λ f. f ≡ Fault.Memory) }
 {
-    let mut paid = BTreeMap::new(alloc);
-    for index in (0..calls.len()).rev() {
-        let call = &calls[index];
+    let mut entries = Vec::with_capacity(alloc, calls.len())?;
+    for call in calls {
         let address = payer(call);
-        let digits = digits_of(address);
-        let before = paid.get(&digits).copied().unwrap_or(Paid {
-            address,
-            calls: 0,
-            segments: 0,
-        });
-        let after = Paid {
-            address,
-            calls: before.calls + 1,
-            segments: before.segments + call.segments,
-        };
-        paid.insert(digits, after)?;
+        entries.push(Entry {
+            rank: rank(address),
+            address: address.copied(),
+            segments: call.segments,
+        })?;
     }
-    Ok(paid)
+    Ok(entries)
+}
+
+/// Entries in the order of their addresses.
+fn by_address<A: Allocator>(mut entries: Vec<Entry, A>) -> Vec<Entry, A>
+    ensures permutation { IsPermutation entries.items result.items }
+    ensures sorted { IsNonDecreasingBy (λ e. e.rank) result.items }
+{
+    entries.sort_unstable_by_key(|entry| entry.rank);
+    entries
+}
+
+/// The accounts of sorted entries: those of one address are neighbours, and are added up.
+fn added_up<A: Allocator>(alloc: A, entries: &[Entry]) -> Result<Vec<Account, A>, Fault>
+    requires few_segments { sum_by (λ e. e.segments) entries.now ≤ 2 ^ 63 }
+    ensures accounts { IfOk result (λ v. v.items ≡ summed entries.now) }
+    ensures memory { IfErr result (λ f. f ≡ Fault.Memory) }
+{
+    let mut accounts = Vec::new(alloc);
+    let Some((first, rest)) = entries.split_first() else {
+        return Ok(accounts);
+    };
+    let mut rank = first.rank;
+    let mut last = first.account();
+    for entry in rest {
+        if entry.rank == rank {
+            last.calls += 1;
+            last.segments += entry.segments;
+        } else {
+            accounts.push(last)?;
+            rank = entry.rank;
+            last = entry.account();
+        }
+    }
+    accounts.push(last)?;
+    Ok(accounts)
 }
 
 /// The accounts of the addresses that pay for some calls, each once, by the bytes of the addresses, the absent one
@@ -85,25 +132,6 @@ pub fn accounts_of<A: Allocator + Clone>(
     ensures accounts { IfOk result (λ v. v.items ≡ accounts_of calls.now) }
     ensures memory { IfErr result (λ f. f ≡ Fault.Memory) }
 {
-    let paid = paid_by_address(alloc.clone()?, calls)?;
-    listed(alloc, &paid)
-}
-
-/// What each address pays for, as accounts.
-fn listed<A: Allocator + Clone>(
-    alloc: A,
-    paid: &BTreeMap<Digits, Paid<'_>, A>,
-) -> Result<Vec<Account, A>, Fault>
-    ensures accounts { IfOk result (λ v. v.items ≡ map account_held paid.now.entries) }
-    ensures memory { IfErr result (λ f. f ≡ Fault.Memory) }
-{
-    let mut accounts = Vec::with_capacity(alloc, paid.len())?;
-    for (_, paid) in paid {
-        accounts.push(Account {
-            address: paid.address.copied(),
-            calls: paid.calls,
-            segments: paid.segments,
-        })?;
-    }
-    Ok(accounts)
+    let entries = by_address(entries(alloc.clone()?, calls)?);
+    added_up(alloc, &entries)
 }
