@@ -11,142 +11,223 @@ use crate::live::Live;
 use channel_machine::channel::PlainChannel;
 use channel_machine::run::Channel;
 use line_model::count::Count;
-use line_model::device::VecSink;
 use line_model::fault::{Fault, Kind};
-use line_model::totals::Summary;
-use std::alloc::Global;
+use std::alloc::{Allocator, Global};
 use std::marker::Brand;
 use std::process::Abort;
 use std::sync::ledger::{Blank, Ledger};
-use std::test::Fail;
+use test_devices::CutSink;
 
-/// A trace of a plain channel machine.
-type Trace = Live<Global, PlainChannel<Global>>;
-
-/// What a report answered, and what it wrote.
+/// Why a report was refused, if it was, and what it wrote.
 #[derive(Drop)]
 struct Answer {
-    answer: Result<Summary, Fault>,
+    fault: Option<Fault>,
     bytes: Vec<u8>,
 }
 
-/// The report of a trace so far.
-fn told<L: Ledger>(blank: Blank, alloc: Global, trace: &Trace) -> Result<Answer, Fail>
+/// The report that must be told, or why it must be refused, and nothing written.
+type Wanted = Result<&'static [u8], Fault>;
+
+/// What a trace is fed, or asked for.
+#[derive(Clone, Copy)]
+enum Step {
+    /// It is fed this chunk, and refuses it so, if it does.
+    Feed(&'static [u8], Option<Fault>),
+    /// It is asked for its report so far.
+    Report(Wanted),
+}
+
+/// A sink that has its room.
+fn open_sink<L: Ledger>(blank: Blank, alloc: Global) -> CutSink<L>
     requires name { blank.name ≡ L.name }
     requires parts { blank.parts ≡ L.parts }
     requires some { 0 < L.parts }
-    requires fed { IsFed ⟦<PlainChannel<Global> as Channel<Global>>⟧.interface_of ⟦<PlainChannel<Global> as Channel<Global>>⟧.number_of ⟦<PlainChannel<Global> as Channel<Global>>⟧.stands_for trace.now }
 {
-    let mut sink: VecSink<Global, L> = VecSink::new(Vec::new(alloc), Count::open(blank));
-    let answer = trace.report(&mut sink);
-    let bytes = Vec::from_slice(alloc, sink.as_slice())?;
-    Ok(Answer { answer, bytes })
+    CutSink {
+        taken: Vec::new(alloc),
+        step: usize::MAX,
+        good_calls: usize::MAX,
+        failures: Count::open(blank),
+    }
+}
+
+fn told_on<A: Allocator + Copy, C: Channel<A>, L: Ledger>(
+    blank: Blank,
+    alloc: Global,
+    trace: &Live<A, C>,
+) -> Answer
+    requires name { blank.name ≡ L.name }
+    requires parts { blank.parts ≡ L.parts }
+    requires some { 0 < L.parts }
+    requires fed { IsFed C.interface_of C.number_of C.stands_for trace.now }
+{
+    let mut sink = open_sink::<L>(blank, alloc);
+    let fault = trace.report(&mut sink).err();
+    Answer {
+        fault,
+        bytes: sink.taken,
+    }
+}
+
+/// The report of a trace so far.
+fn told<A: Allocator + Copy, C: Channel<A>>(alloc: Global, trace: &Live<A, C>) -> Answer
+    requires fed { IsFed C.interface_of C.number_of C.stands_for trace.now }
+{
+    told_on::<A, C, Brand>(Blank::new(1), alloc, trace)
+}
+
+fn ended_on<A: Allocator + Copy, C: Channel<A>, L: Ledger>(
+    blank: Blank,
+    alloc: Global,
+    trace: Live<A, C>,
+) -> Answer
+    requires name { blank.name ≡ L.name }
+    requires parts { blank.parts ≡ L.parts }
+    requires some { 0 < L.parts }
+    requires fed { IsFed C.interface_of C.number_of C.stands_for trace }
+{
+    let mut sink = open_sink::<L>(blank, alloc);
+    let fault = trace.end(&mut sink).err();
+    Answer {
+        fault,
+        bytes: sink.taken,
+    }
 }
 
 /// The report of a trace that has ended.
-fn ended<L: Ledger>(blank: Blank, alloc: Global, trace: Trace) -> Result<Answer, Fail>
-    requires name { blank.name ≡ L.name }
-    requires parts { blank.parts ≡ L.parts }
-    requires some { 0 < L.parts }
-    requires fed { IsFed ⟦<PlainChannel<Global> as Channel<Global>>⟧.interface_of ⟦<PlainChannel<Global> as Channel<Global>>⟧.number_of ⟦<PlainChannel<Global> as Channel<Global>>⟧.stands_for trace }
+fn ended<A: Allocator + Copy, C: Channel<A>>(alloc: Global, trace: Live<A, C>) -> Answer
+    requires fed { IsFed C.interface_of C.number_of C.stands_for trace }
 {
-    let mut sink: VecSink<Global, L> = VecSink::new(Vec::new(alloc), Count::open(blank));
-    let answer = trace.end(&mut sink);
-    let bytes = Vec::from_slice(alloc, sink.as_slice())?;
-    Ok(Answer { answer, bytes })
+    ended_on::<A, C, Brand>(Blank::new(1), alloc, trace)
 }
 
-/// Sees that the report of a trace so far has this text.
-fn check(rt: &impl Abort, alloc: Global, trace: &Trace, report: &[u8]) -> Result<(), Fail>
-    requires fed { IsFed ⟦<PlainChannel<Global> as Channel<Global>>⟧.interface_of ⟦<PlainChannel<Global> as Channel<Global>>⟧.number_of ⟦<PlainChannel<Global> as Channel<Global>>⟧.stands_for trace.now }
-{
-    let told = told::<Brand>(Blank::new(1), alloc, trace)?;
-    assert!(rt; told.answer.is_ok());
-    assert_eq!(rt; told.bytes.as_slice(), report);
-    Ok(())
+/// Sees that an answer is the one that is wanted.
+fn agree(rt: &impl Abort, answer: &Answer, wanted: Wanted) {
+    assert_eq!(rt; answer.fault, wanted.err());
+    assert_eq!(rt; answer.bytes.as_slice(), wanted.unwrap_or(b""));
 }
 
-/// Sees that a trace has no report, for this reason, and that nothing is written.
-fn check_refused(rt: &impl Abort, alloc: Global, trace: &Trace, fault: Fault) -> Result<(), Fail>
-    requires fed { IsFed ⟦<PlainChannel<Global> as Channel<Global>>⟧.interface_of ⟦<PlainChannel<Global> as Channel<Global>>⟧.number_of ⟦<PlainChannel<Global> as Channel<Global>>⟧.stands_for trace.now }
+/// Sees that the report of a trace so far is the one that is wanted.
+fn check<A: Allocator + Copy, C: Channel<A>>(
+    rt: &impl Abort,
+    alloc: Global,
+    trace: &Live<A, C>,
+    wanted: Wanted,
+)
+    requires fed { IsFed C.interface_of C.number_of C.stands_for trace.now }
 {
-    let told = told::<Brand>(Blank::new(1), alloc, trace)?;
-    assert_eq!(rt; told.answer.err(), Some(fault));
-    assert_eq!(rt; told.bytes.as_slice(), b"".as_slice());
-    Ok(())
+    let answer = told(alloc, trace);
+    agree(rt, &answer, wanted);
 }
+
+/// Feeds a chunk, and sees why it is refused, if it is.
+fn check_fed<A: Allocator + Copy, C: Channel<A>>(
+    rt: &impl Abort,
+    trace: &mut Live<A, C>,
+    chunk: &[u8],
+    fault: Option<Fault>,
+)
+    requires fed { IsFed C.interface_of C.number_of C.stands_for trace.old }
+    ensures fed { IsFed C.interface_of C.number_of C.stands_for trace.new }
+{
+    let answer = trace.feed(chunk).err();
+    assert_eq!(rt; answer, fault);
+}
+
+/// Plays steps with a trace.
+fn play_steps<A: Allocator + Copy, C: Channel<A>>(
+    rt: &impl Abort,
+    alloc: Global,
+    trace: &mut Live<A, C>,
+    steps: &[Step],
+)
+    requires fed { IsFed C.interface_of C.number_of C.stands_for trace.old }
+    ensures fed { IsFed C.interface_of C.number_of C.stands_for trace.new }
+{
+    for step in steps {
+        match *step {
+            Step::Feed(chunk, fault) => check_fed(rt, trace, chunk, fault),
+            Step::Report(wanted) => check(rt, alloc, trace, wanted),
+        }
+    }
+}
+
+/// Plays steps with a trace of which nothing was fed, and ends it.
+fn play(rt: &impl Abort, alloc: Global, steps: &[Step], end: Wanted) {
+    let mut trace = Live::<Global, PlainChannel<Global>>::new(alloc);
+    play_steps(rt, alloc, &mut trace, steps);
+    let answer = ended(alloc, trace);
+    agree(rt, &answer, end);
+}
+
+/// The fault of a third row that no side wrote.
+const NO_SIDE: Fault = Fault::Trace(4, Kind::Side);
+
+const UP_TO_THE_LAST_LINE: [Step; 12] = [
+    Step::Report(Err(Fault::Trace(1, Kind::HeaderMissing))),
+    Step::Feed(b"X25 1 MOD 8 WIN 2 SIZE 128 PVC 0 SVC 4\n", None),
+    Step::Feed(b"1 T -\n", None),
+    Step::Report(Ok(b"F 1 T - 38\nP 0 -\nZ 1 1 0 0 0\n")),
+    Step::Feed(b"2 T 2", None),
+    Step::Report(Ok(b"F 1 T - 38\nP 0 -\nZ 1 1 0 0 0\n")),
+    Step::Feed(b"0010B0000\n", None),
+    Step::Report(Ok(b"F 1 T - 38\nF 2 T - 40\nP 0 -\nZ 2 2 0 0 0\n")),
+    Step::Feed(b"3 X -\n", Some(NO_SIDE)),
+    Step::Report(Err(NO_SIDE)),
+    Step::Feed(b"4 T -\n", Some(NO_SIDE)),
+    Step::Report(Err(NO_SIDE)),
+];
 
 #[test]
-fn reports_go_up_to_the_last_line_that_ended(rt: HostRuntime) -> Result<(), Fail> {
-    let alloc = rt.alloc();
-    let mut trace = Trace::new(alloc);
-    check_refused(&rt, alloc, &trace, Fault::Trace(1, Kind::HeaderMissing))?;
-    trace.feed(b"X25 1 MOD 8 WIN 2 SIZE 128 PVC 0 SVC 4\n")?;
-    trace.feed(b"1 T -\n")?;
-    check(&rt, alloc, &trace, b"F 1 T - 38\nP 0 -\nZ 1 1 0 0 0\n")?;
-    trace.feed(b"2 T 2")?;
-    check(&rt, alloc, &trace, b"F 1 T - 38\nP 0 -\nZ 1 1 0 0 0\n")?;
-    trace.feed(b"0010B0000\n")?;
-    check(
+fn reports_go_up_to_the_last_line_that_ended(rt: HostRuntime) {
+    play(
         &rt,
-        alloc,
-        &trace,
-        b"F 1 T - 38\nF 2 T - 40\nP 0 -\nZ 2 2 0 0 0\n",
-    )?;
-    let refused = Fault::Trace(4, Kind::Side);
-    assert_eq!(&rt; trace.feed(b"3 X -\n").err(), Some(refused));
-    check_refused(&rt, alloc, &trace, refused)?;
-    assert_eq!(&rt; trace.feed(b"4 T -\n").err(), Some(refused));
-    check_refused(&rt, alloc, &trace, refused)
-}
-
-#[test]
-fn an_open_call_and_its_end_are_told(rt: HostRuntime) -> Result<(), Fail> {
-    let alloc = rt.alloc();
-    let mut trace = Trace::new(alloc);
-    trace.feed(b"X25 1 MOD 8 WIN 2 SIZE 128 PVC 0 SV")?;
-    trace.feed(b"C 4\n1 T 10010B0000\n2 N 10010F")?;
-    trace.feed(b"\n")?;
-    check(
-        &rt,
-        alloc,
-        &trace,
-        b"C 1 1 1 out - - 1 2 - open 0 0 0 0 0\nA - 1 0\nP 1 2\nZ 2 0 1 0 0\n",
-    )?;
-    trace.feed(b"3 T 1000FB0000\n4 N 1000FF\n")?;
-    check(
-        &rt,
-        alloc,
-        &trace,
-        b"C 1 1 1 out - - 1 2 3 restart 0 0 0 0 0\nA - 1 0\nP 1 2\nZ 4 0 1 0 0\n",
+        rt.alloc(),
+        UP_TO_THE_LAST_LINE.as_slice(),
+        Err(NO_SIDE),
     )
 }
 
-#[test]
-fn a_last_line_that_nothing_ended_is_a_row(rt: HostRuntime) -> Result<(), Fail> {
-    let alloc = rt.alloc();
-    let mut trace = Trace::new(alloc);
-    trace.feed(b"X25 1 MOD 8 WIN 2 SIZE 128 PVC 0 SVC 4\n1 T -")?;
-    check(&rt, alloc, &trace, b"P 0 -\nZ 0 0 0 0 0\n")?;
-    let told = ended::<Brand>(Blank::new(1), alloc, trace)?;
-    assert!(&rt; told.answer.is_ok());
-    assert_eq!(&rt;
-        told.bytes.as_slice(),
-        b"F 1 T - 38\nP 0 -\nZ 1 1 0 0 0\n".as_slice()
-    );
-    Ok(())
-}
+/// The report of a call that a restart ended.
+const ENDED_CALL: &[u8] = b"C 1 1 1 out - - 1 2 3 restart 0 0 0 0 0\nA - 1 0\nP 1 2\nZ 4 0 1 0 0\n";
+
+const CALL_AND_ITS_END: [Step; 6] = [
+    Step::Feed(b"X25 1 MOD 8 WIN 2 SIZE 128 PVC 0 SV", None),
+    Step::Feed(b"C 4\n1 T 10010B0000\n2 N 10010F", None),
+    Step::Feed(b"\n", None),
+    Step::Report(Ok(b"C 1 1 1 out - - 1 2 - open 0 0 0 0 0\nA - 1 0\nP 1 2\nZ 2 0 1 0 0\n")),
+    Step::Feed(b"3 T 1000FB0000\n4 N 1000FF\n", None),
+    Step::Report(Ok(ENDED_CALL)),
+];
 
 #[test]
-fn a_trace_that_ends_before_its_header_is_refused(rt: HostRuntime) -> Result<(), Fail> {
-    let alloc = rt.alloc();
-    let mut trace = Trace::new(alloc);
-    trace.feed(b"# nothing\n")?;
-    let told = ended::<Brand>(Blank::new(1), alloc, trace)?;
-    assert_eq!(&rt;
-        told.answer.err(),
-        Some(Fault::Trace(2, Kind::HeaderMissing))
-    );
-    assert_eq!(&rt; told.bytes.as_slice(), b"".as_slice());
-    Ok(())
+fn an_open_call_and_its_end_are_told(rt: HostRuntime) {
+    play(&rt, rt.alloc(), CALL_AND_ITS_END.as_slice(), Ok(ENDED_CALL))
+}
+
+const LAST_LINE: [Step; 2] = [
+    Step::Feed(b"X25 1 MOD 8 WIN 2 SIZE 128 PVC 0 SVC 4\n1 T -", None),
+    Step::Report(Ok(b"P 0 -\nZ 0 0 0 0 0\n")),
+];
+
+#[test]
+fn a_last_line_that_nothing_ended_is_a_row(rt: HostRuntime) {
+    play(
+        &rt,
+        rt.alloc(),
+        LAST_LINE.as_slice(),
+        Ok(b"F 1 T - 38\nP 0 -\nZ 1 1 0 0 0\n"),
+    )
+}
+
+const NO_HEADER: [Step; 1] = [Step::Feed(b"# nothing\n", None)];
+
+#[test]
+fn a_trace_that_ends_before_its_header_is_refused(rt: HostRuntime) {
+    play(
+        &rt,
+        rt.alloc(),
+        NO_HEADER.as_slice(),
+        Err(Fault::Trace(2, Kind::HeaderMissing)),
+    )
 }

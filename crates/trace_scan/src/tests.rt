@@ -1,9 +1,9 @@
 //! Worked traces, refused texts and failing devices.
 
+mod checks;
 mod crews;
 mod failing;
 mod following;
-mod gated;
 mod growing;
 mod held;
 mod refused;
@@ -12,207 +12,233 @@ mod runs;
 mod wanting;
 mod worked;
 
-use crate::tests::runs::scan;
-use crate::tests::worked::Worked;
-use crate::tests::worked::channels::CHANNELS;
-use crate::tests::worked::epochs::EPOCHS;
-use crate::tests::worked::long::LONG_TRACES;
-use crate::tests::worked::messages::MESSAGES;
-use crate::tests::worked::refused::REFUSED;
+use crate::tests::checks::{
+    STEPS, Stop, agree_on_report, check, check_all, check_stops, check_writes,
+};
+use crate::tests::runs::{Way, scan};
+use crate::tests::worked::long::{LONG_TRACES, LongTrace};
+use crate::tests::worked::{Table, Worked, traces};
 use line_model::fault::{Fault, Kind};
 use std::alloc::Global;
 use std::process::Abort;
-use std::test::Fail;
+use std::sync::Wait;
+use std::thread::Threads;
+use std::time::Clock;
 use test_devices::Cuts;
 
-/// A header.
-const HEADER: &str = "X25 1 MOD 8 WIN 2 SIZE 128 PVC 0 SVC 4\n";
-
-/// How many bytes a source gives at once.
-const STEPS: [usize; 3] = [1, 7, usize::MAX];
+/// A trace without rows.
+const NO_ROWS: Worked = Worked {
+    name: "no-rows",
+    text: b"X25 1 MOD 8 WIN 2 SIZE 128 PVC 0 SVC 4\n",
+    fault: None,
+    report: b"P 0 -\nZ 0 0 0 0 0\n",
+};
 
 #[test]
-fn memory_is_not_always_refused(rt: HostRuntime) -> Result<(), Fail> {
-    let scanned = scan(rt.alloc(), HEADER.as_bytes(), Cuts::of_steps(1, 1));
-    assert!(rt; scanned.answer.is_ok());
-    Ok(())
-}
-
-/// Scans worked traces, as their sources and sinks cut them.
-fn check(rt: &impl Abort, alloc: Global, traces: &[Worked]) -> Result<(), Fail> {
-    for worked in traces {
-        for step in STEPS {
-            let scanned = scan(alloc, worked.text, Cuts::of_steps(step, step));
-            assert_eq!(rt;
-                scanned.answer.err(),
-                worked.fault,
-                "{} by {step}",
-                worked.name
-            );
-            assert_eq!(rt;
-                scanned.taken.as_slice(),
-                worked.report,
-                "{} by {step}",
-                worked.name
-            );
-        }
-    }
-    Ok(())
+fn memory_is_not_always_refused(rt: HostRuntime) {
+    check(&rt, rt.alloc(), Way::Alone, &NO_ROWS, Cuts::of_steps(1, 1))
 }
 
 #[test]
-fn calls_and_windows_are_reported(rt: HostRuntime) -> Result<(), Fail> {
-    check(&rt, rt.alloc(), CHANNELS.as_slice())
+fn calls_and_windows_are_reported(rt: HostRuntime) {
+    check_all(&rt, rt.alloc(), Way::Alone, traces(Table::Channels))
 }
 
 #[test]
-fn epochs_are_reported(rt: HostRuntime) -> Result<(), Fail> {
-    check(&rt, rt.alloc(), EPOCHS.as_slice())
+fn epochs_are_reported(rt: HostRuntime) {
+    check_all(&rt, rt.alloc(), Way::Alone, traces(Table::Epochs))
 }
 
 #[test]
-fn pad_messages_are_reported(rt: HostRuntime) -> Result<(), Fail> {
-    check(&rt, rt.alloc(), MESSAGES.as_slice())
+fn pad_messages_are_reported(rt: HostRuntime) {
+    check_all(&rt, rt.alloc(), Way::Alone, traces(Table::Messages))
 }
 
-#[test]
-fn long_traces_are_reported(rt: HostRuntime) -> Result<(), Fail> {
+fn check_long<R: Threads + Wait + Clock + Sync + Abort>(rt: &R, alloc: Global, long: &LongTrace) {
+    let text = long.text(rt, alloc);
+    check_all(rt, alloc, Way::Alone, &[long.worked(text.as_slice())]);
+}
+
+fn check_long_traces<R: Threads + Wait + Clock + Sync + Abort>(rt: &R, alloc: Global) {
     for long in &LONG_TRACES {
-        let text = long.text(rt.alloc())?;
-        check(&rt, rt.alloc(), &[long.worked(text.as_slice())])?;
+        check_long(rt, alloc, long);
     }
-    Ok(())
 }
 
 #[test]
-fn rows_are_counted_in_any_form(rt: HostRuntime) -> Result<(), Fail> {
-    for (rows, packets, report) in [
-        ("", 0, "P 0 -\nZ 0 0 0 0 0\n"),
-        ("1 T -\n", 1, "F 1 T - 38\nP 0 -\nZ 1 1 0 0 0\n"),
-        ("1 T -", 1, "F 1 T - 38\nP 0 -\nZ 1 1 0 0 0\n"),
-        (
-            "# both sides\n7 T 1000F101\n8 N 1000F101\n9 T 1000F3\n12 N 10\n",
-            4,
-            "F 7 T - 36\nF 12 N - 38\nP 0 -\nZ 4 2 0 0 0\n",
-        ),
-    ] {
-        let text = format!(in rt.alloc(); "{HEADER}{rows}")?;
-        for step in STEPS {
-            let scanned = scan(rt.alloc(), text.as_bytes(), Cuts::of_steps(step, step));
-            assert_eq!(rt;
-                scanned.taken.as_slice(),
-                report.as_bytes(),
-                "at {rows} by {step}"
-            );
-            let Ok(summary) = scanned.answer else {
-                return Err(Fail::new("refused"));
-            };
-            assert_eq!(rt; summary.packets, packets, "at {rows} by {step}");
-        }
+fn long_traces_are_reported(rt: HostRuntime) {
+    check_long_traces(&rt, rt.alloc())
+}
+
+/// Rows in several forms.
+const FORMS: [Worked; 4] = [
+    NO_ROWS,
+    Worked {
+        name: "row-with-line-feed",
+        text: b"X25 1 MOD 8 WIN 2 SIZE 128 PVC 0 SVC 4\n1 T -\n",
+        fault: None,
+        report: b"F 1 T - 38\nP 0 -\nZ 1 1 0 0 0\n",
+    },
+    Worked {
+        name: "row-without-line-feed",
+        text: b"X25 1 MOD 8 WIN 2 SIZE 128 PVC 0 SVC 4\n1 T -",
+        fault: None,
+        report: b"F 1 T - 38\nP 0 -\nZ 1 1 0 0 0\n",
+    },
+    Worked {
+        name: "both-sides",
+        text: b"\
+            X25 1 MOD 8 WIN 2 SIZE 128 PVC 0 SVC 4\n\
+            # both sides\n\
+            7 T 1000F101\n\
+            8 N 1000F101\n\
+            9 T 1000F3\n\
+            12 N 10\n\
+            ",
+        fault: None,
+        report: b"F 7 T - 36\nF 12 N - 38\nP 0 -\nZ 4 2 0 0 0\n",
+    },
+];
+
+/// Scans a trace in steps of any size, and sees how many packets are counted.
+fn check_packets<R: Threads + Wait + Clock + Sync + Abort>(
+    rt: &R,
+    alloc: Global,
+    worked: &Worked,
+    packets: u64,
+) {
+    for step in STEPS {
+        let cuts = Cuts::of_steps(step, step);
+        let outcome = scan(rt, alloc, Way::Alone, worked.text, cuts);
+        agree_on_report(rt, &outcome, worked, cuts);
+        let counted = match outcome.answer {
+            Ok(summary) => Ok(summary.packets),
+            Err(fault) => Err(fault),
+        };
+        assert_eq!(rt; counted, Ok(packets), "{} by {step}", worked.name);
     }
-    Ok(())
+}
+
+fn check_forms<R: Threads + Wait + Clock + Sync + Abort>(rt: &R, alloc: Global) {
+    let [none, ended, open, both] = &FORMS;
+    check_packets(rt, alloc, none, 0);
+    check_packets(rt, alloc, ended, 1);
+    check_packets(rt, alloc, open, 1);
+    check_packets(rt, alloc, both, 4);
 }
 
 #[test]
-fn faulty_texts_are_refused(rt: HostRuntime) -> Result<(), Fail> {
-    check(&rt, rt.alloc(), REFUSED.as_slice())
+fn rows_are_counted_in_any_form(rt: HostRuntime) {
+    check_forms(&rt, rt.alloc())
 }
 
 #[test]
-fn a_text_is_refused_by_its_first_faulty_line(rt: HostRuntime) -> Result<(), Fail> {
-    for (text, line, kind) in [
-        ("", 1, Kind::HeaderMissing),
-        ("# no header", 2, Kind::HeaderMissing),
-        (
-            "X25 2 MOD 8 WIN 2 SIZE 128 PVC 0 SVC 4\n",
-            1,
-            Kind::HeaderForm,
-        ),
-        (
-            "X25 1 MOD 8 WIN 2 SIZE 128 PVC 0 SVC 4\n5 T -\n5 T -\n",
-            3,
-            Kind::Number,
-        ),
-        (
-            "X25 1 MOD 9 WIN 2 SIZE 128 PVC 0 SVC 4\n",
-            1,
-            Kind::HeaderRange,
-        ),
-        (
-            "X25 1 MOD 8 WIN 2 SIZE 128 PVC 0 SVC 4\n\n",
-            2,
-            Kind::LineForm,
-        ),
-        (
-            "X25 1 MOD 8 WIN 2 SIZE 128 PVC 0 SVC 4\n01 T -\n",
-            2,
-            Kind::Number,
-        ),
-        (
-            "X25 1 MOD 8 WIN 2 SIZE 128 PVC 0 SVC 4\n1 X 100\n",
-            2,
-            Kind::Side,
-        ),
-        (
-            "X25 1 MOD 8 WIN 2 SIZE 128 PVC 0 SVC 4\n1 T 100\n",
-            2,
-            Kind::Hex,
-        ),
-        (
-            "X25 1 MOD 8 WIN 2 SIZE 128 PVC 0 SVC 4\n1 T 100",
-            2,
-            Kind::Hex,
-        ),
-    ] {
-        for step in STEPS {
-            let scanned = scan(rt.alloc(), text.as_bytes(), Cuts::of_steps(step, step));
-            assert_eq!(rt;
-                scanned.answer,
-                Err(Fault::Trace(line, kind)),
-                "at {text} by {step}"
-            );
-            assert!(rt; scanned.taken.is_empty());
-        }
-    }
-    Ok(())
+fn faulty_texts_are_refused(rt: HostRuntime) {
+    check_all(&rt, rt.alloc(), Way::Alone, traces(Table::Refused))
 }
+
+/// Texts with faulty lines.
+const FAULTY: [Worked; 10] = [
+    Worked {
+        name: "nothing",
+        text: b"",
+        fault: Some(Fault::Trace(1, Kind::HeaderMissing)),
+        report: b"",
+    },
+    Worked {
+        name: "comment alone",
+        text: b"# no header",
+        fault: Some(Fault::Trace(2, Kind::HeaderMissing)),
+        report: b"",
+    },
+    Worked {
+        name: "version of another form",
+        text: b"X25 2 MOD 8 WIN 2 SIZE 128 PVC 0 SVC 4\n",
+        fault: Some(Fault::Trace(1, Kind::HeaderForm)),
+        report: b"",
+    },
+    Worked {
+        name: "number twice",
+        text: b"X25 1 MOD 8 WIN 2 SIZE 128 PVC 0 SVC 4\n5 T -\n5 T -\n",
+        fault: Some(Fault::Trace(3, Kind::Number)),
+        report: b"",
+    },
+    Worked {
+        name: "modulus",
+        text: b"X25 1 MOD 9 WIN 2 SIZE 128 PVC 0 SVC 4\n",
+        fault: Some(Fault::Trace(1, Kind::HeaderRange)),
+        report: b"",
+    },
+    Worked {
+        name: "empty line",
+        text: b"X25 1 MOD 8 WIN 2 SIZE 128 PVC 0 SVC 4\n\n",
+        fault: Some(Fault::Trace(2, Kind::LineForm)),
+        report: b"",
+    },
+    Worked {
+        name: "leading zero",
+        text: b"X25 1 MOD 8 WIN 2 SIZE 128 PVC 0 SVC 4\n01 T -\n",
+        fault: Some(Fault::Trace(2, Kind::Number)),
+        report: b"",
+    },
+    Worked {
+        name: "side",
+        text: b"X25 1 MOD 8 WIN 2 SIZE 128 PVC 0 SVC 4\n1 X 100\n",
+        fault: Some(Fault::Trace(2, Kind::Side)),
+        report: b"",
+    },
+    Worked {
+        name: "odd digits",
+        text: b"X25 1 MOD 8 WIN 2 SIZE 128 PVC 0 SVC 4\n1 T 100\n",
+        fault: Some(Fault::Trace(2, Kind::Hex)),
+        report: b"",
+    },
+    Worked {
+        name: "odd digits without line feed",
+        text: b"X25 1 MOD 8 WIN 2 SIZE 128 PVC 0 SVC 4\n1 T 100",
+        fault: Some(Fault::Trace(2, Kind::Hex)),
+        report: b"",
+    },
+];
+
+#[test]
+fn a_text_is_refused_by_its_first_faulty_line(rt: HostRuntime) {
+    check_all(&rt, rt.alloc(), Way::Alone, FAULTY.as_slice())
+}
+
+/// A text whose header is faulty.
+const FAULTY_HEADER: &[u8] = b"X25 2 MOD 8 WIN 2 SIZE 128 PVC 0 SVC 4\n1 T -\n";
+
+/// Where the source of that text fails.
+const STOPS: [Stop; 4] = [
+    Stop {
+        good_bytes: 0,
+        fault: Fault::Read,
+        taken: b"",
+    },
+    Stop {
+        good_bytes: 38,
+        fault: Fault::Read,
+        taken: b"",
+    },
+    Stop {
+        good_bytes: 39,
+        fault: Fault::Trace(1, Kind::HeaderForm),
+        taken: b"",
+    },
+    Stop {
+        good_bytes: 40,
+        fault: Fault::Trace(1, Kind::HeaderForm),
+        taken: b"",
+    },
+];
 
 #[test]
 fn a_failing_source_hides_no_faulty_line(rt: HostRuntime) {
-    let header = "X25 2 MOD 8 WIN 2 SIZE 128 PVC 0 SVC 4\n1 T -\n";
-    for (good_bytes, fault) in [
-        (0, Fault::Read),
-        (38, Fault::Read),
-        (39, Fault::Trace(1, Kind::HeaderForm)),
-        (40, Fault::Trace(1, Kind::HeaderForm)),
-    ] {
-        for step in STEPS {
-            let cuts = Cuts {
-                good_bytes,
-                ..Cuts::of_steps(step, step)
-            };
-            let scanned = scan(rt.alloc(), header.as_bytes(), cuts);
-            assert_eq!(rt; scanned.answer, Err(fault), "{good_bytes} bytes by {step}");
-            assert!(rt; scanned.taken.is_empty());
-        }
-    }
+    check_stops(&rt, rt.alloc(), Way::Alone, FAULTY_HEADER, STOPS.as_slice())
 }
 
 #[test]
 fn a_failing_sink_took_the_first_bytes(rt: HostRuntime) {
-    let report = b"P 0 -\nZ 0 0 0 0 0\n";
-    for good_writes in 0..20 {
-        let cuts = Cuts {
-            good_writes,
-            ..Cuts::of_steps(1, 1)
-        };
-        let scanned = scan(rt.alloc(), HEADER.as_bytes(), cuts);
-        if good_writes < report.len() {
-            assert_eq!(rt; scanned.answer, Err(Fault::Write));
-            assert_eq!(rt; scanned.taken.as_slice(), &report[..good_writes]);
-        } else {
-            assert!(rt; scanned.answer.is_ok());
-            assert_eq!(rt; scanned.taken.as_slice(), report.as_slice());
-        }
-    }
+    check_writes(&rt, rt.alloc(), Way::Alone, &NO_ROWS, 1)
 }

@@ -1,20 +1,14 @@
 //! Traces that grow for want of memory.
 
-ghost use Rattle.std.specs.Prelude.{◌≡◌, ◌<◌};
 ghost use Rattle.live_report.specs.Lives.{IsFed};
 
 use crate::live::Live;
+use crate::tests::{Wanted, agree, check, check_fed, told};
 use channel_machine::channel::PlainChannel;
 use channel_machine::run::Channel;
-use line_model::count::Count;
-use line_model::device::VecSink;
 use line_model::fault::Fault;
-use line_model::totals::Summary;
 use std::alloc::{Allocator, Global};
-use std::marker::Brand;
 use std::process::Abort;
-use std::sync::ledger::{Blank, Ledger};
-use std::test::Fail;
 use test_devices::scarce::Scarce;
 
 /// A PAD call that a restart ends, and an epoch with findings and an open call. A chunk ends in the midst of a line.
@@ -43,69 +37,16 @@ const REPORT: &[u8] = b"F 7 T p1 20\n\
     P 1 2\n\
     Z 11 2 2 7 3\n";
 
-/// What a report answered, and what it wrote.
-#[derive(Drop)]
-struct Answer {
-    answer: Result<Summary, Fault>,
-    bytes: Vec<u8>,
+/// What a trace tells, of which a growth was refused or none was.
+fn wanted(refused: bool) -> Wanted {
+    if refused {
+        Err(Fault::Memory)
+    } else {
+        Ok(REPORT)
+    }
 }
 
-/// The report of a trace so far, into a sink that has its room.
-fn told_on<A: Allocator + Copy, C: Channel<A>, L: Ledger>(
-    blank: Blank,
-    alloc: Global,
-    trace: &Live<A, C>,
-) -> Result<Answer, Fail>
-    requires name { blank.name ≡ L.name }
-    requires parts { blank.parts ≡ L.parts }
-    requires some { 0 < L.parts }
-    requires fed { IsFed C.interface_of C.number_of C.stands_for trace.now }
-{
-    let mut sink: VecSink<Global, L> = VecSink::new(Vec::new(alloc), Count::open(blank));
-    let answer = trace.report(&mut sink);
-    let bytes = Vec::from_slice(alloc, sink.as_slice())?;
-    Ok(Answer { answer, bytes })
-}
-
-/// The report of a trace so far.
-fn told<A: Allocator + Copy, C: Channel<A>>(
-    alloc: Global,
-    trace: &Live<A, C>,
-) -> Result<Answer, Fail>
-    requires fed { IsFed C.interface_of C.number_of C.stands_for trace.now }
-{
-    told_on::<A, C, Brand>(Blank::new(1), alloc, trace)
-}
-
-/// Sees that the report of a trace is refused for want of memory, and that nothing is written.
-fn check_refused<A: Allocator + Copy, C: Channel<A>>(
-    rt: &impl Abort,
-    alloc: Global,
-    trace: &Live<A, C>,
-) -> Result<(), Fail>
-    requires fed { IsFed C.interface_of C.number_of C.stands_for trace.now }
-{
-    let told = told(alloc, trace)?;
-    assert_eq!(rt; told.answer.err(), Some(Fault::Memory));
-    assert!(rt; told.bytes.is_empty());
-    Ok(())
-}
-
-/// Sees that a trace has its report.
-fn check_told<A: Allocator + Copy, C: Channel<A>>(
-    rt: &impl Abort,
-    alloc: Global,
-    trace: &Live<A, C>,
-) -> Result<(), Fail>
-    requires fed { IsFed C.interface_of C.number_of C.stands_for trace.now }
-{
-    let told = told(alloc, trace)?;
-    assert!(rt; told.answer.is_ok());
-    assert_eq!(rt; told.bytes.as_slice(), REPORT);
-    Ok(())
-}
-
-/// Takes chunks in their order.
+/// Takes chunks in their order, up to one that is refused.
 fn feed_all<A: Allocator + Copy, C: Channel<A>>(
     trace: &mut Live<A, C>,
     chunks: &[&[u8]],
@@ -124,6 +65,13 @@ fn feed_all<A: Allocator + Copy, C: Channel<A>>(
 /// The most growths that these tests look for.
 const GROWTHS: u64 = 10_000;
 
+/// Sees that there were growths, and that each was refused; and that no block is kept.
+fn check_growths(rt: &impl Abort, heap: &Scarce<Global>, growths: u64) {
+    assert!(rt; 0 < growths);
+    assert!(rt; growths < GROWTHS, "there are fewer growths");
+    assert_eq!(rt; heap.held(), 0);
+}
+
 /// Refuses one growth of a report, and sees that nothing is written, that no block is kept and that the next report is
 /// right. Answers whether there was such a growth.
 fn check_growth<A: Allocator + Copy, C: Channel<A>>(
@@ -132,21 +80,18 @@ fn check_growth<A: Allocator + Copy, C: Channel<A>>(
     heap: &Scarce<Global>,
     trace: &Live<A, C>,
     good: u64,
-) -> Result<bool, Fail>
+) -> bool
     requires fed { IsFed C.interface_of C.number_of C.stands_for trace.now }
 {
     let held = heap.held();
     heap.refuse_one(good);
-    let told = told(alloc, trace)?;
+    let answer = told(alloc, trace);
     let refused = good < heap.asked();
     heap.grant_all();
     assert_eq!(rt; heap.held(), held);
-    if refused {
-        assert_eq!(rt; told.answer.err(), Some(Fault::Memory));
-        assert!(rt; told.bytes.is_empty());
-    }
-    check_told(rt, alloc, trace)?;
-    Ok(refused)
+    agree(rt, &answer, wanted(refused));
+    check(rt, alloc, trace, wanted(false));
+    refused
 }
 
 /// How many growths a report has, each of which is refused in turn.
@@ -155,67 +100,97 @@ fn growths_of_a_report<A: Allocator + Copy, C: Channel<A>>(
     alloc: Global,
     heap: &Scarce<Global>,
     trace: &Live<A, C>,
-) -> Result<u64, Fail>
+) -> u64
     requires fed { IsFed C.interface_of C.number_of C.stands_for trace.now }
 {
     for good in 0..GROWTHS {
-        if !check_growth(rt, alloc, heap, trace, good)? {
-            return Ok(good);
+        if !check_growth(rt, alloc, heap, trace, good) {
+            return good;
         }
     }
-    Err("a report has fewer growths".into())
+    GROWTHS
+}
+
+/// How many growths the report of a trace has that was fed.
+fn growths_once_fed(rt: &impl Abort, alloc: Global, heap: &Scarce<Global>) -> u64 {
+    let mut trace = Live::<&Scarce<Global>, PlainChannel<&Scarce<Global>>>::new(heap);
+    check_fed(rt, &mut trace, CHUNKS[0], None);
+    check_fed(rt, &mut trace, CHUNKS[1], None);
+    growths_of_a_report(rt, alloc, heap, &trace)
+}
+
+fn refuse_growths_of_a_report(rt: &impl Abort, alloc: Global) {
+    let heap = Scarce::new(alloc);
+    let growths = growths_once_fed(rt, alloc, &heap);
+    check_growths(rt, &heap, growths);
 }
 
 #[test]
-fn a_report_that_wants_memory_leaves_the_trace_as_it_was(rt: HostRuntime) -> Result<(), Fail> {
-    let heap = Scarce::new(rt.alloc());
-    let mut trace = Live::<&Scarce<Global>, PlainChannel<&Scarce<Global>>>::new(&heap);
-    feed_all(&mut trace, CHUNKS.as_slice())?;
-    let growths = growths_of_a_report(&rt, rt.alloc(), &heap, &trace)?;
-    assert!(&rt; 0 < growths);
-    drop(trace);
-    assert_eq!(&rt; heap.held(), 0);
-    Ok(())
+fn a_report_that_wants_memory_leaves_the_trace_as_it_was(rt: HostRuntime) {
+    refuse_growths_of_a_report(&rt, rt.alloc())
 }
 
-/// Refuses one growth of a trace that is fed, and sees that it answers want of memory from then on. Answers whether
-/// there was such a growth.
-fn check_fed<A: Allocator + Copy, C: Channel<A>>(
+/// Sees what a trace tells once it was fed, and that one that wanted memory wants it from then on.
+fn check_told<A: Allocator + Copy, C: Channel<A>>(
+    rt: &impl Abort,
+    alloc: Global,
+    trace: &mut Live<A, C>,
+    fault: Option<Fault>,
+    refused: bool,
+)
+    requires fed { IsFed C.interface_of C.number_of C.stands_for trace.old }
+{
+    let wanted = wanted(refused);
+    assert_eq!(rt; fault, wanted.err());
+    if refused {
+        check_fed(rt, trace, b"12 T -\n", wanted.err());
+    }
+    check(rt, alloc, trace, wanted);
+}
+
+/// Refuses one growth of a trace that is fed. Answers whether there was such a growth.
+fn check_feeding<A: Allocator + Copy, C: Channel<A>>(
     rt: &impl Abort,
     alloc: Global,
     heap: &Scarce<Global>,
     trace: &mut Live<A, C>,
     good: u64,
-) -> Result<bool, Fail>
+) -> bool
     requires fed { IsFed C.interface_of C.number_of C.stands_for trace.old }
 {
     heap.refuse_one(good);
-    let answer = feed_all(trace, CHUNKS.as_slice());
+    let fault = feed_all(trace, CHUNKS.as_slice()).err();
     let refused = good < heap.asked();
     heap.grant_all();
-    if !refused {
-        assert_eq!(rt; answer.err(), None);
-        check_told(rt, alloc, trace)?;
-        return Ok(false);
+    check_told(rt, alloc, trace, fault, refused);
+    refused
+}
+
+/// Feeds a trace of which nothing was fed, and refuses one growth. Answers whether there was such a growth.
+fn check_trace(rt: &impl Abort, alloc: Global, heap: &Scarce<Global>, good: u64) -> bool {
+    let mut trace = Live::<&Scarce<Global>, PlainChannel<&Scarce<Global>>>::new(heap);
+    check_feeding(rt, alloc, heap, &mut trace, good)
+}
+
+/// How many growths a trace has that is fed, each of which is refused in turn.
+fn growths_of_a_trace(rt: &impl Abort, alloc: Global, heap: &Scarce<Global>) -> u64 {
+    for good in 0..GROWTHS {
+        let refused = check_trace(rt, alloc, heap, good);
+        assert_eq!(rt; heap.held(), 0);
+        if !refused {
+            return good;
+        }
     }
-    assert_eq!(rt; answer.err(), Some(Fault::Memory));
-    assert_eq!(rt; trace.feed(b"12 T -\n").err(), Some(Fault::Memory));
-    check_refused(rt, alloc, trace)?;
-    Ok(true)
+    GROWTHS
+}
+
+fn refuse_growths_of_a_trace(rt: &impl Abort, alloc: Global) {
+    let heap = Scarce::new(alloc);
+    let growths = growths_of_a_trace(rt, alloc, &heap);
+    check_growths(rt, &heap, growths);
 }
 
 #[test]
-fn a_trace_that_wanted_memory_wants_it_from_then_on(rt: HostRuntime) -> Result<(), Fail> {
-    let heap = Scarce::new(rt.alloc());
-    for good in 0..GROWTHS {
-        let mut trace = Live::<&Scarce<Global>, PlainChannel<&Scarce<Global>>>::new(&heap);
-        let refused = check_fed(&rt, rt.alloc(), &heap, &mut trace, good)?;
-        drop(trace);
-        assert_eq!(&rt; heap.held(), 0);
-        if !refused {
-            assert!(&rt; 0 < good);
-            return Ok(());
-        }
-    }
-    Err("a trace has fewer growths".into())
+fn a_trace_that_wanted_memory_wants_it_from_then_on(rt: HostRuntime) {
+    refuse_growths_of_a_trace(&rt, rt.alloc())
 }

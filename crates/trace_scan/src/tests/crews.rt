@@ -1,239 +1,268 @@
 //! Scans with workers.
 
-ghost use Rattle.std.specs.Prelude.{◌≡◌, ◌<◌, ◌≤◌};
-
 use crate::gate::OpenGate;
-use crate::tests::gated::{accepted, scan_through, trace};
-use crate::tests::worked::Worked;
-use crate::tests::worked::channels::CHANNELS;
-use crate::tests::worked::epochs::EPOCHS;
-use crate::tests::worked::long::LONG_TRACES;
-use crate::tests::worked::messages::MESSAGES;
-use crate::tests::worked::refused::REFUSED;
+use crate::tests::NO_ROWS;
+use crate::tests::checks::{Stop, check, check_all, check_stops, check_writes};
+use crate::tests::runs::{NONE, Scanned, Way, scan_through};
+use crate::tests::worked::long::{LONG_TRACES, LongTrace};
+use crate::tests::worked::{Table, Worked, trace, traces};
+use crate::threaded::Scan;
 use line_model::fault::{Fault, Kind};
 use line_model::totals::Totals;
 use std::alloc::Global;
 use std::process::Abort;
 use std::sync::Wait;
-use std::test::Fail;
 use std::thread::Threads;
 use std::time::Clock;
 use test_devices::Cuts;
 
-/// How many bytes a source gives at once.
-const STEPS: [usize; 3] = [1, 7, 65536];
+/// Scans traces in steps of any size, by crews of several sizes.
+fn check_crews<R: Threads + Wait + Clock + Sync + Abort>(rt: &R, alloc: Global, traces: &[Worked]) {
+    check_all(rt, alloc, Way::Crew(1, 1), traces);
+    check_all(rt, alloc, Way::Crew(2, 64), traces);
+    check_all(rt, alloc, Way::Crew(64, 1), traces);
+}
 
-/// The totals of no pieces.
-const NONE: Totals = Totals {
-    posts: 0,
-    findings: 0,
-    octets: 0,
-    segments: 0,
-};
+#[test]
+fn calls_are_reported_by_any_number_of_workers(rt: HostRuntime) {
+    check_crews(&rt, rt.alloc(), traces(Table::Channels))
+}
 
-/// Scans a worked trace in steps of any size.
-fn check_trace<R: Threads + Wait + Clock + Sync + Abort>(
+#[test]
+fn epochs_are_reported_by_any_number_of_workers(rt: HostRuntime) {
+    check_crews(&rt, rt.alloc(), traces(Table::Epochs))
+}
+
+#[test]
+fn messages_are_reported_by_any_number_of_workers(rt: HostRuntime) {
+    check_crews(&rt, rt.alloc(), traces(Table::Messages))
+}
+
+#[test]
+fn faulty_texts_are_refused_by_any_number_of_workers(rt: HostRuntime) {
+    check_crews(&rt, rt.alloc(), traces(Table::Refused))
+}
+
+fn check_long<R: Threads + Wait + Clock + Sync + Abort>(rt: &R, alloc: Global, long: &LongTrace) {
+    let text = long.text(rt, alloc);
+    check_crews(rt, alloc, &[long.worked(text.as_slice())]);
+}
+
+fn check_long_traces<R: Threads + Wait + Clock + Sync + Abort>(rt: &R, alloc: Global) {
+    for long in &LONG_TRACES {
+        check_long(rt, alloc, long);
+    }
+}
+
+#[test]
+fn long_traces_are_reported_by_any_number_of_workers(rt: HostRuntime) {
+    check_long_traces(&rt, rt.alloc())
+}
+
+/// What the workers of a scan must have found.
+#[derive(Clone, Copy)]
+pub struct Work<'a> {
+    pub workers: usize,
+    pub totals: Totals,
+    /// How many workers must have each of these shares.
+    pub shares: &'a [(usize, Totals)],
+}
+
+/// How many workers have this share.
+fn count(shares: &[Totals], wanted: Totals) -> usize {
+    let mut workers = 0usize;
+    for share in shares {
+        if *share == wanted {
+            workers = workers.saturating_add(1);
+        }
+    }
+    workers
+}
+
+/// Sees how many workers have each share.
+fn agree_on_shares(rt: &impl Abort, shares: &[Totals], wanted: &[(usize, Totals)]) {
+    for (workers, share) in wanted {
+        assert_eq!(rt; count(shares, *share), *workers);
+    }
+}
+
+/// Sees what the workers of a scan found.
+fn agree_on_scan(rt: &impl Abort, scan: &Scan, work: &Work) {
+    assert!(rt; scan.totals == work.totals, "{} workers", work.workers);
+    assert_eq!(rt; scan.shares.len(), work.workers);
+    agree_on_shares(rt, scan.shares.as_slice(), work.shares);
+}
+
+/// Sees what a scan by workers answered and wrote.
+pub fn agree(rt: &impl Abort, scanned: &Scanned, work: &Work, report: &[u8]) {
+    assert_eq!(rt; scanned.taken.as_slice(), report);
+    match &scanned.answer {
+        Ok(scan) => agree_on_scan(rt, scan, work),
+        Err(_) => panic!(rt; "the trace is without fault"),
+    }
+}
+
+/// Scans a trace over a queue of so many pieces, and sees what the workers found.
+fn check_work<R: Threads + Wait + Clock + Sync + Abort>(
     rt: &R,
     alloc: Global,
     worked: &Worked,
-    crew: (usize, usize),
-) -> Result<(), Fail>
-    requires workers { (0 < crew.0) × (crew.0 ≤ 64) }
-    requires capacity { (0 < crew.1) × (crew.1 ≤ 4096) }
-{
-    for step in STEPS {
-        let cuts = Cuts::of_steps(step, step);
-        let scanned = scan_through(rt, alloc, worked.text, cuts, crew, &OpenGate);
-        assert_eq!(rt;
-            scanned.answer.err(),
-            worked.fault,
-            "{} by {step}",
-            worked.name
-        );
-        assert_eq!(rt;
-            scanned.taken.as_slice(),
-            worked.report,
-            "{} by {step}",
-            worked.name
-        );
-    }
-    Ok(())
-}
-
-/// Scans worked traces by crews of several sizes.
-fn check<R: Threads + Wait + Clock + Sync + Abort>(
-    rt: &R,
-    alloc: Global,
-    traces: &[Worked],
-) -> Result<(), Fail> {
-    for worked in traces {
-        check_trace(rt, alloc, worked, (1, 1))?;
-        check_trace(rt, alloc, worked, (2, 64))?;
-        check_trace(rt, alloc, worked, (64, 1))?;
-    }
-    Ok(())
-}
-
-#[test]
-fn calls_are_reported_by_any_number_of_workers(rt: HostRuntime) -> Result<(), Fail> {
-    check(&rt, rt.alloc(), CHANNELS.as_slice())
-}
-
-#[test]
-fn epochs_are_reported_by_any_number_of_workers(rt: HostRuntime) -> Result<(), Fail> {
-    check(&rt, rt.alloc(), EPOCHS.as_slice())
-}
-
-#[test]
-fn messages_are_reported_by_any_number_of_workers(rt: HostRuntime) -> Result<(), Fail> {
-    check(&rt, rt.alloc(), MESSAGES.as_slice())
-}
-
-#[test]
-fn faulty_texts_are_refused_by_any_number_of_workers(rt: HostRuntime) -> Result<(), Fail> {
-    check(&rt, rt.alloc(), REFUSED.as_slice())
-}
-
-#[test]
-fn long_traces_are_reported_by_any_number_of_workers(rt: HostRuntime) -> Result<(), Fail> {
-    for long in &LONG_TRACES {
-        let text = long.text(rt.alloc())?;
-        check(&rt, rt.alloc(), &[long.worked(text.as_slice())])?;
-    }
-    Ok(())
-}
-
-#[test]
-fn three_epochs_have_twelve_pieces(rt: HostRuntime) -> Result<(), Fail> {
-    let worked = trace(EPOCHS.as_slice(), "three-epochs")?;
-    for (workers, capacity) in [(1, 1), (1, 64), (2, 1), (2, 64), (64, 1), (64, 64)] {
-        let crew = (workers, capacity);
-        let cuts = Cuts::of_steps(7, 7);
-        let scanned = scan_through(&rt, rt.alloc(), worked.text, cuts, crew, &OpenGate);
-        let scan = accepted(scanned.answer)?;
-        let wanted = Totals {
-            posts: 12,
-            findings: 12,
-            octets: 0,
-            segments: 0,
-        };
-        assert!(rt; scan.totals == wanted, "{workers} workers");
-        assert_eq!(rt; scan.shares.len(), workers);
-    }
-    Ok(())
-}
-
-#[test]
-fn one_piece_is_one_workers_share(rt: HostRuntime) -> Result<(), Fail> {
-    let worked = trace(EPOCHS.as_slice(), "one-piece")?;
+    capacity: usize,
+    work: &Work,
+) {
+    let way = Way::Crew(work.workers, capacity);
     let cuts = Cuts::of_steps(7, 7);
-    let scanned = scan_through(&rt, rt.alloc(), worked.text, cuts, (64, 1), &OpenGate);
-    let scan = accepted(scanned.answer)?;
-    let one = Totals {
-        posts: 1,
-        findings: 1,
+    let scanned = scan_through(rt, alloc, alloc, &OpenGate, way, worked.text, cuts);
+    agree(rt, &scanned, work, worked.report);
+}
+
+/// The totals of so many pieces that have a finding each.
+pub const fn findings(pieces: u64) -> Totals {
+    Totals {
+        posts: pieces,
+        findings: pieces,
         octets: 0,
         segments: 0,
+    }
+}
+
+/// Scans three epochs by crews of several sizes.
+fn check_three_epochs<R: Threads + Wait + Clock + Sync + Abort>(rt: &R, alloc: Global) {
+    let worked = trace(rt, Table::Epochs, "three-epochs");
+    for (workers, capacity) in [(1, 1), (1, 64), (2, 1), (2, 64), (64, 1), (64, 64)] {
+        let work = Work {
+            workers,
+            totals: findings(12),
+            shares: &[],
+        };
+        check_work(rt, alloc, worked, capacity, &work);
+    }
+}
+
+#[test]
+fn three_epochs_have_twelve_pieces(rt: HostRuntime) {
+    check_three_epochs(&rt, rt.alloc())
+}
+
+/// Scans one piece by many workers, of which one has it.
+fn check_one_piece<R: Threads + Wait + Clock + Sync + Abort>(rt: &R, alloc: Global) {
+    let worked = trace(rt, Table::Epochs, "one-piece");
+    let work = Work {
+        workers: 64,
+        totals: findings(1),
+        shares: &[(1, findings(1)), (63, NONE)],
     };
-    assert_eq!(rt; scan.shares.len(), 64);
-    assert!(rt; scan.totals == one);
-    assert_eq!(rt;
-        scan.shares.iter().filter(|share| **share == one).count(),
-        1
-    );
-    assert_eq!(rt;
-        scan.shares.iter().filter(|share| **share == NONE).count(),
-        63
-    );
-    Ok(())
+    check_work(rt, alloc, worked, 1, &work);
 }
 
 #[test]
-fn a_trace_without_rows_leaves_all_shares_empty(rt: HostRuntime) -> Result<(), Fail> {
-    let text = b"X25 1 MOD 8 WIN 2 SIZE 128 PVC 0 SVC 4\n";
-    for capacity in [1, 64] {
-        let cuts = Cuts::of_steps(7, 7);
-        let crew = (64, capacity);
-        let scanned = scan_through(&rt, rt.alloc(), text.as_slice(), cuts, crew, &OpenGate);
-        assert_eq!(rt;
-            scanned.taken.as_slice(),
-            b"P 0 -\nZ 0 0 0 0 0\n".as_slice()
-        );
-        let scan = accepted(scanned.answer)?;
-        assert_eq!(rt; scan.totals, NONE);
-        assert_eq!(rt; scan.shares.len(), 64);
-        assert!(rt; scan.shares.iter().all(|share| *share == NONE));
-    }
-    Ok(())
+fn one_piece_is_one_workers_share(rt: HostRuntime) {
+    check_one_piece(&rt, rt.alloc())
+}
+
+/// Scans a trace without pieces by many workers, of which none has any.
+fn check_no_rows<R: Threads + Wait + Clock + Sync + Abort>(rt: &R, alloc: Global) {
+    let work = Work {
+        workers: 64,
+        totals: NONE,
+        shares: &[(64, NONE)],
+    };
+    check_work(rt, alloc, &NO_ROWS, 1, &work);
+    check_work(rt, alloc, &NO_ROWS, 64, &work);
 }
 
 #[test]
-fn a_failing_source_is_told_with_workers(rt: HostRuntime) -> Result<(), Fail> {
-    let worked = trace(EPOCHS.as_slice(), "three-epochs")?;
-    for good_calls in [0, 1, 5, 12, 15] {
-        for step in [1, 16] {
-            let cuts = Cuts {
-                good_bytes: good_calls * step,
-                ..Cuts::of_steps(step, step)
-            };
-            let scanned = scan_through(&rt, rt.alloc(), worked.text, cuts, (2, 64), &OpenGate);
-            assert_eq!(rt;
-                scanned.answer.err(),
-                Some(Fault::Read),
-                "{good_calls} by {step}"
-            );
-            assert!(rt; scanned.taken.is_empty());
-        }
-    }
-    Ok(())
+fn a_trace_without_rows_leaves_all_shares_empty(rt: HostRuntime) {
+    check_no_rows(&rt, rt.alloc())
 }
+
+/// Has the source fail after so many calls, each of one byte and each of sixteen.
+fn check_calls<R: Threads + Wait + Clock + Sync + Abort>(rt: &R, alloc: Global, refused: &Worked) {
+    for (good_bytes, step) in [
+        (0, 1),
+        (1, 1),
+        (5, 1),
+        (12, 1),
+        (15, 1),
+        (0, 16),
+        (16, 16),
+        (80, 16),
+        (192, 16),
+        (240, 16),
+    ] {
+        let cuts = Cuts {
+            good_bytes,
+            ..Cuts::of_steps(step, step)
+        };
+        check(rt, alloc, Way::Crew(2, 64), refused, cuts);
+    }
+}
+
+fn check_failing_source<R: Threads + Wait + Clock + Sync + Abort>(rt: &R, alloc: Global) {
+    let worked = trace(rt, Table::Epochs, "three-epochs");
+    let refused = Worked {
+        name: worked.name,
+        text: worked.text,
+        fault: Some(Fault::Read),
+        report: b"",
+    };
+    check_calls(rt, alloc, &refused);
+}
+
+#[test]
+fn a_failing_source_is_told_with_workers(rt: HostRuntime) {
+    check_failing_source(&rt, rt.alloc())
+}
+
+/// A text whose second row has the number of the first.
+const NUMBER_TWICE: &[u8] = b"X25 1 MOD 8 WIN 2 SIZE 128 PVC 0 SVC 4\n5 T -\n5 T -\n6 T -\n";
+
+/// Where the source of that text fails.
+const STOPS: [Stop; 5] = [
+    Stop {
+        good_bytes: 0,
+        fault: Fault::Read,
+        taken: b"",
+    },
+    Stop {
+        good_bytes: 39,
+        fault: Fault::Read,
+        taken: b"",
+    },
+    Stop {
+        good_bytes: 50,
+        fault: Fault::Read,
+        taken: b"",
+    },
+    Stop {
+        good_bytes: 51,
+        fault: Fault::Trace(3, Kind::Number),
+        taken: b"",
+    },
+    Stop {
+        good_bytes: 52,
+        fault: Fault::Trace(3, Kind::Number),
+        taken: b"",
+    },
+];
 
 #[test]
 fn a_failing_source_hides_no_faulty_line_from_workers(rt: HostRuntime) {
-    let text = b"X25 1 MOD 8 WIN 2 SIZE 128 PVC 0 SVC 4\n5 T -\n5 T -\n6 T -\n";
-    for (good_bytes, fault) in [
-        (0, Fault::Read),
-        (39, Fault::Read),
-        (50, Fault::Read),
-        (51, Fault::Trace(3, Kind::Number)),
-        (52, Fault::Trace(3, Kind::Number)),
-    ] {
-        for step in STEPS {
-            let cuts = Cuts {
-                good_bytes,
-                ..Cuts::of_steps(step, step)
-            };
-            let scanned = scan_through(&rt, rt.alloc(), text, cuts, (2, 64), &OpenGate);
-            assert_eq!(rt;
-                scanned.answer.err(),
-                Some(fault),
-                "{good_bytes} bytes by {step}"
-            );
-            assert!(rt; scanned.taken.is_empty());
-        }
-    }
+    check_stops(
+        &rt,
+        rt.alloc(),
+        Way::Crew(2, 64),
+        NUMBER_TWICE,
+        STOPS.as_slice(),
+    )
+}
+
+fn check_failing_sink<R: Threads + Wait + Clock + Sync + Abort>(rt: &R, alloc: Global) {
+    let worked = trace(rt, Table::Epochs, "three-epochs");
+    check_writes(rt, alloc, Way::Crew(2, 64), worked, 16);
 }
 
 #[test]
-fn a_failing_sink_took_the_first_bytes_of_workers(rt: HostRuntime) -> Result<(), Fail> {
-    let worked = trace(EPOCHS.as_slice(), "three-epochs")?;
-    for good_writes in [0, 1, 11, 12, 100, 168, 169, 170] {
-        let cuts = Cuts {
-            good_writes,
-            ..Cuts::of_steps(16, 1)
-        };
-        let scanned = scan_through(&rt, rt.alloc(), worked.text, cuts, (2, 64), &OpenGate);
-        if good_writes < worked.report.len() {
-            assert_eq!(rt;
-                scanned.answer.err(),
-                Some(Fault::Write),
-                "{good_writes} bytes"
-            );
-            assert_eq!(rt; scanned.taken.as_slice(), &worked.report[..good_writes]);
-        } else {
-            assert!(rt; scanned.answer.is_ok(), "{good_writes} bytes");
-            assert_eq!(rt; scanned.taken.as_slice(), worked.report);
-        }
-    }
-    Ok(())
+fn a_failing_sink_took_the_first_bytes_of_workers(rt: HostRuntime) {
+    check_failing_sink(&rt, rt.alloc())
 }

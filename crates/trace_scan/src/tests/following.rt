@@ -1,187 +1,135 @@
 //! The scan that follows a trace, over the devices of the tests.
 
-ghost use Rattle.std.specs.Prelude.{◌≡◌, ◌<◌};
-
-use crate::following::follow;
-use crate::tests::runs::Scanned;
-use crate::tests::worked::Worked;
-use crate::tests::worked::channels::CHANNELS;
-use crate::tests::worked::epochs::EPOCHS;
-use crate::tests::worked::messages::MESSAGES;
-use crate::tests::worked::refused::REFUSED;
-use crate::tests::{HEADER, STEPS};
-use line_model::count::Count;
+use crate::tests::checks::{
+    STEPS, Stop, agree_on_fault, agree_on_report, check, check_all, check_stops, check_writes,
+};
+use crate::tests::runs::{Way, scan};
+use crate::tests::worked::{Table, Worked, traces};
 use line_model::fault::{Fault, Kind};
 use std::alloc::Global;
-use std::marker::Brand;
 use std::process::Abort;
-use std::sync::ledger::{Blank, Ledger};
-use std::test::Fail;
-use test_devices::{CutSink, CutSource, Cuts};
+use std::sync::Wait;
+use std::thread::Threads;
+use std::time::Clock;
+use test_devices::Cuts;
 
-fn follow_on<C: Ledger, F: Ledger, K: Ledger>(
-    alloc: Global,
-    text: &[u8],
-    cuts: Cuts,
-    calls: Blank,
-    read_failures: Blank,
-    write_failures: Blank,
-) -> Scanned
-    requires calls_name { calls.name ≡ C.name }
-    requires calls_parts { calls.parts ≡ C.parts }
-    requires calls_shared { 0 < C.parts }
-    requires read_name { read_failures.name ≡ F.name }
-    requires read_parts { read_failures.parts ≡ F.parts }
-    requires read_shared { 0 < F.parts }
-    requires write_name { write_failures.name ≡ K.name }
-    requires write_parts { write_failures.parts ≡ K.parts }
-    requires write_shared { 0 < K.parts }
-{
-    let mut source = CutSource {
-        rest: text,
-        step: cuts.read_step,
-        good: cuts.good_bytes,
-        calls: Count::<C>::open(calls),
-        failures: Count::<F>::open(read_failures),
-    };
-    let mut sink = CutSink {
-        taken: Vec::new(alloc),
-        step: cuts.write_step,
-        good_calls: cuts.good_writes,
-        failures: Count::<K>::open(write_failures),
-    };
-    let answer = follow(alloc, &mut source, &mut sink);
-    Scanned {
-        answer,
-        taken: sink.taken,
-    }
-}
-
-/// Follows a text.
-fn follow_text(alloc: Global, text: &[u8], cuts: Cuts) -> Scanned {
-    follow_on::<Brand, Brand, Brand>(
-        alloc,
-        text,
-        cuts,
-        Blank::new(1),
-        Blank::new(1),
-        Blank::new(1),
-    )
-}
-
-/// Follows worked traces, as their sources and sinks cut them.
-fn check(rt: &impl Abort, alloc: Global, traces: &[Worked]) -> Result<(), Fail> {
-    for worked in traces {
-        for step in STEPS {
-            let scanned = follow_text(alloc, worked.text, Cuts::of_steps(step, step));
-            assert_eq!(rt;
-                scanned.answer.err(),
-                worked.fault,
-                "{} by {step}",
-                worked.name
-            );
-            if worked.fault.is_none() {
-                assert_eq!(rt;
-                    scanned.taken.as_slice(),
-                    worked.report,
-                    "{} by {step}",
-                    worked.name
-                );
-            }
+/// Follows a worked trace, as its source and its sink cut it. Where it is refused, findings may have been written.
+fn check_trace<R: Threads + Wait + Clock + Sync + Abort>(rt: &R, alloc: Global, worked: &Worked) {
+    for step in STEPS {
+        let cuts = Cuts::of_steps(step, step);
+        let outcome = scan(rt, alloc, Way::Following, worked.text, cuts);
+        agree_on_fault(rt, &outcome, worked, cuts);
+        if worked.fault.is_none() {
+            agree_on_report(rt, &outcome, worked, cuts);
         }
     }
-    Ok(())
 }
 
-#[test]
-fn followed_traces_end_with_their_reports(rt: HostRuntime) -> Result<(), Fail> {
-    check(&rt, rt.alloc(), CHANNELS.as_slice())?;
-    check(&rt, rt.alloc(), EPOCHS.as_slice())?;
-    check(&rt, rt.alloc(), MESSAGES.as_slice())?;
-    check(&rt, rt.alloc(), REFUSED.as_slice())
-}
-
-#[test]
-fn findings_stand_before_a_faulty_line(rt: HostRuntime) -> Result<(), Fail> {
-    for (rows, fault, found) in [
-        (
-            "1 T -\n2 X -\n",
-            Fault::Trace(3, Kind::Side),
-            "F 1 T - 38\n",
-        ),
-        (
-            "1 T -\n2 N 10\n2 N 10\n3 T -\n",
-            Fault::Trace(4, Kind::Number),
-            "F 1 T - 38\nF 2 N - 38\n",
-        ),
-        ("1 T -\n2 X -", Fault::Trace(3, Kind::Side), "F 1 T - 38\n"),
-    ] {
-        let text = format!(in rt.alloc(); "{HEADER}{rows}")?;
-        for step in STEPS {
-            let scanned = follow_text(rt.alloc(), text.as_bytes(), Cuts::of_steps(step, step));
-            assert_eq!(rt; scanned.answer, Err(fault), "at {rows} by {step}");
-            assert_eq!(rt; scanned.taken.as_slice(), found.as_bytes());
-        }
+/// Follows the traces of a table.
+fn check_table<R: Threads + Wait + Clock + Sync + Abort>(rt: &R, alloc: Global, table: Table) {
+    for worked in traces(table) {
+        check_trace(rt, alloc, worked);
     }
-    Ok(())
+}
+
+/// Follows the traces of all tables.
+fn check_tables<R: Threads + Wait + Clock + Sync + Abort>(rt: &R, alloc: Global) {
+    check_table(rt, alloc, Table::Channels);
+    check_table(rt, alloc, Table::Epochs);
+    check_table(rt, alloc, Table::Messages);
+    check_table(rt, alloc, Table::Refused);
 }
 
 #[test]
-fn a_failing_source_leaves_the_findings(rt: HostRuntime) -> Result<(), Fail> {
-    let text = format!(in rt.alloc(); "{HEADER}1 T -\n2 T -\n")?;
-    for (good_bytes, found) in [
-        (HEADER.len() + 5, ""),
-        (HEADER.len() + 6, "F 1 T - 38\n"),
-        (HEADER.len() + 11, "F 1 T - 38\n"),
-        (HEADER.len() + 12, "F 1 T - 38\nF 2 T - 38\n"),
-    ] {
-        for step in STEPS {
-            let cuts = Cuts {
-                good_bytes,
-                ..Cuts::of_steps(step, step)
-            };
-            let scanned = follow_text(rt.alloc(), text.as_bytes(), cuts);
-            assert_eq!(rt;
-                scanned.answer,
-                Err(Fault::Read),
-                "{good_bytes} bytes by {step}"
-            );
-            assert_eq!(rt; scanned.taken.as_slice(), found.as_bytes());
-        }
-    }
-    Ok(())
+fn followed_traces_end_with_their_reports(rt: HostRuntime) {
+    check_tables(&rt, rt.alloc())
 }
 
-#[test]
-fn a_failing_sink_has_the_first_bytes(rt: HostRuntime) -> Result<(), Fail> {
-    let text = format!(in rt.alloc(); "{HEADER}1 T -\n2 T -")?;
-    let report = b"F 1 T - 38\nF 2 T - 38\nP 0 -\nZ 2 2 0 0 0\n";
-    for good_writes in 0..report.len() + 2 {
-        let cuts = Cuts {
-            good_writes,
-            ..Cuts::of_steps(1, 1)
-        };
-        let scanned = follow_text(rt.alloc(), text.as_bytes(), cuts);
-        if good_writes < report.len() {
-            assert_eq!(rt; scanned.answer, Err(Fault::Write));
-            assert_eq!(rt; scanned.taken.as_slice(), &report[..good_writes]);
-        } else {
-            assert!(rt; scanned.answer.is_ok());
-            assert_eq!(rt; scanned.taken.as_slice(), report.as_slice());
-        }
-    }
-    Ok(())
-}
+/// Traces with findings before a faulty line.
+const FAULTY: [Worked; 3] = [
+    Worked {
+        name: "finding, then no side",
+        text: b"X25 1 MOD 8 WIN 2 SIZE 128 PVC 0 SVC 4\n1 T -\n2 X -\n",
+        fault: Some(Fault::Trace(3, Kind::Side)),
+        report: b"F 1 T - 38\n",
+    },
+    Worked {
+        name: "findings, then a number twice",
+        text: b"X25 1 MOD 8 WIN 2 SIZE 128 PVC 0 SVC 4\n1 T -\n2 N 10\n2 N 10\n3 T -\n",
+        fault: Some(Fault::Trace(4, Kind::Number)),
+        report: b"F 1 T - 38\nF 2 N - 38\n",
+    },
+    Worked {
+        name: "finding, then no side and no line feed",
+        text: b"X25 1 MOD 8 WIN 2 SIZE 128 PVC 0 SVC 4\n1 T -\n2 X -",
+        fault: Some(Fault::Trace(3, Kind::Side)),
+        report: b"F 1 T - 38\n",
+    },
+];
 
 #[test]
-fn a_faulty_line_is_told_where_the_sink_fails_too(rt: HostRuntime) -> Result<(), Fail> {
-    let text = format!(in rt.alloc(); "{HEADER}1 T -\n2 X -\n")?;
+fn findings_stand_before_a_faulty_line(rt: HostRuntime) {
+    check_all(&rt, rt.alloc(), Way::Following, FAULTY.as_slice())
+}
+
+/// A header and two rows of six bytes.
+const TWO_ROWS: &[u8] = b"X25 1 MOD 8 WIN 2 SIZE 128 PVC 0 SVC 4\n1 T -\n2 T -\n";
+
+/// Where the source of those rows fails: a header has 39 bytes.
+const STOPS: [Stop; 4] = [
+    Stop {
+        good_bytes: 44,
+        fault: Fault::Read,
+        taken: b"",
+    },
+    Stop {
+        good_bytes: 45,
+        fault: Fault::Read,
+        taken: b"F 1 T - 38\n",
+    },
+    Stop {
+        good_bytes: 50,
+        fault: Fault::Read,
+        taken: b"F 1 T - 38\n",
+    },
+    Stop {
+        good_bytes: 51,
+        fault: Fault::Read,
+        taken: b"F 1 T - 38\nF 2 T - 38\n",
+    },
+];
+
+#[test]
+fn a_failing_source_leaves_the_findings(rt: HostRuntime) {
+    check_stops(&rt, rt.alloc(), Way::Following, TWO_ROWS, STOPS.as_slice())
+}
+
+/// Two rows, of which no line feed ends the last.
+const OPEN_ROWS: Worked = Worked {
+    name: "two rows",
+    text: b"X25 1 MOD 8 WIN 2 SIZE 128 PVC 0 SVC 4\n1 T -\n2 T -",
+    fault: None,
+    report: b"F 1 T - 38\nF 2 T - 38\nP 0 -\nZ 2 2 0 0 0\n",
+};
+
+#[test]
+fn a_failing_sink_has_the_first_bytes(rt: HostRuntime) {
+    check_writes(&rt, rt.alloc(), Way::Following, &OPEN_ROWS, 1)
+}
+
+/// A finding before a faulty line, into a sink that takes nothing.
+const UNWRITTEN: Worked = Worked {
+    name: "finding that is not taken, then no side",
+    text: b"X25 1 MOD 8 WIN 2 SIZE 128 PVC 0 SVC 4\n1 T -\n2 X -\n",
+    fault: Some(Fault::Trace(3, Kind::Side)),
+    report: b"",
+};
+
+#[test]
+fn a_faulty_line_is_told_where_the_sink_fails_too(rt: HostRuntime) {
     let cuts = Cuts {
         good_writes: 0,
         ..Cuts::of_steps(usize::MAX, usize::MAX)
     };
-    let scanned = follow_text(rt.alloc(), text.as_bytes(), cuts);
-    assert_eq!(rt; scanned.answer, Err(Fault::Trace(3, Kind::Side)));
-    assert!(rt; scanned.taken.is_empty());
-    Ok(())
+    check(&rt, rt.alloc(), Way::Following, &UNWRITTEN, cuts)
 }

@@ -1,16 +1,15 @@
 //! Scans whose workers are held until others came, and whose reader waits for the workers.
 
-ghost use Rattle.std.specs.Prelude.{◌≡◌, ◌<◌, ◌≤◌};
+ghost use Rattle.std.specs.Prelude.{◌≡◌, ◌<◌};
 
 use crate::gate::OpenGate;
-use crate::tests::gated::{Scanned, accepted, scan_from, scan_through, trace};
-use crate::tests::worked::epochs::EPOCHS;
-use crate::threaded::Scan;
+use crate::tests::crews::{Work, agree, findings};
+use crate::tests::runs::{Scanned, Way, scan_from, scan_through};
+use crate::tests::worked::{Table, trace};
 use line_model::count::Count;
 use line_model::device::Source;
 use line_model::fault::Fault;
 use line_model::piece::{Piece, PieceReport};
-use line_model::totals::Totals;
 use std::alloc::{Allocator, Global};
 use std::marker::Brand;
 use std::process::Abort;
@@ -18,7 +17,6 @@ use std::sync::Wait;
 use std::sync::atomic::Ordering::SeqCst;
 use std::sync::atomic::{AtomicBool, AtomicU64};
 use std::sync::ledger::{Blank, Ledger};
-use std::test::Fail;
 use std::thread::Threads;
 use std::time::Clock;
 use std::{array, thread};
@@ -53,24 +51,26 @@ impl Record {
         times.fetch_add(1, SeqCst);
     }
 
-    fn is_empty(&self) -> bool {
-        self.strangers.load(SeqCst) == 0 && self.times.iter().all(|times| times.load(SeqCst) == 0)
+    /// Whether each of so many pieces from this one on was entered between so many and so many times.
+    fn has(&self, first: usize, count: usize, least: u64, most: u64) -> bool {
+        for times in self.times.iter().skip(first).take(count) {
+            let times = times.load(SeqCst);
+            if times < least || most < times {
+                return false;
+            }
+        }
+        true
     }
 
-    fn has_each_once(&self) -> bool {
-        self.strangers.load(SeqCst) == 0 && self.times.iter().all(|times| times.load(SeqCst) == 1)
-    }
-
-    /// Whether so many pieces from this one on were entered.
-    fn has(&self, first: usize, count: usize) -> bool {
-        let mut group = self.times.iter().skip(first).take(count);
-        group.all(|times| times.load(SeqCst) > 0)
+    /// Whether each piece was entered so many times, and no other.
+    fn has_each(&self, times: u64) -> bool {
+        self.strangers.load(SeqCst) == 0 && self.has(0, PIECES, times, times)
     }
 
     /// Waits until so many pieces from this one on were entered, and says whether they were.
     fn wait_for(&self, first: usize, count: usize) -> bool {
         for _turn in 0..TURNS {
-            if self.has(first, count) {
+            if self.has(first, count, 1, u64::MAX) {
                 return true;
             }
             if self.late.load(SeqCst) {
@@ -104,65 +104,59 @@ impl Gate for Holding<'_> {
     }
 }
 
-/// The totals of so many pieces of three epochs.
-fn totals_of(pieces: u64) -> Totals {
-    Totals {
-        posts: pieces,
-        findings: pieces,
-        octets: 0,
-        segments: 0,
-    }
-}
-
 /// The scan found what the one observer finds in three epochs, and each piece was entered once.
-fn check_three_epochs<R: Abort>(
-    rt: &R,
-    scanned: Scanned,
-    record: &Record,
-) -> Result<Vec<Totals, Global>, Fail> {
-    let worked = trace(EPOCHS.as_slice(), "three-epochs")?;
-    let Scanned { answer, taken } = scanned;
+fn check_three_epochs(rt: &impl Abort, scanned: &Scanned, record: &Record, work: &Work) {
     assert!(rt; !record.late.load(SeqCst), "a hold ended too late");
-    assert_eq!(rt; taken.as_slice(), worked.report);
-    assert!(rt; record.has_each_once());
-    let scan = accepted(answer)?;
-    assert_eq!(rt; scan.totals, totals_of(12));
-    let Scan { shares, .. } = scan;
-    Ok(shares)
+    assert!(rt; record.has_each(1));
+    agree(
+        rt,
+        scanned,
+        work,
+        trace(rt, Table::Epochs, "three-epochs").report,
+    );
 }
 
 /// Holds as many pieces as there are workers until all of them were entered, so that each worker runs one of them.
+fn check_crew<R: Threads + Wait + Clock + Sync + Abort>(
+    rt: &R,
+    alloc: Global,
+    capacity: usize,
+    work: &Work,
+) {
+    let text = trace(rt, Table::Epochs, "three-epochs").text;
+    let record = Record::new();
+    let gate = Holding {
+        record: &record,
+        group: work.workers,
+    };
+    let way = Way::Crew(work.workers, capacity);
+    let scanned = scan_through(rt, alloc, alloc, &gate, way, text, Cuts::of_steps(7, 7));
+    check_three_epochs(rt, &scanned, &record, work);
+}
+
+/// Has so many workers run so many pieces each side by side.
 fn check_side_by_side<R: Threads + Wait + Clock + Sync + Abort>(
     rt: &R,
     alloc: Global,
     workers: usize,
     each: u64,
-) -> Result<(), Fail>
-    requires workers { (0 < workers) × (workers ≤ 64) }
-{
-    let worked = trace(EPOCHS.as_slice(), "three-epochs")?;
-    for capacity in [64, 1] {
-        let record = Record::new();
-        let gate = Holding {
-            record: &record,
-            group: workers,
-        };
-        let cuts = Cuts::of_steps(7, 7);
-        let scanned = scan_through(rt, alloc, worked.text, cuts, (workers, capacity), &gate);
-        let shares = check_three_epochs(rt, scanned, &record)?;
-        assert_eq!(rt; shares.len(), workers);
-        assert!(rt; shares.iter().all(|share| *share == totals_of(each)));
-    }
-    Ok(())
+) {
+    let work = Work {
+        workers,
+        totals: findings(12),
+        shares: &[(workers, findings(each))],
+    };
+    check_crew(rt, alloc, 64, &work);
+    check_crew(rt, alloc, 1, &work);
 }
 
 #[test]
-fn two_workers_run_pieces_side_by_side(rt: HostRuntime) -> Result<(), Fail> {
+fn two_workers_run_pieces_side_by_side(rt: HostRuntime) {
     check_side_by_side(&rt, rt.alloc(), 2, 6)
 }
 
 #[test]
-fn four_workers_run_pieces_side_by_side(rt: HostRuntime) -> Result<(), Fail> {
+fn four_workers_run_pieces_side_by_side(rt: HostRuntime) {
     check_side_by_side(&rt, rt.alloc(), 4, 3)
 }
 
@@ -197,7 +191,7 @@ impl<C: Ledger> Source for WaitingSource<'_, C> {
     fn read(&mut self, buffer: &mut [u8]) -> Result<usize, ()> {
         self.calls.add_one();
         if self.rest.starts_with(b"5 ") {
-            self.none_at_row_5 = self.record.is_empty();
+            self.none_at_row_5 = self.record.has_each(0);
         }
         if self.rest.starts_with(b"7 ") {
             self.four_at_row_7 = self.record.wait_for(0, 4);
@@ -211,49 +205,73 @@ impl<C: Ledger> Source for WaitingSource<'_, C> {
     }
 }
 
-fn scan_waiting<C: Ledger, K: Ledger, R: Threads + Wait + Clock + Sync + Abort>(
+/// Scans what a source gives that waits, and sees what it saw of the pieces.
+fn check_waiting<C: Ledger, L: Ledger, R: Threads + Wait + Clock + Sync + Abort>(
     rt: &R,
     alloc: Global,
-    calls: Blank,
+    source: &mut WaitingSource<'_, C>,
     write_failures: Blank,
-) -> Result<(), Fail>
-    requires calls_name { calls.name ≡ C.name }
-    requires calls_parts { calls.parts ≡ C.parts }
-    requires calls_shared { 0 < C.parts }
-    requires write_name { write_failures.name ≡ K.name }
-    requires write_parts { write_failures.parts ≡ K.parts }
-    requires write_shared { 0 < K.parts }
+) -> Scanned
+    requires write_name { write_failures.name ≡ L.name }
+    requires write_parts { write_failures.parts ≡ L.parts }
+    requires write_shared { 0 < L.parts }
 {
-    let worked = trace(EPOCHS.as_slice(), "three-epochs")?;
-    let record = Record::new();
-    let mut source = WaitingSource {
-        rest: worked.text,
-        calls: Count::<C>::open(calls),
-        record: &record,
-        none_at_row_5: false,
-        four_at_row_7: false,
-    };
     let gate = Holding {
-        record: &record,
+        record: source.record,
         group: 1,
     };
-    let scanned = scan_from::<K, WaitingSource<'_, C>, Holding<'_>, R>(
+    let scanned = scan_from::<Global, L, WaitingSource<'_, C>, Holding<'_>, R>(
         rt,
         alloc,
-        &mut source,
-        Cuts::of_steps(1, 7),
-        (2, 64),
+        alloc,
         &gate,
+        Way::Crew(2, 64),
+        source,
+        Cuts::of_steps(1, 7),
         write_failures,
     );
     assert!(rt; source.none_at_row_5);
     assert!(rt; source.four_at_row_7);
-    let shares = check_three_epochs(rt, scanned, &record)?;
-    assert_eq!(rt; shares.len(), 2);
-    Ok(())
+    scanned
+}
+
+fn scan_waiting<C: Ledger, L: Ledger, R: Threads + Wait + Clock + Sync + Abort>(
+    rt: &R,
+    alloc: Global,
+    record: &Record,
+    calls: Blank,
+    write_failures: Blank,
+) -> Scanned
+    requires calls_name { calls.name ≡ C.name }
+    requires calls_parts { calls.parts ≡ C.parts }
+    requires calls_shared { 0 < C.parts }
+    requires write_name { write_failures.name ≡ L.name }
+    requires write_parts { write_failures.parts ≡ L.parts }
+    requires write_shared { 0 < L.parts }
+{
+    let mut source = WaitingSource {
+        rest: trace(rt, Table::Epochs, "three-epochs").text,
+        calls: Count::<C>::open(calls),
+        record,
+        none_at_row_5: false,
+        four_at_row_7: false,
+    };
+    check_waiting::<C, L, R>(rt, alloc, &mut source, write_failures)
+}
+
+/// Scans while the source waits for pieces.
+fn check_while_read<R: Threads + Wait + Clock + Sync + Abort>(rt: &R, alloc: Global) {
+    let record = Record::new();
+    let scanned = scan_waiting::<Brand, Brand, R>(rt, alloc, &record, Blank::new(1), Blank::new(1));
+    let work = Work {
+        workers: 2,
+        totals: findings(12),
+        shares: &[],
+    };
+    check_three_epochs(rt, &scanned, &record, &work);
 }
 
 #[test]
-fn pieces_are_run_while_the_text_is_read(rt: HostRuntime) -> Result<(), Fail> {
-    scan_waiting::<Brand, Brand, HostRuntime>(&rt, rt.alloc(), Blank::new(1), Blank::new(1))
+fn pieces_are_run_while_the_text_is_read(rt: HostRuntime) {
+    check_while_read(&rt, rt.alloc())
 }

@@ -1,67 +1,115 @@
 //! Scans whose growths are refused.
 
-use crate::tests::gated::trace;
-use crate::tests::runs::scan_in;
-use crate::tests::worked::Worked;
-use crate::tests::worked::channels::CHANNELS;
-use crate::tests::worked::epochs::EPOCHS;
+use crate::tests::runs::{Outcome, Way, scan_in};
 use crate::tests::worked::long::LONG_TRACES;
-use crate::tests::worked::messages::MESSAGES;
+use crate::tests::worked::{Table, Worked, trace};
 use line_model::fault::Fault;
 use std::alloc::Global;
 use std::process::Abort;
-use std::test::Fail;
+use std::sync::Wait;
+use std::thread::Threads;
+use std::time::Clock;
 use test_devices::Cuts;
 use test_devices::scarce::Scarce;
 
 /// The most growths that these tests look for.
 const GROWTHS: u64 = 10_000;
 
-/// Refuses one growth of a scan, and sees that nothing is written and no block is kept. Answers whether there was such a
-/// growth.
-fn check_growth(
-    rt: &impl Abort,
+/// Whether a scan may say so that a growth was refused. Where nothing was read yet, a thread of a crew may be told as
+/// refused.
+fn tells_want(way: Way, fault: Option<Fault>) -> bool {
+    match fault {
+        Some(Fault::Memory) => true,
+        Some(Fault::Start) => matches!(way, Way::Crew(_, _)),
+        _ => false,
+    }
+}
+
+/// Sees that a scan with a growth that was refused wrote nothing, and that another wrote the report.
+fn agree(rt: &impl Abort, way: Way, outcome: &Outcome, worked: &Worked, refused: bool, good: u64) {
+    if refused {
+        let told = tells_want(way, outcome.answer.err());
+        assert!(rt; told, "{} at {good}", worked.name);
+    }
+    let report = if refused { b"" } else { worked.report };
+    assert_eq!(rt;
+        outcome.taken.as_slice(),
+        report,
+        "{} at {good}",
+        worked.name
+    );
+}
+
+/// Refuses one growth of a scan, and sees that nothing is written and no block is kept: so all workers were joined.
+/// Answers whether there was such a growth.
+fn check_growth<R: Threads + Wait + Clock + Sync + Abort>(
+    rt: &R,
     alloc: Global,
     heap: &Scarce<Global>,
+    way: Way,
     worked: &Worked,
     good: u64,
 ) -> bool {
     heap.refuse_one(good);
-    let scanned = scan_in(heap, alloc, worked.text, Cuts::of_steps(7, 7));
+    let outcome = scan_in(rt, heap, alloc, way, worked.text, Cuts::of_steps(7, 7));
     let refused = good < heap.asked();
-    if refused {
-        assert_eq!(rt;
-            scanned.answer,
-            Err(Fault::Memory),
-            "{} at {good}",
-            worked.name
-        );
-        assert!(rt; scanned.taken.is_empty(), "{} at {good}", worked.name);
-    } else {
-        assert_eq!(rt; scanned.taken.as_slice(), worked.report, "{}", worked.name);
-    }
-    assert_eq!(rt; heap.held(), 0, "{} at {good}", worked.name);
+    agree(rt, way, &outcome, worked, refused, good);
     refused
 }
 
-/// Refuses each growth of a scan in turn, until it meets none.
-fn check(rt: &impl Abort, alloc: Global, worked: &Worked) -> Result<(), Fail> {
-    let heap = Scarce::new(alloc);
+/// How many growths a scan has, each of which is refused in turn.
+fn growths_of<R: Threads + Wait + Clock + Sync + Abort>(
+    rt: &R,
+    alloc: Global,
+    heap: &Scarce<Global>,
+    way: Way,
+    worked: &Worked,
+) -> u64 {
     for good in 0..GROWTHS {
-        if !check_growth(rt, alloc, &heap, worked, good) {
-            assert!(rt; 0 < good, "{}", worked.name);
-            return Ok(());
+        let refused = check_growth(rt, alloc, heap, way, worked, good);
+        assert_eq!(rt; heap.held(), 0, "{} at {good}", worked.name);
+        if !refused {
+            return good;
         }
     }
-    Err("a scan has fewer growths".into())
+    GROWTHS
+}
+
+/// Refuses each growth of a scan in turn, until it meets none.
+fn check<R: Threads + Wait + Clock + Sync + Abort>(
+    rt: &R,
+    alloc: Global,
+    way: Way,
+    worked: &Worked,
+) {
+    let heap = Scarce::new(alloc);
+    let growths = growths_of(rt, alloc, &heap, way, worked);
+    let all_refused = 0 < growths && growths < GROWTHS;
+    assert!(rt; all_refused, "{} has {growths} growths", worked.name);
+}
+
+/// Worked traces whose growths are refused.
+const TRACES: [(Table, &str); 3] = [
+    (Table::Messages, "pad-setting-said"),
+    (Table::Epochs, "three-epochs"),
+    (Table::Channels, "call-formats"),
+];
+
+/// Refuses each growth of scans of worked traces.
+pub fn check_traces<R: Threads + Wait + Clock + Sync + Abort>(rt: &R, alloc: Global, way: Way) {
+    for (table, name) in TRACES {
+        check(rt, alloc, way, trace(rt, table, name));
+    }
+}
+
+fn check_long<R: Threads + Wait + Clock + Sync + Abort>(rt: &R, alloc: Global) {
+    let long = &LONG_TRACES[2];
+    let text = long.text(rt, alloc);
+    check(rt, alloc, Way::Alone, &long.worked(text.as_slice()));
 }
 
 #[test]
-fn each_growth_of_a_scan_may_be_refused(rt: HostRuntime) -> Result<(), Fail> {
-    let alloc = rt.alloc();
-    check(&rt, alloc, trace(MESSAGES.as_slice(), "pad-setting-said")?)?;
-    check(&rt, alloc, trace(EPOCHS.as_slice(), "three-epochs")?)?;
-    check(&rt, alloc, trace(CHANNELS.as_slice(), "call-formats")?)?;
-    let text = LONG_TRACES[2].text(alloc)?;
-    check(&rt, alloc, &LONG_TRACES[2].worked(text.as_slice()))
+fn each_growth_of_a_scan_may_be_refused(rt: HostRuntime) {
+    check_traces(&rt, rt.alloc(), Way::Alone);
+    check_long(&rt, rt.alloc());
 }

@@ -1,41 +1,150 @@
-//! A scan over the devices of the tests.
+//! Scans over the devices of the tests.
 
 ghost use Rattle.std.specs.Prelude.{◌≡◌, ◌<◌};
 
+use crate::following::follow;
+use crate::gate::OpenGate;
 use crate::scan::scan_alone;
+use crate::threaded::{Scan, scan_with};
 use line_model::count::Count;
+use line_model::device::{Sink, Source};
 use line_model::fault::Fault;
-use line_model::totals::Summary;
+use line_model::totals::{Summary, Totals};
 use std::alloc::{Allocator, Global};
 use std::marker::Brand;
+use std::sync::Wait;
 use std::sync::ledger::{Blank, Ledger};
+use std::thread::Threads;
+use std::time::Clock;
 use test_devices::{CutSink, CutSource, Cuts};
+use workers::Gate;
 
-/// What a scan answered, and what its sink took.
-#[derive(Drop)]
-pub struct Scanned {
-    pub answer: Result<Summary, Fault>,
-    pub taken: Vec<u8, Global>,
+/// How a text is scanned: in one thread, as it grows, or by so many workers over a queue of so many pieces.
+#[derive(Clone, Copy)]
+pub enum Way {
+    Alone,
+    Following,
+    Crew(usize, usize),
 }
 
-fn scan_on<A: Allocator + Copy, C: Ledger, F: Ledger, K: Ledger>(
+/// The totals of no pieces.
+pub const NONE: Totals = Totals {
+    posts: 0,
+    findings: 0,
+    octets: 0,
+    segments: 0,
+};
+
+/// What a scan answered, and what its sink took. No worker has a share of a scan in one thread.
+#[derive(Drop)]
+pub struct Scanned<A: Allocator = Global> {
+    pub answer: Result<Scan<A>, Fault>,
+    pub taken: Vec<u8>,
+}
+
+/// The last line of a report or why there is none, and what the sink took.
+#[derive(Drop)]
+pub struct Outcome {
+    pub answer: Result<Summary, Fault>,
+    pub taken: Vec<u8>,
+}
+
+/// What a scan answers of which no worker has a share.
+fn unshared<A: Allocator>(heap: A, answer: Result<Summary, Fault>) -> Result<Scan<A>, Fault> {
+    match answer {
+        Ok(summary) => Ok(Scan {
+            summary,
+            totals: NONE,
+            shares: Vec::new(heap),
+        }),
+        Err(fault) => Err(fault),
+    }
+}
+
+fn scan_by<
+    A: Allocator + Copy + Send + Sync,
+    S: Source,
+    K: Sink,
+    G: Gate,
+    R: Threads + Wait + Clock + Sync,
+>(rt: &R, heap: A, gate: &G, way: Way, source: &mut S, sink: &mut K) -> Result<Scan<A>, Fault> {
+    match way {
+        Way::Alone => unshared(heap, scan_alone(heap, source, sink)),
+        Way::Following => unshared(heap, follow(heap, source, sink)),
+        Way::Crew(workers, capacity) => scan_with(
+            rt,
+            heap,
+            source,
+            sink,
+            workers.clamp(1, 64),
+            capacity.clamp(1, 4096),
+            gate,
+        ),
+    }
+}
+
+/// Scans what a source gives.
+pub fn scan_from<
+    A: Allocator + Copy + Send + Sync,
+    L: Ledger,
+    S: Source,
+    G: Gate,
+    R: Threads + Wait + Clock + Sync,
+>(
+    rt: &R,
     heap: A,
     alloc: Global,
+    gate: &G,
+    way: Way,
+    source: &mut S,
+    cuts: Cuts,
+    write_failures: Blank,
+) -> Scanned<A>
+    requires write_name { write_failures.name ≡ L.name }
+    requires write_parts { write_failures.parts ≡ L.parts }
+    requires write_shared { 0 < L.parts }
+{
+    let mut sink = CutSink {
+        taken: Vec::new(alloc),
+        step: cuts.write_step,
+        good_calls: cuts.good_writes,
+        failures: Count::<L>::open(write_failures),
+    };
+    let answer = scan_by(rt, heap, gate, way, source, &mut sink);
+    Scanned {
+        answer,
+        taken: sink.taken,
+    }
+}
+
+fn scan_on<
+    A: Allocator + Copy + Send + Sync,
+    C: Ledger,
+    F: Ledger,
+    L: Ledger,
+    G: Gate,
+    R: Threads + Wait + Clock + Sync,
+>(
+    rt: &R,
+    heap: A,
+    alloc: Global,
+    gate: &G,
+    way: Way,
     text: &[u8],
     cuts: Cuts,
     calls: Blank,
     read_failures: Blank,
     write_failures: Blank,
-) -> Scanned
+) -> Scanned<A>
     requires calls_name { calls.name ≡ C.name }
     requires calls_parts { calls.parts ≡ C.parts }
     requires calls_shared { 0 < C.parts }
     requires read_name { read_failures.name ≡ F.name }
     requires read_parts { read_failures.parts ≡ F.parts }
     requires read_shared { 0 < F.parts }
-    requires write_name { write_failures.name ≡ K.name }
-    requires write_parts { write_failures.parts ≡ K.parts }
-    requires write_shared { 0 < K.parts }
+    requires write_name { write_failures.name ≡ L.name }
+    requires write_parts { write_failures.parts ≡ L.parts }
+    requires write_shared { 0 < L.parts }
 {
     let mut source = CutSource {
         rest: text,
@@ -44,24 +153,34 @@ fn scan_on<A: Allocator + Copy, C: Ledger, F: Ledger, K: Ledger>(
         calls: Count::<C>::open(calls),
         failures: Count::<F>::open(read_failures),
     };
-    let mut sink = CutSink {
-        taken: Vec::new(alloc),
-        step: cuts.write_step,
-        good_calls: cuts.good_writes,
-        failures: Count::<K>::open(write_failures),
-    };
-    let answer = scan_alone(heap, &mut source, &mut sink);
-    Scanned {
-        answer,
-        taken: sink.taken,
-    }
-}
-
-/// Scans a text with a heap of its own, into a sink of another.
-pub fn scan_in<A: Allocator + Copy>(heap: A, alloc: Global, text: &[u8], cuts: Cuts) -> Scanned {
-    scan_on::<A, Brand, Brand, Brand>(
+    scan_from::<A, L, CutSource<'_, C, F>, G, R>(
+        rt,
         heap,
         alloc,
+        gate,
+        way,
+        &mut source,
+        cuts,
+        write_failures,
+    )
+}
+
+/// Scans a text with a heap of its own and through any gate, into a sink of another heap.
+pub fn scan_through<A: Allocator + Copy + Send + Sync, G: Gate, R: Threads + Wait + Clock + Sync>(
+    rt: &R,
+    heap: A,
+    alloc: Global,
+    gate: &G,
+    way: Way,
+    text: &[u8],
+    cuts: Cuts,
+) -> Scanned<A> {
+    scan_on::<A, Brand, Brand, Brand, G, R>(
+        rt,
+        heap,
+        alloc,
+        gate,
+        way,
         text,
         cuts,
         Blank::new(1),
@@ -70,7 +189,40 @@ pub fn scan_in<A: Allocator + Copy>(heap: A, alloc: Global, text: &[u8], cuts: C
     )
 }
 
+/// The outcome of a scan, without the shares.
+pub fn outcome_of<A: Allocator>(scanned: Scanned<A>) -> Outcome {
+    let Scanned { answer, taken } = scanned;
+    match answer {
+        Ok(scan) => Outcome {
+            answer: Ok(scan.summary),
+            taken,
+        },
+        Err(fault) => Outcome {
+            answer: Err(fault),
+            taken,
+        },
+    }
+}
+
+/// Scans a text with a heap of its own, into a sink of another.
+pub fn scan_in<A: Allocator + Copy + Send + Sync, R: Threads + Wait + Clock + Sync>(
+    rt: &R,
+    heap: A,
+    alloc: Global,
+    way: Way,
+    text: &[u8],
+    cuts: Cuts,
+) -> Outcome {
+    outcome_of(scan_through(rt, heap, alloc, &OpenGate, way, text, cuts))
+}
+
 /// Scans a text.
-pub fn scan(alloc: Global, text: &[u8], cuts: Cuts) -> Scanned {
-    scan_in(alloc, alloc, text, cuts)
+pub fn scan<R: Threads + Wait + Clock + Sync>(
+    rt: &R,
+    alloc: Global,
+    way: Way,
+    text: &[u8],
+    cuts: Cuts,
+) -> Outcome {
+    scan_in(rt, alloc, alloc, way, text, cuts)
 }

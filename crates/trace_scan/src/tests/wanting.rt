@@ -1,12 +1,17 @@
 //! Scans whose workers want memory.
 
 use crate::gate::OpenGate;
-use crate::tests::gated::{scan_through, trace};
-use crate::tests::worked::epochs::EPOCHS;
+use crate::tests::checks::{agree_on_fault, agree_on_report};
+use crate::tests::runs::{Way, outcome_of, scan_through};
+use crate::tests::worked::long::repeated_text;
+use crate::tests::worked::{Table, Worked, trace};
 use line_model::fault::{Fault, Kind};
 use line_model::piece::{Piece, PieceReport};
-use std::alloc::Allocator;
-use std::test::Fail;
+use std::alloc::{Allocator, Global};
+use std::process::Abort;
+use std::sync::Wait;
+use std::thread::Threads;
+use std::time::Clock;
 use test_devices::Cuts;
 use workers::Gate;
 
@@ -30,45 +35,77 @@ impl Gate for Wanting {
     }
 }
 
-#[test]
-fn a_worker_that_wants_memory_is_told(rt: HostRuntime) -> Result<(), Fail> {
-    let worked = trace(EPOCHS.as_slice(), "three-epochs")?;
+/// Scans a text of which a worker wants memory for the piece of this id, and sees that nothing is written.
+fn check_piece<R: Threads + Wait + Clock + Sync + Abort>(
+    rt: &R,
+    alloc: Global,
+    way: Way,
+    refused: &Worked,
+    cuts: Cuts,
+    id: u32,
+) {
+    let gate = Wanting { id };
+    let outcome = outcome_of(scan_through(rt, alloc, alloc, &gate, way, refused.text, cuts));
+    agree_on_fault(rt, &outcome, refused, cuts);
+    agree_on_report(rt, &outcome, refused, cuts);
+}
+
+/// What is told of a text that is refused so.
+fn refusal(text: &[u8], fault: Fault) -> Worked<'_> {
+    Worked {
+        name: "three-epochs with a worker that wants memory",
+        text,
+        fault: Some(fault),
+        report: b"",
+    }
+}
+
+/// Wants memory for the first piece, for one in the middle and for the last, also where the sink would fail.
+fn check_pieces<R: Threads + Wait + Clock + Sync + Abort>(rt: &R, alloc: Global, way: Way) {
+    let refused = refusal(trace(rt, Table::Epochs, "three-epochs").text, Fault::Memory);
     let whole = Cuts::of_steps(7, 7);
     let unwritten = Cuts {
         good_writes: 0,
         ..whole
     };
-    for cuts in [whole, unwritten] {
-        for id in [0, 5, 11] {
-            for crew in [(1, 1), (2, 64), (2, 1), (64, 64)] {
-                let gate = Wanting { id };
-                let scanned = scan_through(&rt, rt.alloc(), worked.text, cuts, crew, &gate);
-                assert_eq!(rt; scanned.answer.err(), Some(Fault::Memory), "at piece {id}");
-                assert!(rt; scanned.taken.is_empty());
-            }
-        }
+    for id in [0, 5, 11] {
+        check_piece(rt, alloc, way, &refused, whole, id);
+        check_piece(rt, alloc, way, &refused, unwritten, id);
     }
-    Ok(())
+}
+
+fn check_crews<R: Threads + Wait + Clock + Sync + Abort>(rt: &R, alloc: Global) {
+    check_pieces(rt, alloc, Way::Crew(1, 1));
+    check_pieces(rt, alloc, Way::Crew(2, 64));
+    check_pieces(rt, alloc, Way::Crew(2, 1));
+    check_pieces(rt, alloc, Way::Crew(64, 64));
 }
 
 #[test]
-fn a_faulty_line_stands_before_a_worker_that_wants_memory(rt: HostRuntime) -> Result<(), Fail> {
-    let worked = trace(EPOCHS.as_slice(), "three-epochs")?;
-    let mut text = worked.text.to_vec(rt.alloc())?;
-    text.extend_from_slice(b"16 T -\n")?;
+fn a_worker_that_wants_memory_is_told(rt: HostRuntime) {
+    check_crews(&rt, rt.alloc())
+}
+
+/// Scans a text with a faulty line, once from a source that fails before that line.
+fn check_faulty_line<R: Threads + Wait + Clock + Sync + Abort>(rt: &R, alloc: Global, text: &[u8]) {
+    let faulty = refusal(text, Fault::Trace(18, Kind::Number));
+    let unread = refusal(text, Fault::Read);
     let whole = Cuts::of_steps(1, 1);
-    let unread = Cuts {
+    let cut = Cuts {
         good_bytes: 150,
         ..whole
     };
-    for (cuts, fault) in [
-        (whole, Fault::Trace(18, Kind::Number)),
-        (unread, Fault::Read),
-    ] {
-        let gate = Wanting { id: 0 };
-        let scanned = scan_through(&rt, rt.alloc(), text.as_slice(), cuts, (2, 64), &gate);
-        assert_eq!(rt; scanned.answer.err(), Some(fault));
-        assert!(rt; scanned.taken.is_empty());
-    }
-    Ok(())
+    check_piece(rt, alloc, Way::Crew(2, 64), &faulty, whole, 0);
+    check_piece(rt, alloc, Way::Crew(2, 64), &unread, cut, 0);
+}
+
+fn check_number_twice<R: Threads + Wait + Clock + Sync + Abort>(rt: &R, alloc: Global) {
+    let worked = trace(rt, Table::Epochs, "three-epochs");
+    let text = repeated_text(rt, alloc, worked.text, b"16 T -", 1);
+    check_faulty_line(rt, alloc, text.as_slice());
+}
+
+#[test]
+fn a_faulty_line_stands_before_a_worker_that_wants_memory(rt: HostRuntime) {
+    check_number_twice(&rt, rt.alloc())
 }

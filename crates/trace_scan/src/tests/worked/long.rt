@@ -2,8 +2,8 @@
 
 use crate::tests::worked::Worked;
 use line_model::fault::{Fault, Kind};
-use std::alloc::Global;
-use std::test::Fail;
+use std::alloc::{AllocError, Global};
+use std::process::Abort;
 
 /// A text that ends with the same characters many times over, and a line feed.
 #[derive(Drop)]
@@ -16,15 +16,38 @@ pub struct LongTrace {
     report: &'static str,
 }
 
+/// Writes a text, the same characters many times over, and a line feed.
+fn write_repeated(
+    text: &mut Vec<u8>,
+    front: &[u8],
+    repeated: &[u8],
+    times: usize,
+) -> Result<(), AllocError> {
+    text.extend_from_slice(front)?;
+    for _ in 0..times {
+        text.extend_from_slice(repeated)?;
+    }
+    text.extend_from_slice(b"\n")
+}
+
+/// A text, the same characters many times over, and a line feed.
+pub fn repeated_text(
+    rt: &impl Abort,
+    alloc: Global,
+    front: &[u8],
+    repeated: &[u8],
+    times: usize,
+) -> Vec<u8> {
+    let mut text = Vec::new(alloc);
+    let written = write_repeated(&mut text, front, repeated, times);
+    assert!(rt; written.is_ok(), "no memory");
+    text
+}
+
 impl LongTrace {
-    pub fn text(&self, alloc: Global) -> Result<Vec<u8, Global>, Fail> {
-        let mut text = Vec::new(alloc);
-        text.extend_from_slice(self.front.as_bytes())?;
-        for _ in 0..self.times {
-            text.extend_from_slice(self.repeated.as_bytes())?;
-        }
-        text.push(b'\n')?;
-        Ok(text)
+    pub fn text(&self, rt: &impl Abort, alloc: Global) -> Vec<u8> {
+        let (front, repeated) = (self.front.as_bytes(), self.repeated.as_bytes());
+        repeated_text(rt, alloc, front, repeated, self.times)
     }
 
     /// The trace, with this text.

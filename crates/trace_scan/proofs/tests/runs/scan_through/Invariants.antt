@@ -1,4 +1,4 @@
-use Rattle.trace_scan.proofs.tests.refused_crews.scan.Given as goal
+use Rattle.trace_scan.proofs.tests.runs.scan_through.Given as goal
 
 abbrev pub ghosts-scan_on-C-Ledger : goal.ghosts-scan_on-C-Ledger
 ghosts-scan_on-C-Ledger g a = record { name = a.calls.name; parts = a.calls.parts }
@@ -6,5 +6,5 @@ ghosts-scan_on-C-Ledger g a = record { name = a.calls.name; parts = a.calls.part
 abbrev pub ghosts-scan_on-F-Ledger : goal.ghosts-scan_on-F-Ledger
 ghosts-scan_on-F-Ledger g a = record { name = a.read_failures.name; parts = a.read_failures.parts }
 
-abbrev pub ghosts-scan_on-K-Ledger : goal.ghosts-scan_on-K-Ledger
-ghosts-scan_on-K-Ledger g a = record { name = a.write_failures.name; parts = a.write_failures.parts }
+abbrev pub ghosts-scan_on-L-Ledger : goal.ghosts-scan_on-L-Ledger
+ghosts-scan_on-L-Ledger g a = record { name = a.write_failures.name; parts = a.write_failures.parts }
