@@ -1,11 +1,11 @@
 #!/usr/bin/env python3
-"""Writes the worked traces of tests/traces/worked, but those with long lines, as constants of the tests of x25scan:
-crates/x25scan/src/tests/worked/TOPIC.rt. Run it from the root after a change of those traces."""
+"""Writes the worked traces of tests/traces/worked, but those with long lines, as constants of the tests of trace_scan:
+crates/trace_scan/src/tests/worked/TOPIC.rt. Run it from the root after a change of those traces."""
 import pathlib
 import re
 
 TRACES = pathlib.Path("tests/traces/worked")
-TESTS = pathlib.Path("crates/x25scan/src/tests/worked")
+TESTS = pathlib.Path("crates/trace_scan/src/tests/worked")
 KINDS = ["HeaderMissing", "HeaderForm", "HeaderRange", "LineForm", "Number", "Side", "Hex", "LineLong", "TextLarge"]
 LONGEST = 400
 INDENT = 12 * " "

@@ -2,7 +2,7 @@
 
 use crate::tests::worked::Worked;
 
-pub const CHANNELS: [Worked; 22] = [
+pub const CHANNELS: [Worked; 25] = [
     Worked {
         name: "addresses-reverse-charging",
         text: b"\
@@ -19,6 +19,35 @@ pub const CHANNELS: [Worked; 22] = [
             A 12 1 3\n\
             P 1 2\n\
             Z 5 0 1 129 3\n\
+            ",
+    },
+    Worked {
+        name: "call-faults-in-order",
+        text: b"\
+            X25 2 MOD 8 WIN 2 SIZE 128 PVC 0 IN 1 TWO 9 OUT 9\n\
+            1 T 10010B\n\
+            2 T 10020B04A0\n\
+            3 T 10030B01A0\n\
+            4 T 10040B11AA00\n\
+            5 T 10050B10A06E\n\
+            6 T 10060B01A06E\n\
+            7 T 10070B0004420303AA\n\
+            8 T 10080B0003420303000000000000000000000000000000000000\n\
+            9 T 10090B00044203034300\n\
+            ",
+        fault: None,
+        report: b"\
+            F 1 T p1 34\n\
+            F 2 T p1 38\n\
+            F 3 T p1 38\n\
+            F 4 T p1 67\n\
+            F 5 T p1 68\n\
+            F 6 T p1 67\n\
+            F 7 T p1 69\n\
+            F 8 T p1 66\n\
+            F 9 T p1 69\n\
+            P 0 -\n\
+            Z 9 9 0 0 0\n\
             ",
     },
     Worked {
@@ -49,6 +78,31 @@ pub const CHANNELS: [Worked; 22] = [
             A - 1 0\n\
             P 0 -\n\
             Z 10 7 1 0 0\n\
+            ",
+    },
+    Worked {
+        name: "classes-in-order",
+        text: b"\
+            X25 1 MOD 8 WIN 2 SIZE 128 PVC 0 SVC 1\n\
+            1 N 1001FF\n\
+            # one octet, of another modulus\n\
+            2 T 20\n\
+            # another modulus, on a channel that is not assigned\n\
+            3 T 200900\n\
+            # a channel that is not assigned, and two octets\n\
+            4 T 1009\n\
+            # restart on an assigned channel\n\
+            5 T 1001FB00\n\
+            ",
+        fault: None,
+        report: b"\
+            F 1 N p1 41\n\
+            F 2 T - 38\n\
+            F 3 T - 40\n\
+            F 4 T - 36\n\
+            F 5 T p1 41\n\
+            P 0 -\n\
+            Z 5 5 0 0 0\n\
             ",
     },
     Worked {
@@ -117,6 +171,35 @@ pub const CHANNELS: [Worked; 22] = [
             F 13 T d1 41\n\
             P 0 -\n\
             Z 13 11 0 0 0\n\
+            ",
+    },
+    Worked {
+        name: "data-faults-in-order",
+        text: b"\
+            X25 1 MOD 8 WIN 2 SIZE 16 PVC 5 SVC 5\n\
+            # too long, and P(S) 1 where 0 comes next\n\
+            1 T 1001020000000000000000000000000000000000\n\
+            # P(S) 1 where 0 comes next, and P(R) 1 of nothing\n\
+            2 T 10022200\n\
+            # P(R) 1 of nothing, and Q 1 in a sequence begun with Q 0\n\
+            3 T 10031000000000000000000000000000000000\n\
+            4 T 9003220000\n\
+            # P(S) 0 where 1 comes next, and Q 1 in a sequence begun with Q 0\n\
+            5 T 10041000000000000000000000000000000000\n\
+            6 T 9004000000\n\
+            # Q 1 in a sequence begun with Q 0, and nothing else\n\
+            7 T 10051000000000000000000000000000000000\n\
+            8 T 9005020000\n\
+            ",
+        fault: None,
+        report: b"\
+            F 1 T d1 39\n\
+            F 2 T d1 1\n\
+            F 4 T d1 2\n\
+            F 6 T d1 1\n\
+            F 8 T d1 83\n\
+            P 0 -\n\
+            Z 8 5 0 48 3\n\
             ",
     },
     Worked {

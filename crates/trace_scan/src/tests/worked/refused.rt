@@ -3,7 +3,7 @@
 use crate::tests::worked::Worked;
 use line_model::fault::{Fault, Kind};
 
-pub const REFUSED: [Worked; 11] = [
+pub const REFUSED: [Worked; 15] = [
     Worked {
         name: "refused-empty-line",
         text: b"\
@@ -11,6 +11,23 @@ pub const REFUSED: [Worked; 11] = [
             \n\
             ",
         fault: Some(Fault::Trace(2, Kind::LineForm)),
+        report: b"",
+    },
+    Worked {
+        name: "refused-form-before-number",
+        text: b"\
+            X25 1 MOD 8 WIN 2 SIZE 128 PVC 0 SVC 4\n\
+            0 T\n\
+            ",
+        fault: Some(Fault::Trace(2, Kind::LineForm)),
+        report: b"",
+    },
+    Worked {
+        name: "refused-header-form-before-range",
+        text: b"\
+            X25 1 MOD 9 WIN 2\n\
+            ",
+        fault: Some(Fault::Trace(1, Kind::HeaderForm)),
         report: b"",
     },
     Worked {
@@ -61,6 +78,15 @@ pub const REFUSED: [Worked; 11] = [
         report: b"",
     },
     Worked {
+        name: "refused-number-before-side",
+        text: b"\
+            X25 1 MOD 8 WIN 2 SIZE 128 PVC 0 SVC 4\n\
+            0 X 1001\n\
+            ",
+        fault: Some(Fault::Trace(2, Kind::Number)),
+        report: b"",
+    },
+    Worked {
         name: "refused-number-order",
         text: b"\
             X25 1 MOD 8 WIN 2 SIZE 128 PVC 0 SVC 4\n\
@@ -77,6 +103,15 @@ pub const REFUSED: [Worked; 11] = [
             1 T 100\n\
             ",
         fault: Some(Fault::Trace(2, Kind::Hex)),
+        report: b"",
+    },
+    Worked {
+        name: "refused-side-before-hex",
+        text: b"\
+            X25 1 MOD 8 WIN 2 SIZE 128 PVC 0 SVC 4\n\
+            1 X 100\n\
+            ",
+        fault: Some(Fault::Trace(2, Kind::Side)),
         report: b"",
     },
     Worked {
