@@ -13,11 +13,11 @@ mod wanting;
 mod worked;
 
 use crate::tests::checks::{
-    STEPS, Stop, agree_on_report, check, check_all, check_stops, check_writes,
+    STEPS, Stop, Test, agree_on_report, check, check_all, check_long_traces, check_stops,
+    check_table, check_writes, same_number,
 };
 use crate::tests::runs::{Way, scan};
-use crate::tests::worked::long::{LONG_TRACES, LongTrace};
-use crate::tests::worked::{Table, Worked, traces};
+use crate::tests::worked::{Table, Worked};
 use line_model::fault::{Fault, Kind};
 use std::alloc::Global;
 use std::process::Abort;
@@ -41,33 +41,22 @@ fn memory_is_not_always_refused(rt: HostRuntime) {
 
 #[test]
 fn calls_and_windows_are_reported(rt: HostRuntime) {
-    check_all(&rt, rt.alloc(), Way::Alone, traces(Table::Channels))
+    check_table(&rt, rt.alloc(), Test::Alone, Table::Channels)
 }
 
 #[test]
 fn epochs_are_reported(rt: HostRuntime) {
-    check_all(&rt, rt.alloc(), Way::Alone, traces(Table::Epochs))
+    check_table(&rt, rt.alloc(), Test::Alone, Table::Epochs)
 }
 
 #[test]
 fn pad_messages_are_reported(rt: HostRuntime) {
-    check_all(&rt, rt.alloc(), Way::Alone, traces(Table::Messages))
-}
-
-fn check_long<R: Threads + Wait + Clock + Sync + Abort>(rt: &R, alloc: Global, long: &LongTrace) {
-    let text = long.text(rt, alloc);
-    check_all(rt, alloc, Way::Alone, &[long.worked(text.as_slice())]);
-}
-
-fn check_long_traces<R: Threads + Wait + Clock + Sync + Abort>(rt: &R, alloc: Global) {
-    for long in &LONG_TRACES {
-        check_long(rt, alloc, long);
-    }
+    check_table(&rt, rt.alloc(), Test::Alone, Table::Messages)
 }
 
 #[test]
 fn long_traces_are_reported(rt: HostRuntime) {
-    check_long_traces(&rt, rt.alloc())
+    check_long_traces(&rt, rt.alloc(), Test::Alone)
 }
 
 /// Rows in several forms.
@@ -111,11 +100,10 @@ fn check_packets<R: Threads + Wait + Clock + Sync + Abort>(
         let cuts = Cuts::of_steps(step, step);
         let outcome = scan(rt, alloc, Way::Alone, worked.text, cuts);
         agree_on_report(rt, &outcome, worked, cuts);
-        let counted = match outcome.answer {
-            Ok(summary) => Ok(summary.packets),
-            Err(fault) => Err(fault),
-        };
-        assert_eq!(rt; counted, Ok(packets), "{} by {step}", worked.name);
+        match &outcome.answer {
+            Ok(summary) => same_number(rt, summary.packets, packets, worked.name),
+            Err(_) => panic!(rt; "{} is refused", worked.name),
+        }
     }
 }
 
@@ -134,7 +122,7 @@ fn rows_are_counted_in_any_form(rt: HostRuntime) {
 
 #[test]
 fn faulty_texts_are_refused(rt: HostRuntime) {
-    check_all(&rt, rt.alloc(), Way::Alone, traces(Table::Refused))
+    check_table(&rt, rt.alloc(), Test::Alone, Table::Refused)
 }
 
 /// Texts with faulty lines.

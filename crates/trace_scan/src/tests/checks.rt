@@ -1,7 +1,10 @@
 //! Scans of worked traces, as their sources and sinks cut them, and fail.
 
+use crate::tests::following::check_followed;
+use crate::tests::growing::check_growing;
 use crate::tests::runs::{Outcome, Way, scan};
-use crate::tests::worked::Worked;
+use crate::tests::worked::long::{LONG_TRACES, LongTrace};
+use crate::tests::worked::{Table, Worked, traces};
 use line_model::fault::Fault;
 use std::alloc::Global;
 use std::process::Abort;
@@ -13,25 +16,40 @@ use test_devices::Cuts;
 /// How many bytes a source gives at once.
 pub const STEPS: [usize; 3] = [1, 7, usize::MAX];
 
+/// Sees that these bytes were written.
+pub fn same_bytes(rt: &impl Abort, bytes: &[u8], wanted: &[u8], name: &str, cuts: Cuts) {
+    let (step, given, writes) = (cuts.read_step, cuts.good_bytes, cuts.good_writes);
+    assert_eq!(rt;
+        bytes,
+        wanted,
+        "{name} by {step}, {given} bytes, {writes} writes"
+    );
+}
+
+/// Sees that a number is the one that is wanted.
+pub fn same_number(rt: &impl Abort, number: u64, wanted: u64, name: &str) {
+    assert_eq!(rt; number, wanted, "{name}");
+}
+
 /// Sees that a scan was refused as the trace is, if it is.
 pub fn agree_on_fault(rt: &impl Abort, outcome: &Outcome, worked: &Worked, cuts: Cuts) {
-    let (step, bytes, writes) = (cuts.read_step, cuts.good_bytes, cuts.good_writes);
+    let (step, given, writes) = (cuts.read_step, cuts.good_bytes, cuts.good_writes);
+    let (fault, name) = (outcome.answer.err(), worked.name);
     assert_eq!(rt;
-        outcome.answer.err(),
+        fault,
         worked.fault,
-        "{} by {step}, {bytes} bytes, {writes} writes",
-        worked.name
+        "{name} by {step}, {given} bytes, {writes} writes"
     );
 }
 
 /// Sees that the sink took what the trace tells.
 pub fn agree_on_report(rt: &impl Abort, outcome: &Outcome, worked: &Worked, cuts: Cuts) {
-    let (step, bytes, writes) = (cuts.read_step, cuts.good_bytes, cuts.good_writes);
-    assert_eq!(rt;
+    same_bytes(
+        rt,
         outcome.taken.as_slice(),
         worked.report,
-        "{} by {step}, {bytes} bytes, {writes} writes",
-        worked.name
+        worked.name,
+        cuts,
     );
 }
 
@@ -74,6 +92,71 @@ pub fn check_all<R: Threads + Wait + Clock + Sync + Abort>(
 ) {
     for worked in traces {
         check_bytes(rt, alloc, way, worked, usize::MAX);
+    }
+}
+
+/// How a table of traces is tested.
+#[derive(Clone, Copy)]
+pub enum Test {
+    Alone,
+    Followed,
+    ByCrews,
+    WhileItGrows,
+}
+
+/// Scans a trace in steps of any size, by crews of several sizes.
+fn check_crews<R: Threads + Wait + Clock + Sync + Abort>(rt: &R, alloc: Global, worked: &Worked) {
+    check_bytes(rt, alloc, Way::Crew(1, 1), worked, usize::MAX);
+    check_bytes(rt, alloc, Way::Crew(2, 64), worked, usize::MAX);
+    check_bytes(rt, alloc, Way::Crew(64, 1), worked, usize::MAX);
+}
+
+/// Tests a trace.
+fn check_trace<R: Threads + Wait + Clock + Sync + Abort>(
+    rt: &R,
+    alloc: Global,
+    test: Test,
+    worked: &Worked,
+) {
+    match test {
+        Test::Alone => check_bytes(rt, alloc, Way::Alone, worked, usize::MAX),
+        Test::Followed => check_followed(rt, alloc, worked),
+        Test::ByCrews => check_crews(rt, alloc, worked),
+        Test::WhileItGrows => check_growing(rt, alloc, worked),
+    }
+}
+
+/// Tests the traces of a table.
+pub fn check_table<R: Threads + Wait + Clock + Sync + Abort>(
+    rt: &R,
+    alloc: Global,
+    test: Test,
+    table: Table,
+) {
+    for worked in traces(table) {
+        check_trace(rt, alloc, test, worked);
+    }
+}
+
+/// Tests a trace that is too long to be written out.
+fn check_long_trace<R: Threads + Wait + Clock + Sync + Abort>(
+    rt: &R,
+    alloc: Global,
+    test: Test,
+    long: &LongTrace,
+) {
+    let text = long.text(rt, alloc);
+    check_trace(rt, alloc, test, &long.worked(text.as_slice()));
+}
+
+/// Tests the traces that are too long to be written out.
+pub fn check_long_traces<R: Threads + Wait + Clock + Sync + Abort>(
+    rt: &R,
+    alloc: Global,
+    test: Test,
+) {
+    for long in &LONG_TRACES {
+        check_long_trace(rt, alloc, test, long);
     }
 }
 

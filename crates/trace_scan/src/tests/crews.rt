@@ -2,10 +2,12 @@
 
 use crate::gate::OpenGate;
 use crate::tests::NO_ROWS;
-use crate::tests::checks::{Stop, check, check_all, check_stops, check_writes};
+use crate::tests::checks::{
+    Stop, Test, check, check_long_traces, check_stops, check_table, check_writes, same_bytes,
+    same_number,
+};
 use crate::tests::runs::{NONE, Scanned, Way, scan_through};
-use crate::tests::worked::long::{LONG_TRACES, LongTrace};
-use crate::tests::worked::{Table, Worked, trace, traces};
+use crate::tests::worked::{Table, Worked, trace};
 use crate::threaded::Scan;
 use line_model::fault::{Fault, Kind};
 use line_model::totals::Totals;
@@ -16,47 +18,29 @@ use std::thread::Threads;
 use std::time::Clock;
 use test_devices::Cuts;
 
-/// Scans traces in steps of any size, by crews of several sizes.
-fn check_crews<R: Threads + Wait + Clock + Sync + Abort>(rt: &R, alloc: Global, traces: &[Worked]) {
-    check_all(rt, alloc, Way::Crew(1, 1), traces);
-    check_all(rt, alloc, Way::Crew(2, 64), traces);
-    check_all(rt, alloc, Way::Crew(64, 1), traces);
-}
-
 #[test]
 fn calls_are_reported_by_any_number_of_workers(rt: HostRuntime) {
-    check_crews(&rt, rt.alloc(), traces(Table::Channels))
+    check_table(&rt, rt.alloc(), Test::ByCrews, Table::Channels)
 }
 
 #[test]
 fn epochs_are_reported_by_any_number_of_workers(rt: HostRuntime) {
-    check_crews(&rt, rt.alloc(), traces(Table::Epochs))
+    check_table(&rt, rt.alloc(), Test::ByCrews, Table::Epochs)
 }
 
 #[test]
 fn messages_are_reported_by_any_number_of_workers(rt: HostRuntime) {
-    check_crews(&rt, rt.alloc(), traces(Table::Messages))
+    check_table(&rt, rt.alloc(), Test::ByCrews, Table::Messages)
 }
 
 #[test]
 fn faulty_texts_are_refused_by_any_number_of_workers(rt: HostRuntime) {
-    check_crews(&rt, rt.alloc(), traces(Table::Refused))
-}
-
-fn check_long<R: Threads + Wait + Clock + Sync + Abort>(rt: &R, alloc: Global, long: &LongTrace) {
-    let text = long.text(rt, alloc);
-    check_crews(rt, alloc, &[long.worked(text.as_slice())]);
-}
-
-fn check_long_traces<R: Threads + Wait + Clock + Sync + Abort>(rt: &R, alloc: Global) {
-    for long in &LONG_TRACES {
-        check_long(rt, alloc, long);
-    }
+    check_table(&rt, rt.alloc(), Test::ByCrews, Table::Refused)
 }
 
 #[test]
 fn long_traces_are_reported_by_any_number_of_workers(rt: HostRuntime) {
-    check_long_traces(&rt, rt.alloc())
+    check_long_traces(&rt, rt.alloc(), Test::ByCrews)
 }
 
 /// What the workers of a scan must have found.
@@ -82,20 +66,22 @@ fn count(shares: &[Totals], wanted: Totals) -> usize {
 /// Sees how many workers have each share.
 fn agree_on_shares(rt: &impl Abort, shares: &[Totals], wanted: &[(usize, Totals)]) {
     for (workers, share) in wanted {
-        assert_eq!(rt; count(shares, *share), *workers);
+        let found = count(shares, *share);
+        same_number(rt, found as u64, *workers as u64, "workers with a share");
     }
 }
 
 /// Sees what the workers of a scan found.
 fn agree_on_scan(rt: &impl Abort, scan: &Scan, work: &Work) {
     assert!(rt; scan.totals == work.totals, "{} workers", work.workers);
-    assert_eq!(rt; scan.shares.len(), work.workers);
+    same_number(rt, scan.shares.len() as u64, work.workers as u64, "shares");
     agree_on_shares(rt, scan.shares.as_slice(), work.shares);
 }
 
 /// Sees what a scan by workers answered and wrote.
 pub fn agree(rt: &impl Abort, scanned: &Scanned, work: &Work, report: &[u8]) {
-    assert_eq!(rt; scanned.taken.as_slice(), report);
+    let taken = scanned.taken.as_slice();
+    same_bytes(rt, taken, report, "a crew", Cuts::of_steps(7, 7));
     match &scanned.answer {
         Ok(scan) => agree_on_scan(rt, scan, work),
         Err(_) => panic!(rt; "the trace is without fault"),

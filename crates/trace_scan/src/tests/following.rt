@@ -1,10 +1,11 @@
 //! The scan that follows a trace, over the devices of the tests.
 
 use crate::tests::checks::{
-    STEPS, Stop, agree_on_fault, agree_on_report, check, check_all, check_stops, check_writes,
+    STEPS, Stop, Test, agree_on_fault, agree_on_report, check, check_all, check_stops, check_table,
+    check_writes,
 };
 use crate::tests::runs::{Way, scan};
-use crate::tests::worked::{Table, Worked, traces};
+use crate::tests::worked::{Table, Worked};
 use line_model::fault::{Fault, Kind};
 use std::alloc::Global;
 use std::process::Abort;
@@ -14,7 +15,11 @@ use std::time::Clock;
 use test_devices::Cuts;
 
 /// Follows a worked trace, as its source and its sink cut it. Where it is refused, findings may have been written.
-fn check_trace<R: Threads + Wait + Clock + Sync + Abort>(rt: &R, alloc: Global, worked: &Worked) {
+pub fn check_followed<R: Threads + Wait + Clock + Sync + Abort>(
+    rt: &R,
+    alloc: Global,
+    worked: &Worked,
+) {
     for step in STEPS {
         let cuts = Cuts::of_steps(step, step);
         let outcome = scan(rt, alloc, Way::Following, worked.text, cuts);
@@ -25,19 +30,12 @@ fn check_trace<R: Threads + Wait + Clock + Sync + Abort>(rt: &R, alloc: Global, 
     }
 }
 
-/// Follows the traces of a table.
-fn check_table<R: Threads + Wait + Clock + Sync + Abort>(rt: &R, alloc: Global, table: Table) {
-    for worked in traces(table) {
-        check_trace(rt, alloc, worked);
-    }
-}
-
 /// Follows the traces of all tables.
 fn check_tables<R: Threads + Wait + Clock + Sync + Abort>(rt: &R, alloc: Global) {
-    check_table(rt, alloc, Table::Channels);
-    check_table(rt, alloc, Table::Epochs);
-    check_table(rt, alloc, Table::Messages);
-    check_table(rt, alloc, Table::Refused);
+    check_table(rt, alloc, Test::Followed, Table::Channels);
+    check_table(rt, alloc, Test::Followed, Table::Epochs);
+    check_table(rt, alloc, Test::Followed, Table::Messages);
+    check_table(rt, alloc, Test::Followed, Table::Refused);
 }
 
 #[test]

@@ -3,9 +3,9 @@
 ghost use Rattle.std.specs.Prelude.{◌≡◌, ◌<◌};
 ghost use Rattle.live_report.specs.Lives.{IsFed};
 
+use crate::tests::checks::{Test, check_long_traces, check_table, same_bytes};
 use crate::tests::runs::{Outcome, Way, scan};
-use crate::tests::worked::long::{LONG_TRACES, LongTrace};
-use crate::tests::worked::{Table, Worked, traces};
+use crate::tests::worked::{Table, Worked};
 use channel_machine::channel::PlainChannel;
 use channel_machine::run::Channel;
 use line_model::count::Count;
@@ -51,8 +51,18 @@ fn told<A: Allocator + Copy, C: Channel<A>>(alloc: Global, trace: &Live<A, C>) -
 
 /// Sees that two outcomes are the same.
 fn agree(rt: &impl Abort, told: &Outcome, scanned: &Outcome, name: &str, bytes: usize) {
+    let cuts = Cuts {
+        good_bytes: bytes,
+        ..Cuts::of_steps(usize::MAX, usize::MAX)
+    };
     assert_eq!(rt; told.answer, scanned.answer, "{name} after {bytes} bytes");
-    assert_eq!(rt; told.taken.as_slice(), scanned.taken.as_slice(), "{name}");
+    same_bytes(
+        rt,
+        told.taken.as_slice(),
+        scanned.taken.as_slice(),
+        name,
+        cuts,
+    );
 }
 
 /// Sees that a trace tells what the scan of one thread does of its lines so far.
@@ -89,50 +99,36 @@ fn check_grows<A: Allocator + Copy, C: Channel<A>, R: Threads + Wait + Clock + S
 }
 
 /// Feeds a worked trace byte by byte.
-fn check<R: Threads + Wait + Clock + Sync + Abort>(rt: &R, alloc: Global, worked: &Worked) {
+pub fn check_growing<R: Threads + Wait + Clock + Sync + Abort>(
+    rt: &R,
+    alloc: Global,
+    worked: &Worked,
+) {
     let mut trace = Live::<Global, PlainChannel<Global>>::new(alloc);
     check_grows(rt, alloc, &mut trace, worked);
 }
 
-/// Feeds the traces of a table byte by byte.
-fn check_table<R: Threads + Wait + Clock + Sync + Abort>(rt: &R, alloc: Global, table: Table) {
-    for worked in traces(table) {
-        check(rt, alloc, worked);
-    }
-}
-
 #[test]
 fn calls_are_reported_while_they_grow(rt: HostRuntime) {
-    check_table(&rt, rt.alloc(), Table::Channels)
+    check_table(&rt, rt.alloc(), Test::WhileItGrows, Table::Channels)
 }
 
 #[test]
 fn epochs_are_reported_while_they_grow(rt: HostRuntime) {
-    check_table(&rt, rt.alloc(), Table::Epochs)
+    check_table(&rt, rt.alloc(), Test::WhileItGrows, Table::Epochs)
 }
 
 #[test]
 fn messages_are_reported_while_they_grow(rt: HostRuntime) {
-    check_table(&rt, rt.alloc(), Table::Messages)
+    check_table(&rt, rt.alloc(), Test::WhileItGrows, Table::Messages)
 }
 
 #[test]
 fn faulty_texts_are_refused_while_they_grow(rt: HostRuntime) {
-    check_table(&rt, rt.alloc(), Table::Refused)
-}
-
-fn check_long<R: Threads + Wait + Clock + Sync + Abort>(rt: &R, alloc: Global, long: &LongTrace) {
-    let text = long.text(rt, alloc);
-    check(rt, alloc, &long.worked(text.as_slice()));
-}
-
-fn check_long_traces<R: Threads + Wait + Clock + Sync + Abort>(rt: &R, alloc: Global) {
-    for long in &LONG_TRACES {
-        check_long(rt, alloc, long);
-    }
+    check_table(&rt, rt.alloc(), Test::WhileItGrows, Table::Refused)
 }
 
 #[test]
 fn long_traces_are_reported_while_they_grow(rt: HostRuntime) {
-    check_long_traces(&rt, rt.alloc())
+    check_long_traces(&rt, rt.alloc(), Test::WhileItGrows)
 }

@@ -1,5 +1,6 @@
 //! Scans whose growths are refused.
 
+use crate::tests::checks::{same_bytes, same_number};
 use crate::tests::runs::{Outcome, Way, scan_in};
 use crate::tests::worked::long::LONG_TRACES;
 use crate::tests::worked::{Table, Worked, trace};
@@ -32,11 +33,12 @@ fn agree(rt: &impl Abort, way: Way, outcome: &Outcome, worked: &Worked, refused:
         assert!(rt; told, "{} at {good}", worked.name);
     }
     let report = if refused { b"" } else { worked.report };
-    assert_eq!(rt;
+    same_bytes(
+        rt,
         outcome.taken.as_slice(),
         report,
-        "{} at {good}",
-        worked.name
+        worked.name,
+        Cuts::of_steps(7, 7),
     );
 }
 
@@ -67,7 +69,7 @@ fn growths_of<R: Threads + Wait + Clock + Sync + Abort>(
 ) -> u64 {
     for good in 0..GROWTHS {
         let refused = check_growth(rt, alloc, heap, way, worked, good);
-        assert_eq!(rt; heap.held(), 0, "{} at {good}", worked.name);
+        same_number(rt, heap.held(), 0, worked.name);
         if !refused {
             return good;
         }
