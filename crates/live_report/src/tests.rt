@@ -101,10 +101,20 @@ fn ended<A: Allocator + Copy, C: Channel<A>>(alloc: Global, trace: Live<A, C>) -
     ended_on::<A, C, Brand>(Blank::new(1), alloc, trace)
 }
 
+/// Sees that a fault is the one that is wanted, if any is.
+fn same_fault(rt: &impl Abort, fault: Option<Fault>, wanted: Option<Fault>) {
+    assert_eq!(rt; fault, wanted);
+}
+
+/// Sees that these bytes were written.
+fn same_bytes(rt: &impl Abort, bytes: &[u8], wanted: &[u8]) {
+    assert_eq!(rt; bytes, wanted);
+}
+
 /// Sees that an answer is the one that is wanted.
 fn agree(rt: &impl Abort, answer: &Answer, wanted: Wanted) {
-    assert_eq!(rt; answer.fault, wanted.err());
-    assert_eq!(rt; answer.bytes.as_slice(), wanted.unwrap_or(b""));
+    same_fault(rt, answer.fault, wanted.err());
+    same_bytes(rt, answer.bytes.as_slice(), wanted.unwrap_or(b""));
 }
 
 /// Sees that the report of a trace so far is the one that is wanted.
@@ -131,7 +141,7 @@ fn check_fed<A: Allocator + Copy, C: Channel<A>>(
     ensures fed { IsFed C.interface_of C.number_of C.stands_for trace.new }
 {
     let answer = trace.feed(chunk).err();
-    assert_eq!(rt; answer, fault);
+    same_fault(rt, answer, fault);
 }
 
 /// Plays steps with a trace.

@@ -4,7 +4,7 @@ ghost use Rattle.std.specs.Prelude.{◌≡◌, ◌<◌};
 ghost use Rattle.live_report.specs.Follows.{IsFed};
 
 use crate::follow::Follower;
-use crate::tests::open_sink;
+use crate::tests::{open_sink, same_bytes, same_fault};
 use channel_machine::channel::PlainChannel;
 use channel_machine::run::Channel;
 use line_model::device::Sink;
@@ -50,16 +50,17 @@ struct Step {
     seen: Seen,
 }
 
-/// How many findings a trace has that has ended, or why it is refused, and what is seen of its sink then.
+/// Why a trace that has ended is refused or how many findings it has, and what is seen of its sink then.
 struct End {
-    findings: Result<u64, Fault>,
+    fault: Option<Fault>,
+    findings: u64,
     seen: Seen,
 }
 
 /// Sees what a sink took, or how often it was asked.
 fn look<L: Ledger>(rt: &impl Abort, sink: &Counted<L>, seen: Seen) {
     match seen {
-        Seen::Taken(bytes) => assert_eq!(rt; sink.sink.taken.as_slice(), bytes),
+        Seen::Taken(bytes) => same_bytes(rt, sink.sink.taken.as_slice(), bytes),
         Seen::Asked(times) => assert_eq!(rt; sink.asked, times),
     }
 }
@@ -75,7 +76,7 @@ fn check_fed<A: Allocator + Copy, C: Channel<A>, K: Sink>(
     ensures fed { IsFed C.interface_of C.number_of C.stands_for trace.new }
 {
     let answer = trace.feed(step.chunk, sink).err();
-    assert_eq!(rt; answer, step.fault);
+    same_fault(rt, answer, step.fault);
 }
 
 /// Plays steps with a follower.
@@ -94,11 +95,11 @@ fn play_steps<A: Allocator + Copy, C: Channel<A>, L: Ledger>(
     }
 }
 
-/// Sees how many findings a trace has that has ended, or why it is refused.
-fn check_ended(rt: &impl Abort, answer: Result<Summary, Fault>, findings: Result<u64, Fault>) {
-    match answer {
-        Ok(summary) => assert_eq!(rt; Ok(summary.findings), findings),
-        Err(fault) => assert_eq!(rt; Err(fault), findings),
+/// Sees why a trace that has ended is refused, or how many findings it has.
+fn check_ended(rt: &impl Abort, answer: Result<Summary, Fault>, end: &End) {
+    same_fault(rt, answer.err(), end.fault);
+    if let Ok(summary) = answer {
+        assert_eq!(rt; summary.findings, end.findings);
     }
 }
 
@@ -134,7 +135,7 @@ fn play_on<L: Ledger>(
         asked: 0,
     };
     let answer = play_into(rt, alloc, &mut sink, steps);
-    check_ended(rt, answer, end.findings);
+    check_ended(rt, answer, end);
     look(rt, &sink, end.seen);
 }
 
@@ -175,7 +176,8 @@ const LINES: [Step; 5] = [
 ];
 
 const END_OF_LINES: End = End {
-    findings: Ok(4),
+    fault: None,
+    findings: 4,
     seen: Seen::Taken(
         b"F 1 T - 38\nF 2 T - 40\nF 4 T - 38\nF 5 T - 38\nC 1 1 1 out - - 3 - - open 0 0 0 0 0\nA - 1 0\nP 0 -\nZ 5 4 1 0 0\n",
     ),
@@ -211,7 +213,8 @@ const FAULTY_LINE: [Step; 3] = [
 ];
 
 const END_AT_A_FAULTY_LINE: End = End {
-    findings: Err(NO_SIDE),
+    fault: Some(NO_SIDE),
+    findings: 0,
     seen: FIRST_FINDING,
 };
 
@@ -250,7 +253,8 @@ const FAILING_SINK: [Step; 4] = [
 ];
 
 const END_OF_A_FAILING_SINK: End = End {
-    findings: Err(Fault::Write),
+    fault: Some(Fault::Write),
+    findings: 0,
     seen: Seen::Asked(2),
 };
 

@@ -3,7 +3,7 @@
 ghost use Rattle.live_report.specs.Lives.{IsFed};
 
 use crate::live::Live;
-use crate::tests::{Wanted, agree, check, check_fed, told};
+use crate::tests::{Wanted, agree, check, check_fed, same_fault, told};
 use channel_machine::channel::PlainChannel;
 use channel_machine::run::Channel;
 use line_model::fault::Fault;
@@ -65,13 +65,6 @@ fn feed_all<A: Allocator + Copy, C: Channel<A>>(
 /// The most growths that these tests look for.
 const GROWTHS: u64 = 10_000;
 
-/// Sees that there were growths, and that each was refused; and that no block is kept.
-fn check_growths(rt: &impl Abort, heap: &Scarce<Global>, growths: u64) {
-    assert!(rt; 0 < growths);
-    assert!(rt; growths < GROWTHS, "there are fewer growths");
-    assert_eq!(rt; heap.held(), 0);
-}
-
 /// Refuses one growth of a report, and sees that nothing is written, that no block is kept and that the next report is
 /// right. Answers whether there was such a growth.
 fn check_growth<A: Allocator + Copy, C: Channel<A>>(
@@ -111,25 +104,6 @@ fn growths_of_a_report<A: Allocator + Copy, C: Channel<A>>(
     GROWTHS
 }
 
-/// How many growths the report of a trace has that was fed.
-fn growths_once_fed(rt: &impl Abort, alloc: Global, heap: &Scarce<Global>) -> u64 {
-    let mut trace = Live::<&Scarce<Global>, PlainChannel<&Scarce<Global>>>::new(heap);
-    check_fed(rt, &mut trace, CHUNKS[0], None);
-    check_fed(rt, &mut trace, CHUNKS[1], None);
-    growths_of_a_report(rt, alloc, heap, &trace)
-}
-
-fn refuse_growths_of_a_report(rt: &impl Abort, alloc: Global) {
-    let heap = Scarce::new(alloc);
-    let growths = growths_once_fed(rt, alloc, &heap);
-    check_growths(rt, &heap, growths);
-}
-
-#[test]
-fn a_report_that_wants_memory_leaves_the_trace_as_it_was(rt: HostRuntime) {
-    refuse_growths_of_a_report(&rt, rt.alloc())
-}
-
 /// Sees what a trace tells once it was fed, and that one that wanted memory wants it from then on.
 fn check_told<A: Allocator + Copy, C: Channel<A>>(
     rt: &impl Abort,
@@ -141,7 +115,7 @@ fn check_told<A: Allocator + Copy, C: Channel<A>>(
     requires fed { IsFed C.interface_of C.number_of C.stands_for trace.old }
 {
     let wanted = wanted(refused);
-    assert_eq!(rt; fault, wanted.err());
+    same_fault(rt, fault, wanted.err());
     if refused {
         check_fed(rt, trace, b"12 T -\n", wanted.err());
     }
@@ -166,31 +140,80 @@ fn check_feeding<A: Allocator + Copy, C: Channel<A>>(
     refused
 }
 
-/// Feeds a trace of which nothing was fed, and refuses one growth. Answers whether there was such a growth.
-fn check_trace(rt: &impl Abort, alloc: Global, heap: &Scarce<Global>, good: u64) -> bool {
-    let mut trace = Live::<&Scarce<Global>, PlainChannel<&Scarce<Global>>>::new(heap);
-    check_feeding(rt, alloc, heap, &mut trace, good)
+/// What growths are refused.
+#[derive(Clone, Copy)]
+enum Growths {
+    /// Those of the reports of one trace, each in turn.
+    OfReports,
+    /// Those of a trace that is fed, each of a new one.
+    OfTraces,
 }
 
-/// How many growths a trace has that is fed, each of which is refused in turn.
-fn growths_of_a_trace(rt: &impl Abort, alloc: Global, heap: &Scarce<Global>) -> u64 {
+/// Refuses growths of a trace. Answers how many there are, once one was asked for that there is not.
+fn check_trace<A: Allocator + Copy, C: Channel<A>>(
+    rt: &impl Abort,
+    alloc: Global,
+    heap: &Scarce<Global>,
+    trace: &mut Live<A, C>,
+    growths: Growths,
+    good: u64,
+) -> Option<u64>
+    requires fed { IsFed C.interface_of C.number_of C.stands_for trace.old }
+{
+    match growths {
+        Growths::OfReports => {
+            check_fed(rt, trace, CHUNKS[0], None);
+            check_fed(rt, trace, CHUNKS[1], None);
+            Some(growths_of_a_report(rt, alloc, heap, trace))
+        }
+        Growths::OfTraces => {
+            if check_feeding(rt, alloc, heap, trace, good) {
+                None
+            } else {
+                Some(good)
+            }
+        }
+    }
+}
+
+/// Refuses growths of a new trace.
+fn check_new(
+    rt: &impl Abort,
+    alloc: Global,
+    heap: &Scarce<Global>,
+    growths: Growths,
+    good: u64,
+) -> Option<u64> {
+    let mut trace = Live::<&Scarce<Global>, PlainChannel<&Scarce<Global>>>::new(heap);
+    check_trace(rt, alloc, heap, &mut trace, growths, good)
+}
+
+/// How many growths there are, each of which is refused in turn. No block is kept.
+fn count(rt: &impl Abort, alloc: Global, heap: &Scarce<Global>, growths: Growths) -> u64 {
     for good in 0..GROWTHS {
-        let refused = check_trace(rt, alloc, heap, good);
+        let found = check_new(rt, alloc, heap, growths, good);
         assert_eq!(rt; heap.held(), 0);
-        if !refused {
-            return good;
+        if let Some(found) = found {
+            return found;
         }
     }
     GROWTHS
 }
 
-fn refuse_growths_of_a_trace(rt: &impl Abort, alloc: Global) {
+/// Refuses each growth in turn, until it meets none.
+fn check_growths(rt: &impl Abort, alloc: Global, growths: Growths) {
     let heap = Scarce::new(alloc);
-    let growths = growths_of_a_trace(rt, alloc, &heap);
-    check_growths(rt, &heap, growths);
+    let found = count(rt, alloc, &heap, growths);
+    let all_refused = 0 < found && found < GROWTHS;
+    assert!(rt; all_refused, "{found} growths");
+}
+
+#[test]
+fn a_report_that_wants_memory_leaves_the_trace_as_it_was(rt: HostRuntime) {
+    check_growths(&rt, rt.alloc(), Growths::OfReports)
 }
 
 #[test]
 fn a_trace_that_wanted_memory_wants_it_from_then_on(rt: HostRuntime) {
-    refuse_growths_of_a_trace(&rt, rt.alloc())
+    check_growths(&rt, rt.alloc(), Growths::OfTraces)
 }
