@@ -205,7 +205,12 @@ fn pieces_that_come_one_by_one_give_the_report_so_far(rt: HostRuntime) -> Result
     parts.add(finding_report(alloc, 1, 1, 3, 2)?)?;
     assert_eq!(rt; parts.pieces(), 2);
     let two = parts.finish(Vec::new(alloc), 5)?;
-    check(&rt, alloc, &two, b"F 2 T p1 20\nF 3 T p1 20\nP 0 -\nZ 5 2 0 0 0\n")
+    check(
+        &rt,
+        alloc,
+        &two,
+        b"F 2 T p1 20\nF 3 T p1 20\nP 0 -\nZ 5 2 0 0 0\n",
+    )
 }
 
 #[test]
