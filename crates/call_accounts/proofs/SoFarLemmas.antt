@@ -73,6 +73,11 @@ of_one epoch channel (e ∷ es) all = at e.what (of_one epoch channel es all.1)
     at (Setting _ _ _) h = h
     at (Initial _) h = h
 
+-- a record hears the events alongside alone
+pub record_along : (e : Event) (o : Bool) (a b : List ℕ) (r : Bool) (later own : List Event) → filter (is_alongside e) later ≡ filter (is_alongside e) own → record_of e o a b r later ≡ record_of e o a b r own
+unfolding goes_on
+record_along e o a b r later own h = ap (λ l. record_from e o a b r (take_while goes_on l) (find is_end l)) h
+
 -- ---- ends and members, with events behind them
 
 taken_before : (es : List Event) (o : Event) (later : List Event) → goes_on o ≡ false → take_while goes_on (es ++ o ∷ later) ≡ take_while goes_on es

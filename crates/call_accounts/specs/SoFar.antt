@@ -81,3 +81,12 @@ HoldsFor told (Some c) es = IsOpenIn told c es
 pub record StandsFor {A : Type 0} (s : CallsSoFar A) (epoch channel : ℕ) (es : List Event) : Type 0 where
   pub of_channel : AllByRecursion (IsOf epoch channel) es
   pub holds : HoldsFor s.told.items s.call es
+
+-- the records that are told where a call may be open, which is closed without an end
+abbrev pub TellsBy : List CallRecord → Option OpenCall → List CallRecord → Type 0
+TellsBy told None cs = told ≡ cs
+TellsBy told (Some o) cs = (epoch : ℕ) × (channel : ℕ) × (es : List Event) × AllByRecursion (IsOf epoch channel) es × IsOpenIn told o es × (cs ≡ calls_of es)
+
+-- the records of the calls so far, where no more events come
+abbrev pub Tells : {A : Type 0} → CallsSoFar A → List CallRecord → Type 0
+Tells s cs = TellsBy s.told.items s.call cs

@@ -1,165 +1,106 @@
-//! The records of calls, read off a list of events from its back.
+//! The records of calls, off a list of events of any channels.
 
-ghost use Rattle.std.specs.Prelude.{◌≡◌, ℕ, ◌≤◌, ◌+◌, ◌^◌, List, ◌∷◌, ◌++◌, OnOk, IfOk, IfErr, sum, []};
+ghost use Rattle.std.specs.Prelude.{◌≡◌, ℕ, ◌≤◌, ◌^◌, ◌==◌, ◌&&◌, List, [], ◌∷◌, ◌++◌, Some, false, map, OnOk, IfOk, IfErr, sum};
 ghost use Rattle.line_model.specs.declared.event.Event.{Event};
-ghost use Rattle.line_model.specs.Calls.{calls_of, record_of, all_lengths};
-ghost use Rattle.call_accounts.specs.Heard.{IsFew};
-ghost use Rattle.call_accounts.specs.Tallied.{Stands, own_events, members_of, opened_by, tally_at, no_tally, IsKept};
+ghost use Rattle.line_model.specs.Records as records;
+ghost use Rattle.line_model.specs.Calls.{calls_of, all_lengths};
+ghost use Rattle.call_accounts.specs.Counted.{IsCountable};
+ghost use Rattle.call_accounts.specs.Places.{AreHeard, AreLeft, IsFound, calls_at, place_of};
 
-use crate::heard::Heard;
-use line_model::address::Address;
+use crate::so_far::CallsSoFar;
 use line_model::call::CallRecord;
-use line_model::event::{Event, How, What};
+use line_model::event::{Event, What};
 use line_model::fault::Fault;
 use std::alloc::Allocator;
 use std::collections::BTreeMap;
+use std::mem::replace;
 
-/// How and with which packet a call ends.
-#[derive(Clone, Copy)]
-struct CallEnd {
-    packet: u32,
-    how: How,
-}
-
-/// What later events say of a call that opens on a channel.
-#[derive(Clone, Copy)]
-struct Tally {
-    end: Option<CallEnd>,
-    heard: Heard,
-}
-
-impl Tally {
-    /// Nothing stands later.
-    fn new() -> Tally
-        ensures none { Stands result [] }
-        ensures value { result ≡ no_tally }
-    {
-        Tally {
-            end: None,
-            heard: Heard::new(),
-        }
-    }
-
-    /// Takes an earlier event in.
-    fn hear(&mut self, event: &Event)
-        ensures { (own : List Event) → Stands self.old own → IsFew (event.now ∷ members_of own) → Stands self.new (event.now ∷ own) }
-    {
-        self.heard.hear(event);
-        if let What::End(how) = event.what {
-            self.end = Some(CallEnd {
-                packet: event.packet,
-                how,
-            });
-        }
-    }
-
-    /// The record of the call that an event opens.
-    fn record<A: Allocator>(
-        &self,
-        alloc: A,
-        event: &Event,
-        out: bool,
-        called: &Address,
-        calling: &Address,
-        reverse: bool,
-    ) -> Result<CallRecord<A>, Fault>
-        ensures record { IfOk result (λ r. (later : List Event) → Stands self.now (own_events event.now.epoch event.now.channel later) → r ≡ record_of event.now out called.now calling.now reverse later) }
-        ensures memory { IfErr result (λ f. f ≡ Fault.Memory) }
-    {
-        let heard = &self.heard;
-        let settings = heard.settings(alloc)?;
-        Ok(CallRecord {
-            epoch: event.epoch,
-            channel: event.channel,
-            out,
-            called: called.copied(),
-            calling: calling.copied(),
-            reverse,
-            up: heard.up,
-            opened: event.packet,
-            ended: self.end.map(|end| end.packet),
-            how: self.end.map(|end| end.how),
-            data_t: heard.data_t,
-            oct_t: heard.oct_t,
-            data_n: heard.data_n,
-            oct_n: heard.oct_n,
-            segments: heard.segments,
-            settings,
-        })
-    }
-}
-
-/// Adds the record of the call that an event opens, if it opens one.
-fn push_opened<A: Allocator + Clone>(
-    alloc: &A,
-    tally: &Tally,
-    event: &Event,
-    calls: &mut Vec<CallRecord<A>, A>,
-) -> Result<(), Fault>
-    ensures calls { (later : List Event) → Stands tally.now (own_events event.now.epoch event.now.channel later) → OnOk result (calls.new.items ≡ calls.old.items ++ opened_by event.now later) }
-    ensures memory { IfErr result (λ f. f ≡ Fault.Memory) }
-{
-    match &event.what {
-        What::Open {
-            out,
-            called,
-            calling,
-            reverse,
-        } => {
-            let call = tally.record(alloc.clone()?, event, *out, called, calling, *reverse)?;
-            calls.push(call)?;
-            Ok(())
-        }
-        _ => Ok(()),
-    }
-}
-
-/// What later events say of each channel in each epoch: one place in hand, the others in a map.
+/// The calls of each channel in each epoch so far: one place in hand, the others in a map.
 #[derive(Drop)]
-struct Tallies<A: Allocator> {
+struct Places<A: Allocator> {
     epoch: u32,
     channel: u16,
-    here: Tally,
-    others: BTreeMap<(u32, u16), Tally, A>,
+    here: CallsSoFar<A>,
+    others: BTreeMap<(u32, u16), CallsSoFar<A>, A>,
 }
 
-impl<A: Allocator + Clone> Tallies<A> {
-    /// Nothing is heard. The place of the last event is in hand, so that the events of one place take no memory.
-    fn new(alloc: A, events: &[Event]) -> Self
-        ensures { IsKept result [] }
+impl<A: Allocator + Clone> Places<A> {
+    /// Nothing was heard. The place of the first event is in hand, so that the events of one place take no room in the
+    /// map.
+    fn new(alloc: &A, events: &[Event]) -> Result<Self, Fault>
+        ensures heard { IfOk result (λ places. AreHeard places []) }
+        ensures memory { IfErr result (λ f. f ≡ Fault.Memory) }
     {
-        let (epoch, channel) = match events.last() {
+        let (epoch, channel) = match events.first() {
             Some(event) => (event.epoch, event.channel),
             None => (0, 0),
         };
-        Tallies {
+        Ok(Places {
             epoch,
             channel,
-            here: Tally::new(),
-            others: BTreeMap::new(alloc),
-        }
+            here: CallsSoFar::new(alloc.clone()?),
+            others: BTreeMap::new(alloc.clone()?),
+        })
     }
 
-    /// Takes the tally of a place in hand.
-    fn turn_to(&mut self, epoch: u32, channel: u16) -> Result<(), Fault>
+    /// Takes the calls of a place in hand.
+    fn turn_to(&mut self, alloc: &A, epoch: u32, channel: u16) -> Result<(), Fault>
         ensures turned { OnOk result ((self.new.epoch ≡ epoch) × (self.new.channel ≡ channel)) }
-        ensures kept { OnOk result ((e c : ℕ) → tally_at self.new e c ≡ tally_at self.old e c) }
+        ensures here { OnOk result (IsFound (calls_at self.old epoch channel) self.new.here) }
+        ensures others { OnOk result ((e c : ℕ) → (epoch == e && channel == c) ≡ false → calls_at self.new e c ≡ calls_at self.old e c) }
         ensures memory { IfErr result (λ f. f ≡ Fault.Memory) }
     {
         if self.epoch == epoch && self.channel == channel {
             return Ok(());
         }
-        let next = self
-            .others
-            .get(&(epoch, channel))
-            .copied()
-            .unwrap_or(Tally::new());
-        self.others.insert((self.epoch, self.channel), self.here)?;
+        let next = match self.others.remove(&(epoch, channel)) {
+            Some(calls) => calls,
+            None => CallsSoFar::new(alloc.clone()?),
+        };
+        let here = replace(&mut self.here, next);
+        self.others.insert((self.epoch, self.channel), here)?;
         self.epoch = epoch;
         self.channel = channel;
-        self.here = next;
         Ok(())
     }
+
+    /// Hears an event at its place.
+    fn hear(&mut self, alloc: &A, event: &Event) -> Result<(), Fault>
+        ensures heard { (es : List Event) → AreHeard self.old es → IsCountable (es ++ event.now ∷ []) → OnOk result (AreHeard self.new (es ++ event.now ∷ [])) }
+        ensures memory { IfErr result (λ f. f ≡ Fault.Memory) }
+    {
+        self.turn_to(alloc, event.epoch, event.channel)?;
+        self.here.hear(event)
+    }
+
+    /// Takes the record of the call that was opened last at a place.
+    fn pop(&mut self, alloc: &A, epoch: u32, channel: u16) -> Result<Option<CallRecord<A>>, Fault>
+        ensures popped { (cs : List records.CallRecord) (r : records.CallRecord) → AreLeft self.old (cs ++ r ∷ []) → r.epoch ≡ epoch → r.channel ≡ channel → IfOk result (λ call. call ≡ Some r) }
+        ensures left { (cs : List records.CallRecord) (r : records.CallRecord) → AreLeft self.old (cs ++ r ∷ []) → r.epoch ≡ epoch → r.channel ≡ channel → OnOk result (AreLeft self.new cs) }
+        ensures memory { IfErr result (λ f. f ≡ Fault.Memory) }
+    {
+        self.turn_to(alloc, epoch, channel)?;
+        self.here.pop()
+    }
+}
+
+/// The records that are left, in the order in which their calls were opened, of which these are the places.
+fn in_order<A: Allocator + Clone>(
+    alloc: &A,
+    mut places: Places<A>,
+    mut openings: Vec<(u32, u16), A>,
+) -> Result<Vec<CallRecord<A>, A>, Fault>
+    ensures calls { (cs : List records.CallRecord) → AreLeft places cs → openings.items ≡ map place_of cs → IfOk result (λ v. v.items ≡ cs) }
+    ensures memory { IfErr result (λ f. f ≡ Fault.Memory) }
+{
+    let mut calls = Vec::with_capacity(alloc.clone()?, openings.len())?;
+    while let Some((epoch, channel)) = openings.pop() {
+        if let Some(call) = places.pop(alloc, epoch, channel)? {
+            calls.push(call)?;
+        }
+    }
+    calls.reverse();
+    Ok(calls)
 }
 
 /// The records of the calls that events open, in their order (X.25, clause 4; the record is profile). A call ends with
@@ -174,14 +115,13 @@ pub fn calls_of<A: Allocator + Clone>(
     ensures calls { IfOk result (λ v. v.items ≡ calls_of events.now) }
     ensures memory { IfErr result (λ f. f ≡ Fault.Memory) }
 {
-    let mut tallies = Tallies::new(alloc.clone()?, events);
-    let mut calls = Vec::new(alloc.clone()?);
-    for index in (0..events.len()).rev() {
-        let event = &events[index];
-        tallies.turn_to(event.epoch, event.channel)?;
-        push_opened(&alloc, &tallies.here, event, &mut calls)?;
-        tallies.here.hear(event);
+    let mut places = Places::new(&alloc, events)?;
+    let mut openings = Vec::new(alloc.clone()?);
+    for event in events {
+        places.hear(&alloc, event)?;
+        if let What::Open { .. } = event.what {
+            openings.push((event.epoch, event.channel))?;
+        }
     }
-    calls.reverse();
-    Ok(calls)
+    in_order(&alloc, places, openings)
 }

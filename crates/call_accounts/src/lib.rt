@@ -4,7 +4,6 @@
 pub mod account;
 pub mod call;
 mod counts;
-mod heard;
 mod pad_table;
 pub mod peak;
 pub mod so_far;

@@ -5,7 +5,8 @@ ghost use Rattle.line_model.specs.declared.event.Event.{Event};
 ghost use Rattle.line_model.specs.declared.event.What.TheVariants.{Open, End};
 ghost use Rattle.line_model.specs.Calls.{calls_of};
 ghost use Rattle.call_accounts.specs.Counted.{Counts, IsCountable};
-ghost use Rattle.call_accounts.specs.SoFar.{IsOf, StandsFor, call_with, opening_of, ended_by, EndFirst};
+ghost use Rattle.call_accounts.specs.SoFar.{IsOf, StandsFor, Tells, call_with, opening_of, ended_by, EndFirst};
+ghost use Rattle.line_model.specs.Records as records;
 
 use crate::counts::CallCounts;
 use line_model::address::Address;
@@ -156,6 +157,7 @@ impl<A: Allocator + Clone> CallsSoFar<A> {
     fn close(&mut self) -> Result<(), Fault>
         ensures none { OnOk result (self.new.call ≡ None) }
         ensures told { (epoch channel : ℕ) (es : List Event) → StandsFor self.old epoch channel es → OnOk result (self.new.told.items ≡ calls_of es) }
+        ensures tells { (cs : List records.CallRecord) → Tells self.old cs → OnOk result (self.new.told.items ≡ cs) }
         ensures memory { IfErr result (λ f. f ≡ Fault.Memory) }
     {
         let Some(call) = &self.call else {
@@ -182,6 +184,16 @@ impl<A: Allocator + Clone> CallsSoFar<A> {
         push_record(&mut self.told, record)?;
         self.call = None;
         Ok(())
+    }
+
+    /// Takes the record of the call that was opened last, which is closed first if it is open. It answers `Memory` alone.
+    pub(crate) fn pop(&mut self) -> Result<Option<CallRecord<A>>, Fault>
+        ensures popped { (cs : List records.CallRecord) (r : records.CallRecord) → Tells self.old (cs ++ r ∷ []) → IfOk result (λ call. call ≡ Some r) }
+        ensures left { (cs : List records.CallRecord) (r : records.CallRecord) → Tells self.old (cs ++ r ∷ []) → OnOk result (Tells self.new cs) }
+        ensures memory { IfErr result (λ f. f ≡ Fault.Memory) }
+    {
+        self.close()?;
+        Ok(self.told.pop())
     }
 
     /// The records of the calls so far, in the order in which they were opened. It answers `Memory` alone.

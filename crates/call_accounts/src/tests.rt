@@ -178,6 +178,30 @@ fn a_collision_ends_the_incoming_call(rt: HostRuntime) -> Result<(), Fail> {
     Ok(())
 }
 
+/// Two channels whose events come by turns, and the first one again after a restart.
+#[test]
+fn calls_of_many_channels_stand_by_their_openings(rt: HostRuntime) -> Result<(), Fail> {
+    let events = [
+        event(1, 1, open(true)),
+        event(2, 2, open(false)),
+        event(1, 3, What::End(How::T)),
+        event(2, 4, What::Up),
+        event(2, 5, What::End(How::Restart)),
+        Event {
+            epoch: 2,
+            ..event(1, 6, open(true))
+        },
+    ];
+    let calls = calls_of(rt.alloc(), &events)?;
+    assert_eq!(rt; calls.len(), 3);
+    let (first, second, third) = (&calls[0], &calls[1], &calls[2]);
+    assert_eq!(rt; (first.epoch, first.channel, first.ended), (1, 1, Some(3)));
+    assert_eq!(rt; (second.epoch, second.channel, second.up), (1, 2, Some(4)));
+    assert_eq!(rt; (second.ended, second.how), (Some(5), Some(How::Restart)));
+    assert_eq!(rt; (third.epoch, third.channel, third.ended), (2, 1, None));
+    Ok(())
+}
+
 /// An outgoing call with a set of the DCE, which is asked for while it is open, and its clear request; and a call that
 /// is open at the end.
 #[test]

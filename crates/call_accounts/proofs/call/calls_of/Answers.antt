@@ -1,41 +1,36 @@
-use Rattle.std.proofs.lemmas.Result.{IfOk-from_err}
-use Rattle.std.proofs.Common.{◌≡◌, ◌∙◌, ap, arith, drop, length, reverse, subst, sym}
-use Rattle.std.proofs.lemmas.List.{drop_all, reverse-reverse}
+use Rattle.std.proofs.Common.{◌≡◌, ◌∙◌, ◌+◌, ◌++◌, ◌∷◌, [], List, ap, append-nil, arith, drop, map, subst, sym, take}
+use Rattle.std.proofs.lemmas.List.{take-append-drop, take_all, take_more}
+use Rattle.line_model.specs.declared.event.Event.{Event}
 use Rattle.line_model.specs.Calls.{calls_of}
-use Rattle.call_accounts.specs.Tallied.{IsKept}
-use Rattle.call_accounts.proofs.TallyLemmas.{next_turn, few_from}
+use Rattle.call_accounts.specs.Counted.{IsCountable}
+use Rattle.call_accounts.specs.Places.{AreHeard, place_of}
+use Rattle.call_accounts.proofs.PlaceLemmas.{all_countable, countable_before, heard_left, opens_here, opens_none, places_more}
 use Rattle.call_accounts.proofs.call.calls_of.Goals as goal
+use Rattle.call_accounts.proofs.call.calls_of.Goals.{in-Open+in_ok-push, in_default}
 
-pub loop-index-preserved : goal.loop-index-preserved
-loop-index-preserved g c =
-    let w = next_turn c.args.events.now c.loop-index.index c.index-events-index.result c.loop-index.tallies c.turn_to.new.self c.loop-index.calls.items c.push_opened.new.calls.items c.hear.new.self
-    (few_from c.args.events.now (omega arith) c.requires.few_octets) (omega arith) c.loop-index.auto.index c.index-events-index.is c.loop-index.invariant.kept c.loop-index.invariant.calls
-    c.in_ok-turn_to.ensures.turned.0 c.in_ok-turn_to.ensures.turned.1 c.in_ok-turn_to.ensures.kept c.in_ok-push_opened.ensures.calls c.hear.ensures in
-    record { kept = w.0; calls = w.1 }
-
-pub returns-in_err-clone-clause-calls : goal.returns-in_err-clone-clause-calls
-returns-in_err-clone-clause-calls g c = IfOk-from_err _ _ c.from_residual.ensures.0
-
-pub returns-in_err-clone-2-clause-calls : goal.returns-in_err-clone-2-clause-calls
-returns-in_err-clone-2-clause-calls g c = IfOk-from_err _ _ c.from_residual-in_err-clone-2.ensures.0
-
-pub returns-in_err-turn_to-clause-calls : goal.returns-in_err-turn_to-clause-calls
-returns-in_err-turn_to-clause-calls g c = IfOk-from_err _ _ c.from_residual-in_err-turn_to.ensures.0
-
-pub returns-in_err-push_opened-clause-calls : goal.returns-in_err-push_opened-clause-calls
-returns-in_err-push_opened-clause-calls g c = IfOk-from_err _ _ c.from_residual-in_err-push_opened.ensures.0
-
-pub loop-index-init : goal.loop-index-init
-loop-index-init g c =
-    let events = c.args.events.now in
-    let none = drop_all (length events) events (omega arith) in record {
-      kept = subst (λ vs. IsKept c.new-tallies.result vs) (sym none) c.new-tallies.ensures;
-      calls = c.new-calls.ensures.items ∙ sym (ap (λ vs. reverse (calls_of vs)) none);
+pub loop-event-preserved : goal.loop-event-preserved
+loop-event-preserved g c =
+    let events : List Event = c.args.events.now in
+    let i = c.loop-event.event-index in
+    let v : Event = c.event-item.result in
+    let done : List Event = take i events in
+    let more : take (i + 1) events ≡ done ++ v ∷ [] = take_more events i v c.loop-event-test.true ∙ ap (λ x. done ++ x ∷ []) (sym c.event-item.is) in
+    let few : IsCountable (done ++ v ∷ []) =
+    subst IsCountable more (countable_before (take (i + 1) events) (drop (i + 1) events) (subst IsCountable (sym (take-append-drop (i + 1) events)) (all_countable events (omega arith) c.requires.few_octets))) in
+    let behind = sym (places_more done v) ∙ ap (λ (es : List Event). map place_of (calls_of es)) (sym more) in
+    record {
+      heard = subst (AreHeard c.hear.new.self) (sym more) (c.in_ok-hear.ensures.heard done c.loop-event.invariant.heard few);
+      openings = elim c.match-event.branch [
+        | in-Open+in_ok-push w ↦ ap (λ vs. vs.items) w.openings-is ∙ w.in_ok-push.ensures.items ∙ ap (λ l. l ++ (v.epoch, v.channel) ∷ []) c.loop-event.invariant.openings
+            ∙ ap (λ l. map place_of (calls_of done) ++ l) (sym (opens_here v _ _ _ _ w.in-Open.is)) ∙ behind
+        | in_default w ↦ ap (λ vs. vs.items) w.openings-is ∙ c.loop-event.invariant.openings ∙ sym (append-nil (map place_of (calls_of done)))
+            ∙ ap (λ l. map place_of (calls_of done) ++ l) (sym (opens_none v w.in_default.not-Open)) ∙ behind
+      ];
     }
 
 pub returns-clause-calls : goal.returns-clause-calls
 returns-clause-calls g c =
-    let events = c.args.events.now in
-    let first : c.loop-index.index ≡ 0 = omega arith in
-    let calls = subst (λ i. c.loop-index.calls.items ≡ reverse (calls_of (drop i events))) first c.loop-index.invariant.calls in
-    c.reverse.ensures.items ∙ ap reverse calls ∙ reverse-reverse (calls_of events)
+    let events : List Event = c.args.events.now in
+    let whole : take c.loop-event.event-index events ≡ events = take_all c.loop-event.event-index events (omega (arith, c.loop-event-test.false)) in
+    c.in_order.ensures.calls (calls_of events) (heard_left c.loop-event.places events (subst (AreHeard c.loop-event.places) whole c.loop-event.invariant.heard))
+    (c.loop-event.invariant.openings ∙ ap (λ (es : List Event). map place_of (calls_of es)) whole)

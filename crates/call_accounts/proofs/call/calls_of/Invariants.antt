@@ -1,10 +1,10 @@
-use Rattle.std.proofs.Common.{◌≡◌, drop, reverse}
+use Rattle.std.proofs.Common.{◌≡◌, map, take}
 use Rattle.line_model.specs.Calls.{calls_of}
-use Rattle.call_accounts.specs.Tallied.{IsKept}
+use Rattle.call_accounts.specs.Places.{AreHeard, place_of}
 use Rattle.call_accounts.proofs.call.calls_of.Given as goal
 
-abbrev pub invariant-loop-index : goal.invariant-loop-index
-invariant-loop-index g l = record {
-  kept : IsKept l.tallies (drop l.index l.events);
-  calls : l.calls.items ≡ reverse (calls_of (drop l.index l.events));
+abbrev pub invariant-loop-event : goal.invariant-loop-event
+invariant-loop-event g l = record {
+  heard : AreHeard l.places (take l.event-index l.events);
+  openings : l.openings.items ≡ map place_of (calls_of (take l.event-index l.events));
 }

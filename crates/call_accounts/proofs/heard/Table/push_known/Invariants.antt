@@ -1,7 +1,0 @@
-use Rattle.std.proofs.Common.{◌≡◌, ◌++◌, ◌-◌}
-use Rattle.std.specs.List.{range_with_len}
-use Rattle.call_accounts.specs.Heard.{known_entries}
-use Rattle.call_accounts.proofs.heard.Table.push_known.Given as goal
-
-abbrev pub invariant-loop-parameter : goal.invariant-loop-parameter
-invariant-loop-parameter g l = l.settings.items ++ known_entries l.pad l.self (range_with_len l.parameter (23 - l.parameter)) ≡ l.initial.settings.items ++ known_entries l.pad l.self (range_with_len 1 22)

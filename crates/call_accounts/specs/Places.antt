@@ -1,0 +1,48 @@
+-- The calls of many channels in many epochs: those of each place by themselves.
+use Rattle.std.specs.Prelude.{◌≡◌, ℕ, ◌==◌, ◌&&◌, List, [], Option, Some, None, if◌then◌else◌, filter}
+use Rattle.std.specs.BTreeMap.{get}
+use Rattle.std.specs.declared.cmp.Ordering.{Ordering}
+use Rattle.std.specs.Ordering.{ordering_then, nat_cmp}
+use Rattle.line_model.specs.declared.event.Event.{Event}
+use Rattle.line_model.specs.Records.{CallRecord}
+use Rattle.call_accounts.specs.SoFar.{StandsFor, Tells}
+use Rattle.call_accounts.specs.declared.so_far.CallsSoFar.{CallsSoFar}
+use Rattle.call_accounts.specs.declared.call.Places.{Places}
+
+-- the events of one channel in one epoch
+abbrev pub own_events : (epoch channel : ℕ) → List Event → List Event
+own_events e c es = filter (λ f. e == f.epoch && c == f.channel) es
+
+-- the records of one channel in one epoch
+abbrev pub own_calls : (epoch channel : ℕ) → List CallRecord → List CallRecord
+own_calls e c cs = filter (λ r. e == r.epoch && c == r.channel) cs
+
+-- where a call was opened
+abbrev pub place_of : CallRecord → ℕ × ℕ
+place_of r = (r.epoch, r.channel)
+
+-- places by epoch and then by channel
+abbrev pub place_order : ℕ × ℕ → ℕ × ℕ → Ordering
+place_order x y = ordering_then (nat_cmp x.0 y.0) (nat_cmp x.1 y.1)
+
+-- the calls of a place, where anything was heard of it
+abbrev pub calls_at : {A : Type 0} → Places A → ℕ → ℕ → Option (CallsSoFar A)
+calls_at t e c = if t.epoch == e && t.channel == c then Some t.here else get place_order t.others (e, c)
+
+-- what is kept of a place is of these things, and where nothing is kept there are none
+abbrev pub IsKept : {A X : Type 0} → (CallsSoFar A → List X → Type 0) → Option (CallsSoFar A) → List X → Type 0
+IsKept P None xs = xs ≡ []
+IsKept P (Some s) xs = P s xs
+
+-- these events were heard, each at its place
+abbrev pub AreHeard : {A : Type 0} → Places A → List Event → Type 0
+AreHeard t es = (e c : ℕ) → IsKept (λ s. StandsFor s e c) (calls_at t e c) (own_events e c es)
+
+-- these records are left, each at its place
+abbrev pub AreLeft : {A : Type 0} → Places A → List CallRecord → Type 0
+AreLeft t cs = (e c : ℕ) → IsKept Tells (calls_at t e c) (own_calls e c cs)
+
+-- the calls of a place that is turned to: those that are kept, or a beginning
+abbrev pub IsFound : {A : Type 0} → Option (CallsSoFar A) → CallsSoFar A → Type 0
+IsFound None s = (e c : ℕ) → StandsFor s e c []
+IsFound (Some t) s = s ≡ t
