@@ -1,5 +1,5 @@
 -- What holds of every interface and every list of rows.
-use Rattle.std.specs.Prelude.{◌∷◌, map, ◌++◌, ◌≡◌, ℕ, ◌≤◌, List, filter, Some}
+use Rattle.std.specs.Prelude.{◌∷◌, map, ◌++◌, ◌≡◌, ℕ, ◌≤◌, List, filter}
 use Rattle.std.specs.List.{flat_map}
 use Rattle.std.specs.List.Sorted.{IsPermutation, IsStrictlyIncreasing}
 use Rattle.line_model.specs.declared.interface.Interface.{Interface}
@@ -16,8 +16,6 @@ use Rattle.line_model.specs.Observer.{x25, start, events, peak}
 use Rattle.line_model.specs.Report.{findings_of}
 use Rattle.line_model.specs.Plans.{plan, value, line_findings, channel_totals}
 use Rattle.line_model.specs.Book.{totals_of, IsNumbered}
-use Rattle.line_model.specs.Text.{early, fault}
-use Rattle.line_model.specs.declared.fault.Kind.{Kind}
 
 -- rows of different channels may be walked in any order: each row has the same events, and the observer is the same at the end
 abbrev pub ShuffleLaw : Type 0
@@ -82,7 +80,3 @@ pub record CallsOfPieces (i : Interface) (rs : List Row) : Type 0 where
 -- the calls of the pieces are those of the walk, in the order of their opening packets
 abbrev pub CallsOrderLaw : Type 0
 CallsOrderLaw = (i : Interface) (rs : List Row) → IsStrictlyIncreasing (map (λ r. r.number) rs) → CallsOfPieces i rs
-
--- a text whose first lines are faulty however it goes on has that fault, and so has each text that goes on from it
-abbrev pub FaultLaw : Type 0
-FaultLaw = (text more : List ℕ) (at : ℕ × Kind) → early text ≡ Some at → (early (text ++ more) ≡ Some at) × (fault (text ++ more) ≡ Some at)

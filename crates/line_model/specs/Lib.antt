@@ -35,5 +35,6 @@ pub mod WorkedTexts
 pub mod WorkedReports
 pub mod WorkedTraces
 pub mod Laws
+pub mod FinalFaults
 pub mod Book
 pub mod Work

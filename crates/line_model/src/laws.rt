@@ -1,7 +1,8 @@
 //! What holds of the definitions alone.
 
 ghost use Rattle.line_model.specs.WorkedTraces.{WorkedTraces};
-ghost use Rattle.line_model.specs.Laws.{ShuffleLaw, PiecesLaw, PlanLaw, FindingsLaw, FindingsOrderLaw, TotalsLaw, NumbersLaw, PeakLaw, CallsLaw, CallsOrderLaw, CallsPeakLaw, FaultLaw};
+ghost use Rattle.line_model.specs.Laws.{ShuffleLaw, PiecesLaw, PlanLaw, FindingsLaw, FindingsOrderLaw, TotalsLaw, NumbersLaw, PeakLaw, CallsLaw, CallsOrderLaw, CallsPeakLaw};
+ghost use Rattle.line_model.specs.FinalFaults.{FaultLaw};
 
 /// Rows of different channels may be walked in any order.
 pub fn shuffle()
