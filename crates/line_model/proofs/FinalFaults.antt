@@ -3,7 +3,6 @@ use Rattle.std.proofs.Common.{◌≡◌, ◌∙◌, sym, ap, subst, ℕ, ◌+◌
 use Rattle.std.specs.Option.{option_or, option_map}
 use Rattle.std.proofs.lemmas.Bool.{eqb-true}
 use Rattle.line_model.specs.Text.{Line, is_lf, begun_kind, begun_line, contents_kind, early, end_kind, ended_lines, fault, first_fault, has_header, last_number, line_kind, size_kind, size_of}
-use Rattle.line_model.specs.FinalFaults.{FaultLaw}
 use Rattle.line_model.specs.declared.fault.Kind.{Kind}
 use Rattle.line_model.proofs.LineLemmas.{size_kind-grows, size_kind-zero}
 use Rattle.line_model.proofs.TextLemmas.{HasNoLf, begun-more, ended-lf, ended-more, first_fault-append, size_kind-none, size_of-append}
@@ -89,5 +88,5 @@ fault_here text at h = by_parts (early-parts text at h)
     by_parts (inl f) = rw f refl
     by_parts (inr p) = of_begun (begun_line text) p.1.0 p.0 p.1.1 ∙ p.1.2
 
-pub fault_is_final : FaultLaw
+pub fault_is_final : (text more : List ℕ) (at : ℕ × Kind) → early text ≡ Some at → (early (text ++ more) ≡ Some at) × (fault (text ++ more) ≡ Some at)
 fault_is_final text more at h = let later = early-append text more at h in (later, fault_here (text ++ more) at later)

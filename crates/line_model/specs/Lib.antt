@@ -35,6 +35,5 @@ pub mod WorkedTexts
 pub mod WorkedReports
 pub mod WorkedTraces
 pub mod Laws
-pub mod FinalFaults
 pub mod Book
 pub mod Work

@@ -1,8 +1,10 @@
 //! What holds of the definitions alone.
 
+ghost use Rattle.std.specs.Prelude.{◌≡◌, ℕ, List, ◌++◌, Some};
 ghost use Rattle.line_model.specs.WorkedTraces.{WorkedTraces};
 ghost use Rattle.line_model.specs.Laws.{ShuffleLaw, PiecesLaw, PlanLaw, FindingsLaw, FindingsOrderLaw, TotalsLaw, NumbersLaw, PeakLaw, CallsLaw, CallsOrderLaw, CallsPeakLaw};
-ghost use Rattle.line_model.specs.FinalFaults.{FaultLaw};
+ghost use Rattle.line_model.specs.Text.{early, fault};
+ghost use Rattle.line_model.specs.declared.fault.Kind.{Kind};
 
 /// Rows of different channels may be walked in any order.
 pub fn shuffle()
@@ -62,5 +64,6 @@ pub fn worked_traces()
 
 /// A text whose first lines are faulty, however it goes on, has that fault; and so has each text that goes on from it.
 pub fn fault()
-    ensures { FaultLaw }
+    ensures stays { (text more : List ℕ) (at : ℕ × Kind) → early text ≡ Some at → early (text ++ more) ≡ Some at }
+    ensures whole { (text more : List ℕ) (at : ℕ × Kind) → early text ≡ Some at → fault (text ++ more) ≡ Some at }
 {}
