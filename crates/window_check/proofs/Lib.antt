@@ -1,2 +1,3 @@
 pub mod FlowLemmas
 pub mod SendLemmas
+pub mod WordLemmas

@@ -1,3 +1,6 @@
 pub mod Kept
 pub mod Directions
 pub mod FlowFields
+pub mod Packed
+pub mod PackedLaw
+pub mod PackedFields

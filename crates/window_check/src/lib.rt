@@ -3,6 +3,7 @@
 
 mod direction;
 pub mod flow;
+pub mod packed;
 #[cfg(test)]
 mod tests;
 mod word;

@@ -1,15 +1,18 @@
 //! The windows and interrupts of a channel in one word of 64 bits.
 
-ghost use Rattle.std.specs.Prelude.{◌≡◌, ◌==◌, ◌<◌, ◌/◌, ◌%◌, ◌^◌, IfSome, IfNone, Some};
+ghost use Rattle.std.specs.Prelude.{◌≡◌, ◌⊎◌, ◌==◌, ◌<◌, ◌≤◌, ◌+◌, ◌*◌, ◌/◌, ◌%◌, ◌^◌, IfSome, IfNone, Some};
 ghost use Rattle.window_check.specs.Kept.{Kept, IsKept, word_of};
+ghost use Rattle.window_check.specs.Packed.{kept_in, number_at, bit_at, sent_at, acknowledged_at, window_at, unconfirmed_at};
+ghost use Rattle.window_check.specs.Directions.{direction_of};
 
 use crate::direction::Direction;
 use crate::flow::Flow;
+use line_model::state::Side;
 
 /// Seven bits of a word, from bit `from` up.
 fn number(word: u64, from: u32) -> u8
     requires { from < 64 }
-    ensures { result ≡ word / 2 ^ from % 128 }
+    ensures { result ≡ number_at word from }
 {
     ((word >> from) % 128) as u8
 }
@@ -17,9 +20,85 @@ fn number(word: u64, from: u32) -> u8
 /// Bit `at` of a word.
 fn bit(word: u64, at: u32) -> bool
     requires { at < 64 }
-    ensures { result ≡ (word / 2 ^ at % 2 == 1) }
+    ensures { result ≡ bit_at word at }
 {
     (word >> at) % 2 == 1
+}
+
+/// The modulus that a word keeps.
+pub(crate) fn modulus(word: u64) -> u8
+    ensures value { result ≡ (kept_in word).modulus }
+    ensures eight { (result ≡ 8) ⊎ (result ≡ 128) }
+{
+    if bit(word, 0) { 128 } else { 8 }
+}
+
+/// Where a word keeps the number sent of a side: its first bit, of seven.
+pub(crate) fn sent_at(side: Side) -> u32
+    ensures place { result ≡ sent_at side }
+    ensures inside { result + 7 < 64 }
+{
+    match side {
+        Side::T => 1,
+        Side::N => 15,
+    }
+}
+
+/// Where a word keeps the number acknowledged of a side: its first bit, of seven.
+pub(crate) fn acknowledged_at(side: Side) -> u32
+    ensures place { result ≡ acknowledged_at side }
+    ensures inside { result + 7 < 64 }
+{
+    match side {
+        Side::T => 8,
+        Side::N => 22,
+    }
+}
+
+/// Where a word keeps the window of a side: its first bit, of seven.
+fn window_at(side: Side) -> u32
+    ensures place { result ≡ window_at side }
+    ensures inside { result + 7 < 64 }
+{
+    match side {
+        Side::T => 29,
+        Side::N => 36,
+    }
+}
+
+/// Where a word keeps whether an interrupt of a side is unconfirmed: a bit.
+pub(crate) fn unconfirmed_at(side: Side) -> u32
+    ensures place { result ≡ unconfirmed_at side }
+    ensures inside { result + 1 < 64 }
+{
+    match side {
+        Side::T => 43,
+        Side::N => 44,
+    }
+}
+
+/// The numbers of a side that a word keeps.
+pub(crate) fn direction(word: u64, side: Side) -> Direction
+    ensures { result ≡ direction_of side (kept_in word) }
+{
+    Direction {
+        window: number(word, window_at(side)),
+        sent: number(word, sent_at(side)),
+        acknowledged: number(word, acknowledged_at(side)),
+        unconfirmed: bit(word, unconfirmed_at(side)),
+    }
+}
+
+/// A word with another value in the `width` bits from bit `from` up.
+pub(crate) fn with_field(word: u64, from: u32, width: u32, value: u64) -> u64
+    requires from { from < 64 }
+    requires width { width < 64 }
+    requires inside { from + width ≤ 64 }
+    requires fits { value < 2 ^ width }
+    ensures { result + word / 2 ^ from % 2 ^ width * 2 ^ from ≡ word + value * 2 ^ from }
+{
+    let replaced = (word >> from) % (1 << width);
+    word - (replaced << from) + (value << from)
 }
 
 impl Flow {

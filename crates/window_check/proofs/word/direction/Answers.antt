@@ -1,0 +1,18 @@
+use Rattle.std.proofs.Common.{◌∙◌, ap}
+use Rattle.window_check.specs.Packed.{number_at, bit_at}
+use Rattle.window_check.proofs.WordLemmas.{direction_read}
+use Rattle.window_check.proofs.word.direction.Goals as goal
+
+pub returns : goal.returns
+returns c =
+    rw (
+      c.number.ensures,
+      c.number-2.ensures,
+      c.number-3.ensures,
+      c.bit.ensures,
+      c.window_at.ensures.place,
+      c.sent_at.ensures.place,
+      c.acknowledged_at.ensures.place,
+      c.unconfirmed_at.ensures.place,
+    )
+    (direction_read c.args.side c.args.word)
