@@ -175,7 +175,7 @@ word_of_kept w p h e =
     }
 
 -- the word of what can be kept, and of any number above it, keeps them
-pub packed_in-packed_word : (w : ℕ) (p : Packed) → IsKept p.flow → w ≡ packed_word p → packed_in w ≡ p
+packed_in-packed_word : (w : ℕ) (p : Packed) → IsKept p.flow → w ≡ packed_word p → packed_in w ≡ p
 packed_in-packed_word w p h e =
     let r = read _ _ _ _ _ _ _ _ _ _ _ (word_of_kept w p h e) in
     let modulus : cond (bit_at w 0) 128 8 ≡ p.flow.modulus = ap (λ b. cond b 128 8) (bit_back _ _ r.modulus) ∙ modulus_back _ h.eight in
@@ -200,7 +200,7 @@ pub record Keeps (w : ℕ) (p : Packed) : Type 0 where
   pub parts : packed_in w ≡ p
   pub in_range : IsKept (kept_in w)
 
-keeps : (w : ℕ) (p : Packed) → IsKept p.flow → w ≡ packed_word p → Keeps w p
+pub keeps : (w : ℕ) (p : Packed) → IsKept p.flow → w ≡ packed_word p → Keeps w p
 keeps w p h e =
     let is : packed_in w ≡ p = packed_in-packed_word w p h e in
     record { parts = is; in_range = subst (λ q. IsKept q.flow) (sym is) h }
@@ -258,7 +258,7 @@ nothing_sent k = record k {
 }
 
 -- the word when nothing was sent
-pub nothing_sent_word : (w u t : ℕ) → u + w / 2 ^ 43 % 2 ^ 2 * 2 ^ 43 ≡ w + 0 * 2 ^ 43 → t + u / 2 ^ 1 % 2 ^ 28 * 2 ^ 1 ≡ u + 0 * 2 ^ 1 →
+nothing_sent_word : (w u t : ℕ) → u + w / 2 ^ 43 % 2 ^ 2 * 2 ^ 43 ≡ w + 0 * 2 ^ 43 → t + u / 2 ^ 1 % 2 ^ 28 * 2 ^ 1 ≡ u + 0 * 2 ^ 1 →
     t ≡ packed_word (record (packed_in w) { flow = nothing_sent (kept_in w) })
 nothing_sent_word w u t e f =
     let numbers : w / 2 ^ 1 % 2 ^ 28 < 2 ^ 28 = mod_below _ (2 ^ 28) (omega arith) in

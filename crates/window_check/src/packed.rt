@@ -141,8 +141,8 @@ impl FlowWord {
         ensures above { self.new.above ≡ self.old.above }
         ensures stands { Stands self.new.flow no_counts }
     {
-        let numbered = with_field(self.word, 43, 2, 0);
-        self.word = with_field(numbered, 1, 28, 0);
+        let without_interrupts = with_field(self.word, 43, 2, 0);
+        self.word = with_field(without_interrupts, 1, 28, 0);
     }
 
     /// The modulus of the numbers.
