@@ -10,6 +10,8 @@ use Rattle.line_model.specs.Channels.{of_side}
 use Rattle.line_model.specs.FlowControl.{no_counts}
 use Rattle.window_check.specs.declared.direction.Direction.{Direction}
 use Rattle.window_check.specs.Directions.{direction_of, with_direction}
+use Rattle.window_check.specs.declared.flow.Flow.TheInside.{Inside}
+use Rattle.window_check.specs.FlowFields.{kept}
 use Rattle.window_check.specs.PackedLaw.{cut, bit_read, packed_word-packed_in}
 use Rattle.window_check.specs.Packed.{number_at, bit_at, sent_at, acknowledged_at, window_at, unconfirmed_at, kept_in, Packed, packed_in, packed_word}
 
@@ -303,3 +305,23 @@ none_stand m w = record { sent_is = omega arith; acknowledged_is = omega arith; 
 
 pub nothing_stands : (k : Kept) → Stands (nothing_sent k) no_counts
 nothing_stands k = record { of_t = none_stand _ _; of_n = none_stand _ _; unconfirmed = refl }
+
+-- the word of what can be kept has nothing above, and keeps it
+pub word_of-keeps : (w : ℕ) (k : Kept) → IsKept k → word_of k ≡ w → packed_in w ≡ record { flow = k; above = 0 }
+word_of-keeps w k h e = packed_in-packed_word w _ h (omega (arith, e))
+
+-- a word with nothing above is that of what it keeps
+pub word_of-kept_in : (w : ℕ) → w / 2 ^ 45 ≡ 0 → word_of (kept_in w) ≡ w
+word_of-kept_in w e = omega (arith, e, packed_word-packed_in w)
+
+-- what is read of a word, by its parts
+pub parts_of : (w m : ℕ) (t n : Direction) → m ≡ (kept_in w).modulus → t ≡ direction_of T (kept_in w) → n ≡ direction_of N (kept_in w) →
+    kept (record { modulus = m; of_t = t; of_n = n }) ≡ kept_in w
+parts_of w m t n e f g = ap (λ (p : Inside). kept p) (λ i. record { modulus = e i; of_t = f i; of_n = g i })
+
+-- what is read of a side is in range where the word is that of what can be kept
+pub range_read : (x : Side) (w m : ℕ) (d : Direction) (k : Kept) → m ≡ (kept_in w).modulus → d ≡ direction_of x (kept_in w) →
+    IsKept k → word_of k ≡ w → IsDirection m d.window d.sent d.acknowledged
+range_read x w m d k e f h is =
+    let in_range : IsKept (kept_in w) = subst (λ p. IsKept p.flow) (sym (word_of-keeps w k h is)) h in
+    rw (e, f) (range_of x (kept_in w) in_range)

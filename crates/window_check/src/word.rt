@@ -127,19 +127,9 @@ impl Flow {
         ensures none { IfNone result ((f : Kept) → IsKept f → ¬ (word_of f ≡ word)) }
         ensures back { (f : Kept) → IsKept f → word_of f ≡ word → result ≡ Some f }
     {
-        let modulus = if bit(word, 0) { 128 } else { 8 };
-        let of_t = Direction {
-            window: number(word, 29),
-            sent: number(word, 1),
-            acknowledged: number(word, 8),
-            unconfirmed: bit(word, 43),
-        };
-        let of_n = Direction {
-            window: number(word, 36),
-            sent: number(word, 15),
-            acknowledged: number(word, 22),
-            unconfirmed: bit(word, 44),
-        };
+        let modulus = modulus(word);
+        let of_t = direction(word, Side::T);
+        let of_n = direction(word, Side::N);
         if word >> 45 == 0 && of_t.is_in_range(modulus) && of_n.is_in_range(modulus) {
             Some(Flow {
                 modulus,
