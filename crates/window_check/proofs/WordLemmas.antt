@@ -1,7 +1,7 @@
 -- A word and what it keeps: each makes the other.
 use Rattle.std.proofs.Common.{◌≡◌, ◌⊎◌, inl, inr, ◌<◌, ◌≤◌, ◌/◌, ◌%◌, ◌^◌, ◌*◌, ◌+◌, ◌-◌, ◌∙◌, ◌==◌, ℕ, Bool, true, false, refl, sym, ap, subst, arith}
 use Rattle.std.specs.Prelude.{cond}
-use Rattle.std.proofs.lemmas.Nat.{pow-add, pow_pos, shr-shr, shr_split, shr_high, shr_below, mod_low, mod_below, mul-add-lt, shl_whole, one_shl}
+use Rattle.std.proofs.lemmas.Nat.{pow-add, pow_pos, shr_split, shr_high, shr_below, mod_low, mod_below, mul-add-lt, shl_whole, one_shl}
 use Rattle.std.proofs.Math.Nat.{mul-le-mul_right, mod-eq_of_lt}
 use Rattle.window_check.specs.Kept.{Kept, IsKept, IsDirection, DirectionStands, Stands, bit, word_of}
 use Rattle.line_model.specs.declared.state.Side.{Side}

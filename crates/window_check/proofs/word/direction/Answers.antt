@@ -1,5 +1,3 @@
-use Rattle.std.proofs.Common.{◌∙◌, ap}
-use Rattle.window_check.specs.Packed.{number_at, bit_at}
 use Rattle.window_check.proofs.WordLemmas.{direction_read}
 use Rattle.window_check.proofs.word.direction.Goals as goal
 

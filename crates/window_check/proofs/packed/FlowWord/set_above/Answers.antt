@@ -1,5 +1,4 @@
 use Rattle.std.proofs.Common.{ap, arith}
-use Rattle.window_check.specs.Packed.{Packed}
 use Rattle.window_check.proofs.WordLemmas.{Keeps, above_replaced}
 use Rattle.window_check.proofs.packed.FlowWord.set_above.Goals as goal
 
