@@ -76,7 +76,7 @@ HasFeeder port fed views = (u : Record) × (get_elem? views port ≡ some u) × 
 pub record IsCounted (plan : KnownPlan) (items : List Entry) (views : List Record) (c : Count) : Type 0 where
   pub line : IsLine plan c.taken c.fed c.waiting items
   pub ends : c.waiting ≤ c.ends
-  pub from : HasFeeder c.feeder c.fed views
+  pub known : HasFeeder c.feeder c.fed views
   pub fits : (port : ℕ) (v : Record) → get_elem? views port ≡ some v → Fits c (pending_of views) port v
   pub once : (x : ℕ) → sum_by (λ v. times x v.taken) views ≡ once_below x c.taken
 
