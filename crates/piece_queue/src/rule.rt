@@ -24,6 +24,8 @@ pub struct Record {
     pub taken: LinkedList<u32>,
     /// It had its end.
     pub finished: bool,
+    /// Of the feeder's: how many pieces were fed, as the worker told that was joined last, if it had its end.
+    pub told: u64,
 }
 
 /// The rule: the queue holds the plan's pieces that were fed and not taken, in order, and then ends.
@@ -109,11 +111,12 @@ impl<P: Plan, A: Allocator> Lesson<Entry<A>, Record> for Takes<P> {
     ghost fact = { λ v items. Unit {0} };
 }
 
-/// What the feeder knows once all passes were joined.
+/// What the feeder knows once a pass was joined: what that one told, and what all took.
 pub struct Account;
 
 impl<A: Allocator> Lesson<Entry<A>, Record> for Account {
+    ghost use Rattle.std.specs.Prelude.{◌≡◌};
     ghost use Rattle.piece_queue.specs.Rule.{IsAccounted};
 
-    ghost fact = { λ v items. IsAccounted v };
+    ghost fact = { λ v items. (v.told ≡ v.fed) × IsAccounted v };
 }

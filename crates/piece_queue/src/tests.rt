@@ -208,6 +208,19 @@ fn run<R: Threads + Wait + Sync>(
 }
 
 #[test]
+fn the_end_of_each_worker_comes_behind_the_pieces(rt: HostRuntime) -> Result<(), Fail> {
+    let (work, mut feeder) = Work::<Brand>::new(rt.alloc(), 4)?;
+    let mut one = work.split(&mut feeder);
+    let mut other = work.split(&mut feeder);
+    feed_one(&rt, rt.alloc(), &work, &mut feeder, 0);
+    feed_ends(&rt, &work, &mut feeder, 2);
+    assert!(rt; matches!(work.take(&rt, &mut one), Taken::Got(_)));
+    assert!(rt; matches!(work.take(&rt, &mut one), Taken::Finish));
+    assert!(rt; matches!(work.take(&rt, &mut other), Taken::Finish));
+    Ok(())
+}
+
+#[test]
 fn each_piece_is_taken_once_by_any_number_of_workers(rt: HostRuntime) -> Result<(), Fail> {
     for (workers, capacity) in [(1, 1), (1, 64), (2, 1), (2, 64), (64, 1), (64, 64)] {
         let counts = run(&rt, rt.alloc(), workers, capacity)?;

@@ -2,7 +2,7 @@
 ghost use Rattle.std.specs.Prelude.{◌≡◌, ◌+◌, ◌<◌, ◌≤◌, [], ◌++◌, ◌∷◌, true, false, IfOk, OnOk, IfErr, OnErr};
 ghost use Rattle.crossbeam_queue.specs.Fifo.{Held};
 ghost use Rattle.line_model.specs.Book.{IsPlanned};
-ghost use Rattle.piece_queue.specs.Rule.{feeder, worker, after_split, after_join, IsInQueue, IsAccounted};
+ghost use Rattle.piece_queue.specs.Rule.{feeder, worker, after_split, after_join, IsInQueue, IsAccounted, IsTold};
 
 use crate::entry::Entry;
 use crate::rule::{Account, FeedsEnd, FeedsPiece, Record, Takes, Turns, Worker};
@@ -80,7 +80,7 @@ pub enum Taken<A: Allocator = Global> {
 }
 
 impl<P: Plan, A: Allocator> Work<P, A> {
-    ghost use Rattle.piece_queue.specs.Takes.{IsTaken};
+    ghost use Rattle.piece_queue.specs.Takes.{IsTaken, WasDrained};
 
     /// An empty queue that holds so many entries, and the feeder's pass; or want of memory.
     pub fn new(alloc: A, capacity: usize) -> Result<(Work<P, A>, FeederPass<A>), Fault>
@@ -173,12 +173,15 @@ impl<P: Plan, A: Allocator> Work<P, A> {
     }
 
     /// Takes what stands at the front: the plan's piece of its id, which goes into the record of the pass, or an end,
-    /// after which the pass takes no more. `Empty` only if the queue was empty at one moment of the call.
+    /// after which the pass takes no more. `Finish` only if at one moment of the call each piece that had been fed was
+    /// taken, and ends alone stood in the queue; the record then has how many were fed. `Empty` only if the queue was
+    /// empty at one moment of the call.
     pub fn take<R: Wait>(&self, rt: &R, pass: &mut WorkerPass<A>) -> Taken<A>
         requires queue { pass.old.queue ≡ self.now.queue }
         requires unfinished { pass.old.record_of.finished ≡ false }
         ensures queue { pass.new.queue ≡ pass.old.queue }
         ensures taken { IsTaken P.pieces pass.old.record_of result pass.new.record_of }
+        ensures drained { WasDrained P.pieces pass.old.record_of result pass.new.record_of.fed }
     {
         match self.queue.pop_as::<Takes<P>, R>(rt, &mut pass.pass) {
             Some(Entry { piece: Some(piece) }) => Taken::Got(piece),
@@ -187,11 +190,13 @@ impl<P: Plan, A: Allocator> Work<P, A> {
         }
     }
 
-    /// Takes in what a worker took. Where no pass is out any more, and one had its end, each piece that was fed was taken, once.
+    /// Takes in what a worker took. A worker that had its end knows how many pieces the feeder has fed. Where no pass is
+    /// out any more, and one had its end, each piece that was fed was taken, once.
     pub fn join(&self, pass: &mut FeederPass<A>, other: WorkerPass<A>)
         requires { (pass.old.queue ≡ self.now.queue) × (other.queue ≡ self.now.queue) }
         ensures queue { pass.new.queue ≡ pass.old.queue }
         ensures joined { pass.new.record_of ≡ after_join pass.old.record_of other.record_of }
+        ensures told { IsTold pass.old.record_of other.record_of }
         ensures all { IsAccounted pass.new.record_of }
     {
         let WorkerPass { pass: other } = other;
