@@ -1,8 +1,8 @@
 -- What some command lines are by the rules of `clap`, by computing.
-use Rattle.std.proofs.Common.{◌≡◌, false, true, refl, codes, [], ◌∷◌}
+use Rattle.std.proofs.Common.{◌≡◌, false, true, refl, codes, [], ◌∷◌, Some, None}
 use Rattle.clap.proofs.OnLiterals.{clap_on_literals}
-use Rattle.clap.specs.declared.error.kind.ErrorKind.TheVariants.{DisplayHelp, UnknownArgument, ValueValidation}
-use Rattle.command_line.specs.Options.{follows, words_fault}
+use Rattle.clap.specs.declared.error.kind.ErrorKind.TheVariants.{ArgumentConflict, DisplayHelp, UnknownArgument, ValueValidation}
+use Rattle.command_line.specs.Options.{asked_word, follows, words_fault}
 
 no_arguments : words_fault (codes "x25scan" ∷ []) ≡ []
 unfolding clap_on_literals
@@ -47,3 +47,31 @@ followed = refl
 followed_alone : follows (codes "x25scan" ∷ codes "--alone" ∷ codes "--follow" ∷ codes "--workers=2" ∷ []) ≡ true
 unfolding clap_on_literals
 followed_alone = refl
+
+explained : words_fault (codes "x25scan" ∷ codes "--explain" ∷ codes "22" ∷ []) ≡ []
+unfolding clap_on_literals
+explained = refl
+
+listed : words_fault (codes "x25scan" ∷ codes "--explain" ∷ []) ≡ []
+unfolding clap_on_literals
+listed = refl
+
+no_word_asked : asked_word (codes "x25scan" ∷ codes "--follow" ∷ []) ≡ None
+unfolding clap_on_literals
+no_word_asked = refl
+
+word_asked : asked_word (codes "x25scan" ∷ codes "--explain" ∷ codes "22" ∷ []) ≡ Some (codes "22")
+unfolding clap_on_literals
+word_asked = refl
+
+dash_asked : asked_word (codes "x25scan" ∷ codes "--explain=-" ∷ []) ≡ Some (codes "-")
+unfolding clap_on_literals
+dash_asked = refl
+
+list_asked : asked_word (codes "x25scan" ∷ codes "--explain" ∷ codes "--alone" ∷ []) ≡ Some []
+unfolding clap_on_literals
+list_asked = refl
+
+asked_twice : words_fault (codes "x25scan" ∷ codes "--explain" ∷ codes "1" ∷ codes "--explain" ∷ codes "2" ∷ []) ≡ ArgumentConflict ∷ []
+unfolding clap_on_literals
+asked_twice = refl

@@ -1,11 +1,13 @@
 //! The program: its words, its exit status, and what it tells of a fault.
 
-ghost use Rattle.std.specs.Prelude.{◌≡◌, ◌≢◌, ℕ, ◌<◌, ◌≤◌, ◌+◌, ◌^◌, ◌⊎◌, List, [], Some, false, map, true};
+ghost use Rattle.std.specs.Prelude.{◌≡◌, ◌≢◌, ℕ, ◌<◌, ◌≤◌, ◌+◌, ◌^◌, ◌⊎◌, IfSome, List, [], None, Some, false, map, option_map, true};
 ghost use Rattle.clap.specs.Words.{kind_of};
 ghost use Rattle.clap.specs.declared.error.kind.ErrorKind.TheVariants.{DisplayHelp};
-ghost use Rattle.command_line.specs.Options.{follows, words_fault};
+ghost use Rattle.command_line.specs.Options.{asked_word, follows, words_fault};
+ghost use Rattle.command_line.specs.Explaining.{IsAnswered};
 ghost use Rattle.command_line.specs.Program.{IsFollowStatus, IsStatus, IsUnread, IsWordsStatus, fault_status, summary_status, words_status};
 
+use crate::explaining::explain_word;
 use crate::options::{Options, parse};
 use clap::Error;
 use clap::error::ErrorKind;
@@ -61,7 +63,7 @@ fn fault_status(fault: Fault) -> u8
 }
 
 /// Tells a fault, and answers the exit status.
-fn refuse<E: Sink>(alloc: Global, errors: &mut E, fault: Fault) -> u8
+pub(crate) fn refuse<E: Sink>(alloc: Global, errors: &mut E, fault: Fault) -> u8
     ensures { result ≡ fault_status fault }
 {
     tell_fault(alloc, errors, fault);
@@ -131,16 +133,16 @@ fn run_with<S: Source, K: Sink, E: Sink, R: Threads + Wait + Clock + Sync>(
 }
 
 /// Scans the trace as the options ask, and answers the exit status.
-fn run<S: Source, K: Sink, E: Sink, R: Threads + Wait + Clock + Sync>(
+fn scan<S: Source, K: Sink, E: Sink, R: Threads + Wait + Clock + Sync>(
     rt: &R,
     alloc: Global,
-    options: Options,
+    options: Options<'_>,
     source: &mut S,
     sink: &mut K,
     errors: &mut E,
 ) -> u8
-    ensures status { options.follow ≡ false → (text : List ℕ) → S.left source.old ≡ Some text → IsStatus text (S.left source.new) (K.taken sink.old) (K.taken sink.new) result }
-    ensures followed { options.follow ≡ true → (text : List ℕ) → S.left source.old ≡ Some text → IsFollowStatus text (S.left source.new) (K.taken sink.old) (K.taken sink.new) (K.failures sink.new ≡ K.failures sink.old) result }
+    ensures status { options.entry.follow ≡ false → (text : List ℕ) → S.left source.old ≡ Some text → IsStatus text (S.left source.new) (K.taken sink.old) (K.taken sink.new) result }
+    ensures followed { options.entry.follow ≡ true → (text : List ℕ) → S.left source.old ≡ Some text → IsFollowStatus text (S.left source.new) (K.taken sink.old) (K.taken sink.new) (K.failures sink.new ≡ K.failures sink.old) result }
     ensures range { result < 4 }
     ensures asked { S.calls source.new ≤ S.calls source.old + (2 ^ 30 + 1) }
 {
@@ -150,6 +152,27 @@ fn run<S: Source, K: Sink, E: Sink, R: Threads + Wait + Clock + Sync>(
         run_alone(alloc, source, sink, errors)
     } else {
         run_with(rt, alloc, options.workers, source, sink, errors)
+    }
+}
+
+/// Explains a word, or scans the trace, as the options ask, and answers the exit status.
+fn run<S: Source, K: Sink, E: Sink, R: Threads + Wait + Clock + Sync>(
+    rt: &R,
+    alloc: Global,
+    options: Options<'_>,
+    source: &mut S,
+    sink: &mut K,
+    errors: &mut E,
+) -> u8
+    ensures scanned { option_map (λ word. word.now) options.entry.explain ≡ None → options.entry.follow ≡ false → (text : List ℕ) → S.left source.old ≡ Some text → IsStatus text (S.left source.new) (K.taken sink.old) (K.taken sink.new) result }
+    ensures followed { option_map (λ word. word.now) options.entry.explain ≡ None → options.entry.follow ≡ true → (text : List ℕ) → S.left source.old ≡ Some text → IsFollowStatus text (S.left source.new) (K.taken sink.old) (K.taken sink.new) (K.failures sink.new ≡ K.failures sink.old) result }
+    ensures explained { IfSome (option_map (λ word. word.now) options.entry.explain) (λ word. (source.new ≡ source.old) × IsAnswered word (K.taken sink.old) (K.taken sink.new) result) }
+    ensures unwritten { result ≡ 64 → sink.new ≡ sink.old }
+    ensures asked { S.calls source.new ≤ S.calls source.old + (2 ^ 30 + 1) }
+{
+    match options.explain {
+        Some(word) => explain_word(alloc, word, sink, errors),
+        None => scan(rt, alloc, options, source, sink, errors),
     }
 }
 
@@ -175,7 +198,8 @@ fn refuse_words<K: Sink, E: Sink>(alloc: Global, error: Error, sink: &mut K, err
 }
 
 /// The program over its words, of which the first is its name. Answers the exit status (profile): 0 without findings
-/// or where help was asked for, 1 with findings, 2 where the trace was refused, 3 at another fault, 64 for wrong words.
+/// or where help or an explanation was asked for, 1 with findings, 2 where the trace was refused, 3 at another fault,
+/// 64 for wrong words and for a word that no explanation has.
 pub fn program<S: Source, K: Sink, E: Sink, R: Threads + Wait + Clock + Sync>(
     rt: &R,
     alloc: Global,
@@ -184,12 +208,16 @@ pub fn program<S: Source, K: Sink, E: Sink, R: Threads + Wait + Clock + Sync>(
     sink: &mut K,
     errors: &mut E,
 ) -> u8
-    // Where the words are right, the status and the bytes are those of a scan of the text that the source tells.
-    ensures scanned { words_fault (map (λ word. word.now) words.now) ≡ [] → follows (map (λ word. word.now) words.now) ≡ false → IsUnread source.old source.new sink.old sink.new result
+    // Where the words are right and ask for no explanation, the status and the bytes are those of a scan of the text
+    // that the source tells.
+    ensures scanned { words_fault (map (λ word. word.now) words.now) ≡ [] → asked_word (map (λ word. word.now) words.now) ≡ None → follows (map (λ word. word.now) words.now) ≡ false → IsUnread source.old source.new sink.old sink.new result
         ⊎ ((text : List ℕ) → S.left source.old ≡ Some text → IsStatus text (S.left source.new) (K.taken sink.old) (K.taken sink.new) result) }
     // Where they ask that the trace be followed, those of a scan that does.
-    ensures followed { words_fault (map (λ word. word.now) words.now) ≡ [] → follows (map (λ word. word.now) words.now) ≡ true → IsUnread source.old source.new sink.old sink.new result
+    ensures followed { words_fault (map (λ word. word.now) words.now) ≡ [] → asked_word (map (λ word. word.now) words.now) ≡ None → follows (map (λ word. word.now) words.now) ≡ true → IsUnread source.old source.new sink.old sink.new result
         ⊎ ((text : List ℕ) → S.left source.old ≡ Some text → IsFollowStatus text (S.left source.new) (K.taken sink.old) (K.taken sink.new) (K.failures sink.new ≡ K.failures sink.old) result) }
+    // Where they ask for the explanation of a word the source is not asked, and the table answers.
+    ensures explained { (word : List ℕ) → words_fault (map (λ word. word.now) words.now) ≡ [] → asked_word (map (λ word. word.now) words.now) ≡ Some word → IsUnread source.old source.new sink.old sink.new result
+        ⊎ ((source.new ≡ source.old) × IsAnswered word (K.taken sink.old) (K.taken sink.new) result) }
     // Where the words are wrong the source is not asked, and help alone goes to the sink.
     ensures usage { words_fault (map (λ word. word.now) words.now) ≢ [] → (source.new ≡ source.old) × IsWordsStatus (words_fault (map (λ word. word.now) words.now)) result }
     ensures unwritten { result ≡ 64 → sink.new ≡ sink.old }

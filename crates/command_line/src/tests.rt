@@ -1,4 +1,4 @@
-//! The words of the program, its exit status, and where its help and its refusals go.
+//! The words of the program, its exit status, and where its help, its explanations and its refusals go.
 
 mod runs;
 
@@ -139,4 +139,86 @@ fn help_goes_to_the_sink(rt: HostRuntime) {
         assert!(rt; ran.told.is_empty());
         assert!(rt; ran.taken.starts_with(b"Reports what an observer"));
     }
+}
+
+#[test]
+fn a_word_is_explained(rt: HostRuntime) {
+    let ran = run(
+        &rt,
+        rt.alloc(),
+        ["x25scan", "--explain", "1"].as_slice(),
+        b"",
+        Cuts::of_steps(usize::MAX, 7),
+    );
+    assert_eq!(rt; ran.status, 0);
+    assert!(rt; ran.told.is_empty());
+    assert!(rt;
+        ran.taken.starts_with(
+            b"1 (diagnostic code): Invalid P(S)\n  The P(S) of a data packet is not"
+        )
+    );
+    assert!(rt;
+        ran.taken.ends_with(
+            b"\n  Example: S 1 T 1 asked 1 in tests/traces/codes/settings-of-a-pad.trace\n"
+        )
+    );
+}
+
+#[test]
+fn the_words_are_listed(rt: HostRuntime) {
+    for words in [
+        ["x25scan", "--explain"].as_slice(),
+        ["x25scan", "--explain", "--follow"].as_slice(),
+    ] {
+        let ran = run(
+            &rt,
+            rt.alloc(),
+            words,
+            b"",
+            Cuts::of_steps(usize::MAX, usize::MAX),
+        );
+        assert_eq!(rt; ran.status, 0);
+        assert!(rt; ran.told.is_empty());
+        assert!(rt;
+            ran.taken.starts_with(
+                b"F (line of the report): finding\nC (line of the report): call\n"
+            )
+        );
+        assert!(rt; ran.taken.ends_with(b"\n22 (PAD parameter): page wait\n"));
+    }
+}
+
+#[test]
+fn another_word_is_refused(rt: HostRuntime) {
+    let ran = run(
+        &rt,
+        rt.alloc(),
+        ["x25scan", "--explain", "d4"].as_slice(),
+        b"",
+        Cuts::of_steps(1, 1),
+    );
+    assert_eq!(rt; ran.status, 64);
+    assert!(rt; ran.taken.is_empty());
+    assert_eq!(rt;
+        ran.told.as_slice(),
+        b"x25scan: no such word: d4 (x25scan --explain lists them)\n".as_slice()
+    );
+}
+
+#[test]
+fn an_explanation_that_is_not_taken_is_told(rt: HostRuntime) {
+    let cuts = Cuts {
+        good_writes: 1,
+        ..Cuts::of_steps(usize::MAX, 10)
+    };
+    let ran = run(
+        &rt,
+        rt.alloc(),
+        ["x25scan", "--explain", "F"].as_slice(),
+        b"",
+        cuts,
+    );
+    assert_eq!(rt; ran.status, 3);
+    assert_eq!(rt; ran.taken.as_slice(), b"F (line of".as_slice());
+    assert_eq!(rt; ran.told.as_slice(), b"x25scan: write failed\n".as_slice());
 }

@@ -1,9 +1,10 @@
-use Rattle.std.proofs.Common.{◌≡◌, ◌∙◌, ap, refl, sym, true, map, codes}
-use Rattle.clap.specs.Words.{app_of, fault_of, found_of, is_simple, is_simple_and_free, matches_of, first_of}
+use Rattle.std.proofs.Common.{◌≡◌, ◌∙◌, ap, refl, sym, true, map, codes, ℕ, List}
+use Rattle.clap.specs.Words.{app_of, fault_of, found_of, first_value, is_simple, is_simple_and_free, matches_of, first_of}
 use Rattle.clap.proofs.OnLiterals.{clap_on_literals}
 use Rattle.clap.proofs.WalkLemmas.{first_value-rows}
 use Rattle.command_line.specs.Options.{command, is_given}
 use Rattle.command_line.proofs.options.parse.Goals as goal
+use Rattle.command_line.proofs.options.parse.Goals.{Joined-matches}
 
 is_free : is_simple_and_free command ≡ true
 unfolding clap_on_literals
@@ -18,9 +19,16 @@ returns-in-Ok-clause-kinds c =
     let told : app_of c.in_ok-command.command ≡ command = c.in_ok-command.ensures in
     sym (ap (λ app. fault_of app (map (λ word. word.now) c.args.words.now)) told) ∙ c.in-Ok.ensures.kinds (ap is_simple_and_free told ∙ is_free)
 
-pub returns-in-Ok-clause-follow : goal.returns-in-Ok-clause-follow
-returns-in-Ok-clause-follow c =
+-- the first value of an argument is that of the words
+value_of : (c : Joined-matches) → (id : List ℕ) → first_value (found_of c.in-Ok.matches) id ≡ first_of id (matches_of command (map (λ word. word.now) c.args.words.now))
+value_of c id =
     let told : app_of c.in_ok-command.command ≡ command = c.in_ok-command.ensures in
     let rows = (c.in-Ok.ensures.matches (ap is_simple told ∙ is_plain)).0 in
-    c.options_in.ensures ∙ ap is_given (first_value-rows (found_of c.in-Ok.matches) (codes "follow")
-    ∙ ap (first_of (codes "follow")) (rows ∙ ap (λ app. matches_of app (map (λ word. word.now) c.args.words.now)) told))
+    first_value-rows (found_of c.in-Ok.matches) id
+    ∙ ap (first_of id) (rows ∙ ap (λ app. matches_of app (map (λ word. word.now) c.args.words.now)) told)
+
+pub returns-in-Ok-clause-follow : goal.returns-in-Ok-clause-follow
+returns-in-Ok-clause-follow c = c.options_in.ensures.follow ∙ ap is_given (value_of c (codes "follow"))
+
+pub returns-in-Ok-clause-explain : goal.returns-in-Ok-clause-explain
+returns-in-Ok-clause-explain c = c.options_in.ensures.explain ∙ value_of c (codes "explain")

@@ -1,0 +1,36 @@
+-- What the program answers to a question for the meaning of a word (profile).
+use Rattle.std.specs.Prelude.{◌≡◌, ℕ, ◌⊎◌, List, [], ◌∷◌, Option, Some, None, map, take}
+use Rattle.line_model.specs.Device.{with_more}
+use Rattle.explanations.specs.declared.explanation.Explanation.{Explanation}
+use Rattle.explanations.specs.Table.{explanations_of, key, table_keys}
+use Rattle.explanations.specs.Texts.{explanations_text, headings_text}
+
+-- the text of some explanations, if there are any
+abbrev pub answer_by : List Explanation → Option (List ℕ)
+answer_by [] = None
+answer_by (e ∷ es) = Some (explanations_text (e ∷ es))
+
+-- the answer by a table: the list of its words where no word is named, else all explanations of the word
+abbrev pub answer : (word : List ℕ) → (table : List Explanation) → Option (List ℕ)
+answer [] table = Some (headings_text table)
+answer (c ∷ word) table = answer_by (explanations_of (c ∷ word) table)
+
+-- what is told of a word is the answer by a table that has all words
+pub record IsAnswer (word : List ℕ) (told : Option (List ℕ)) : Type 0 where
+  pub table : List Explanation
+  pub whole : map key table ≡ table_keys
+  pub exact : told ≡ answer word table
+
+-- a first part of the answer to a word was taken
+pub record IsBegun (word : List ℕ) (before after : Option (List ℕ)) : Type 0 where
+  pub text : List ℕ
+  pub count : ℕ
+  pub whole : IsAnswer word (Some text)
+  pub part : after ≡ with_more before (take count text)
+
+-- what the status says of the answer to a word: the sink had `before` and has `after`
+pub record IsAnswered (word : List ℕ) (before after : Option (List ℕ)) (status : ℕ) : Type 0 where
+  pub told : status ≡ 0 → (text : List ℕ) × IsAnswer word (Some text) × (after ≡ with_more before text)
+  pub unknown : status ≡ 64 → IsAnswer word None × (after ≡ before)
+  pub other : status ≡ 3 → (after ≡ before) ⊎ IsBegun word before after
+  pub range : (status ≡ 0) ⊎ ((status ≡ 3) ⊎ (status ≡ 64))

@@ -1,0 +1,75 @@
+//! The answer to a question for the meaning of a word.
+
+ghost use Rattle.std.specs.Prelude.{◌≡◌, ℕ, ◌⊎◌, IfOk, map, option_map, string_bytes, take};
+ghost use Rattle.line_model.specs.Device.{with_more};
+ghost use Rattle.command_line.specs.Explaining.{IsAnswer, IsAnswered, answer_by};
+
+use crate::program::{USAGE, refuse};
+use explanations::explanation::Explanation;
+use explanations::table::{all, explain};
+use explanations::text::{explanations_text, headings_text};
+use line_model::device::Sink;
+use line_model::fault::Fault;
+use std::alloc::{AllocError, Global};
+use streams::writing::write_all;
+
+/// The text of some explanations, if there are any.
+fn answer_by(alloc: Global, found: &[Explanation]) -> Result<Option<String>, AllocError>
+    ensures { IfOk result (λ told. option_map string_bytes told ≡ answer_by found.now) }
+{
+    if found.is_empty() {
+        return Ok(None);
+    }
+    let text = explanations_text(alloc, found)?;
+    Ok(Some(text))
+}
+
+/// The text that answers a question for a word: the list of all words where it is empty; none where no row has it.
+fn answer(alloc: Global, word: &str) -> Result<Option<String>, AllocError>
+    ensures { IfOk result (λ told. IsAnswer word.now (option_map string_bytes told)) }
+{
+    let table = all();
+    if word.is_empty() {
+        let text = headings_text(alloc, table.as_slice())?;
+        return Ok(Some(text));
+    }
+    let found = explain(alloc, table.as_slice(), word)?;
+    answer_by(alloc, found.as_slice())
+}
+
+/// Gives an answer to the sink, and answers the exit status.
+fn tell_answer<K: Sink, E: Sink>(alloc: Global, text: &str, sink: &mut K, errors: &mut E) -> u8
+    ensures told { result ≡ 0 → K.taken sink.new ≡ with_more (K.taken sink.old) text.now }
+    ensures part { result ≡ 3 → (n : ℕ) × (K.taken sink.new ≡ with_more (K.taken sink.old) (take n text.now)) }
+    ensures range { (result ≡ 0) ⊎ (result ≡ 3) }
+{
+    match write_all(sink, text.as_bytes()) {
+        Ok(()) => 0,
+        Err(fault) => refuse(alloc, errors, fault),
+    }
+}
+
+/// Tells that no explanation has a word, as far as it can be told, and answers the exit status.
+fn refuse_word<E: Sink>(alloc: Global, word: &str, errors: &mut E) -> u8
+    ensures { result ≡ 64 }
+{
+    if let Ok(text) = format!(in alloc;
+        "x25scan: no such word: {word} (x25scan --explain lists them)\n"
+    ) {
+        let _ = write_all(errors, text.as_bytes());
+    }
+    USAGE
+}
+
+/// Tells what a word means, all words where it is empty. Answers the exit status (profile): 0 where it was told, 64
+/// where no explanation has the word, 3 where memory ran out or the sink failed.
+pub fn explain_word<K: Sink, E: Sink>(alloc: Global, word: &str, sink: &mut K, errors: &mut E) -> u8
+    ensures answered { IsAnswered word.now (K.taken sink.old) (K.taken sink.new) result }
+    ensures unwritten { result ≡ 64 → sink.new ≡ sink.old }
+{
+    match answer(alloc, word) {
+        Ok(Some(text)) => tell_answer(alloc, text.as_str(), sink, errors),
+        Ok(None) => refuse_word(alloc, word, errors),
+        Err(_) => refuse(alloc, errors, Fault::Memory),
+    }
+}

@@ -1,0 +1,118 @@
+-- The table of explanations: which words it has, in which order, and which of its rows explain a word.
+use Rattle.std.specs.Prelude.{ℕ, Bool, true, false, List, [], ◌∷◌, ◌++◌, filter, flat_map, map, Some, None, codes, decimal}
+use Rattle.std.specs.List.{range_with_len}
+use Rattle.std.specs.Borrow.{Bor}
+use Rattle.std.specs.Str.{bytes_eq}
+use Rattle.line_model.specs.declared.state.Side.TheVariants.{T, N}
+use Rattle.line_model.specs.declared.state.StateName.TheVariants.{Dash, R1, R2, R3, P1, P2, P3, P4, P5, P6, P7, D1, D2, D3}
+use Rattle.line_model.specs.declared.finding.Xcode.TheVariants.{X1, X2, X3, X4, XL}
+use Rattle.line_model.specs.declared.event.How as how
+use Rattle.line_model.specs.declared.fault.Kind.TheVariants.{HeaderMissing, HeaderForm, HeaderRange, LineForm, Number, Side, Hex, LineLong, TextLarge}
+use Rattle.line_model.specs.declared.fault.Fault.{Fault}
+use Rattle.line_model.specs.declared.fault.Fault.TheVariants.{Memory, Trace, Read, Write, Start, Double, Stranger, Missing}
+use Rattle.line_model.specs.Faults.{kind_number}
+use Rattle.line_model.specs.Report.{side_word, state_word, pad_word, how_word, direction_word, dash}
+use Rattle.explanations.specs.declared.explanation.Explanation.{Explanation}
+use Rattle.explanations.specs.declared.explanation.Topic.{Topic}
+use Rattle.explanations.specs.declared.explanation.Topic as topic
+
+-- a word, and what it is the name of
+pub record Key : Type 0 where
+  pub topic : Topic
+  pub word : List ℕ
+
+-- what a row of the table explains
+abbrev pub key : Explanation → Key
+key e = record { topic = e.topic; word = e.word.now }
+
+-- words of one topic
+abbrev pub all_of : Topic → List (List ℕ) → List Key
+all_of t ws = map (λ w. record { topic = t; word = w }) ws
+
+-- the letters of the report's lines, in their order
+abbrev pub letters : List (List ℕ)
+letters = codes "F" ∷ codes "C" ∷ codes "S" ∷ codes "A" ∷ codes "P" ∷ codes "Z" ∷ []
+
+-- the letters of the report's lines, and the words of its fields
+abbrev pub field_keys : List Key
+field_keys =
+    all_of topic.TheVariants.Line letters
+    ++ all_of topic.TheVariants.Side (map side_word (T ∷ N ∷ []))
+    ++ all_of topic.TheVariants.Direction (map direction_word (true ∷ false ∷ []))
+    ++ all_of topic.TheVariants.Ending
+    (map how_word (Some how.TheVariants.T ∷ Some how.TheVariants.N ∷ Some how.TheVariants.Collision ∷ Some how.TheVariants.Restart ∷ None ∷ []))
+    ++ all_of topic.TheVariants.Setting (codes "asked" ∷ codes "said" ∷ codes "refused" ∷ [])
+    ++ all_of topic.TheVariants.Absent (dash ∷ [])
+
+-- the states
+abbrev pub state_keys : List Key
+state_keys = all_of topic.TheVariants.State
+    (map state_word (Dash ∷ R1 ∷ R2 ∷ R3 ∷ P1 ∷ P2 ∷ P3 ∷ P4 ∷ P5 ∷ P6 ∷ P7 ∷ D1 ∷ D2 ∷ D3 ∷ []))
+
+-- the diagnostic codes of sequence numbers and of packets that the state does not allow
+abbrev pub flow_codes : List ℕ
+flow_codes = 1 ∷ 2 ∷ range_with_len 17 13
+
+-- the diagnostic codes of packets that no state allows, of interrupts, of call packets and of the Q bit
+abbrev pub packet_codes : List ℕ
+packet_codes = range_with_len 33 9 ++ 43 ∷ 44 ∷ range_with_len 66 4 ++ 83 ∷ []
+
+-- the diagnostic codes of findings
+abbrev pub flow_code_keys : List Key
+flow_code_keys = all_of topic.TheVariants.Code (map decimal flow_codes)
+
+-- the other diagnostic codes
+abbrev pub packet_code_keys : List Key
+packet_code_keys = all_of topic.TheVariants.Code (map decimal packet_codes)
+
+-- the codes of findings on PAD messages
+abbrev pub message_keys : List Key
+message_keys = all_of topic.TheVariants.Message (map pad_word (X1 ∷ X2 ∷ X3 ∷ X4 ∷ XL ∷ []))
+
+-- the kinds of faulty lines
+abbrev pub kind_keys : List Key
+kind_keys = all_of topic.TheVariants.Kind
+    (map (λ k. decimal (kind_number k)) (HeaderMissing ∷ HeaderForm ∷ HeaderRange ∷ LineForm ∷ Number ∷ Side ∷ Hex ∷ LineLong ∷ TextLarge ∷ []))
+
+-- a word of the text of each fault
+abbrev pub fault_word : Fault → List ℕ
+fault_word Memory = codes "memory"
+fault_word (Trace line kind) = codes "kind"
+fault_word Read = codes "read"
+fault_word Write = codes "write"
+fault_word Start = codes "thread"
+fault_word (Double id) = codes "piece"
+fault_word (Stranger id) = codes "piece"
+fault_word (Missing id) = codes "piece"
+
+-- the refusals: the faults, arguments that are no text, and a word that is not explained
+abbrev pub refusal_keys : List Key
+refusal_keys = all_of topic.TheVariants.Refusal
+    (map fault_word (Memory ∷ Trace 1 HeaderMissing ∷ Read ∷ Write ∷ Start ∷ Double 0 ∷ Stranger 0 ∷ Missing 0 ∷ [])
+    ++ codes "arguments" ∷ codes "word" ∷ [])
+
+-- the exit statuses
+abbrev pub status_keys : List Key
+status_keys = all_of topic.TheVariants.Status (map decimal (0 ∷ 1 ∷ 2 ∷ 3 ∷ 64 ∷ []))
+
+-- the parameters of X.3
+abbrev pub parameter_keys : List Key
+parameter_keys = all_of topic.TheVariants.Parameter (map decimal (range_with_len 1 22))
+
+-- all words that are explained, in the order of the table; a word may stand more than once
+abbrev pub table_keys : List Key
+table_keys =
+    field_keys ++ state_keys ++ flow_code_keys ++ packet_code_keys ++ message_keys ++ kind_keys ++ refusal_keys ++ status_keys
+    ++ parameter_keys
+
+-- the rows of the table, section after section
+abbrev pub rows : List (Bor (List Explanation)) → List Explanation
+rows sections = flat_map (λ section. section.now) sections
+
+-- whether a row explains a word
+abbrev pub is_of : List ℕ → Explanation → Bool
+is_of word e = bytes_eq e.word.now word
+
+-- the rows that explain a word, in the order of the table
+abbrev pub explanations_of : List ℕ → List Explanation → List Explanation
+explanations_of word es = filter (is_of word) es

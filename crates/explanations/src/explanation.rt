@@ -1,0 +1,81 @@
+//! A word, and one meaning of it.
+
+/// What a word is the name of.
+#[derive(Clone, Copy, Debug, PartialEq, Eq)]
+pub enum Topic {
+    /// The letter that a line of the report begins with.
+    Line,
+    /// A side of the interface.
+    Side,
+    /// The direction of a call.
+    Direction,
+    /// How a call ended.
+    Ending,
+    /// How a setting of a PAD is known.
+    Setting,
+    /// A field without a value.
+    Absent,
+    /// A state of the interface.
+    State,
+    /// The diagnostic code of a finding.
+    Code,
+    /// The code of a finding on a PAD message.
+    Message,
+    /// The rule that a faulty line of a trace breaks.
+    Kind,
+    /// A refusal of the program.
+    Refusal,
+    /// An exit status of the program.
+    Status,
+    /// A parameter of a PAD.
+    Parameter,
+}
+
+impl Topic {
+    ghost use Rattle.std.specs.Prelude.{◌≡◌};
+    ghost use Rattle.explanations.specs.Texts.{topic_word};
+
+    /// What is told of a word of this topic (profile).
+    pub fn word(self) -> &'static str
+        ensures { result.now ≡ topic_word self }
+    {
+        match self {
+            Topic::Line => "line of the report",
+            Topic::Side => "side",
+            Topic::Direction => "direction of a call",
+            Topic::Ending => "end of a call",
+            Topic::Setting => "word of a setting",
+            Topic::Absent => "absent value",
+            Topic::State => "state",
+            Topic::Code => "diagnostic code",
+            Topic::Message => "code of a PAD message",
+            Topic::Kind => "kind of faulty line",
+            Topic::Refusal => "refusal",
+            Topic::Status => "exit status",
+            Topic::Parameter => "PAD parameter",
+        }
+    }
+}
+
+/// One meaning of a word.
+#[derive(Clone, Copy, Debug, PartialEq, Eq)]
+pub struct Explanation {
+    /// What the word is the name of.
+    pub topic: Topic,
+    /// The word, as it is printed.
+    pub word: &'static str,
+    /// The name that the Recommendations or this project have for it.
+    pub name: &'static str,
+    /// What it means.
+    pub meaning: &'static str,
+    /// When it is told, and what follows.
+    pub when: &'static str,
+    /// The clause that it rests on, or profile.
+    pub clause: &'static str,
+    /// The file of the repository that decides it.
+    pub definition: &'static str,
+    /// What is printed where it occurs.
+    pub example: &'static str,
+    /// The trace of the repository that prints it; empty where no small trace does.
+    pub trace: &'static str,
+}

@@ -1,0 +1,115 @@
+//! The rules that a faulty line of a trace breaks.
+
+ghost use Rattle.std.specs.Prelude.{◌≡◌, map};
+ghost use Rattle.explanations.specs.Table.{key, kind_keys};
+
+use crate::explanation::{Explanation, Topic};
+
+const KINDS: [Explanation; 9] = [
+    Explanation {
+        topic: Topic::Kind,
+        word: "21",
+        name: "HeaderMissing",
+        meaning: "The text has no line that is not a comment.",
+        when: "At the end of the text; the line told is the number of its lines plus 1. The trace is refused with status 2 and nothing is reported; with --follow what was found before stands.",
+        clause: "profile",
+        definition: "crates/line_model/specs/Text.antt",
+        example: "x25scan: line 1: kind 21",
+        trace: "tests/traces/worked/refused-no-header.trace",
+    },
+    Explanation {
+        topic: Topic::Kind,
+        word: "22",
+        name: "HeaderForm",
+        meaning: "The header has neither form: a word is another, one is missing or too many, or a number has a leading zero or more than 9 digits.",
+        when: "On the first line that is no comment, behind 28. The trace is refused with status 2 and nothing is reported; with --follow what was found before stands.",
+        clause: "profile",
+        definition: "crates/line_model/specs/Header.antt",
+        example: "x25scan: line 1: kind 22",
+        trace: "tests/traces/worked/refused-header-form.trace",
+    },
+    Explanation {
+        topic: Topic::Kind,
+        word: "23",
+        name: "HeaderRange",
+        meaning: "A number of the header is out of its range, such as MOD 9 or a window not below the modulus.",
+        when: "On a header whose form is right. The trace is refused with status 2 and nothing is reported; with --follow what was found before stands.",
+        clause: "profile",
+        definition: "crates/line_model/specs/Header.antt",
+        example: "x25scan: line 1: kind 23",
+        trace: "tests/traces/worked/refused-modulus.trace",
+    },
+    Explanation {
+        topic: Topic::Kind,
+        word: "24",
+        name: "LineForm",
+        meaning: "The line is not three words with single spaces between them: number, side and octets.",
+        when: "On a row, behind 28; an empty line too. The trace is refused with status 2 and nothing is reported; with --follow what was found before stands.",
+        clause: "profile",
+        definition: "crates/line_model/specs/RowLine.antt",
+        example: "x25scan: line 2: kind 24",
+        trace: "tests/traces/worked/refused-empty-line.trace",
+    },
+    Explanation {
+        topic: Topic::Kind,
+        word: "25",
+        name: "Number",
+        meaning: "The number of the row is none from 1 to 999999999, has a leading zero, or is not greater than that of the row before.",
+        when: "On a row, behind 28 and 24. The trace is refused with status 2 and nothing is reported; with --follow what was found before stands.",
+        clause: "profile",
+        definition: "crates/line_model/specs/RowLine.antt",
+        example: "x25scan: line 3: kind 25",
+        trace: "tests/traces/worked/refused-number-order.trace",
+    },
+    Explanation {
+        topic: Topic::Kind,
+        word: "26",
+        name: "Side",
+        meaning: "The side is neither T nor N.",
+        when: "On a row, behind 28, 24 and 25. The trace is refused with status 2 and nothing is reported; with --follow what was found before stands.",
+        clause: "profile",
+        definition: "crates/line_model/specs/RowLine.antt",
+        example: "x25scan: line 2: kind 26",
+        trace: "tests/traces/worked/refused-side.trace",
+    },
+    Explanation {
+        topic: Topic::Kind,
+        word: "27",
+        name: "Hex",
+        meaning: "The octets are no pairs of hex digits (a carriage return at the end of the line is none), or more than 4,200.",
+        when: "On a row, where all before it is right. The trace is refused with status 2 and nothing is reported; with --follow what was found before stands.",
+        clause: "profile",
+        definition: "crates/line_model/specs/RowLine.antt",
+        example: "x25scan: line 2: kind 27",
+        trace: "tests/traces/worked/refused-odd-hex.trace",
+    },
+    Explanation {
+        topic: Topic::Kind,
+        word: "28",
+        name: "LineLong",
+        meaning: "The line has more than 8,500 bytes without its line feed, comments too.",
+        when: "On any line, before all else. The trace is refused with status 2 and nothing is reported; with --follow what was found before stands.",
+        clause: "profile",
+        definition: "crates/line_model/specs/Text.antt",
+        example: "x25scan: line 2: kind 28",
+        trace: "tests/traces/worked/refused-long-comment.trace",
+    },
+    Explanation {
+        topic: Topic::Kind,
+        word: "29",
+        name: "TextLarge",
+        meaning: "The line holds a byte past the first 2^30 bytes of the text.",
+        when: "On any line, in place of all else but 28. The trace is refused with status 2 and nothing is reported; with --follow what was found before stands.",
+        clause: "profile",
+        definition: "crates/line_model/specs/Text.antt",
+        example: "x25scan: line 13421773: kind 29",
+        trace: "",
+    },
+];
+
+/// The kinds of faulty lines, by their numbers.
+pub fn kinds() -> &'static [Explanation]
+    ensures { map key result.now ≡ kind_keys }
+{
+    &KINDS
+}

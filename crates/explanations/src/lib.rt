@@ -1,0 +1,17 @@
+//! The words of the report and of the refusals, and what each of them means.
+#![tactic(auto)]
+
+pub mod explanation;
+mod fields;
+mod flow_codes;
+mod kinds;
+mod messages;
+mod packet_codes;
+mod parameters;
+mod refusals;
+mod states;
+mod statuses;
+pub mod table;
+#[cfg(test)]
+mod tests;
+pub mod text;

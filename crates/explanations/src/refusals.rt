@@ -1,0 +1,126 @@
+//! The refusals of the program.
+
+ghost use Rattle.std.specs.Prelude.{◌≡◌, map};
+ghost use Rattle.explanations.specs.Table.{key, refusal_keys};
+
+use crate::explanation::{Explanation, Topic};
+
+const REFUSALS: [Explanation; 10] = [
+    Explanation {
+        topic: Topic::Refusal,
+        word: "memory",
+        name: "out of memory",
+        meaning: "The system refused memory that the program wanted.",
+        when: "At any time, with status 3. Nothing was reported but what --follow had written.",
+        clause: "profile",
+        definition: "crates/line_model/specs/Faults.antt",
+        example: "x25scan: out of memory",
+        trace: "",
+    },
+    Explanation {
+        topic: Topic::Refusal,
+        word: "kind",
+        name: "line L: kind K",
+        meaning: "The trace is refused at line L, counted from 1 with comments, by rule K.",
+        when: "With status 2, by the first faulty line; 21 to 29 are the rules.",
+        clause: "profile",
+        definition: "crates/line_model/specs/Faults.antt",
+        example: "x25scan: line 3: kind 25",
+        trace: "tests/traces/worked/refused-number-order.trace",
+    },
+    Explanation {
+        topic: Topic::Refusal,
+        word: "read",
+        name: "read failed",
+        meaning: "Standard input could not be read.",
+        when: "With status 3. Nothing was reported but what --follow had written.",
+        clause: "profile",
+        definition: "crates/line_model/specs/Faults.antt",
+        example: "x25scan: read failed",
+        trace: "",
+    },
+    Explanation {
+        topic: Topic::Refusal,
+        word: "write",
+        name: "write failed",
+        meaning: "Standard output did not take the report.",
+        when: "With status 3. A first part of the report may have been written.",
+        clause: "profile",
+        definition: "crates/line_model/specs/Faults.antt",
+        example: "x25scan: write failed",
+        trace: "",
+    },
+    Explanation {
+        topic: Topic::Refusal,
+        word: "thread",
+        name: "thread refused",
+        meaning: "The system started no worker thread.",
+        when: "With status 3, before anything was read. --alone wants no thread.",
+        clause: "profile",
+        definition: "crates/line_model/specs/Faults.antt",
+        example: "x25scan: thread refused",
+        trace: "",
+    },
+    Explanation {
+        topic: Topic::Refusal,
+        word: "piece",
+        name: "piece I posted twice",
+        meaning: "Two workers reported the same piece of the trace.",
+        when: "No run should meet it: it would be a fault of the program.",
+        clause: "profile",
+        definition: "crates/line_model/specs/Faults.antt",
+        example: "x25scan: piece 3 posted twice",
+        trace: "",
+    },
+    Explanation {
+        topic: Topic::Refusal,
+        word: "piece",
+        name: "piece I unknown",
+        meaning: "A worker reported a piece that the trace does not have.",
+        when: "No run should meet it: it would be a fault of the program.",
+        clause: "profile",
+        definition: "crates/line_model/specs/Faults.antt",
+        example: "x25scan: piece 3 unknown",
+        trace: "",
+    },
+    Explanation {
+        topic: Topic::Refusal,
+        word: "piece",
+        name: "piece I missing",
+        meaning: "No worker reported a piece of the trace.",
+        when: "No run should meet it: it would be a fault of the program.",
+        clause: "profile",
+        definition: "crates/line_model/specs/Faults.antt",
+        example: "x25scan: piece 3 missing",
+        trace: "",
+    },
+    Explanation {
+        topic: Topic::Refusal,
+        word: "arguments",
+        name: "arguments are no text",
+        meaning: "A word of the command line is not UTF-8.",
+        when: "With status 64, before anything was read.",
+        clause: "profile",
+        definition: "crates/x25scan/src/main.rt",
+        example: "x25scan: arguments are no text",
+        trace: "",
+    },
+    Explanation {
+        topic: Topic::Refusal,
+        word: "word",
+        name: "no such word",
+        meaning: "--explain has no such word.",
+        when: "With status 64. --explain alone lists the words.",
+        clause: "profile",
+        definition: "crates/command_line/specs/Explaining.antt",
+        example: "x25scan: no such word: d4 (x25scan --explain lists them)",
+        trace: "",
+    },
+];
+
+/// The refusals of the program.
+pub fn refusals() -> &'static [Explanation]
+    ensures { map key result.now ≡ refusal_keys }
+{
+    &REFUSALS
+}

@@ -1,0 +1,114 @@
+#!/usr/bin/env python3
+"""codes_document.py [--check]: writes docs/CODES.md from the table of crates/explanations.
+
+With --check it writes nothing, and says where the document is another one, where a definition or a trace that a row
+names is not there, and where a trace does not print the row's example. The last line is 'N passed, M failed'.
+"""
+import pathlib
+import re
+import sys
+
+ROOT = pathlib.Path(__file__).resolve().parent.parent
+SOURCES = ROOT / "crates" / "explanations" / "src"
+DOCUMENT = ROOT / "docs" / "CODES.md"
+ROW = re.compile(r"    Explanation \{\n(.*?)    \},\n", re.DOTALL)
+FIELD = re.compile(r'^        (\w+):\s+(?:Topic::(\w+)|"((?:[^"\\]|\\.)*)"),$', re.MULTILINE)
+SECTION = re.compile(r"^        (\w+)\(\),$", re.MULTILINE)
+TITLES = {
+    "Line": "Lines of the report",
+    "Side": "Sides",
+    "Direction": "Directions of a call",
+    "Ending": "How a call ended",
+    "Setting": "Words of a setting",
+    "Absent": "Absent values",
+    "State": "States",
+    "Code": "Diagnostic codes",
+    "Message": "Codes of PAD messages",
+    "Kind": "Kinds of faulty lines",
+    "Refusal": "Refusals",
+    "Status": "Exit statuses",
+    "Parameter": "PAD parameters",
+}
+HEAD = """# The words of the report and of the refusals
+
+`x25scan --explain WORD` prints what stands here of a word, and `x25scan --explain` the list of all words. A word with
+several meanings stands in several tables. *Profile* marks what this project chose; X.25 means the edition of 10/96. The
+last column has what is printed, and the trace that prints it. `tools/codes_document.py` writes this page from the table
+of [explanations](../crates/explanations).
+"""
+
+
+def rows():
+    """The rows of the table, section after section, as dictionaries of their fields."""
+    found = []
+    for section in SECTION.findall((SOURCES / "table.rt").read_text()):
+        for body in ROW.findall((SOURCES / f"{section}.rt").read_text()):
+            fields = {name: topic or text.replace('\\"', '"').replace("\\\\", "\\") for name, topic, text in FIELD.findall(body)}
+            found.append(fields)
+    return found
+
+
+def link(path):
+    name = pathlib.Path(path)
+    return f"[{name.stem}](../{path})"
+
+
+def line_of(row):
+    """The line of a row in its table."""
+    example = f"`{row['example']}`" + (f" {link(row['trace'])}" if row["trace"] else "")
+    cells = [f"`{row['word']}`", f"**{row['name']}** {row['meaning']} {row['when']}", f"{row['clause']}; {link(row['definition'])}", example]
+    return "| " + " | ".join(cell.replace("|", "\\|") for cell in cells) + " |\n"
+
+
+def document():
+    """The text of the document."""
+    text, topic = HEAD, None
+    for row in rows():
+        if row["topic"] != topic:
+            topic = row["topic"]
+            text += f"\n## {TITLES[topic]}\n\n| word | meaning | rule | example |\n|---|---|---|---|\n"
+        text += line_of(row)
+    return text
+
+
+def printed(trace):
+    """The lines that the program prints of a trace, its exit status among them."""
+    status = trace.with_suffix(".status")
+    said = f"x25scan < t; echo $? prints {status.read_text().strip() if status.exists() else 0}\n"
+    endings = (".report", ".errors")
+    return (said + "".join(trace.with_suffix(it).read_text() for it in endings if trace.with_suffix(it).exists())).split("\n")
+
+
+def complaints(row):
+    """What is wrong with the files that a row names."""
+    said = []
+    if not (ROOT / row["definition"]).exists():
+        said.append(f"there is no {row['definition']}")
+    trace = ROOT / row["trace"] if row["trace"] else None
+    if trace and not trace.exists():
+        said.append(f"there is no {row['trace']}")
+    elif trace and row["example"] not in printed(trace):
+        said.append(f"{row['trace']} does not print {row['example']!r}")
+    return said
+
+
+def check():
+    """Checks the document and the rows, and returns the exit status."""
+    passed, failed = 0, 0
+    current = DOCUMENT.exists() and DOCUMENT.read_text() == document()
+    outcomes = [("docs/CODES.md", [] if current else ["it is not what tools/codes_document.py writes"])]
+    outcomes += [(f"{row['word']} ({row['topic']})", complaints(row)) for row in rows()]
+    for name, said in outcomes:
+        passed, failed = passed + (not said), failed + bool(said)
+        for it in said:
+            print(f"{name}: {it}")
+    print(f"{passed} passed, {failed} failed")
+    return 1 if failed else 0
+
+
+if __name__ == "__main__":
+    if sys.argv[1:] == ["--check"]:
+        sys.exit(check())
+    if sys.argv[1:]:
+        sys.exit(__doc__)
+    DOCUMENT.write_text(document())
