@@ -5,7 +5,7 @@ ghost use Rattle.line_model.specs.Classes.{class_of};
 ghost use Rattle.line_model.specs.Octets.{octet};
 ghost use Rattle.line_model.specs.Facilities.{fields_of, no_fields, call_fault, accepted_fault, block_fault, has_a_bit, user_data_limit};
 ghost use Rattle.packet_decode.specs.CallFaults.{tail_fault, is_field_cut, call_packet_fault, IsCallPacket, facility_field};
-ghost use Rattle.packet_decode.specs.Shown.{shown, IsUsable};
+ghost use Rattle.packet_decode.specs.Shown.{shown, IsPacketSize, IsUsable};
 ghost use Rattle.packet_decode.specs.Reading.{ReadsAs, powers};
 ghost use Rattle.packet_decode.specs.Blocks.{AreAddresses, address_fault};
 ghost use Rattle.packet_decode.specs.Asked.{IsInRange};
@@ -92,8 +92,7 @@ fn size(logarithm: u8) -> u16
     requires low { 4 ≤ logarithm }
     requires high { logarithm ≤ 12 }
     ensures power { result ≡ 2 ^ logarithm }
-    ensures low { 16 ≤ result }
-    ensures high { result ≤ 4096 }
+    ensures listed { IsPacketSize result }
 {
     match logarithm {
         4 => 16,
@@ -176,7 +175,7 @@ fn sizes(interface: &Interface, asked: &Asked) -> Option<(u16, u16)>
     requires in_range { IsInRange interface.now asked.now }
     requires usable { asked.now.out_of_range ≡ false }
     ensures sizes { result ≡ option_map powers asked.now.sizes }
-    ensures usable { IfSome result (λ p. (16 ≤ p.0) × (p.0 ≤ 4096) × (16 ≤ p.1) × (p.1 ≤ 4096)) }
+    ensures usable { IfSome result (λ p. IsPacketSize p.0 × IsPacketSize p.1) }
 {
     match asked.sizes {
         Some((called, calling)) => Some((size(called), size(calling))),

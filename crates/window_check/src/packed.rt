@@ -73,6 +73,13 @@ impl FlowWord {
         self.word = with_field(self.word, 45, 19, u64::from(above));
     }
 
+    /// The window of a side.
+    pub fn window(&self, side: Side) -> u8
+        ensures { result ≡ of_side side self.now.flow.windows }
+    {
+        self.direction(side).window
+    }
+
     /// Judges a data packet of a side by its P(S) and then its P(R): 1 where P(S) is not the next number or lies
     /// outside the window, 2 where P(R) acknowledges no packet sent (X.25 clauses 4.4.1.1 to 4.4.1.3).
     pub fn data(&mut self, side: Side, send: u8, receive: u8) -> Result<(), u8>
