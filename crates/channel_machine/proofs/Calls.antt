@@ -1,22 +1,20 @@
 -- The call of a channel.
-use Rattle.std.proofs.Common.{◌≡◌, ℕ, true, false, true≢false, refl, sym, ◌∙◌, ap, subst, List, [], ◌∷◌, Option, Some, None}
-use Rattle.std.specs.Prelude.{option_map, is_none, unwrap_or, IfSome, ◌≤◌, ◌<◌}
-use Rattle.channel_machine.specs.Terms.{IsWindow, IsBelow}
+use Rattle.std.proofs.Common.{◌≡◌, ℕ, Bool, true, false, true≢false, refl, sym, ◌∙◌, ap, subst, List, [], ◌∷◌, Option, Some, None}
+use Rattle.std.specs.Prelude.{option_map, is_none, IfNone}
 use Rattle.line_model.specs.declared.event.How.{How}
 use Rattle.line_model.specs.declared.event.Event.{Event}
 use Rattle.line_model.specs.declared.event.What.{What}
 use Rattle.line_model.specs.declared.event.What.TheVariants.{End}
-use Rattle.line_model.specs.ChannelStep.{Outcome, ending, and_then, entering, after_error}
+use Rattle.line_model.specs.ChannelStep.{Outcome, report_nothing, ending, ending_open, and_then, entering, after_error}
 use Rattle.line_model.specs.declared.state.StateName.{StateName}
 use Rattle.line_model.specs.declared.state.StateName.TheVariants.{Dash, R1, R2, R3, P1, P2, P3, P4, P5, P6, P7, D1, D2, D3}
 use Rattle.line_model.specs.declared.event.How as how
 use Rattle.line_model.specs.Channels.{Channel, Opening}
 use Rattle.channel_machine.specs.declared.terms.Opened.{Opened}
-use Rattle.channel_machine.specs.declared.channel.PlainChannel.{PlainChannel}
 use Rattle.channel_machine.specs.declared.events.Stamp.{Stamp}
 use Rattle.channel_machine.specs.TermsStand.{opened_of}
 use Rattle.channel_machine.specs.Events.{Reports}
-use Rattle.channel_machine.specs.Channels.{Does}
+use Rattle.channel_machine.specs.Channels.{Known, Does}
 use Rattle.channel_machine.proofs.Reporting.{more}
 
 -- a channel whose call has ended
@@ -32,8 +30,15 @@ pub ends : (h : How) (c : Channel) (terms : Option Opened) (v : Opened) → term
     ended h c ≡ ending h c
 ends h c terms v stands e = sym (ends_by h c c.opening v (sym stands ∙ e))
 
+none_by : (h : How) (c : Channel) (o : Option Opening) → option_map opened_of o ≡ None → report_nothing (record c { opening = o }) ≡ ending h (record c { opening = o })
+none_by h c None e = refl
+none_by h c (Some o) e = absurd (true≢false (sym (ap (λ v. is_none v) e)))
+
+pub ends_none : (h : How) (c : Channel) (call : Option Opened) → call ≡ option_map opened_of c.opening → call ≡ None → report_nothing c ≡ ending h c
+ends_none h c call stands e = none_by h c c.opening (sym stands ∙ e)
+
 -- some events, and then an outcome
-pub after_events : {A : Type 0} (s : Stamp) (old mid new : PlainChannel A) (before between after : List Event) (vs : List What) (c : Channel) (f : Channel → Outcome) →
+pub after_events : (s : Stamp) (old mid new : Known) (before between after : List Event) (vs : List What) (c : Channel) (f : Channel → Outcome) →
     mid.terms.interface ≡ old.terms.interface → mid.channel ≡ old.channel → Reports s before between vs →
     Does s mid new between after (f c) → Does s old new before after (and_then (record { reported = vs; after = c }) f)
 after_events s old mid new before between after vs c f interface channel first d = record {
@@ -54,9 +59,17 @@ pub reopens : (h : How) (to : StateName) (c : Channel) (v : Option Opening) →
     entering to false (record (ending h (entering to false c)).after { opening = v }) ≡ record (ending h (entering to false c)).after { opening = v }
 reopens h to c v = reopens_by h to c c.opening v
 
-pub usable_windows : (m : ℕ) (ws : Option (ℕ × ℕ)) → IfSome ws (λ p. (1 ≤ p.0) × (p.0 < m) × (1 ≤ p.1) × (p.1 < m)) → IsWindow m ws
-usable_windows m None h = λ x e. absurd (true≢false (ap (λ o. is_none o) e))
-usable_windows m (Some p) h = λ x e. subst (λ q. IsBelow m q.0 × IsBelow m q.1) (ap (λ o. unwrap_or o p) e) ((h.0, h.1), (h.2, h.3))
+-- a channel whose call ended has no answer to one
+bare_by : (h : How) (o : Option Opening) (c : Channel) → IfNone o (c.accepting ≡ None) → (ending_open h o c).after.accepting ≡ None
+bare_by h None c bare = bare
+bare_by h (Some o) c bare = refl
+
+pub bare_after : (h : How) (to : StateName) (owed : Bool) (c : Channel) → IfNone c.opening (c.accepting ≡ None) → (ending h (entering to owed c)).after.accepting ≡ None
+bare_after h to owed c bare = bare_by h c.opening (entering to owed c) (by c.opening bare)
+  where
+    by : (o : Option Opening) → IfNone o (c.accepting ≡ None) → IfNone o ((entering to owed c).accepting ≡ None)
+    by None b = b
+    by (Some o) b = b
 
 -- an error outside data transfer clears the call
 pub gives_up : (s : StateName) (c : Channel) → (s ≡ D1 → ⊥) → (s ≡ D2 → ⊥) → (s ≡ D3 → ⊥) →

@@ -13,35 +13,34 @@ use Rattle.line_model.specs.ChannelStep.{counts_of, data_counted, data_alike, he
 use Rattle.window_check.specs.Kept.{Kept, Stands, Answers}
 use Rattle.mbit_assembly.specs.Assembler as assembly
 use Rattle.channel_machine.specs.declared.events.Stamp.{Stamp}
-use Rattle.channel_machine.specs.declared.transfer.Transfer.{Transfer}
 use Rattle.channel_machine.specs.Events.{Reports}
 use Rattle.channel_machine.specs.Messages.{SettingsStand}
-use Rattle.channel_machine.specs.Transfers.{StandsFor, IsHeard, counted_in_force}
+use Rattle.channel_machine.specs.Transfers.{Transfer, StandsFor, IsHeard, counted_in_force}
 use Rattle.channel_machine.proofs.Counting.{answered_ok, answered_err, data_counts, sent_more}
 
 -- the values in force, by sides
-size_is : {A : Type 0} (i : Interface) (t : Transfer A) (c : Channel) (x : Side) → StandsFor i t c → of_side x (assembly.sizes t.assembler) ≡ size_in_force i c x
+size_is : (i : Interface) (t : Transfer) (c : Channel) (x : Side) → StandsFor i t c → of_side x (assembly.sizes t.assembler) ≡ size_in_force i c x
 size_is i t c T stands = ap (λ v. v.of_t) stands.sizes
 size_is i t c N stands = ap (λ v. v.of_n) stands.sizes
 
-window_is : {A : Type 0} (i : Interface) (t : Transfer A) (c : Channel) (x : Side) → StandsFor i t c → of_side x t.flow.windows ≡ window_in_force i c x
+window_is : (i : Interface) (t : Transfer) (c : Channel) (x : Side) → StandsFor i t c → of_side x t.flow.windows ≡ window_in_force i c x
 window_is i t c T stands = ap (λ v. v.of_t) stands.windows
 window_is i t c N stands = ap (λ v. v.of_n) stands.windows
 
-pub in_force : {A : Type 0} (U : Type 0) (r : Result U ℕ) (i : Interface) (t : Transfer A) (new : Kept) (c : Channel) (x : Side) (s n : ℕ) → StandsFor i t c →
+pub in_force : (U : Type 0) (r : Result U ℕ) (i : Interface) (t : Transfer) (new : Kept) (c : Channel) (x : Side) (s n : ℕ) → StandsFor i t c →
     Answers r t.flow new (count_data t.flow.modulus (of_side x t.flow.windows) (counts_of c) x s n) → Answers r t.flow new (counted_in_force i x s n c)
 in_force U r i t new c x s n stands answer =
     subst (λ w. Answers r t.flow new (count_data i.modulus w (counts_of c) x s n)) (window_is i t c x stands)
     (subst (λ m. Answers r t.flow new (count_data m (of_side x t.flow.windows) (counts_of c) x s n)) stands.modulus answer)
 
 -- a fault of the numbers
-pub refused : {A : Type 0} (U : Type 0) (e : ℕ) (i : Interface) (s : Stamp) (t : Transfer A) (new : Kept) (before : List Event) (x : Side) (p : Heard) (r : Result Counts ℕ) (c : Channel) →
+pub refused : (U : Type 0) (e : ℕ) (i : Interface) (s : Stamp) (t : Transfer) (new : Kept) (before : List Event) (x : Side) (p : Heard) (r : Result Counts ℕ) (c : Channel) →
     Answers {A = U} (Err e) t.flow new r → IsHeard (Some e) i s t t before before x p r c
 refused U e i s t new before x p r c answer =
     ((λ q. ap (λ a. data_counted i x q p a c) (answered_err U e t.flow new r answer).0), refl, refl)
 
 -- another Q bit
-pub mixed : {A U : Type 0} (u : U) (i : Interface) (s : Stamp) (t new : Transfer A) (flow : Kept) (before after : List Event) (x : Side) (p : Heard) (r : Result Counts ℕ) (c : Channel) →
+pub mixed : {U : Type 0} (u : U) (i : Interface) (s : Stamp) (t new : Transfer) (flow : Kept) (before after : List Event) (x : Side) (p : Heard) (r : Result Counts ℕ) (c : Channel) →
     StandsFor i t c → Answers (Ok u) t.flow flow r → is_alike p (assembly.begun_by t.assembler x c.heard) ≡ false → new ≡ t → after ≡ before →
     IsHeard (Some 83) i s t new before after x p r c
 mixed u i s t new flow before after x p r c stands answer other same none =
@@ -50,11 +49,11 @@ mixed u i s t new flow before after x p r c stands answer other same none =
     ((λ q. ap (λ a. data_counted i x q p a c) is ∙ ap (λ b. data_alike i x q p v b c) unlike), same, none)
 
 -- a channel after a packet without fault
-settled : {A : Type 0} (i : Interface) (t new : Transfer A) (c : Channel) (x : Side) (p : Heard) (v : Counts) (m : Option (List ℕ)) → StandsFor i t c → p.side ≡ x →
+settled : (i : Interface) (t new : Transfer) (c : Channel) (x : Side) (p : Heard) (v : Counts) (m : Option (List ℕ)) → StandsFor i t c → p.side ≡ x →
     v.sent ≡ with_side x (of_side x (sent_by c.heard) + 1) (sent_by c.heard) → v.unconfirmed ≡ c.unconfirmed → Stands new.flow v →
     new.flow.modulus ≡ t.flow.modulus → new.flow.windows ≡ t.flow.windows →
     assembly.StandsFor new.assembler (c.heard ++ p ∷ []) → assembly.sizes new.assembler ≡ assembly.sizes t.assembler →
-    SettingsStand new (told_after x c.told m) → StandsFor i new (hearing x p v m c).after
+    SettingsStand new.settings (told_after x c.told m) → StandsFor i new (hearing x p v m c).after
 settled i t new c x p v m stands side_is sent_is unconfirmed_is flow modulus windows sequences sizes settings = record {
   flow = subst (λ s. Stands new.flow (record { sent = s; acknowledged = v.acknowledged; unconfirmed = c.unconfirmed })) (sent_is ∙ sent_more x c.heard p side_is)
       (subst (λ b. Stands new.flow (record { sent = v.sent; acknowledged = v.acknowledged; unconfirmed = b })) unconfirmed_is flow);
@@ -84,7 +83,7 @@ told_message false b c l h e = cc
 told_message true false c l h e = cc
 told_message true true c l h e = ap (λ d. elim d [ true ↦ None | false ↦ Some l ]) e
 
-pub going_is : {A : Type 0} (i : Interface) (t : Transfer A) (c : Channel) (x : Side) (p : Heard) → StandsFor i t c →
+pub going_is : (i : Interface) (t : Transfer) (c : Channel) (x : Side) (p : Heard) → StandsFor i t c →
     is_category_a (of_side x (assembly.sizes t.assembler)) p ≡ true → completed_message i x c p ≡ None
 going_is i t c x p stands a =
     going_message (is_pad_call c) p.qualified (is_category_a (size_in_force i c x) p) (sequence_octets (begun (size_in_force i c x) x c.heard ++ p ∷ []))
@@ -94,7 +93,7 @@ pub untold_is : (i : Interface) (c : Channel) (x : Side) (p : Heard) → (is_pad
 untold_is i c x p h =
     untold_message (is_pad_call c) p.qualified (is_category_a (size_in_force i c x) p) (sequence_octets (begun (size_in_force i c x) x c.heard ++ p ∷ [])) h
 
-pub told_is : {A : Type 0} (i : Interface) (t : Transfer A) (c : Channel) (x : Side) (p : Heard) → StandsFor i t c → (is_pad_call c && p.qualified) ≡ true →
+pub told_is : (i : Interface) (t : Transfer) (c : Channel) (x : Side) (p : Heard) → StandsFor i t c → (is_pad_call c && p.qualified) ≡ true →
     is_category_a (of_side x (assembly.sizes t.assembler)) p ≡ false →
     completed_message i x c p ≡ Some (sequence_octets (assembly.begun_by t.assembler x c.heard ++ p ∷ []))
 told_is i t c x p stands h a =
@@ -103,11 +102,11 @@ told_is i t c x p stands h a =
     ∙ ap (λ n. Some (sequence_octets (begun n x c.heard ++ p ∷ []))) (sym (size_is i t c x stands))
 
 -- a packet without fault, which completes a message or not
-pub accepted : {A U : Type 0} (u : U) (i : Interface) (s : Stamp) (t new : Transfer A) (before after : List Event) (c : Channel) (x : Side) (sn rn : ℕ) (p : Heard) (m : Option (List ℕ)) →
+pub accepted : {U : Type 0} (u : U) (i : Interface) (s : Stamp) (t new : Transfer) (before after : List Event) (c : Channel) (x : Side) (sn rn : ℕ) (p : Heard) (m : Option (List ℕ)) →
     StandsFor i t c → p.side ≡ x → Answers (Ok u) t.flow new.flow (counted_in_force i x sn rn c) →
     is_alike p (assembly.begun_by t.assembler x c.heard) ≡ true → completed_message i x c p ≡ m →
     new.flow.modulus ≡ t.flow.modulus → new.flow.windows ≡ t.flow.windows →
-    assembly.StandsFor new.assembler (c.heard ++ p ∷ []) → assembly.sizes new.assembler ≡ assembly.sizes t.assembler → SettingsStand new (told_after x c.told m) →
+    assembly.StandsFor new.assembler (c.heard ++ p ∷ []) → assembly.sizes new.assembler ≡ assembly.sizes t.assembler → SettingsStand new.settings (told_after x c.told m) →
     ((v : Counts) → Reports s before after (hearing x p v m c).reported) → IsHeard None i s t new before after x p (counted_in_force i x sn rn c) c
 accepted u i s t new before after c x sn rn p m stands side_is answer alike completes modulus windows sequences sizes settings events =
     let r : Result Counts ℕ = counted_in_force i x sn rn c in

@@ -1,78 +1,16 @@
 -- The values in force of terms, and those of a channel.
-use Rattle.std.proofs.Common.{◌≡◌, ℕ, false, refl, sym, ◌∙◌, ap, subst, List, [], Option, Some, None}
-use Rattle.std.specs.Prelude.{option_map, option_and_then}
+use Rattle.std.proofs.Common.{◌≡◌, ℕ, Bool, true, false, true≢false, refl, sym, ◌∙◌, ap, List, [], Option, Some, None}
+use Rattle.std.specs.Prelude.{◌==◌, IfNone, is_some, option_map, option_and_then}
 use Rattle.std.specs.Option.{option_map_or}
-use Rattle.std.specs.Prelude.{◌==◌}
-use Rattle.line_model.specs.Facilities.{fields_of}
+use Rattle.line_model.specs.Facilities.{CallFields, fields_of}
 use Rattle.line_model.specs.Octets.{octet}
 use Rattle.line_model.specs.declared.interface.Interface.{Interface}
 use Rattle.line_model.specs.declared.state.Side.{Side}
 use Rattle.line_model.specs.declared.state.Side.TheVariants.{T, N}
 use Rattle.line_model.specs.Channels.{Channel, Opening}
-use Rattle.line_model.specs.Formats.{was_fast, is_pad_call, window_in_force, size_in_force, or_other, for_side}
-use Rattle.line_model.specs.FlowControl.{no_counts}
-use Rattle.window_check.specs.Kept.{Stands}
-use Rattle.mbit_assembly.specs.Assembler as assembly
-use Rattle.channel_machine.specs.declared.transfer.Transfer.{Transfer}
-use Rattle.channel_machine.specs.declared.terms.Terms.{Terms}
-use Rattle.channel_machine.specs.declared.terms.Values.{Values}
+use Rattle.line_model.specs.Formats.{was_fast, is_pad_call, size_in_force, or_other, for_side}
 use Rattle.channel_machine.specs.declared.terms.Opened.{Opened}
-use Rattle.channel_machine.specs.Transfers.{StandsFor}
-use Rattle.channel_machine.specs.Messages.{SettingsStand}
-use Rattle.channel_machine.specs.Transfers.{silent}
-use Rattle.channel_machine.specs.TermsStand.{TermsStand, is_fast, is_pad, opened_of, values_of, window_of, size_of}
-
-abbrev window_by : Interface → Option Opened → Option Values → Side → ℕ
-window_by i o a x = option_map_or (for_side (option_map_or (λ o. o.out) o false) x)
-    (or_other (option_and_then (λ v. v.windows) a) (option_and_then (λ o. o.values.windows) o)) i.window
-
-abbrev size_by : Interface → Option Opened → Option Values → Side → ℕ
-size_by i o a x = option_map_or (for_side (option_map_or (λ o. o.out) o false) x)
-    (or_other (option_and_then (λ v. v.sizes) a) (option_and_then (λ o. o.values.sizes) o)) i.size
-
-window_is : (i : Interface) (c : Channel) (o : Option Opening) (a : Option (List ℕ)) (x : Side) →
-    window_by i (option_map opened_of o) (option_map values_of a) x ≡ window_in_force i (record c { opening = o; accepting = a }) x
-window_is i c None None x = refl
-window_is i c None (Some a) x = refl
-window_is i c (Some o) None x = refl
-window_is i c (Some o) (Some a) x = refl
-
-size_is : (i : Interface) (c : Channel) (o : Option Opening) (a : Option (List ℕ)) (x : Side) →
-    size_by i (option_map opened_of o) (option_map values_of a) x ≡ size_in_force i (record c { opening = o; accepting = a }) x
-size_is i c None None x = refl
-size_is i c None (Some a) x = refl
-size_is i c (Some o) None x = refl
-size_is i c (Some o) (Some a) x = refl
-
-pub window_stands : (t : Terms) (c : Channel) (x : Side) → TermsStand t c → window_of t x ≡ window_in_force t.interface c x
-window_stands t c x s =
-    ap (λ o. window_by t.interface o t.accepting x) s.opening ∙ ap (λ a. window_by t.interface (option_map opened_of c.opening) a x) s.accepting
-    ∙ window_is t.interface c c.opening c.accepting x
-
-pub size_stands : (t : Terms) (c : Channel) (x : Side) → TermsStand t c → size_of t x ≡ size_in_force t.interface c x
-size_stands t c x s =
-    ap (λ o. size_by t.interface o t.accepting x) s.opening ∙ ap (λ a. size_by t.interface (option_map opened_of c.opening) a x) s.accepting
-    ∙ size_is t.interface c c.opening c.accepting x
-
--- nothing was heard, under terms
-pub renewed : {A : Type 0} (t : Terms) (old new : Transfer A) (c : Channel) → TermsStand t c → SettingsStand old c.told →
-    Stands new.flow no_counts → new.flow.modulus ≡ t.interface.modulus →
-    new.flow.windows ≡ record { of_t = window_of t T; of_n = window_of t N } →
-    assembly.StandsFor new.assembler [] → assembly.sizes new.assembler ≡ record { of_t = size_of t T; of_n = size_of t N } →
-    new.settings_t ≡ old.settings_t → new.settings_n ≡ old.settings_n →
-    StandsFor t.interface new (silent c)
-renewed t old new c terms settings flow modulus windows sequences sizes same_t same_n =
-    let kept : SettingsStand (record old { flow = new.flow; assembler = new.assembler }) c.told =
-    record { pad_t = settings.pad_t; pad_n = settings.pad_n; of_t = settings.of_t; of_n = settings.of_n } in
-    record {
-      flow = flow;
-      modulus = modulus;
-      windows = windows ∙ (λ k. record { of_t = window_stands t c T terms k; of_n = window_stands t c N terms k });
-      sequences = sequences;
-      sizes = sizes ∙ (λ k. record { of_t = size_stands t c T terms k; of_n = size_stands t c N terms k });
-      settings = subst (λ s. SettingsStand (record new { settings_t = s; settings_n = new.settings_n }) c.told) (sym same_t)
-          (subst (λ s. SettingsStand (record new { settings_t = old.settings_t; settings_n = s }) c.told) (sym same_n) kept);
-    }
+use Rattle.channel_machine.specs.TermsStand.{Agreed, TermsStand, is_fast, is_pad, opened_of, size_of, values_of, with_asked, values_in_force, is_out_of}
 
 fast_by : (o : Option Opening) → option_map_or (λ v. v.fast) (option_map opened_of o) false ≡ option_map_or (λ f. f.fast) (option_map (λ v. fields_of v.packet) o) false
 fast_by None = refl
@@ -82,8 +20,76 @@ pad_by : (o : Option Opening) → option_map_or (λ v. v.pad_call) (option_map o
 pad_by None = refl
 pad_by (Some o) = refl
 
-pub fast_stands : (t : Terms) (c : Channel) → TermsStand t c → is_fast t ≡ was_fast c
-fast_stands t c s = ap (λ o. option_map_or (λ v. v.fast) o false) s.opening ∙ fast_by c.opening
+out_by : (o : Option Opening) → option_map_or (λ v. v.out) (option_map opened_of o) false ≡ option_map_or (λ v. v.out) o false
+out_by None = refl
+out_by (Some o) = refl
 
-pub pad_stands : (t : Terms) (c : Channel) → TermsStand t c → is_pad t ≡ is_pad_call c
-pad_stands t c s = ap (λ o. option_map_or (λ v. v.pad_call) o false) s.opening ∙ pad_by c.opening
+pub fast_stands : (t : Agreed) (c : Channel) → TermsStand t c → is_fast t.call ≡ was_fast c
+fast_stands t c s = ap (λ o. option_map_or (λ v. v.fast) o false) s.call ∙ fast_by c.opening
+
+pub pad_stands : (t : Agreed) (c : Channel) → TermsStand t c → is_pad t.call ≡ is_pad_call c
+pad_stands t c s = ap (λ o. option_map_or (λ v. v.pad_call) o false) s.call ∙ pad_by c.opening
+
+pub size_stands : (t : Agreed) (c : Channel) (x : Side) → TermsStand t c → size_of t.values x ≡ size_in_force t.interface c x
+size_stands t c T s = ap (λ v. v.size_t) s.values
+size_stands t c N s = ap (λ v. v.size_n) s.values
+
+-- a value that the accepting packet asks, or else that of the opening packet
+asked_over : {A : Type 0} (f : A → ℕ) (a o : Option A) (n : ℕ) → option_map_or f a (option_map_or f o n) ≡ option_map_or f (or_other a o) n
+asked_over f None o n = refl
+asked_over f (Some v) o n = refl
+
+-- the terms of a call that was opened and not answered
+pub opened_stands : (t : Agreed) (i : Interface) (c : Channel) (out : Bool) (xs : List ℕ) (sizes windows : Option (ℕ × ℕ)) →
+    c.opening ≡ Some (record { out = out; packet = xs }) → c.accepting ≡ None → t.interface ≡ i → sizes ≡ (fields_of xs).sizes → windows ≡ (fields_of xs).windows →
+    t.call ≡ Some (opened_of (record { out = out; packet = xs })) → t.values ≡ with_asked out sizes windows (values_of i) → TermsStand t c
+opened_stands t i c out xs sizes windows opening accepting interface sizes_are windows_are call values =
+    let first : values_in_force i (record c { opening = Some (record { out = out; packet = xs }); accepting = None }) ≡ values_in_force t.interface c =
+    λ j. values_in_force (sym interface j) (record c { opening = sym opening j; accepting = sym accepting j }) in
+    record {
+      call = call ∙ ap (λ o. option_map opened_of o) (sym opening);
+      values = values ∙ (λ j. with_asked out (sizes_are j) (windows_are j) (values_of i)) ∙ first;
+    }
+
+-- the terms of a call that came up
+accepted_by : (i : Interface) (c : Channel) (o : Opening) (xs : List ℕ) →
+    with_asked o.out (fields_of xs).sizes (fields_of xs).windows (values_in_force i (record c { opening = Some o; accepting = None }))
+    ≡ values_in_force i (record c { opening = Some o; accepting = Some xs })
+accepted_by i c o xs =
+    let a : CallFields = fields_of xs in
+    let b : CallFields = fields_of o.packet in
+    λ j. record {
+      size_t = asked_over (for_side o.out T) a.sizes b.sizes i.size j;
+      size_n = asked_over (for_side o.out N) a.sizes b.sizes i.size j;
+      window_t = asked_over (for_side o.out T) a.windows b.windows i.window j;
+      window_n = asked_over (for_side o.out N) a.windows b.windows i.window j;
+    }
+
+values_accepted : (i : Interface) (c : Channel) (o : Option Opening) (xs : List ℕ) → is_some o ≡ true →
+    with_asked (option_map_or (λ v. v.out) o false) (fields_of xs).sizes (fields_of xs).windows (values_in_force i (record c { opening = o; accepting = None }))
+    ≡ values_in_force i (record c { opening = o; accepting = Some xs })
+values_accepted i c None xs e = absurd (true≢false (sym e))
+values_accepted i c (Some o) xs e = accepted_by i c o xs
+
+pub accepted_stands : (old new : Agreed) (c : Channel) (xs : List ℕ) (sizes windows : Option (ℕ × ℕ)) →
+    TermsStand old c → is_some c.opening ≡ true → c.accepting ≡ None → new.interface ≡ old.interface → new.call ≡ old.call →
+    sizes ≡ (fields_of xs).sizes → windows ≡ (fields_of xs).windows → new.values ≡ with_asked (is_out_of old.call) sizes windows old.values →
+    TermsStand new (record c { accepting = Some xs })
+accepted_stands old new c xs sizes windows s is_open unanswered interface call sizes_are windows_are values =
+    let out : is_out_of old.call ≡ option_map_or (λ v. v.out) c.opening false = ap (λ o. option_map_or (λ v. v.out) o false) s.call ∙ out_by c.opening in
+    record {
+      call = call ∙ s.call;
+      values = values
+          ∙ (λ j. with_asked (out j) (sizes_are j) (windows_are j) (s.values j))
+          ∙ (λ j. with_asked (option_map_or (λ v. v.out) c.opening false) (fields_of xs).sizes (fields_of xs).windows (values_in_force old.interface (record c { accepting = unanswered j })))
+          ∙ values_accepted old.interface c c.opening xs is_open
+          ∙ (λ j. values_in_force (sym interface j) (record c { accepting = Some xs }));
+    }
+
+-- the terms of a channel without a call
+pub bare_stands : (t : Agreed) (c : Channel) → c.opening ≡ None → c.accepting ≡ None → t.call ≡ None → t.values ≡ values_of t.interface → TermsStand t c
+bare_stands t c opening accepting call values =
+    record {
+      call = call ∙ ap (λ o. option_map opened_of o) (sym opening);
+      values = values ∙ (λ j. values_in_force t.interface (record c { opening = sym opening j; accepting = sym accepting j }));
+    }

@@ -11,5 +11,8 @@ pub mod Steps
 pub mod Taking
 pub mod Machines
 pub mod Carried
+pub mod Reached
+pub mod Usable
+pub mod PackedLemmas
 pub mod DataCounts
 pub mod LiveLemmas

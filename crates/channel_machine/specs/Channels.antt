@@ -1,6 +1,7 @@
 -- A channel, and what it stands for (X.25 Annexes B and C).
-use Rattle.std.specs.Prelude.{ℕ, ◌≡◌, List}
+use Rattle.std.specs.Prelude.{ℕ, Bool, ◌≡◌, List}
 use Rattle.line_model.specs.declared.interface.Interface.{Interface}
+use Rattle.line_model.specs.declared.state.ChannelState.{ChannelState}
 use Rattle.line_model.specs.declared.event.Event.{Event}
 use Rattle.line_model.specs.declared.packet.Class.{Class}
 use Rattle.line_model.specs.declared.packet.Class.TheVariants.{Call, Accepted}
@@ -8,28 +9,54 @@ use Rattle.line_model.specs.declared.verdict.CallChange.{CallChange}
 use Rattle.line_model.specs.declared.verdict.CallChange.TheVariants.{Opens, GoesUp}
 use Rattle.line_model.specs.ChannelStep.{Outcome}
 use Rattle.line_model.specs.Channels.{Channel}
-use Rattle.channel_machine.specs.declared.channel.PlainChannel.{PlainChannel}
+use Rattle.mbit_assembly.specs.Kept.{Assembly}
+use Rattle.channel_machine.specs.declared.messages.BothSettings.{BothSettings}
 use Rattle.channel_machine.specs.declared.events.Stamp.{Stamp}
 use Rattle.channel_machine.specs.Events.{Reports}
-use Rattle.channel_machine.specs.TermsStand.{TermsStand}
-use Rattle.channel_machine.specs.Transfers.{StandsFor}
+use Rattle.channel_machine.specs.TermsStand.{Agreed, TermsStand}
+use Rattle.channel_machine.specs.Reached.{IsReached}
+use Rattle.channel_machine.specs.Transfers.{Transfer, StandsFor}
+use Rattle.channel_machine.specs.Status.{Status}
+
+-- what the code keeps of a channel
+pub record Known : Type 0 where
+  pub channel : ℕ
+  pub state : ChannelState
+  pub owed : Bool
+  pub terms : Agreed
+  pub transfer : Transfer
+
+-- the same, from its status and what stands beside it
+abbrev pub known : (channel : ℕ) → Status → Assembly → BothSettings → Known
+known n s a b = record {
+  channel = n;
+  state = s.state;
+  owed = s.owed;
+  terms = s.terms;
+  transfer = record { flow = s.flow; assembler = a; settings = b };
+}
 
 -- the interface and the logical channel of a channel
-abbrev pub interface_of : {A : Type 0} → PlainChannel A → Interface
+abbrev pub interface_of : Known → Interface
 interface_of p = p.terms.interface
 
-abbrev pub number_of : {A : Type 0} → PlainChannel A → ℕ
+abbrev pub number_of : Known → ℕ
 number_of p = p.channel
 
 -- what the code keeps of a channel stands for what the observer heard of it
-pub record Stands {A : Type 0} (p : PlainChannel A) (c : Channel) : Type 0 where
+pub record Stands (p : Known) (c : Channel) : Type 0 where
   pub state : p.state ≡ c.state
   pub owed : p.owed ≡ c.owed
   pub terms : TermsStand p.terms c
   pub transfer : StandsFor p.terms.interface p.transfer c
 
+-- what the code keeps of a channel stands for one that was heard from its beginning
+pub record StandsForReached (p : Known) (c : Channel) : Type 0 where
+  pub stands : Stands p c
+  pub reached : IsReached c
+
 -- what a function does to a channel and its events
-pub record Does {A : Type 0} (s : Stamp) (old new : PlainChannel A) (before after : List Event) (o : Outcome) : Type 0 where
+pub record Does (s : Stamp) (old new : Known) (before after : List Event) (o : Outcome) : Type 0 where
   pub interface : new.terms.interface ≡ old.terms.interface
   pub channel : new.channel ≡ old.channel
   pub stands : Stands new o.after

@@ -1,8 +1,12 @@
 pub mod Terms
 pub mod TermsStand
+pub mod Agreed
 pub mod Events
 pub mod Messages
 pub mod Transfers
+pub mod Status
+pub mod Reached
+pub mod PackedStatus
 pub mod Channels
 pub mod Decisions
 pub mod Run

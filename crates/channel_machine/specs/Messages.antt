@@ -8,14 +8,14 @@ use Rattle.line_model.specs.ChannelStep.{option_found}
 use Rattle.line_model.specs.Pad.{message_fault, settings_after}
 use Rattle.line_model.specs.Channels.{Told}
 use Rattle.x3_parameters.specs.Stands as settings
-use Rattle.channel_machine.specs.declared.transfer.Transfer.{Transfer}
+use Rattle.channel_machine.specs.declared.messages.BothSettings.{BothSettings}
 
 -- the settings of both PADs stand for the messages of the call
-pub record SettingsStand {A : Type 0} (t : Transfer A) (ts : List Told) : Type 0 where
-  pub pad_t : t.settings_t.pad ≡ T
-  pub pad_n : t.settings_n.pad ≡ N
-  pub of_t : settings.StandsFor t.settings_t ts
-  pub of_n : settings.StandsFor t.settings_n ts
+pub record SettingsStand (b : BothSettings) (ts : List Told) : Type 0 where
+  pub pad_t : b.of_t.pad ≡ T
+  pub pad_n : b.of_n.pad ≡ N
+  pub of_t : settings.StandsFor b.of_t ts
+  pub of_n : settings.StandsFor b.of_n ts
 
 -- what a message of a side reports, on a packet of so many octets (X.29 clause 4; the order is profile)
 abbrev pub told_reports : Side → (length : ℕ) → (ts : List Told) → (message : List ℕ) → List What

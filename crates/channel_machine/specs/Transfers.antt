@@ -10,21 +10,28 @@ use Rattle.line_model.specs.Channels.{Channel, Heard}
 use Rattle.line_model.specs.FlowControl.{Counts, count_data}
 use Rattle.line_model.specs.Formats.{window_in_force, size_in_force}
 use Rattle.line_model.specs.ChannelStep.{counts_of, data_counted, failing, hearing}
-use Rattle.window_check.specs.Kept.{Stands}
+use Rattle.window_check.specs.Kept.{Kept, Stands}
+use Rattle.mbit_assembly.specs.Kept.{Assembly}
 use Rattle.mbit_assembly.specs.Assembler as assembly
+use Rattle.channel_machine.specs.declared.messages.BothSettings.{BothSettings}
 use Rattle.channel_machine.specs.Messages.{SettingsStand}
 use Rattle.channel_machine.specs.Events.{Reports}
 use Rattle.channel_machine.specs.declared.events.Stamp.{Stamp}
-use Rattle.channel_machine.specs.declared.transfer.Transfer.{Transfer}
+
+-- what is kept of data transfer: the windows and interrupts, the sequences begun, and the settings of both PADs
+pub record Transfer : Type 0 where
+  pub flow : Kept
+  pub assembler : Assembly
+  pub settings : BothSettings
 
 -- the windows, sequences and settings of a channel, under the values in force
-pub record StandsFor {A : Type 0} (i : Interface) (t : Transfer A) (c : Channel) : Type 0 where
+pub record StandsFor (i : Interface) (t : Transfer) (c : Channel) : Type 0 where
   pub flow : Stands t.flow (counts_of c)
   pub modulus : t.flow.modulus ≡ i.modulus
   pub windows : t.flow.windows ≡ record { of_t = window_in_force i c T; of_n = window_in_force i c N }
   pub sequences : assembly.StandsFor t.assembler c.heard
   pub sizes : assembly.sizes t.assembler ≡ record { of_t = size_in_force i c T; of_n = size_in_force i c N }
-  pub settings : SettingsStand t c.told
+  pub settings : SettingsStand t.settings c.told
 
 -- a channel where nothing was heard yet (X.25 clause 4.4.3)
 abbrev pub silent : Channel → Channel
@@ -43,7 +50,7 @@ abbrev pub packet : Side → DataHeader → List ℕ → Heard
 packet x h octets = record { side = x; qualified = h.qualified; more = h.more; delivery = h.delivery; octets = octets }
 
 -- what a data packet does, by the answer of its counts: a fault is told and changes nothing
-abbrev pub IsHeard : {A : Type 0} → Option ℕ → Interface → Stamp → (old new : Transfer A) → (before after : List Event) →
+abbrev pub IsHeard : Option ℕ → Interface → Stamp → (old new : Transfer) → (before after : List Event) →
     Side → Heard → Result Counts ℕ → Channel → Type 0
 IsHeard (Some n) i s old new before after x p r c =
     ((t : StateName) → data_counted i x t p r c ≡ failing x t n c) × (new ≡ old) × (after ≡ before)
@@ -52,7 +59,7 @@ IsHeard None i s old new before after x p r c =
     × StandsFor i new (hearing x p v m c).after × Reports s before after (hearing x p v m c).reported
 
 -- what a packet that changes the counts alone does, by the answer of the counts
-abbrev pub IsCounted : {A U : Type 0} → Result U ℕ → Interface → (old new : Transfer A) → Result Counts ℕ → Channel → Type 0
+abbrev pub IsCounted : {U : Type 0} → Result U ℕ → Interface → (old new : Transfer) → Result Counts ℕ → Channel → Type 0
 IsCounted (Ok u) i old new r c =
     (v : Counts) × (r ≡ Ok v) × StandsFor i new (record c { acknowledged = v.acknowledged; unconfirmed = v.unconfirmed })
 IsCounted (Err e) i old new r c = (r ≡ Err e) × (new ≡ old)

@@ -1,71 +1,61 @@
 //! One channel of an interface, and what every change of its state does.
 
-ghost use Rattle.std.specs.Prelude.{◌≡◌, ◌+◌, ◌<◌, ◌≤◌, [], vec_len, vec_capacity, IfOk, IfErr, OnErr};
+ghost use Rattle.std.specs.Prelude.{◌≡◌, ◌+◌, ◌<◌, ◌≤◌, vec_len, vec_capacity, IfOk, IfErr, OnErr};
 ghost use Rattle.line_model.specs.declared.fault.Fault.TheVariants.{Memory};
 ghost use Rattle.line_model.specs.Channels.{Channel};
 ghost use Rattle.line_model.specs.ChannelStep.{entering, ending, failing, after_error};
-ghost use Rattle.channel_machine.specs.Transfers.{StandsFor, silent};
 ghost use Rattle.channel_machine.specs.Messages.{SettingsStand};
+ghost use Rattle.channel_machine.specs.Agreed.{agreed_of};
 ghost use Rattle.channel_machine.specs.TermsStand.{TermsStand};
 ghost use Rattle.channel_machine.specs.Channels.{Stands, Does};
 
 use crate::events::Stamp;
+use crate::messages::BothSettings;
+use crate::packed::PackedStatus;
+use crate::plain::PlainStatus;
+use crate::status::StatusStore;
 use crate::terms::Terms;
-use crate::transfer::Transfer;
 use line_model::event::{Event, How, What};
 use line_model::fault::Fault;
 use line_model::finding::Code;
-use line_model::state::{ChannelState, Side, StateName};
+use line_model::state::{Side, StateName};
+use mbit_assembly::assembler::Assembler;
 use std::alloc::{Allocator, Global};
-use window_check::flow::Flow;
-use x3_parameters::settings::Settings;
+use std::marker::Model;
 
-/// What is known of a channel: its state, whether an indication of the DCE is owed, what was agreed for its call, and
-/// the data transfer.
+/// A channel by a way to keep its status; the sequences begun and the settings of both PADs stand beside it.
 #[derive(Drop)]
-pub struct PlainChannel<A: Allocator = Global> {
+pub struct StatusChannel<A: Allocator, S: StatusStore> {
     pub(crate) channel: u16,
-    pub(crate) state: ChannelState,
-    pub(crate) owed: bool,
-    pub(crate) terms: Terms,
-    pub(crate) transfer: Transfer<A>,
+    pub(crate) status: S,
+    pub(crate) assembler: Assembler<A>,
+    pub(crate) settings: BothSettings,
 }
 
-impl<A: Allocator + Clone> Transfer<A> {
-    /// Nothing was heard yet, under new terms; the settings are kept.
-    #[tactic(auto, using(crate::proofs::InForce::renewed))]
-    fn renew(&mut self, terms: &Terms)
-        ensures { (c : Channel) → TermsStand terms.now c → SettingsStand self.old c.told → StandsFor terms.now.interface self.new (silent c) }
-    {
-        self.flow = Flow::new(
-            terms.interface.modulus,
-            terms.window(Side::T),
-            terms.window(Side::N),
-        );
-        self.assembler
-            .renew(terms.size(Side::T), terms.size(Side::N));
-    }
+/// The channel that keeps each part of its status by itself.
+pub type PlainChannel<A = Global> = StatusChannel<A, PlainStatus>;
 
-    /// Nothing was told yet.
-    fn forget(&mut self)
-        ensures { SettingsStand self.new [] }
-    {
-        self.settings_t = Settings::new(Side::T);
-        self.settings_n = Settings::new(Side::N);
-    }
+/// The channel that keeps its status in one word.
+pub type PackedChannel<A = Global> = StatusChannel<A, PackedStatus>;
+
+impl<A: Allocator, S: StatusStore> Model for StatusChannel<A, S> {
+    ghost use Rattle.channel_machine.specs.Channels.{Known, known};
+
+    ghost Value = { Known };
+
+    ghost view = { λ m. known m.channel (S.status m.status) m.assembler m.settings };
 }
 
-impl<A: Allocator + Clone> PlainChannel<A> {
+impl<A: Allocator + Clone, S: StatusStore> StatusChannel<A, S> {
     /// Enters a state under some terms.
-    pub(crate) fn enter(&mut self, to: StateName, owed: bool, terms: Terms)
-        ensures interface { self.new.terms.interface ≡ terms.interface }
+    pub(crate) fn enter(&mut self, to: StateName, owed: bool, terms: &Terms)
+        ensures interface { self.new.terms.interface ≡ terms.now.interface }
         ensures channel { self.new.channel ≡ self.old.channel }
-        ensures stands { (c : Channel) → TermsStand terms c → SettingsStand self.old.transfer c.told → Stands self.new (entering to owed c) }
+        ensures stands { (c : Channel) → TermsStand (agreed_of terms.now) c → SettingsStand self.old.transfer.settings c.told → Stands self.new (entering to owed c) }
     {
-        self.transfer.renew(&terms);
-        self.terms = terms;
-        self.state = to.entered();
-        self.owed = owed;
+        self.assembler
+            .renew(terms.values.size_t, terms.values.size_n);
+        self.status = S::entered(self.channel, to.entered(), owed, terms);
     }
 
     /// Enters a state, where the call ends.
@@ -83,12 +73,13 @@ impl<A: Allocator + Clone> PlainChannel<A> {
         ensures len { vec_len report.new ≤ vec_len report.old + 1 }
         ensures does { (c : Channel) → Stands self.old c → Does stamp self.old self.new report.old.items report.new.items (ending how (entering to owed c)) }
     {
-        match self.terms.opening {
-            None => self.enter(to, owed, self.terms),
+        let terms = self.status.terms();
+        match terms.call {
+            None => self.enter(to, owed, &terms),
             Some(_) => {
                 report.push_reserved(stamp.event(What::End(how)));
-                self.transfer.forget();
-                self.enter(to, owed, Terms::new(self.terms.interface));
+                self.settings = BothSettings::new();
+                self.enter(to, owed, &Terms::new(terms.interface));
             }
         }
     }
@@ -120,10 +111,11 @@ impl<A: Allocator + Clone> PlainChannel<A> {
         requires room { vec_len report.old < vec_capacity report.old }
         ensures { (c : Channel) → Stands self.old c → Does stamp self.old self.new report.old.items report.new.items (after_error state c) }
     {
+        let terms = self.status.terms();
         match state {
-            StateName::D1 => self.enter(StateName::D3, true, self.terms),
-            StateName::D2 => self.enter(StateName::D3, true, self.terms),
-            StateName::D3 => self.enter(StateName::D3, true, self.terms),
+            StateName::D1 => self.enter(StateName::D3, true, &terms),
+            StateName::D2 => self.enter(StateName::D3, true, &terms),
+            StateName::D3 => self.enter(StateName::D3, true, &terms),
             _ => self.end(stamp, How::N, StateName::P7, true, report),
         }
     }

@@ -10,7 +10,9 @@ ghost use Rattle.packet_decode.specs.CallFaults.{IsCallPacket, fault_by_class};
 ghost use Rattle.channel_machine.specs.Decisions.{header_in, receive_in};
 ghost use Rattle.channel_machine.specs.Channels.{Stands};
 
-use crate::channel::PlainChannel;
+use crate::channel::StatusChannel;
+use crate::status::StatusStore;
+use crate::terms::was_fast;
 use line_model::interface::Interface;
 use line_model::packet::{Class, DataHeader, Kind, Packet};
 use line_model::state::Side;
@@ -84,7 +86,7 @@ fn call_fault(interface: &Interface, class: Class, octets: &[u8], fast: bool) ->
     }
 }
 
-impl<A: Allocator + Clone> PlainChannel<A> {
+impl<A: Allocator + Clone, S: StatusStore> StatusChannel<A, S> {
     /// The first fault of a packet: a call against the direction of its channel (34, profile), or a fault of its format.
     #[tactic(auto, using(crate::proofs::Steps::first_fault_is))]
     pub(crate) fn packet_fault(&self, side: Side, class: Class, octets: &[u8]) -> Option<u8>
@@ -105,7 +107,7 @@ impl<A: Allocator + Clone> PlainChannel<A> {
     {
         match class {
             Class::Call => {
-                if self.terms.interface.is_against(side, self.channel) {
+                if self.status.interface().is_against(side, self.channel) {
                     Some(34)
                 } else {
                     None
@@ -122,12 +124,12 @@ impl<A: Allocator + Clone> PlainChannel<A> {
         ensures fault { (c : Channel) → Stands self.now c → result ≡ format_fault self.now.terms.interface c side class octets.now }
         ensures short { class ≡ Class.Data → result ≡ None → length octets.now ≤ 2 ^ 31 }
     {
-        let interface = &self.terms.interface;
+        let interface = &self.status.interface();
         let header = header_length(interface);
         let length = octets.len();
         match class {
             Class::Call => call_fault(interface, class, octets, false),
-            Class::Accepted => call_fault(interface, class, octets, self.terms.was_fast()),
+            Class::Accepted => call_fault(interface, class, octets, was_fast(self.status.call())),
             Class::Clear => { if length < 4 { Some(38) } else { None } }
             Class::Reset => length_fault(length, 4, 5),
             Class::Interrupt => length_fault(length, 4, 35),
@@ -138,7 +140,7 @@ impl<A: Allocator + Clone> PlainChannel<A> {
             Class::Data => length_fault(
                 length,
                 header,
-                header + usize::from(self.terms.size(side)),
+                header + usize::from(self.status.size(side)),
             ),
             _ => None,
         }

@@ -7,10 +7,13 @@ mod events;
 mod format;
 mod judging;
 pub mod live;
+mod machine;
 mod messages;
 mod moves;
+mod packed;
 mod plain;
 pub mod run;
+mod status;
 mod step;
 mod terms;
 #[cfg(test)]

@@ -11,11 +11,11 @@ ghost use Rattle.x3_parameters.specs.Told.{set_events, told};
 ghost use Rattle.channel_machine.specs.Events.{Reports};
 
 use crate::events::Stamp;
-use crate::transfer::Transfer;
 use line_model::event::{Entry, Event, What};
 use line_model::finding::{Code, Xcode};
 use line_model::state::{Side, StateName};
 use std::alloc::Allocator;
+use x3_parameters::settings::Settings;
 use x29_messages::message::{Message, MessageCode, read_message};
 use x29_messages::pairs::{Pair, Pairs};
 
@@ -23,11 +23,28 @@ use x29_messages::pairs::{Pair, Pairs};
 /// message, or the return to initial values.
 pub(crate) const ROOM: usize = 514;
 
-impl<A: Allocator + Clone> Transfer<A> {
+/// The settings of both PADs of a call.
+#[derive(Drop)]
+pub struct BothSettings {
+    of_t: Settings,
+    of_n: Settings,
+}
+
+impl BothSettings {
     ghost use Rattle.channel_machine.specs.Messages.{SettingsStand, told_reports};
 
+    /// Nothing was told yet.
+    pub(crate) fn new() -> BothSettings
+        ensures { SettingsStand result [] }
+    {
+        BothSettings {
+            of_t: Settings::new(Side::T),
+            of_n: Settings::new(Side::N),
+        }
+    }
+
     /// Takes the message that a packet of so many octets completes; `octets` are the first 1,025 of the message.
-    pub(crate) fn tell(
+    pub(crate) fn tell<A: Allocator>(
         &mut self,
         stamp: Stamp,
         from: Side,
@@ -36,8 +53,6 @@ impl<A: Allocator + Clone> Transfer<A> {
         report: &mut Vec<Event, A>,
     )
         requires room { vec_len report.old + 514 ≤ vec_capacity report.old }
-        ensures flow { self.new.flow ≡ self.old.flow }
-        ensures assembler { self.new.assembler ≡ self.old.assembler }
         ensures reports { (m : List ℕ) (ts : List Told) → octets.now ≡ take 1025 m → SettingsStand self.old ts → Reports stamp report.old.items report.new.items (told_reports from size ts m) }
         ensures stands { (m : List ℕ) (ts : List Told) → octets.now ≡ take 1025 m → SettingsStand self.old ts → SettingsStand self.new (ts ++ record { from = from; message = m } ∷ []) }
     {
@@ -51,7 +66,7 @@ impl<A: Allocator + Clone> Transfer<A> {
     }
 
     /// Takes a message without a fault of its own, which a packet of so many octets completes.
-    fn take(
+    fn take<A: Allocator>(
         &mut self,
         stamp: Stamp,
         from: Side,
@@ -61,8 +76,6 @@ impl<A: Allocator + Clone> Transfer<A> {
     )
         requires room { vec_len report.old + 514 ≤ vec_capacity report.old }
         requires short { length message.now.pairs.now < 1024 }
-        ensures flow { self.new.flow ≡ self.old.flow }
-        ensures assembler { self.new.assembler ≡ self.old.assembler }
         ensures reports { (ts : List Told) → SettingsStand self.old ts → Reports stamp report.old.items report.new.items (told_reports from size ts (told from message.now).message) }
         ensures stands { (ts : List Told) → SettingsStand self.old ts → SettingsStand self.new (ts ++ told from message.now ∷ []) }
     {
@@ -75,13 +88,11 @@ impl<A: Allocator + Clone> Transfer<A> {
     /// Hands a message to the settings of both PADs, and tells its fault.
     #[tactic(auto, using(crate::proofs::Faults::both))]
     fn read(&mut self, from: Side, message: &Message<'_>) -> Option<Xcode>
-        ensures flow { self.new.flow ≡ self.old.flow }
-        ensures assembler { self.new.assembler ≡ self.old.assembler }
         ensures fault { (ts : List Told) → SettingsStand self.old ts → result ≡ message_fault from ts (told from message.now).message }
         ensures stands { (ts : List Told) → SettingsStand self.old ts → SettingsStand self.new (ts ++ told from message.now ∷ []) }
     {
-        let of_t = self.settings_t.apply(message, from);
-        let of_n = self.settings_n.apply(message, from);
+        let of_t = self.of_t.apply(message, from);
+        let of_n = self.of_n.apply(message, from);
         match of_t {
             Some(fault) => Some(fault),
             None => of_n,

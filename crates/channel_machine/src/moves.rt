@@ -1,18 +1,18 @@
 //! The moves of a channel through the states, and what they do to its call.
 
-ghost use Rattle.std.specs.Prelude.{◌≡◌, ◌+◌, ◌<◌, ◌==◌, [], List, ℕ, Some, IfOk, false, true, IfErr, OnErr};
+ghost use Rattle.std.specs.Prelude.{◌≡◌, ◌+◌, ◌<◌, List, ℕ, None, IfOk, IfNone, false, true, IfErr, OnErr};
 ghost use Rattle.line_model.specs.declared.fault.Fault.TheVariants.{Memory};
 ghost use Rattle.line_model.specs.Channels.{Channel};
-ghost use Rattle.line_model.specs.Octets.{octet};
 ghost use Rattle.line_model.specs.Facilities.{fields_of};
 ghost use Rattle.line_model.specs.ChannelStep.{entering, opening, changing, call_change};
 ghost use Rattle.packet_decode.specs.Shown.{shown, IsUsable};
-ghost use Rattle.channel_machine.specs.TermsStand.{opened_of};
+ghost use Rattle.channel_machine.specs.Reached.{IsUnanswered};
 ghost use Rattle.channel_machine.specs.Channels.{Stands, Does, IsChange};
 
-use crate::channel::PlainChannel;
+use crate::channel::StatusChannel;
 use crate::events::Stamp;
-use crate::terms::{Opened, Terms, Values};
+use crate::status::StatusStore;
+use crate::terms::Terms;
 use line_model::event::{Event, How, What};
 use line_model::fault::Fault;
 use line_model::packet::Class;
@@ -49,41 +49,7 @@ pub(crate) fn change_of(side: Side, class: Class, to: StateName) -> CallChange
     }
 }
 
-/// Whether user data names a PAD.
-fn names_pad(user_data: &[u8]) -> bool
-    ensures { result ≡ (octet 1 user_data.now == 1) }
-{
-    match user_data {
-        [first, ..] => *first == 1,
-        [] => false,
-    }
-}
-
-/// The values that a call packet asks.
-fn values(fields: &CallFields<'_>) -> Values
-    ensures sizes { result.sizes ≡ (shown fields.now).sizes }
-    ensures windows { result.windows ≡ (shown fields.now).windows }
-{
-    Values {
-        sizes: fields.sizes,
-        windows: fields.windows,
-    }
-}
-
-/// What the packet that opens a call says.
-fn opened(out: bool, fields: &CallFields<'_>) -> Opened
-    ensures opened { (xs : List ℕ) → shown fields.now ≡ fields_of xs → result ≡ opened_of (record { out = out; packet = xs }) }
-    ensures windows { result.values.windows ≡ fields.now.windows }
-{
-    Opened {
-        out,
-        fast: fields.fast,
-        pad_call: names_pad(fields.user_data),
-        values: values(fields),
-    }
-}
-
-impl<A: Allocator + Clone> PlainChannel<A> {
+impl<A: Allocator + Clone, S: StatusStore> StatusChannel<A, S> {
     /// Enters a state, where a call is opened.
     pub(crate) fn open(
         &mut self,
@@ -94,7 +60,7 @@ impl<A: Allocator + Clone> PlainChannel<A> {
         report: &mut Vec<Event, A>,
     ) -> Result<(), Fault>
         requires usable { IsUsable self.old.terms.interface fields.now }
-        ensures does { (c : Channel) (xs : List ℕ) → shown fields.now ≡ fields_of xs → Stands self.old c → IfOk result (λ _. Does stamp self.old self.new report.old.items report.new.items (changing xs (CallChange.Opens out) (entering to false c))) }
+        ensures does { (c : Channel) (xs : List ℕ) → shown fields.now ≡ fields_of xs → IfNone c.opening (c.accepting ≡ None) → Stands self.old c → IfOk result (λ _. Does stamp self.old self.new report.old.items report.new.items (changing xs (CallChange.Opens out) (entering to false c))) }
         ensures unchanged { OnErr result ((self.new ≡ self.old) × (report.new.items ≡ report.old.items)) }
         ensures memory { IfErr result (λ fault. fault ≡ Memory) }
     {
@@ -106,12 +72,8 @@ impl<A: Allocator + Clone> PlainChannel<A> {
             calling: fields.calling.copied(),
             reverse: fields.reverse,
         }));
-        let terms = Terms {
-            interface: self.terms.interface,
-            opening: Some(opened(out, fields)),
-            accepting: self.terms.accepting,
-        };
-        self.enter(to, false, terms);
+        let terms = Terms::opened(self.status.interface(), out, fields);
+        self.enter(to, false, &terms);
         Ok(())
     }
 
@@ -124,18 +86,14 @@ impl<A: Allocator + Clone> PlainChannel<A> {
         report: &mut Vec<Event, A>,
     ) -> Result<(), Fault>
         requires usable { IsUsable self.old.terms.interface fields.now }
-        ensures does { (c : Channel) (xs : List ℕ) → shown fields.now ≡ fields_of xs → Stands self.old c → IfOk result (λ _. Does stamp self.old self.new report.old.items report.new.items (changing xs CallChange.GoesUp (entering to false c))) }
+        ensures does { (c : Channel) (xs : List ℕ) → shown fields.now ≡ fields_of xs → IsUnanswered c → Stands self.old c → IfOk result (λ _. Does stamp self.old self.new report.old.items report.new.items (changing xs CallChange.GoesUp (entering to false c))) }
         ensures unchanged { OnErr result ((self.new ≡ self.old) × (report.new.items ≡ report.old.items)) }
         ensures memory { IfErr result (λ fault. fault ≡ Memory) }
     {
         report.reserve(1)?;
         report.push_reserved(stamp.event(What::Up));
-        let terms = Terms {
-            interface: self.terms.interface,
-            opening: self.terms.opening,
-            accepting: Some(values(fields)),
-        };
-        self.enter(to, false, terms);
+        let terms = self.status.terms().accepted(fields);
+        self.enter(to, false, &terms);
         Ok(())
     }
 }

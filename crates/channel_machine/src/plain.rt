@@ -1,65 +1,82 @@
-//! The channel that keeps residues and begun sequences, as a machine of a logical channel.
+//! The status of a channel, each part by itself.
 
-ghost use Rattle.channel_machine.specs.Channels.{Stands};
+ghost use Rattle.channel_machine.specs.Agreed.{agreed_of};
 
-use crate::channel::PlainChannel;
-use crate::events::Stamp;
-use crate::run::Channel;
-use crate::terms::Terms;
-use crate::transfer::Transfer;
-use line_model::event::Event;
-use line_model::fault::Fault;
+use crate::status::StatusStore;
+use crate::terms::{Opened, Terms};
 use line_model::interface::Interface;
-use line_model::packet::Packet;
-use line_model::row::Row;
 use line_model::state::{ChannelState, Side};
-use mbit_assembly::assembler::Assembler;
-use std::alloc::Allocator;
 use window_check::flow::Flow;
-use x3_parameters::settings::Settings;
 
-impl<A: Allocator + Clone> Channel<A> for PlainChannel<A> {
-    ghost interface_of = { λ p. p.terms.interface };
+/// The parts of a status, as they are.
+#[derive(Clone, Copy)]
+pub struct PlainStatus {
+    state: ChannelState,
+    owed: bool,
+    terms: Terms,
+    flow: Flow,
+}
 
-    ghost number_of = { λ p. p.channel };
+impl StatusStore for PlainStatus {
+    ghost status = { λ s. record { state = s.state; owed = s.owed; terms = agreed_of s.terms; flow = s.flow } };
 
-    ghost stands_for = { Stands };
-
-    fn fresh(alloc: A, interface: &Interface, channel: u16, epoch: u32) -> Self {
-        PlainChannel {
-            channel,
-            state: interface.fresh_state(epoch, channel),
-            owed: false,
-            terms: Terms::new(*interface),
-            transfer: Transfer {
-                flow: Flow::new(interface.modulus, interface.window, interface.window),
-                assembler: Assembler::new(alloc, interface.size, interface.size),
-                settings_t: Settings::new(Side::T),
-                settings_n: Settings::new(Side::N),
-            },
+    fn entered(_channel: u16, state: ChannelState, owed: bool, terms: &Terms) -> Self {
+        PlainStatus {
+            state,
+            owed,
+            terms: *terms,
+            flow: Flow::new(
+                terms.interface.modulus,
+                terms.values.window_t,
+                terms.values.window_n,
+            ),
         }
+    }
+
+    fn interface(&self) -> Interface {
+        self.terms.interface
     }
 
     fn state(&self) -> ChannelState {
         self.state
     }
 
-    fn is_open(&self) -> bool {
-        self.terms.opening.is_some()
+    fn is_owed(&self) -> bool {
+        self.owed
     }
 
-    fn step(
-        &mut self,
-        epoch: u32,
-        row: &Row<A>,
-        packet: &Packet,
-        events: &mut Vec<Event, A>,
-    ) -> Result<(), Fault> {
-        let stamp = Stamp {
-            epoch,
-            channel: self.channel,
-            packet: row.number,
-        };
-        self.take(stamp, row.side, packet, &row.octets, events)
+    fn settle(&mut self) {
+        self.owed = false;
+    }
+
+    fn terms(&self) -> Terms {
+        self.terms
+    }
+
+    fn call(&self) -> Option<Opened> {
+        self.terms.call
+    }
+
+    fn size(&self, side: Side) -> u16 {
+        match side {
+            Side::T => self.terms.values.size_t,
+            Side::N => self.terms.values.size_n,
+        }
+    }
+
+    fn data(&mut self, side: Side, send: u8, receive: u8) -> Result<(), u8> {
+        self.flow.data(side, send, receive)
+    }
+
+    fn ack(&mut self, side: Side, receive: u8) -> Result<(), u8> {
+        self.flow.ack(side, receive)
+    }
+
+    fn interrupt(&mut self, side: Side) -> Result<(), u8> {
+        self.flow.interrupt(side)
+    }
+
+    fn confirm(&mut self, side: Side) -> Result<(), u8> {
+        self.flow.confirm(side)
     }
 }

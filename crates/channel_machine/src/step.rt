@@ -5,15 +5,18 @@ ghost use Rattle.line_model.specs.declared.fault.Fault.TheVariants.{Memory};
 ghost use Rattle.line_model.specs.Channels.{Channel, is_permanent};
 ghost use Rattle.line_model.specs.Classes.{class_of, packet_of, data_header, receive_number};
 ghost use Rattle.line_model.specs.Formats.{packet_fault};
-ghost use Rattle.line_model.specs.ChannelStep.{moving, transferring, verdict_step, judged, channel_step};
+ghost use Rattle.line_model.specs.ChannelStep.{call_change, moving, transferring, verdict_step, judged, channel_step};
 ghost use Rattle.channel_machine.specs.Channels.{Stands, Does};
+ghost use Rattle.channel_machine.specs.Reached.{IsReached, IsFrom, is_from};
 ghost use Rattle.channel_machine.specs.Decisions.{IsDecided, IsUnfaulted, is_carried, IsCarried};
 
-use crate::channel::PlainChannel;
+use crate::channel::StatusChannel;
 use crate::events::Stamp;
 use crate::format::{header_of, receive_of, user_data};
 use crate::judging::{judged, weigh};
 use crate::moves::change_of;
+use crate::status::StatusStore;
+use crate::terms::was_fast;
 use line_model::event::Event;
 use line_model::fault::Fault;
 use line_model::packet::{Class, DataHeader, Packet};
@@ -22,7 +25,7 @@ use line_model::verdict::{CallChange, Verdict};
 use packet_decode::fields::call_fields;
 use std::alloc::Allocator;
 
-impl<A: Allocator + Clone> PlainChannel<A> {
+impl<A: Allocator + Clone, S: StatusStore> StatusChannel<A, S> {
     /// Takes a data packet without fault of format.
     fn take_data(
         &mut self,
@@ -42,12 +45,8 @@ impl<A: Allocator + Clone> PlainChannel<A> {
         let Some(header) = header else {
             return Ok(());
         };
-        let pad_call = self.terms.is_pad_call();
-        let field = user_data(&self.terms.interface, octets);
-        match self
-            .transfer
-            .hear(stamp, side, &header, field, pad_call, report)?
-        {
+        let field = user_data(&self.status.interface(), octets);
+        match self.hear(stamp, side, &header, field, report)? {
             Some(code) => self.fail(stamp, side, state, code, report),
             None => Ok(()),
         }
@@ -66,7 +65,7 @@ impl<A: Allocator + Clone> PlainChannel<A> {
         ensures unchanged { OnErr result ((self.new ≡ self.old) × (report.new.items ≡ report.old.items)) }
         ensures memory { IfErr result (λ fault. fault ≡ Memory) }
     {
-        match self.transfer.interrupt(side) {
+        match self.status.interrupt(side) {
             Err(code) => self.fail(stamp, side, state, code, report),
             Ok(()) => Ok(()),
         }
@@ -85,7 +84,7 @@ impl<A: Allocator + Clone> PlainChannel<A> {
         ensures unchanged { OnErr result ((self.new ≡ self.old) × (report.new.items ≡ report.old.items)) }
         ensures memory { IfErr result (λ fault. fault ≡ Memory) }
     {
-        match self.transfer.confirm(side) {
+        match self.status.confirm(side) {
             Err(code) => self.fail(stamp, side, state, code, report),
             Ok(()) => Ok(()),
         }
@@ -106,7 +105,7 @@ impl<A: Allocator + Clone> PlainChannel<A> {
         ensures unchanged { OnErr result ((self.new ≡ self.old) × (report.new.items ≡ report.old.items)) }
         ensures memory { IfErr result (λ fault. fault ≡ Memory) }
     {
-        match self.transfer.acknowledge(side, receive) {
+        match self.status.ack(side, receive) {
             Err(code) => self.fail(stamp, side, state, code, report),
             Ok(()) => Ok(()),
         }
@@ -123,17 +122,18 @@ impl<A: Allocator + Clone> PlainChannel<A> {
         report: &mut Vec<Event, A>,
     ) -> Result<(), Fault>
         requires class { class_of self.old.terms.interface octets.now ≡ class }
-        ensures does { (c : Channel) → packet_fault self.old.terms.interface self.old.channel c side class octets.now ≡ None → Stands self.old c → IfOk result (λ _. Does stamp self.old self.new report.old.items report.new.items (moving side class octets.now to c)) }
+        ensures does { (c : Channel) → packet_fault self.old.terms.interface self.old.channel c side class octets.now ≡ None → IsReached c → is_from (call_change side class to) to c.state ≡ true → Stands self.old c → IfOk result (λ _. Does stamp self.old self.new report.old.items report.new.items (moving side class octets.now to c)) }
         ensures unchanged { OnErr result ((self.new ≡ self.old) × (report.new.items ≡ report.old.items)) }
         ensures memory { IfErr result (λ fault. fault ≡ Memory) }
     {
-        let interface = self.terms.interface;
+        let terms = self.status.terms();
+        let interface = terms.interface;
         match change_of(side, class, to) {
             CallChange::Opens(out) => match call_fields(&interface, octets, false) {
                 Ok(fields) => self.open(stamp, out, &fields, to, report),
                 Err(_) => Ok(()),
             },
-            CallChange::GoesUp => match call_fields(&interface, octets, self.terms.was_fast()) {
+            CallChange::GoesUp => match call_fields(&interface, octets, was_fast(terms.call)) {
                 Ok(fields) => self.go_up(stamp, &fields, to, report),
                 Err(_) => Ok(()),
             },
@@ -143,7 +143,7 @@ impl<A: Allocator + Clone> PlainChannel<A> {
                 Ok(())
             }
             CallChange::Keeps => {
-                self.enter(to, false, self.terms);
+                self.enter(to, false, &terms);
                 Ok(())
             }
         }
@@ -177,18 +177,19 @@ impl<A: Allocator + Clone> PlainChannel<A> {
     }
 
     /// The state in whose column a packet stands, and what the packet comes to.
-    #[tactic(auto, using(crate::proofs::Steps::decided, crate::proofs::Carried::carried))]
+    #[tactic(auto, using(crate::proofs::Steps::decided, crate::proofs::Carried::carried, crate::proofs::Carried::from))]
     fn decide(&self, side: Side, class: Class, octets: &[u8]) -> (StateName, Verdict)
         requires class { class_of self.now.terms.interface octets.now ≡ class }
         ensures carried { IsCarried result.1 class }
+        ensures from { IsFrom result.1 side class self.now.state }
         ensures decided { (c : Channel) → Stands self.now c → IsDecided result.0 result.1 (judged (is_permanent self.now.terms.interface self.now.channel) side c.state c.owed class) (packet_fault self.now.terms.interface self.now.channel c side class octets.now) }
         ensures short { class ≡ Class.Data → result.1 ≡ Verdict.Transfers → length octets.now ≤ 2 ^ 31 }
     {
         let (state, entry) = judged(
-            self.terms.interface.is_permanent(self.channel),
+            self.status.interface().is_permanent(self.channel),
             side,
-            self.state,
-            self.owed,
+            self.status.state(),
+            self.status.is_owed(),
             class,
         );
         let fault = self.packet_fault(side, class, octets);
@@ -211,7 +212,7 @@ impl<A: Allocator + Clone> PlainChannel<A> {
         requires packet { packet.now ≡ packet_of self.old.terms.interface octets.now }
         requires carried { IsCarried verdict class }
         requires short { class ≡ Class.Data → verdict ≡ Verdict.Transfers → length octets.now ≤ 2 ^ 31 }
-        ensures does { (c : Channel) → IsUnfaulted verdict (packet_fault self.old.terms.interface self.old.channel c side class octets.now) → Stands self.old c → IfOk result (λ _. Does stamp self.old self.new report.old.items report.new.items (verdict_step self.old.terms.interface side state class octets.now verdict c)) }
+        ensures does { (c : Channel) → IsUnfaulted verdict (packet_fault self.old.terms.interface self.old.channel c side class octets.now) → IsReached c → IsFrom verdict side class c.state → Stands self.old c → IfOk result (λ _. Does stamp self.old self.new report.old.items report.new.items (verdict_step self.old.terms.interface side state class octets.now verdict c)) }
         ensures unchanged { OnErr result ((self.new ≡ self.old) × (report.new.items ≡ report.old.items)) }
         ensures memory { IfErr result (λ fault. fault ≡ Memory) }
     {
@@ -220,7 +221,7 @@ impl<A: Allocator + Clone> PlainChannel<A> {
             Verdict::Moves(to) => self.go(stamp, side, class, octets, to, report),
             Verdict::Transfers => self.carry(stamp, side, state, class, packet, octets, report),
             Verdict::EndsOwed => {
-                self.owed = false;
+                self.status.settle();
                 Ok(())
             }
             Verdict::Nothing => Ok(()),
@@ -237,7 +238,7 @@ impl<A: Allocator + Clone> PlainChannel<A> {
         report: &mut Vec<Event, A>,
     ) -> Result<(), Fault>
         requires packet { packet.now ≡ packet_of self.old.terms.interface octets.now }
-        ensures does { (c : Channel) → Stands self.old c → IfOk result (λ _. Does stamp self.old self.new report.old.items report.new.items (channel_step self.old.terms.interface self.old.channel c (record { number = stamp.packet; side = side; octets = octets.now }))) }
+        ensures does { (c : Channel) → IsReached c → Stands self.old c → IfOk result (λ _. Does stamp self.old self.new report.old.items report.new.items (channel_step self.old.terms.interface self.old.channel c (record { number = stamp.packet; side = side; octets = octets.now }))) }
         ensures unchanged { OnErr result ((self.new ≡ self.old) × (report.new.items ≡ report.old.items)) }
         ensures memory { IfErr result (λ fault. fault ≡ Memory) }
     {

@@ -1,0 +1,151 @@
+-- The fields of a status in a word.
+use Rattle.std.proofs.Common.{◌≡◌, ◌<◌, ◌+◌, ◌-◌, ◌*◌, ◌/◌, ◌%◌, ◌^◌, ◌==◌, ℕ, Bool, true, false, refl, sym, ◌∙◌, ap, subst, arith, Option}
+use mir.Val.{bool_byte}
+use Rattle.line_model.specs.Channels.{Sides}
+use Rattle.window_check.specs.Kept.{Kept}
+use Rattle.line_model.specs.declared.interface.Interface.{Interface}
+use Rattle.line_model.specs.declared.state.ChannelState.{ChannelState}
+use Rattle.window_check.specs.Packed.{Packed}
+use Rattle.channel_machine.specs.declared.terms.Values.{Values}
+use Rattle.channel_machine.specs.Terms.{AreUsable}
+use Rattle.channel_machine.specs.Status.{CountsAlone}
+use Rattle.channel_machine.specs.PackedStatus.{settled, state_by, state_in, owed_in, call_by, call_in, values_in, status_in}
+
+-- five fields, one above the other: the states, whether an indication is owed, the call, and the logarithms of both sizes
+abbrev pub above_of : (s o c t n : ℕ) → ℕ
+above_of s o c t n = s + o * 32 + c * 64 + t * 1024 + n * 16384
+
+-- a bit
+pub byte_below : (b : Bool) → bool_byte b < 2
+byte_below true = omega arith
+byte_below false = omega arith
+
+pub byte_is : (b : Bool) → (bool_byte b == 1) ≡ b
+byte_is true = refl
+byte_is false = refl
+
+setup_is : (s o c t n : ℕ) → above_of s o c t n % 8 ≡ s % 8
+setup_is s o c t n = omega arith
+
+transfer_is : (s o c t n : ℕ) → s < 32 → above_of s o c t n / 8 % 4 ≡ s / 8 % 4
+transfer_is s o c t n hs = omega (arith, hs)
+
+owed_is : (s o c t n : ℕ) → s < 32 → o < 2 → above_of s o c t n / 32 % 2 ≡ o
+owed_is s o c t n hs ho = omega (arith, hs, ho)
+
+call_is : (s o c t n : ℕ) → s < 32 → o < 2 → c < 16 → above_of s o c t n / 64 % 16 ≡ c
+call_is s o c t n hs ho hc = omega (arith, hs, ho, hc)
+
+size_t_is : (s o c t n : ℕ) → s < 32 → o < 2 → c < 16 → t < 16 → above_of s o c t n / 1024 % 16 ≡ t
+size_t_is s o c t n hs ho hc ht = omega (arith, hs, ho, hc, ht)
+
+size_n_is : (s o c t n : ℕ) → s < 32 → o < 2 → c < 16 → t < 16 → n < 16 → above_of s o c t n / 16384 % 16 ≡ n
+size_n_is s o c t n hs ho hc ht hn = omega (arith, hs, ho, hc, ht, hn)
+
+pub state_of_fields : (s o c t n : ℕ) → s < 32 → state_in (above_of s o c t n) ≡ state_by (s % 8) (s / 8 % 4)
+state_of_fields s o c t n hs = λ j. state_by (setup_is s o c t n j) (transfer_is s o c t n hs j)
+
+pub owed_of_fields : (s o c t n : ℕ) → s < 32 → o < 2 → owed_in (above_of s o c t n) ≡ (o == 1)
+owed_of_fields s o c t n hs ho = ap (λ v. v == 1) (owed_is s o c t n hs ho)
+
+pub call_of_fields : (s o c t n : ℕ) → s < 32 → o < 2 → c < 16 → call_in (above_of s o c t n) ≡ call_by c
+call_of_fields s o c t n hs ho hc = ap (λ v. call_by v) (call_is s o c t n hs ho hc)
+
+pub size_t_of_fields : (s o c t n : ℕ) → s < 32 → o < 2 → c < 16 → t < 16 → 2 ^ (above_of s o c t n / 1024 % 16) ≡ 2 ^ t
+size_t_of_fields s o c t n hs ho hc ht = ap (λ v. 2 ^ v) (size_t_is s o c t n hs ho hc ht)
+
+pub size_n_of_fields : (s o c t n : ℕ) → s < 32 → o < 2 → c < 16 → t < 16 → n < 16 → 2 ^ (above_of s o c t n / 16384 % 16) ≡ 2 ^ n
+size_n_of_fields s o c t n hs ho hc ht hn = ap (λ v. 2 ^ v) (size_n_is s o c t n hs ho hc ht hn)
+
+pub fields_fit : (s o c t n : ℕ) → s < 32 → o < 2 → c < 16 → t < 16 → n < 16 → above_of s o c t n < 2 ^ 19
+fields_fit s o c t n hs ho hc ht hn = omega (arith, hs, ho, hc, ht, hn)
+
+-- the values of a word that was made of them
+pub values_new : (w : Packed) (a : ℕ) (f : Kept) (v : Values) → w.above ≡ a → w.flow ≡ f →
+    f.windows ≡ record { of_t = v.window_t; of_n = v.window_n } → 2 ^ (a / 1024 % 16) ≡ v.size_t → 2 ^ (a / 16384 % 16) ≡ v.size_n → values_in w ≡ v
+values_new w a f v above flow windows size_t size_n =
+    (λ j. values_in (record { flow = flow j; above = above j }))
+    ∙ (λ j. record { size_t = size_t j; size_n = size_n j; window_t = (windows j).of_t; window_n = (windows j).of_n })
+
+-- the same with nothing owed
+settled_setup : (a : ℕ) → settled a % 8 ≡ a % 8
+settled_setup a = omega arith
+
+settled_transfer : (a : ℕ) → settled a / 8 % 4 ≡ a / 8 % 4
+settled_transfer a = omega arith
+
+settled_owed : (a : ℕ) → settled a / 32 % 2 ≡ 0
+settled_owed a = omega arith
+
+settled_call : (a : ℕ) → settled a / 64 % 16 ≡ a / 64 % 16
+settled_call a = omega arith
+
+settled_size_t : (a : ℕ) → settled a / 1024 % 16 ≡ a / 1024 % 16
+settled_size_t a = omega arith
+
+settled_size_n : (a : ℕ) → settled a / 16384 % 16 ≡ a / 16384 % 16
+settled_size_n a = omega arith
+
+pub settled_status : (i : Interface) (old new : Packed) → new.above ≡ settled old.above → new.flow ≡ old.flow →
+    status_in i new ≡ record (status_in i old) { owed = false }
+settled_status i old new above flow =
+    (λ j. status_in i (record { flow = flow j; above = above j }))
+    ∙ (λ j. record {
+      state = state_by (settled_setup old.above j) (settled_transfer old.above j);
+      owed = settled_owed old.above j == 1;
+      terms = record {
+        interface = i;
+        call = call_by (settled_call old.above j);
+        values = record {
+          size_t = 2 ^ settled_size_t old.above j;
+          size_n = 2 ^ settled_size_n old.above j;
+          window_t = old.flow.windows.of_t;
+          window_n = old.flow.windows.of_n;
+        };
+      };
+      flow = old.flow;
+    })
+
+pub settled_usable : (m : ℕ) (old new : Packed) → new.above ≡ settled old.above → new.flow ≡ old.flow →
+    AreUsable m (values_in old) → AreUsable m (values_in new)
+settled_usable m old new above flow usable =
+    subst (λ v. AreUsable m v) (sym ((λ j. values_in (record { flow = flow j; above = above j }))
+    ∙ (λ j. record {
+      size_t = 2 ^ settled_size_t old.above j;
+      size_n = 2 ^ settled_size_n old.above j;
+      window_t = old.flow.windows.of_t;
+      window_n = old.flow.windows.of_n;
+    }))) usable
+
+-- other counts under the same number of the owner
+pub counts_alone : (i : Interface) (old new : Packed) → new.above ≡ old.above → new.flow.modulus ≡ old.flow.modulus → new.flow.windows ≡ old.flow.windows →
+    CountsAlone (status_in i old) (status_in i new)
+counts_alone i old new above modulus windows = record {
+  rest = λ j. record {
+    state = state_in (above j);
+    owed = owed_in (above j);
+    terms = record {
+      interface = i;
+      call = call_in (above j);
+      values = record {
+        size_t = 2 ^ (above j / 1024 % 16);
+        size_n = 2 ^ (above j / 16384 % 16);
+        window_t = (windows j).of_t;
+        window_n = (windows j).of_n;
+      };
+    };
+    flow = new.flow;
+  };
+  modulus = modulus;
+  windows = windows;
+}
+
+pub counted_usable : (m : ℕ) (old new : Packed) → new.above ≡ old.above → new.flow.windows ≡ old.flow.windows →
+    AreUsable m (values_in old) → AreUsable m (values_in new)
+counted_usable m old new above windows usable =
+    subst (λ v. AreUsable m v) (sym (λ j. record {
+      size_t = 2 ^ (above j / 1024 % 16);
+      size_n = 2 ^ (above j / 16384 % 16);
+      window_t = (windows j).of_t;
+      window_n = (windows j).of_n;
+    })) usable

@@ -1,0 +1,45 @@
+use Rattle.std.proofs.Common.{◌∙◌, refl, ap, sym, subst, [], ◌∷◌, ◌++◌, Some, false, Option}
+use Rattle.std.specs.Prelude.{map}
+use Rattle.line_model.specs.Channels.{Channel, Opening}
+use Rattle.line_model.specs.declared.event.What.{What}
+use Rattle.line_model.specs.declared.event.What.TheVariants.{Open}
+use Rattle.line_model.specs.declared.event.How.TheVariants.{Collision}
+use Rattle.line_model.specs.Facilities.{fields_of}
+use Rattle.line_model.specs.ChannelStep.{Outcome, ending, entering, opening}
+use Rattle.packet_decode.specs.Shown.{IsUsable}
+use Rattle.channel_machine.specs.Events.{stamped}
+use Rattle.channel_machine.specs.TermsStand.{TermsStand}
+use Rattle.channel_machine.specs.Agreed.{agreed_of}
+use Rattle.channel_machine.specs.Channels.{Known, Stands, Does}
+use Rattle.channel_machine.proofs.Calls.{after_events, bare_after, reopens}
+use Rattle.channel_machine.proofs.InForce.{opened_stands}
+use Rattle.channel_machine.proofs.channel.StatusChannel.open.Goals as goal
+
+pub opened-terms-requires : goal.opened-terms-requires
+opened-terms-requires g c = record {
+  usable = subst (λ i. IsUsable i c.args.fields.now) (sym (c.interface.ensures ∙ ap (λ (o : Known). o.terms.interface) c.self.view_is ∙ c.end.ensures.interface)) c.requires.usable;
+}
+
+pub returns-clause-does : goal.returns-clause-does
+returns-clause-does g c k xs shows bare s =
+    let first : Outcome = ending Collision (entering c.args.to false k) in
+    let d : Does c.args.stamp c.args.self.now c.end.new.self c.reserve.new.self.items c.end.new.report.items first = c.end.ensures.does k s in
+    let o : Option Opening = Some (record { out = c.args.out; packet = xs }) in
+    let target : Channel = record first.after { opening = o } in
+    let w : What = Open c.args.out (fields_of xs).called (fields_of xs).calling (fields_of xs).reverse_charging in
+    let terms : TermsStand (agreed_of c.opened-terms.result) target =
+    opened_stands (agreed_of c.opened-terms.result) c.interface.result target c.args.out xs c.args.fields.now.sizes c.args.fields.now.windows
+    refl (bare_after Collision c.args.to false k bare) c.opened-terms.ensures.interface (ap (λ f. f.sizes) shows) (ap (λ f. f.windows) shows)
+    (c.opened-terms.ensures.call xs shows) c.opened-terms.ensures.values in
+    let stands : Stands c.enter.new.self (entering c.args.to false target) = c.enter.ensures.stands target terms d.stands.transfer.settings in
+    after_events c.args.stamp c.args.self.now c.end.new.self c.enter.new.self c.args.report.now.items c.end.new.report.items c.push_reserved.new.self.items
+    first.reported first.after (opening c.args.out xs) d.interface d.channel
+    (d.reports ∙ ap (λ l. l ++ map (stamped c.args.stamp) first.reported) c.in_ok-reserve.ensures.items)
+    (record {
+      interface = c.enter.ensures.interface ∙ c.opened-terms.ensures.interface ∙ c.interface.ensures ∙ ap (λ (o : Known). o.terms.interface) c.self.view_is;
+      channel = c.enter.ensures.channel;
+      stands = subst (λ a. Stands c.enter.new.self a) (reopens Collision c.args.to k o) stands;
+      reports = c.push_reserved.ensures.items ∙ ap (λ v. c.end.new.report.items ++ v ∷ [])
+          (c.event.ensures ∙ ap (λ v. stamped c.args.stamp v)
+          (λ j. Open c.args.out ((c.copied.ensures ∙ ap (λ f. f.called) shows) j) ((c.copied-2.ensures ∙ ap (λ f. f.calling) shows) j) (shows j).reverse_charging));
+    })

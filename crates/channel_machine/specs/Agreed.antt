@@ -1,0 +1,6 @@
+-- What terms say.
+use Rattle.channel_machine.specs.declared.terms.Terms.{Terms}
+use Rattle.channel_machine.specs.TermsStand.{Agreed}
+
+abbrev pub agreed_of : Terms → Agreed
+agreed_of t = record { interface = t.interface; call = t.call; values = t.values }

@@ -1,0 +1,43 @@
+-- Channels that were heard from their beginning (X.25 Annex B).
+use Rattle.std.specs.Prelude.{Bool, true, false, not, ◌&&◌, ◌||◌, ◌≡◌, None, IfNone, is_some}
+use Rattle.line_model.specs.declared.state.ChannelState.{ChannelState}
+use Rattle.line_model.specs.declared.state.ChannelState.TheVariants.{Setup}
+use Rattle.line_model.specs.declared.state.PState.TheVariants.{P2, P3, P5}
+use Rattle.line_model.specs.declared.state.StateName.{StateName}
+use Rattle.line_model.specs.declared.state.Side.{Side}
+use Rattle.line_model.specs.declared.packet.Class.{Class}
+use Rattle.line_model.specs.declared.verdict.CallChange.{CallChange}
+use Rattle.line_model.specs.declared.verdict.CallChange.TheVariants.{Opens, GoesUp, Ends, Keeps}
+use Rattle.line_model.specs.declared.verdict.Verdict.{Verdict}
+use Rattle.line_model.specs.declared.verdict.Verdict.TheVariants.{Moves}
+use Rattle.line_model.specs.ChannelStep.{state_named, call_change}
+use Rattle.line_model.specs.Channels.{Channel}
+
+-- the states in which a call was asked for and not answered yet
+abbrev pub is_waiting : ChannelState → Bool
+is_waiting (Setup P2) = true
+is_waiting (Setup P3) = true
+is_waiting (Setup P5) = true
+is_waiting _ = false
+
+-- a call is open that was not answered yet
+pub record IsUnanswered (c : Channel) : Type 0 where
+  pub opened : is_some c.opening ≡ true
+  pub unanswered : c.accepting ≡ None
+
+-- without a call nothing was answered, and where one waits it was not
+pub record IsReached (c : Channel) : Type 0 where
+  pub bare : IfNone c.opening (c.accepting ≡ None)
+  pub waiting : is_waiting c.state ≡ true → IsUnanswered c
+
+-- from which states a move changes the call so
+abbrev pub is_from : CallChange → (to : StateName) → (from : ChannelState) → Bool
+is_from (Opens out) to s = true
+is_from GoesUp to s = is_waiting s && not (is_waiting (state_named to))
+is_from (Ends h) to s = not (is_waiting (state_named to))
+is_from Keeps to s = not (is_waiting (state_named to)) || is_waiting s
+
+-- a move that the tables have in a state
+abbrev pub IsFrom : Verdict → Side → Class → ChannelState → Type 0
+IsFrom (Moves to) x k s = is_from (call_change x k to) to s ≡ true
+IsFrom _ x k s = Unit {0}

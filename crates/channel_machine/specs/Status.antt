@@ -1,0 +1,33 @@
+-- What is known of a channel beside its sequences and its settings.
+use Rattle.std.specs.Prelude.{Bool, ◌≡◌, OnErr, Result, ℕ}
+use Rattle.line_model.specs.declared.state.ChannelState.{ChannelState}
+use Rattle.line_model.specs.Channels.{Sides}
+use Rattle.line_model.specs.FlowControl.{no_counts}
+use Rattle.window_check.specs.Kept.{Kept, Stands}
+use Rattle.channel_machine.specs.TermsStand.{Agreed}
+
+-- the state, whether an indication is owed, what was agreed, and the windows and interrupts
+pub record Status : Type 0 where
+  pub state : ChannelState
+  pub owed : Bool
+  pub terms : Agreed
+  pub flow : Kept
+
+-- the windows of terms
+abbrev pub windows_of : Agreed → Sides ℕ
+windows_of t = record { of_t = t.values.window_t; of_n = t.values.window_n }
+
+-- a status that was entered: nothing was sent yet
+pub record IsEntered (s : Status) (to : ChannelState) (indicated : Bool) (t : Agreed) : Type 0 where
+  pub state : s.state ≡ to
+  pub owed : s.owed ≡ indicated
+  pub terms : s.terms ≡ t
+  pub modulus : s.flow.modulus ≡ t.interface.modulus
+  pub windows : s.flow.windows ≡ windows_of t
+  pub nothing_sent : Stands s.flow no_counts
+
+-- only the numbers and interrupts differ
+pub record CountsAlone (old new : Status) : Type 0 where
+  pub rest : new ≡ record old { flow = new.flow }
+  pub modulus : new.flow.modulus ≡ old.flow.modulus
+  pub windows : new.flow.windows ≡ old.flow.windows

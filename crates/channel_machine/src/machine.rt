@@ -1,0 +1,64 @@
+//! A channel with its status kept in some way, as a machine of a logical channel.
+
+ghost use Rattle.channel_machine.specs.Channels.{StandsForReached, interface_of, number_of};
+
+use crate::channel::StatusChannel;
+use crate::events::Stamp;
+use crate::messages::BothSettings;
+use crate::run::Channel;
+use crate::status::StatusStore;
+use crate::terms::Terms;
+use line_model::event::Event;
+use line_model::fault::Fault;
+use line_model::interface::Interface;
+use line_model::packet::Packet;
+use line_model::row::Row;
+use line_model::state::ChannelState;
+use mbit_assembly::assembler::Assembler;
+use std::alloc::Allocator;
+
+impl<A: Allocator + Clone, S: StatusStore + Drop> Channel<A> for StatusChannel<A, S> {
+    ghost interface_of = { interface_of };
+
+    ghost number_of = { number_of };
+
+    ghost stands_for = { StandsForReached };
+
+    fn fresh(alloc: A, interface: &Interface, channel: u16, epoch: u32) -> Self {
+        let terms = Terms::new(*interface);
+        StatusChannel {
+            channel,
+            status: S::entered(
+                channel,
+                interface.fresh_state(epoch, channel),
+                false,
+                &terms,
+            ),
+            assembler: Assembler::new(alloc, interface.size, interface.size),
+            settings: BothSettings::new(),
+        }
+    }
+
+    fn state(&self) -> ChannelState {
+        self.status.state()
+    }
+
+    fn is_open(&self) -> bool {
+        self.status.call().is_some()
+    }
+
+    fn step(
+        &mut self,
+        epoch: u32,
+        row: &Row<A>,
+        packet: &Packet,
+        events: &mut Vec<Event, A>,
+    ) -> Result<(), Fault> {
+        let stamp = Stamp {
+            epoch,
+            channel: self.channel,
+            packet: row.number,
+        };
+        self.take(stamp, row.side, packet, &row.octets, events)
+    }
+}

@@ -1,0 +1,261 @@
+//! The status of a channel in one word of 64 bits.
+
+ghost use Rattle.std.specs.Prelude.{ℕ, ◌≡◌, ◌<◌, ◌+◌, ◌*◌, ◌/◌, ◌%◌, ◌^◌, ◌==◌};
+ghost use Rattle.packet_decode.specs.Shown.{IsPacketSize};
+ghost use Rattle.channel_machine.specs.Terms.{AreUsable};
+ghost use Rattle.channel_machine.specs.PackedStatus.{state_by, setup_by, call_by, state_in, owed_in, call_in, values_in, status_in, settled};
+
+use crate::status::StatusStore;
+use crate::terms::{Opened, Terms, Values};
+use line_model::interface::Interface;
+use line_model::state::{ChannelState, DState, PState, Side};
+use window_check::flow::Flow;
+use window_check::packed::FlowWord;
+
+/// The status of a channel in one word, beside its interface (profile). Bits 0 to 44 are the word of the windows and
+/// interrupts, as `Flow::pack` makes it; above them stand
+///
+/// ```text
+///   63  62      59 58      55   54   53    52    51     50   49 48 47  45
+/// +----+----------+----------+------+-----+------+-----+------+-----+-----+
+/// | 0  |  size N  |  size T  | open | out | fast | PAD | owed |  d  |  p  |
+/// +----+----------+----------+------+-----+------+-----+------+-----+-----+
+/// ```
+///
+/// p is 1 to 7 for p1 to p7, and 0 on a permanent circuit and on an unknown virtual channel; d is 1 to 3 for d1 to d3,
+/// and 0 outside them and on an unknown permanent circuit. `owed` is 1 where an indication of the DCE is owed. `open`
+/// is 1 while a call is open, and then `out`, `fast` and `PAD` say whether it goes out, asked fast select, and names a
+/// PAD. The packet sizes in force for data from T and from N stand by their logarithms.
+#[derive(Clone, Copy)]
+pub struct PackedStatus {
+    word: FlowWord,
+    interface: Interface,
+    ghost usable: { AreUsable interface.modulus (values_in word) },
+}
+
+impl StatusStore for PackedStatus {
+    ghost status = { λ p. status_in p.interface p.word };
+
+    fn entered(channel: u16, state: ChannelState, owed: bool, terms: &Terms) -> Self {
+        let Values {
+            window_t,
+            window_n,
+            ..
+        } = terms.values;
+        let flow = Flow::new(terms.interface.modulus, window_t, window_n);
+        let permanent = terms.interface.is_permanent(channel);
+        let above = above_of(state_bits(permanent, state), owed, terms);
+        PackedStatus {
+            word: FlowWord::new(&flow, above),
+            interface: terms.interface,
+        }
+    }
+
+    fn interface(&self) -> Interface {
+        self.interface
+    }
+
+    fn state(&self) -> ChannelState {
+        state_in(self.word.above())
+    }
+
+    fn is_owed(&self) -> bool {
+        bit(self.word.above(), 5)
+    }
+
+    fn settle(&mut self) {
+        let above = self.word.above();
+        self.word.set_above(settled(above));
+    }
+
+    fn terms(&self) -> Terms {
+        Terms {
+            interface: self.interface,
+            call: call_in(self.word.above()),
+            values: Values {
+                size_t: self.size(Side::T),
+                size_n: self.size(Side::N),
+                window_t: self.word.window(Side::T),
+                window_n: self.word.window(Side::N),
+            },
+        }
+    }
+
+    fn call(&self) -> Option<Opened> {
+        call_in(self.word.above())
+    }
+
+    fn size(&self, side: Side) -> u16 {
+        match side {
+            Side::T => power((self.word.above() >> 10) % 16),
+            Side::N => power((self.word.above() >> 14) % 16),
+        }
+    }
+
+    fn data(&mut self, side: Side, send: u8, receive: u8) -> Result<(), u8> {
+        self.word.data(side, send, receive)
+    }
+
+    fn ack(&mut self, side: Side, receive: u8) -> Result<(), u8> {
+        self.word.ack(side, receive)
+    }
+
+    fn interrupt(&mut self, side: Side) -> Result<(), u8> {
+        self.word.interrupt(side)
+    }
+
+    fn confirm(&mut self, side: Side) -> Result<(), u8> {
+        self.word.confirm(side)
+    }
+}
+
+/// What stands above the windows and interrupts.
+fn above_of(state: u32, owed: bool, terms: &Terms) -> u32
+    requires state { state < 32 }
+    ensures fits { result < 2 ^ 19 }
+    ensures state { state_in result ≡ state_by (state % 8) (state / 8 % 4) }
+    ensures owed { owed_in result ≡ owed }
+    ensures call { call_in result ≡ terms.now.call }
+    ensures size_t { 2 ^ (result / 1024 % 16) ≡ terms.now.values.size_t }
+    ensures size_n { 2 ^ (result / 16384 % 16) ≡ terms.now.values.size_n }
+{
+    let size_t = logarithm(terms.values.size_t);
+    let size_n = logarithm(terms.values.size_n);
+    state + u32::from(owed) * 32 + call_bits(terms.call) * 64 + size_t * 1024 + size_n * 16384
+}
+
+/// The same with no indication owed.
+fn settled(above: u32) -> u32
+    ensures { result ≡ settled above }
+{
+    above - above / 32 % 2 * 32
+}
+
+/// The bits of a state: three of call set-up, 4 of them p4 on a virtual channel in data transfer, and two of data
+/// transfer.
+fn state_bits(permanent: bool, state: ChannelState) -> u32
+    ensures below { result < 32 }
+    ensures state { state_by (result % 8) (result / 8 % 4) ≡ state }
+{
+    match state {
+        ChannelState::Setup(state) => match state {
+            PState::P1 => 1,
+            PState::P2 => 2,
+            PState::P3 => 3,
+            PState::P4 => 4,
+            PState::P5 => 5,
+            PState::P6 => 6,
+            PState::P7 => 7,
+        },
+        ChannelState::Transfer(state) => {
+            let in_p4 = if permanent { 0 } else { 4 };
+            in_p4 + transfer_bits(state)
+        }
+        ChannelState::Unknown => 0,
+    }
+}
+
+/// The bits of a state of data transfer.
+fn transfer_bits(state: DState) -> u32
+    ensures below { result < 25 }
+    ensures state { (p : ℕ) → p < 8 → state_by ((p + result) % 8) ((p + result) / 8 % 4) ≡ ChannelState.Transfer state }
+{
+    match state {
+        DState::D1 => 8,
+        DState::D2 => 16,
+        DState::D3 => 24,
+    }
+}
+
+/// The state of the owner's number.
+fn state_in(above: u32) -> ChannelState
+    ensures { result ≡ state_in above }
+{
+    match (above >> 3) % 4 {
+        1 => ChannelState::Transfer(DState::D1),
+        2 => ChannelState::Transfer(DState::D2),
+        3 => ChannelState::Transfer(DState::D3),
+        _ => setup(above % 8),
+    }
+}
+
+/// A state of call set-up, and unknown where it is none of them.
+fn setup(bits: u32) -> ChannelState
+    ensures { result ≡ setup_by bits }
+{
+    match bits {
+        1 => ChannelState::Setup(PState::P1),
+        2 => ChannelState::Setup(PState::P2),
+        3 => ChannelState::Setup(PState::P3),
+        4 => ChannelState::Setup(PState::P4),
+        5 => ChannelState::Setup(PState::P5),
+        6 => ChannelState::Setup(PState::P6),
+        7 => ChannelState::Setup(PState::P7),
+        _ => ChannelState::Unknown,
+    }
+}
+
+/// The bits of a call.
+fn call_bits(call: Option<Opened>) -> u32
+    ensures below { result < 16 }
+    ensures call { call_by result ≡ call }
+{
+    match call {
+        Some(opened) => {
+            8 + (u32::from(opened.out) << 2)
+                + (u32::from(opened.fast) << 1)
+                + u32::from(opened.pad_call)
+        }
+        None => 0,
+    }
+}
+
+/// The call of the owner's number.
+fn call_in(above: u32) -> Option<Opened>
+    ensures { result ≡ call_in above }
+{
+    let bits = (above >> 6) % 16;
+    if bits >> 3 != 1 {
+        return None;
+    }
+    Some(Opened {
+        out: bit(bits, 2),
+        fast: bit(bits, 1),
+        pad_call: bits % 2 == 1,
+    })
+}
+
+/// Bit `at` of a number.
+fn bit(number: u32, at: u32) -> bool
+    requires { at < 32 }
+    ensures { result ≡ (number / 2 ^ at % 2 == 1) }
+{
+    (number >> at) % 2 == 1
+}
+
+/// The logarithm of a packet size.
+fn logarithm(size: u16) -> u32
+    requires { IsPacketSize size }
+    ensures below { result < 16 }
+    ensures power { 2 ^ result ≡ size }
+{
+    match size {
+        16 => 4,
+        32 => 5,
+        64 => 6,
+        128 => 7,
+        256 => 8,
+        512 => 9,
+        1024 => 10,
+        2048 => 11,
+        _ => 12,
+    }
+}
+
+/// A packet size by its logarithm.
+fn power(logarithm: u32) -> u16
+    requires { logarithm < 16 }
+    ensures { result ≡ 2 ^ logarithm }
+{
+    1 << logarithm
+}
