@@ -8,7 +8,7 @@ ghost use Rattle.trace_scan.specs.Follow.{IsFollowRefusal, IsFollowed, IsStopped
 ghost use Rattle.trace_scan.specs.Scan.{IsScanFault};
 
 use crate::reading::CHUNK;
-use channel_machine::channel::PlainChannel;
+use channel_machine::channel::PackedChannel;
 use channel_machine::run::Channel;
 use line_model::device::{Sink, Source};
 use line_model::fault::Fault;
@@ -69,7 +69,7 @@ pub fn follow<A: Allocator + Copy, S: Source, K: Sink>(
     ensures of_text { IfOk result (λ sums. (text : List ℕ) × IsReported text (K.taken sink.old) (K.taken sink.new) sums) }
     ensures of_given { IfErr result (λ fault. (given : List ℕ) × (rest : List ℕ) × IsFollowRefusal given rest fault × IsToldOf (K.taken sink.old) (K.taken sink.new) (K.failures sink.new ≡ K.failures sink.old) given rest fault) }
 {
-    let mut follower = Follower::<A, PlainChannel<A>>::new(alloc);
+    let mut follower = Follower::<A, PackedChannel<A>>::new(alloc);
     match follow_all(source, sink, &mut follower) {
         Ok(()) => follower.end(sink),
         Err(fault) => Err(fault),

@@ -1,6 +1,6 @@
 //! The gate through which a scan runs its pieces.
 
-use channel_machine::channel::PlainChannel;
+use channel_machine::channel::PackedChannel;
 use channel_machine::run::run_piece;
 use line_model::fault::Fault;
 use line_model::piece::{Piece, PieceReport};
@@ -17,6 +17,6 @@ impl Gate for OpenGate {
         alloc: A,
         piece: &Piece<A>,
     ) -> Result<PieceReport<A>, Fault> {
-        run_piece::<A, PlainChannel<A>>(alloc, piece)
+        run_piece::<A, PackedChannel<A>>(alloc, piece)
     }
 }

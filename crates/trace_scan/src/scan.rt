@@ -7,7 +7,7 @@ ghost use Rattle.trace_scan.specs.Scan.{IsPartTaken, IsScanFault};
 ghost use Rattle.line_model.specs.Traces.{trace_report};
 
 use crate::reading::feed_all;
-use channel_machine::channel::PlainChannel;
+use channel_machine::channel::PackedChannel;
 use line_model::device::{Sink, Source};
 use line_model::fault::Fault;
 use line_model::totals::Summary;
@@ -38,7 +38,7 @@ pub fn scan_alone<A: Allocator + Copy, S: Source, K: Sink>(
     ensures part { result ≡ Err Fault.Write → IsPartTaken (K.taken sink.old) (K.taken sink.new) }
     ensures asked { S.calls source.new ≤ S.calls source.old + (2 ^ 30 + 1) }
 {
-    let mut live = Live::<A, PlainChannel<A>>::new(alloc);
+    let mut live = Live::<A, PackedChannel<A>>::new(alloc);
     match feed_all(source, &mut live) {
         Ok(()) => live.end(sink),
         Err(fault) => Err(fault),

@@ -2,10 +2,12 @@
 
 mod checks;
 mod crews;
+mod cut_packets;
 mod failing;
 mod following;
 mod growing;
 mod held;
+mod machines;
 mod refused;
 mod refused_crews;
 mod runs;
