@@ -14,7 +14,7 @@ use crate::messages::BothSettings;
 use crate::packed::PackedStatus;
 use crate::plain::PlainStatus;
 use crate::status::StatusStore;
-use crate::terms::Terms;
+use crate::terms::{Terms, Values};
 use line_model::event::{Event, How, What};
 use line_model::fault::Fault;
 use line_model::finding::Code;
@@ -53,8 +53,8 @@ impl<A: Allocator + Clone, S: StatusStore> StatusChannel<A, S> {
         ensures channel { self.new.channel ≡ self.old.channel }
         ensures stands { (c : Channel) → TermsStand (agreed_of terms.now) c → SettingsStand self.old.transfer.settings c.told → Stands self.new (entering to owed c) }
     {
-        self.assembler
-            .renew(terms.values.size_t, terms.values.size_n);
+        let Values { size_t, size_n, .. } = terms.values;
+        self.assembler.renew(size_t, size_n);
         self.status = S::entered(self.channel, to.entered(), owed, terms);
     }
 
