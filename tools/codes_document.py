@@ -32,9 +32,11 @@ TITLES = {
 HEAD = """# The words of the report and of the refusals
 
 `x25scan --explain WORD` prints what stands here of a word, and `x25scan --explain` the list of all words. A word with
-several meanings stands in several tables. *Profile* marks what this project chose; X.25 means the edition of 10/96. The
-last column has what is printed, and the trace that prints it. `tools/codes_document.py` writes this page from the table
-of [explanations](../crates/explanations).
+several meanings stands in several tables: `--explain 22` tells all three of that one, `--explain "kind 22"` the one of a
+faulty line, and `--explain kind` all kinds; so it is with `line`, `side`, `direction`, `end`, `setting`, `absent`,
+`state`, `code`, `message`, `kind`, `refusal`, `status` and `parameter`. *Profile* marks what this project chose; X.25
+means the edition of 10/96. The last column has what is printed, and the trace that prints it.
+`tools/codes_document.py` writes this page from the table of [explanations](../crates/explanations).
 """
 
 

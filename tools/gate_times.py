@@ -17,7 +17,7 @@ from dataclasses import dataclass
 ROOT = pathlib.Path(__file__).resolve().parent.parent
 PAUSE = 0.2
 TICKS = os.sysconf("SC_CLK_TCK")
-PARTS = ("libraries", "tests", "edits", "programs", "traces", "follow", "hostile", "captures")
+PARTS = ("libraries", "tests", "edits", "programs", "traces", "program", "guide", "annotated", "follow", "hostile", "refused", "captures")
 DEAREST = 10
 
 
@@ -101,7 +101,7 @@ def kind_of(process):
         return ("programs" if "--crate-checked" in words else "libraries"), crate
     if "/rt-run-" in (words[0] if words else ""):
         return "tests" if process.name.endswith("_tests") else "programs", f"{process.name} (run)"
-    if words[1:2] and words[1].endswith(("traces/compare", "follow/compare", "hostile/compare", "captures/compare")):
+    if words[1:2] and words[1].endswith(tuple(f"{part}/compare" for part in PARTS[4:])):
         return words[1].split("/")[-2], "all"
     return None
 

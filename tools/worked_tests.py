@@ -1,12 +1,17 @@
 #!/usr/bin/env python3
-"""Writes the worked traces of tests/traces/worked, but those with long lines, as constants of the tests of trace_scan:
-crates/trace_scan/src/tests/worked/TOPIC.rt. Run it from the root after a change of those traces."""
-import pathlib
-import re
+"""worked_tests.py [--check]: writes the worked traces of tests/traces/worked, but those with long lines, as constants of
+the tests of trace_scan.
 
-TRACES = pathlib.Path("tests/traces/worked")
-TESTS = pathlib.Path("crates/trace_scan/src/tests/worked")
-KINDS = ["HeaderMissing", "HeaderForm", "HeaderRange", "LineForm", "Number", "Side", "Hex", "LineLong", "TextLarge"]
+They are crates/trace_scan/src/tests/worked/TOPIC.rt. Run it after a change of those traces.
+With --check it writes nothing, and names each file that is another one. The last line is 'N passed, M failed'.
+"""
+import re
+import sys
+
+sys.dont_write_bytecode = True
+from worked_traces import ROOT, content, refusal, report, traces, write_or_check
+
+TESTS = ROOT / "crates/trace_scan/src/tests/worked"
 LONGEST = 400
 INDENT = 12 * " "
 TOPICS = {
@@ -17,46 +22,60 @@ TOPICS = {
 }
 
 
-def literal(text, indent):
+def literal(text):
     """A byte string, a line of the text on each line."""
     if not text:
         return 'b""'
     lines = text.replace("\\", "\\\\").replace('"', '\\"').split("\n")
-    ended = [line + "\\n\\\n" + indent for line in lines[:-1]]
-    return 'b"\\\n' + indent + "".join(ended) + lines[-1] + '"'
+    ended = [line + "\\n\\\n" + INDENT for line in lines[:-1]]
+    return 'b"\\\n' + INDENT + "".join(ended) + lines[-1] + '"'
 
 
-def fault(path):
+def fault(trace):
     """The fault that a scan answers, if it does."""
-    errors = path.with_suffix(".errors")
-    if not errors.exists():
+    refused = refusal(trace)
+    if not refused:
         return "None"
-    line, kind = re.fullmatch(r"x25scan: line (\d+): kind (\d+)\n", errors.read_text()).groups()
-    return f"Some(Fault::Trace({line}, Kind::{KINDS[int(kind) - 21]}))"
+    line, kind = refused
+    return f"Some(Fault::Trace({line}, Kind::{kind}))"
 
 
-topics = {topic: [] for topic in TOPICS}
-for path in sorted(TRACES.glob("*.trace")):
-    if max(map(len, path.read_text().split("\n"))) <= LONGEST:
-        topic = next(topic for topic, (_, names) in TOPICS.items() if re.match(names, path.stem))
-        topics[topic].append(path)
-
-for topic, paths in topics.items():
-    faults = any(path.with_suffix(".errors").exists() for path in paths)
-    uses = "use crate::tests::worked::Worked;\n" + ("use line_model::fault::{Fault, Kind};\n" if faults else "")
-    traces = "".join(
-        f"""    Worked {{
-        name: "{path.stem}",
-        text: {literal(path.read_text(), INDENT)},
-        fault: {fault(path)},
-        report: {literal(path.with_suffix(".report").read_text(), INDENT)},
+def constant(trace):
+    """A trace with what comes of it."""
+    return f"""    Worked {{
+        name: "{trace.stem}",
+        text: {literal(content(trace))},
+        fault: {fault(trace)},
+        report: {literal(report(trace))},
     }},
 """
-        for path in paths
-    )
-    (TESTS / f"{topic}.rt").write_text(f"""//! {TOPICS[topic][0]} tools/worked_tests.py writes this file from tests/traces/worked.
+
+
+def topic_of(trace):
+    """The first topic that a trace belongs to."""
+    return next(topic for topic, (_, names) in TOPICS.items() if re.match(names, trace.stem))
+
+
+def topic_file(topic, chosen):
+    """The file of a topic's traces."""
+    faults = any(map(refusal, chosen))
+    uses = "use crate::tests::worked::Worked;\n" + ("use line_model::fault::{Fault, Kind};\n" if faults else "")
+    return f"""//! {TOPICS[topic][0]} tools/worked_tests.py writes this file from tests/traces/worked.
 
 {uses}
-pub const {topic.upper()}: [Worked; {len(paths)}] = [
-{traces}];
-""")
+pub const {topic.upper()}: [Worked; {len(chosen)}] = [
+{"".join(map(constant, chosen))}];
+"""
+
+
+def files():
+    """The files that are written, with what stands in each."""
+    short = [trace for trace in traces() if max(map(len, content(trace).split("\n"))) <= LONGEST]
+    return {
+        TESTS / f"{topic}.rt": topic_file(topic, [trace for trace in short if topic_of(trace) == topic])
+        for topic in TOPICS
+    }
+
+
+if __name__ == "__main__":
+    sys.exit(write_or_check("tools/worked_tests.py", files(), __doc__))

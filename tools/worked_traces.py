@@ -1,19 +1,51 @@
 #!/usr/bin/env python3
-"""Writes the worked traces of tests/traces/worked as theorems about the definitions alone:
-crates/line_model/specs/WorkedTexts.antt (the texts), specs/WorkedReports.antt (their reports), specs/WorkedTraces.antt
-(the statement) and proofs/WorkedTraces.antt (by computing). Run it from the root after a change of those traces."""
+"""worked_traces.py [--check]: writes the worked traces of tests/traces/worked as theorems about the definitions alone.
+
+In crates/line_model they are specs/WorkedTexts.antt (the texts), specs/WorkedReports.antt (their reports),
+specs/WorkedTraces.antt (the statement) and proofs/WorkedTraces.antt (by computing). Run it after a change of those traces.
+With --check it writes nothing, and names each file that is another one. The last line is 'N passed, M failed'.
+"""
 import pathlib
 import re
+import sys
 
-TRACES = pathlib.Path("tests/traces/worked")
-CRATE = pathlib.Path("crates/line_model")
+ROOT = pathlib.Path(__file__).resolve().parent.parent
+TRACES = ROOT / "tests/traces/worked"
+CRATE = ROOT / "crates/line_model"
 KINDS = ["HeaderMissing", "HeaderForm", "HeaderRange", "LineForm", "Number", "Side", "Hex", "LineLong", "TextLarge"]
+WRITTEN = "-- tools/worked_traces.py writes this file from tests/traces/worked."
+USES_OF_KINDS = "use Rattle.line_model.specs.declared.fault.Kind.TheVariants.{" + ", ".join(KINDS[:-1]) + "}"
 UNFOLDING = (
     "digits decode_pairs fault head rows head_of rows_in last_number size_kind header_kind contents_kind has_header "
     "header_numbers interface_with interface_of row_words octets_of row_kind row_of"
 )
 # a run of one or two characters that is written as so many of them
 RUN = re.compile(r"(..?)\1{40,}")
+REFUSAL = re.compile(r"x25scan: line (\d+): kind (\d+)\n")
+
+
+def traces():
+    """The worked traces, by name."""
+    return sorted(TRACES.glob("*.trace"))
+
+
+def content(path):
+    """The text of a file as it stands, each CR included."""
+    return path.read_bytes().decode("utf-8")
+
+
+def refusal(trace):
+    """The line and the kind by which a trace is refused, or None."""
+    errors = trace.with_suffix(".errors")
+    if not errors.exists():
+        return None
+    line, kind = REFUSAL.match(content(errors)).groups()
+    return int(line), KINDS[int(kind) - 21]
+
+
+def report(trace):
+    """The report of a trace."""
+    return content(trace.with_suffix(".report"))
 
 
 def line_term(line):
@@ -35,67 +67,81 @@ def text_term(text):
     return lines if not begun else f"{lines} ++ {line_term(begun)}"
 
 
-def claim(name, path):
-    errors = path.with_suffix(".errors")
-    if not errors.exists():
+def name_of(trace):
+    """The name of a trace in the definitions."""
+    return trace.stem.replace("-", "_")
+
+
+def claim(trace):
+    """What is stated of a trace."""
+    name, refused = name_of(trace), refusal(trace)
+    if not refused:
         return f"IsReported {name}-text {name}-report"
-    line, kind = re.fullmatch(r"x25scan: line (\d+): kind (\d+)\n", errors.read_text()).groups()
-    return f"fault {name}-text ≡ Some ({line}, {KINDS[int(kind) - 21]})"
+    line, kind = refused
+    return f"fault {name}-text ≡ Some ({line}, {kind})"
 
 
-texts, reports, fields, proofs = "", "", "", ""
-names = []
-for path in sorted(TRACES.glob("*.trace")):
-    name = path.stem.replace("-", "_")
-    names.append(name)
-    texts += f"\nabbrev pub {name}-text : List ℕ\n{name}-text =\n    {text_term(path.read_text())}\n"
-    if not path.with_suffix(".errors").exists():
-        report = path.with_suffix(".report").read_text()
-        reports += f"\nabbrev pub {name}-report : List ℕ\n{name}-report =\n    {text_term(report)}\n"
-    fields += f"  pub {name} : {claim(name, path)}\n"
-    body = "refl" if path.with_suffix(".errors").exists() else "record { sound = refl; report = refl }"
-    proofs += f"\n{name}-holds : {claim(name, path)}\nunfolding {UNFOLDING}\n{name}-holds = {body}\n"
+def constants(ending, texts):
+    """A constant for each text, by its trace."""
+    return "".join(
+        f"\nabbrev pub {name_of(trace)}-{ending} : List ℕ\n{name_of(trace)}-{ending} =\n    {text_term(text)}\n"
+        for trace, text in texts.items()
+    )
 
-written = "-- tools/worked_traces.py writes this file from tests/traces/worked."
-kinds = "use Rattle.line_model.specs.declared.fault.Kind.TheVariants.{" + ", ".join(KINDS[:-1]) + "}"
-text_names, report_names = (", ".join(re.findall(r"abbrev pub (\S+)", it)) for it in (texts, reports))
 
-for module, title, terms in (
-    ("WorkedTexts", "The texts of the worked traces.", texts),
-    ("WorkedReports", "The reports of the worked traces that are not refused.", reports),
-):
-    (CRATE / f"specs/{module}.antt").write_text(f"""-- {title}
-{written}
+def constants_file(title, terms):
+    """The file of some constants."""
+    return f"""-- {title}
+{WRITTEN}
 use Rattle.std.specs.Prelude.{{ℕ, List, [], ◌∷◌, ◌++◌, codes}}
 use Rattle.line_model.specs.Traces.{{text, repeated}}
-{terms}""")
+{terms}"""
 
-(CRATE / "specs/WorkedTraces.antt").write_text(f"""-- What the worked traces come to: each is refused by its first faulty line, or has no fault and exactly this report.
-{written}
+
+def uses_of_constants(terms, module):
+    """What takes all constants of a module."""
+    names = ", ".join(re.findall(r"abbrev pub (\S+)", terms))
+    return f"use Rattle.line_model.specs.{module}.{{{names}}}"
+
+
+def statement_file(uses):
+    """The file of the statement."""
+    fields = "".join(f"  pub {name_of(trace)} : {claim(trace)}\n" for trace in traces())
+    return f"""-- What the worked traces come to: each is refused by its first faulty line, or has no fault and exactly this report.
+{WRITTEN}
 use Rattle.std.specs.Prelude.{{◌≡◌, Some, length}}
-{kinds}
+{USES_OF_KINDS}
 use Rattle.line_model.specs.Text.{{fault}}
 use Rattle.line_model.specs.Traces.{{IsReported, trace_plan}}
-use Rattle.line_model.specs.WorkedTexts.{{{text_names}}}
-use Rattle.line_model.specs.WorkedReports.{{{report_names}}}
+{uses}
 
 pub record WorkedTraces : Type 0 where
 {fields}  pub three_epochs-pieces : length (trace_plan three_epochs-text) ≡ 12
-""")
+"""
 
-holds = ";\n".join(f"  {name} = {name}-holds" for name in names)
-(CRATE / "proofs/WorkedTraces.antt").write_text(f"""-- The worked traces, by computing.
-{written}
+
+def proof(trace):
+    """The proof of what is stated of a trace."""
+    name = name_of(trace)
+    body = "refl" if refusal(trace) else "record { sound = refl; report = refl }"
+    return f"\n{name}-holds : {claim(trace)}\nunfolding {UNFOLDING}\n{name}-holds = {body}\n"
+
+
+def proof_file(uses):
+    """The file of the proofs."""
+    proofs = "".join(map(proof, traces()))
+    holds = ";\n".join(f"  {name_of(trace)} = {name_of(trace)}-holds" for trace in traces())
+    return f"""-- The worked traces, by computing.
+{WRITTEN}
 use Rattle.std.proofs.Common.{{◌≡◌, refl, length, Some}}
 use Rattle.std.specs.Fmt.{{digits}}
 use Rattle.hex.specs.Hex.{{decode_pairs}}
-{kinds}
+{USES_OF_KINDS}
 use Rattle.line_model.specs.Header.{{header_numbers, interface_with, interface_of}}
 use Rattle.line_model.specs.RowLine.{{row_words, octets_of, row_kind, row_of}}
 use Rattle.line_model.specs.Text.{{fault, head, rows, head_of, rows_in, last_number, size_kind, header_kind, contents_kind, has_header}}
 use Rattle.line_model.specs.Traces.{{IsReported, trace_plan}}
-use Rattle.line_model.specs.WorkedTexts.{{{text_names}}}
-use Rattle.line_model.specs.WorkedReports.{{{report_names}}}
+{uses}
 use Rattle.line_model.specs.WorkedTraces.{{WorkedTraces}}
 {proofs}
 three_epochs-planned : length (trace_plan three_epochs-text) ≡ 12
@@ -107,4 +153,43 @@ worked = record {{
 {holds};
   three_epochs-pieces = three_epochs-planned;
 }}
-""")
+"""
+
+
+def files():
+    """The files that are written, with what stands in each."""
+    texts = constants("text", {trace: content(trace) for trace in traces()})
+    reports = constants("report", {trace: report(trace) for trace in traces() if not refusal(trace)})
+    uses = uses_of_constants(texts, "WorkedTexts") + "\n" + uses_of_constants(reports, "WorkedReports")
+    return {
+        CRATE / "specs/WorkedTexts.antt": constants_file("The texts of the worked traces.", texts),
+        CRATE / "specs/WorkedReports.antt": constants_file(
+            "The reports of the worked traces that are not refused.", reports
+        ),
+        CRATE / "specs/WorkedTraces.antt": statement_file(uses),
+        CRATE / "proofs/WorkedTraces.antt": proof_file(uses),
+    }
+
+
+def check(tool, wanted):
+    """Compares files with what a tool writes there, and returns the exit status."""
+    differing = [path for path, text in wanted.items() if not path.exists() or content(path) != text]
+    for path in differing:
+        print(f"{path.relative_to(ROOT)}: it is not what {tool} writes")
+    print(f"{len(wanted) - len(differing)} passed, {len(differing)} failed")
+    return 1 if differing else 0
+
+
+def write_or_check(tool, wanted, usage):
+    """Writes the files, or checks them where --check asks for it, and returns the exit status."""
+    if sys.argv[1:] == ["--check"]:
+        return check(tool, wanted)
+    if sys.argv[1:]:
+        sys.exit(usage)
+    for path, text in wanted.items():
+        path.write_bytes(text.encode("utf-8"))
+    return 0
+
+
+if __name__ == "__main__":
+    sys.exit(write_or_check("tools/worked_traces.py", files(), __doc__))

@@ -6,6 +6,7 @@ use Rattle.std.specs.Option.{option_copied}
 use Rattle.std.specs.Slice.{IsItemAt}
 use Rattle.std.proofs.lemmas.Option.{slice_get_past}
 use denote.Bor.{Bor}
+use Rattle.std.proofs.Math.Seq.{take-append_seam}
 use Rattle.std.proofs.lemmas.List.{map-append, append-nil, length-append, take_more, take_all, take-append-drop}
 use Rattle.std.proofs.lemmas.List.Elements.{filter_map-append, All-take}
 use Rattle.std.proofs.lemmas.List.Sums.{sum_by-append}
@@ -238,5 +239,10 @@ piece_part i k items n h =
       packets = All-take (IsItem i k) n items h.packets;
     }
 
-pub one_more_item : (items : List Item) (n : ℕ) (item inside : Item) → n < length items → item ≡ get_or items n item → inside ≡ item → take (n + 1) items ≡ take n items ++ inside ∷ []
-one_more_item items n item inside lt is same = take_more items n item lt ∙ ap (λ x. take n items ++ x ∷ []) (sym is ∙ sym same)
+-- a row that comes behind the first rows of a piece may come there
+pub next_item : (i : Interface) (k : ℕ) (items front left rest : List Item) (next item : Item) → IsPiece i k items → items ≡ front ++ left → left ≡ next ∷ rest → item ≡ next → IsPiece i k (front ++ item ∷ [])
+next_item i k items front left rest next item h all first same =
+    let more : items ≡ (front ++ next ∷ []) ++ rest = all ∙ ap (λ l. front ++ l) first ∙ sym (append_assoc front (next ∷ []) rest) in
+    let part : IsPiece i k (front ++ next ∷ []) =
+    subst (IsPiece i k) (ap (take (length (front ++ next ∷ []))) more ∙ take-append_seam (front ++ next ∷ []) rest) (piece_part i k items (length (front ++ next ∷ [])) h) in
+    subst (λ x. IsPiece i k (front ++ x ∷ [])) (sym same) part

@@ -12,3 +12,4 @@ pub mod Decisions
 pub mod Run
 pub mod Counted
 pub mod Live
+pub mod Views

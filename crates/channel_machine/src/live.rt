@@ -9,9 +9,10 @@ ghost use Rattle.line_model.specs.Report.{findings_of};
 ghost use Rattle.channel_machine.specs.Counted.{Counts};
 ghost use Rattle.channel_machine.specs.Live.{StandsFor, channel_so_far, so_far, with_item};
 ghost use Rattle.channel_machine.specs.Run.{row_events};
+ghost use Rattle.channel_machine.specs.Views.{IsViewOf};
 
 use crate::counted::Counted;
-use crate::run::Channel;
+use crate::run::{Channel, View};
 use line_model::event::{Event, How, What};
 use line_model::fault::Fault;
 use line_model::finding::Finding;
@@ -64,6 +65,13 @@ impl<A: Allocator + Clone, C: Channel<A>> LiveChannel<A, C> {
         self.machine.step(self.epoch, row, packet, events)?;
         let found = self.counted.hear_all(events.as_slice())?;
         Ok(found)
+    }
+
+    /// What is known of the channel after the rows so far.
+    pub fn view(&self) -> View
+        ensures { (p : Piece) → StandsFor C.interface_of C.number_of C.stands_for self.now p → IsViewOf p.interface (channel_so_far p) result }
+    {
+        self.machine.view()
     }
 
     /// The findings so far.

@@ -5,15 +5,15 @@ ghost use Rattle.channel_machine.specs.Channels.{StandsForReached, interface_of,
 use crate::channel::StatusChannel;
 use crate::events::Stamp;
 use crate::messages::BothSettings;
-use crate::run::Channel;
+use crate::run::{Channel, View};
 use crate::status::StatusStore;
-use crate::terms::Terms;
+use crate::terms::{Terms, is_pad_call, was_fast};
 use line_model::event::Event;
 use line_model::fault::Fault;
 use line_model::interface::Interface;
 use line_model::packet::Packet;
 use line_model::row::Row;
-use line_model::state::ChannelState;
+use line_model::state::{ChannelState, Side};
 use mbit_assembly::assembler::Assembler;
 use std::alloc::Allocator;
 
@@ -41,6 +41,18 @@ impl<A: Allocator + Clone, S: StatusStore + Drop> Channel<A> for StatusChannel<A
 
     fn state(&self) -> ChannelState {
         self.status.state()
+    }
+
+    fn view(&self) -> View {
+        View {
+            state: self.status.state(),
+            owed: self.status.is_owed(),
+            pad_call: is_pad_call(self.status.call()),
+            fast: was_fast(self.status.call()),
+            size_t: self.status.size(Side::T),
+            size_n: self.status.size(Side::N),
+            flow: self.status.flow(),
+        }
     }
 
     fn is_open(&self) -> bool {

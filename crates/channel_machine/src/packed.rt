@@ -85,6 +85,10 @@ impl StatusStore for PackedStatus {
         call_in(self.word.above())
     }
 
+    fn flow(&self) -> Flow {
+        self.word.flow()
+    }
+
     fn size(&self, side: Side) -> u16 {
         match side {
             Side::T => power((self.word.above() >> 10) % 16),

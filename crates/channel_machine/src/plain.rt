@@ -57,6 +57,10 @@ impl StatusStore for PlainStatus {
         self.terms.call
     }
 
+    fn flow(&self) -> Flow {
+        self.flow
+    }
+
     fn size(&self, side: Side) -> u16 {
         match side {
             Side::T => self.terms.values.size_t,

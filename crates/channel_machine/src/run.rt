@@ -8,6 +8,7 @@ ghost use Rattle.line_model.specs.ChannelStep.{channel_step};
 ghost use Rattle.line_model.specs.Bounds.{IsItem};
 ghost use Rattle.line_model.specs.Plans as plans;
 ghost use Rattle.channel_machine.specs.Run.{row_events};
+ghost use Rattle.channel_machine.specs.Views.{IsViewOf};
 
 use crate::live::LiveChannel;
 use line_model::event::Event;
@@ -16,8 +17,28 @@ use line_model::interface::Interface;
 use line_model::packet::Packet;
 use line_model::piece::{Piece, PieceReport};
 use line_model::row::Row;
-use line_model::state::ChannelState;
+use line_model::state::{ChannelState, Side};
 use std::alloc::Allocator;
+use window_check::flow::Flow;
+
+/// What is known of a logical channel at one moment.
+#[derive(Clone, Copy)]
+pub struct View {
+    /// Its state.
+    pub state: ChannelState,
+    /// Whether an indication of the DCE is owed (profile).
+    pub owed: bool,
+    /// Whether a PAD call is open (X.29; profile).
+    pub pad_call: bool,
+    /// Whether a call is open that asked fast select (X.25 clause 6.16).
+    pub fast: bool,
+    /// The packet size in force for data from T, in octets.
+    pub size_t: u16,
+    /// The packet size in force for data from N, in octets.
+    pub size_n: u16,
+    /// Its windows and interrupts.
+    pub flow: Flow,
+}
 
 /// One logical channel of an interface: from its packets to events (X.25 Annexes B and C, clauses 4 to 6). What it
 /// keeps is its own affair: contracts see the channel of the definitions that it stands for.
@@ -43,6 +64,10 @@ pub trait Channel<A: Allocator>: Drop {
     /// The state of the channel.
     fn state(&self) -> ChannelState
         ensures { (c : channels.Channel) → stands_for self.now c → result ≡ c.state };
+
+    /// What is known of the channel.
+    fn view(&self) -> View
+        ensures { (c : channels.Channel) → stands_for self.now c → IsViewOf (interface_of self.now) c result };
 
     /// Whether a call is open.
     fn is_open(&self) -> bool
@@ -81,9 +106,15 @@ pub fn run_piece<A: Allocator + Clone, C: Channel<A>>(
         piece.channel,
         piece.epoch,
     )?;
+    let mut row = Row {
+        number: 0,
+        side: Side::T,
+        octets: Vec::new(alloc.clone()?),
+    };
     let mut events = Vec::new(alloc);
-    for item in &piece.items {
-        live.take(&item.row, &item.packet, &mut events)?;
+    for item in piece.items.iter() {
+        item.copy_to(&mut row)?;
+        live.take(&row, &item.packet, &mut events)?;
     }
     let report = live.end(piece.id, piece.end)?;
     Ok(report)

@@ -11,6 +11,7 @@ ghost use Rattle.channel_machine.specs.TermsStand.{size_of};
 use crate::terms::{Opened, Terms};
 use line_model::interface::Interface;
 use line_model::state::{ChannelState, Side};
+use window_check::flow::Flow;
 
 /// A way to keep the status of a channel: its state, whether an indication of the DCE is owed, what was agreed for its
 /// call, and its windows and interrupts.
@@ -45,6 +46,10 @@ pub trait StatusStore: Copy {
     /// The call that is open.
     fn call(&self) -> Option<Opened>
         ensures { result ≡ (status self.now).terms.call };
+
+    /// The windows and interrupts.
+    fn flow(&self) -> Flow
+        ensures { result ≡ (status self.now).flow };
 
     /// The packet size in force for data from a side.
     fn size(&self, side: Side) -> u16

@@ -11,8 +11,8 @@ use line_model::call::{CallRecord, SettingRecord};
 use line_model::event::{Entry, How};
 use line_model::finding::{Code, Finding, Xcode};
 use line_model::interface::Interface;
+use line_model::items::{ItemRef, Items};
 use line_model::piece::{Piece, PieceReport};
-use line_model::row::{Item, Row};
 use line_model::state::{ChannelState, PState, Side, StateName};
 use packet_decode::decode::decode;
 use std::alloc::{Allocator, Global};
@@ -21,6 +21,7 @@ use std::test::Fail;
 
 mod live;
 mod refused;
+mod steps;
 
 /// Four two-way channels with window 2, and the packet size 128.
 const INTERFACE: Interface = Interface {
@@ -124,49 +125,30 @@ fn logical_channel(octets: &[u8]) -> u16
     }
 }
 
-/// A row with its packet, if it is one of the channel and not longer than a trace has it.
-fn item<A: Allocator + Copy>(
-    alloc: A,
-    interface: &Interface,
-    channel: u16,
-    line: &Line,
-) -> Result<Option<Item<A>>, Fail>
-    ensures of_channel { IfOk result (λ o. IfSome o (λ i. IsItem interface.now channel i)) }
-    ensures short { IfOk result (λ o. IfSome o (λ i. length i.row.octets ≤ 4200)) }
-{
-    let (number, side, digits) = line;
-    let octets = hex_decode(alloc, digits.as_bytes())?;
-    if octets.len() > 4200 || logical_channel(&octets) != channel {
-        return Ok(None);
-    }
-    let packet = decode(interface, &octets);
-    let row = Row {
-        number: *number,
-        side: *side,
-        octets,
-    };
-    Ok(Some(Item { row, packet }))
-}
-
-/// Adds a row, if it is one of the channel.
+/// Adds a row, if it is one of the channel and not longer than a trace has it.
 fn add_item<A: Allocator + Copy>(
     alloc: A,
     interface: &Interface,
     channel: u16,
     line: &Line,
-    items: &mut Vec<Item<A>, A>,
+    items: &mut Items<A>,
 ) -> Result<(), Fail>
-    ensures of_channel { All (IsItem interface.now channel) items.old.items → OnOk result (All (IsItem interface.now channel) items.new.items) }
-    ensures short { all_octets items.old.items ≤ 4200 * length items.old.items → OnOk result (all_octets items.new.items ≤ 4200 * length items.new.items) }
-    ensures few { OnOk result (length items.new.items ≤ length items.old.items + 1) }
+    ensures of_channel { All (IsItem interface.now channel) items.old → OnOk result (All (IsItem interface.now channel) items.new) }
+    ensures short { all_octets items.old ≤ 4200 * length items.old → OnOk result (all_octets items.new ≤ 4200 * length items.new) }
+    ensures few { OnOk result (length items.new ≤ length items.old + 1) }
 {
-    match item(alloc, interface, channel, line)? {
-        Some(item) => {
-            items.push(item)?;
-            Ok(())
-        }
-        None => Ok(()),
+    let (number, side, digits) = line;
+    let octets = hex_decode(alloc, digits.as_bytes())?;
+    if octets.len() > 4200 || logical_channel(&octets) != channel {
+        return Ok(());
     }
+    items.push(&ItemRef {
+        number: *number,
+        side: *side,
+        octets: octets.as_slice(),
+        packet: decode(interface, &octets),
+    })?;
+    Ok(())
 }
 
 /// The rows of a channel among some lines.
@@ -175,12 +157,12 @@ fn items<A: Allocator + Copy>(
     interface: &Interface,
     channel: u16,
     lines: &[Line],
-) -> Result<Vec<Item<A>, A>, Fail>
-    ensures of_channel { IfOk result (λ v. All (IsItem interface.now channel) v.items) }
-    ensures short { IfOk result (λ v. all_octets v.items ≤ 4200 * length v.items) }
-    ensures few { IfOk result (λ v. length v.items ≤ length lines.now) }
+) -> Result<Items<A>, Fail>
+    ensures of_channel { IfOk result (λ v. All (IsItem interface.now channel) v) }
+    ensures short { IfOk result (λ v. all_octets v ≤ 4200 * length v) }
+    ensures few { IfOk result (λ v. length v ≤ length lines.now) }
 {
-    let mut items = Vec::new(alloc);
+    let mut items = Items::new(alloc);
     for line in lines {
         add_item(alloc, interface, channel, line, &mut items)?;
     }

@@ -1,8 +1,9 @@
 -- What some command lines are by the rules of `clap`, by computing.
 use Rattle.std.proofs.Common.{◌≡◌, false, true, refl, codes, [], ◌∷◌, Some, None}
+use Rattle.annotated_trace.specs.declared.choice.Choice.TheVariants.{EveryRow, ChosenRows}
 use Rattle.clap.proofs.OnLiterals.{clap_on_literals}
-use Rattle.clap.specs.declared.error.kind.ErrorKind.TheVariants.{ArgumentConflict, DisplayHelp, UnknownArgument, ValueValidation}
-use Rattle.command_line.specs.Options.{asked_word, follows, words_fault}
+use Rattle.clap.specs.declared.error.kind.ErrorKind.TheVariants.{ArgumentConflict, DisplayHelp, DisplayVersion, UnknownArgument, ValueValidation}
+use Rattle.command_line.specs.Options.{annotation, as_json, asked_word, follows, named_trace, words_fault}
 
 no_arguments : words_fault (codes "x25scan" ∷ []) ≡ []
 unfolding clap_on_literals
@@ -75,3 +76,59 @@ list_asked = refl
 asked_twice : words_fault (codes "x25scan" ∷ codes "--explain" ∷ codes "1" ∷ codes "--explain" ∷ codes "2" ∷ []) ≡ ArgumentConflict ∷ []
 unfolding clap_on_literals
 asked_twice = refl
+
+named : named_trace (codes "x25scan" ∷ codes "--alone" ∷ codes "day.trace" ∷ []) ≡ Some (codes "day.trace")
+unfolding clap_on_literals
+named = refl
+
+named_words : words_fault (codes "x25scan" ∷ codes "day.trace" ∷ codes "--follow" ∷ []) ≡ []
+unfolding clap_on_literals
+named_words = refl
+
+dash_named : named_trace (codes "x25scan" ∷ codes "-" ∷ []) ≡ None
+unfolding clap_on_literals
+dash_named = refl
+
+nothing_named : named_trace (codes "x25scan" ∷ codes "--follow" ∷ []) ≡ None
+unfolding clap_on_literals
+nothing_named = refl
+
+two_names : words_fault (codes "x25scan" ∷ codes "a" ∷ codes "b" ∷ []) ≡ UnknownArgument ∷ []
+unfolding clap_on_literals
+two_names = refl
+
+version : words_fault (codes "x25scan" ∷ codes "--version" ∷ []) ≡ DisplayVersion ∷ []
+unfolding clap_on_literals
+version = refl
+
+explained_and_named : asked_word (codes "x25scan" ∷ codes "day.trace" ∷ codes "--explain" ∷ codes "22" ∷ []) ≡ Some (codes "22")
+unfolding clap_on_literals
+explained_and_named = refl
+
+json : as_json (codes "x25scan" ∷ codes "--json" ∷ codes "day.trace" ∷ []) ≡ true
+unfolding clap_on_literals
+json = refl
+
+no_json : as_json (codes "x25scan" ∷ codes "--follow" ∷ []) ≡ false
+unfolding clap_on_literals
+no_json = refl
+
+followed_json : words_fault (codes "x25scan" ∷ codes "--follow" ∷ codes "--json" ∷ []) ≡ []
+unfolding clap_on_literals
+followed_json = refl
+
+annotated : annotation (codes "x25scan" ∷ codes "--annotate" ∷ codes "day.trace" ∷ []) ≡ Some EveryRow
+unfolding clap_on_literals
+annotated = refl
+
+annotated_call : annotation (codes "x25scan" ∷ codes "--call" ∷ codes "7" ∷ []) ≡ Some ChosenRows
+unfolding clap_on_literals
+annotated_call = refl
+
+not_annotated : annotation (codes "x25scan" ∷ codes "--follow" ∷ []) ≡ None
+unfolding clap_on_literals
+not_annotated = refl
+
+channel_of_no_interface : words_fault (codes "x25scan" ∷ codes "--channel" ∷ codes "4096" ∷ []) ≡ ValueValidation ∷ []
+unfolding clap_on_literals
+channel_of_no_interface = refl

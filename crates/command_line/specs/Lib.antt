@@ -1,3 +1,4 @@
 pub mod Options
 pub mod Explaining
 pub mod Program
+pub mod Annotating

@@ -1,7 +1,10 @@
--- The command line: `x25scan [--workers N] [--alone] [--follow] [--explain [WORD]]` (profile).
-use Rattle.std.specs.Prelude.{Bool, false, List, [], ◌∷◌, Option, None, Some, codes, pos}
+-- The command line: `x25scan [--workers N] [--alone] [--follow] [--json] [--annotate [--channel N] [--call N]] [--progress] [--explain [WORD]] [FILE]` (profile).
+use Rattle.std.specs.Prelude.{ℕ, Bool, false, true, List, [], ◌∷◌, Option, None, Some, codes, pos, if◌then◌else◌}
 use Rattle.std.specs.Str.{bytes_eq}
+use Rattle.annotated_trace.specs.declared.choice.Choice.{Choice}
+use Rattle.annotated_trace.specs.declared.choice.Choice.TheVariants.{EveryRow, ChosenRows}
 use Rattle.clap.specs.Words.{App, Kinds, Rule, Text, fault_of, first_of, matches_of, new_app, new_rule, with_rule}
+use Rattle.clap.specs.Simple.{on_top}
 use Rattle.clap.specs.declared.builder.action.ArgAction.TheVariants.{Set, SetTrue}
 use Rattle.clap.specs.declared.builder.value_parser.ValueParser.TheVariants.{Signed}
 
@@ -29,11 +32,37 @@ explain_rule = record (new_rule (codes "explain")) {
   missing = [] ∷ [];
 }
 
+-- an option whose value is a number from 1 on
+abbrev pub number_rule : (name : Text) → (last : ℕ) → Rule
+number_rule name last = record (new_rule name) {
+  long = Some name;
+  value_names = 1;
+  action = Some Set;
+  parser = Some (Signed (pos 1) (pos last));
+}
+
+-- `--channel`, a logical channel
+abbrev pub channel_rule : Rule
+channel_rule = number_rule (codes "channel") 4095
+
+-- `--call`, the number of a call in the report
+abbrev pub call_rule : Rule
+call_rule = number_rule (codes "call") 999999999
+
+-- the name of the trace, which stands by itself
+abbrev pub trace_rule : Rule
+trace_rule = record (new_rule (codes "trace")) { value_names = 1; action = Some Set }
+
+-- the program's name, with a version
+abbrev pub versioned : App
+versioned = on_top (λ s. record s { has_version = true }) (new_app (codes "x25scan"))
+
 abbrev pub command : App
 command =
-    with_rule (with_rule (with_rule (with_rule (new_app (codes "x25scan")) workers_rule) (flag_rule (codes "alone"))) (flag_rule (codes "follow"))) explain_rule
+    with_rule (with_rule (with_rule (with_rule (with_rule (with_rule (with_rule (with_rule (with_rule (with_rule versioned workers_rule) (flag_rule (codes "alone"))) (flag_rule (codes "follow")))
+    (flag_rule (codes "json"))) (flag_rule (codes "annotate"))) channel_rule) call_rule) (flag_rule (codes "progress"))) explain_rule) trace_rule
 
--- the kinds of error that the words have by the rules of `clap`, `--help` among them
+-- the kinds of error that the words have by the rules of `clap`, `--help` and `--version` among them
 abbrev pub words_fault : List Text → Kinds
 words_fault words = fault_of command words
 
@@ -46,6 +75,32 @@ is_given (Some text) = bytes_eq text (codes "true")
 abbrev pub follows : List Text → Bool
 follows words = is_given (first_of (codes "follow") (matches_of command words))
 
+-- whether the words ask for the report as JSON lines
+abbrev pub as_json : List Text → Bool
+as_json words = is_given (first_of (codes "json") (matches_of command words))
+
+-- which annotation these ask for: that of all rows, or where a channel or a call is named that of chosen ones
+abbrev pub annotation_by : (flag channel call : Option Text) → Option Choice
+annotation_by flag None None = if is_given flag then Some EveryRow else None
+annotation_by flag None (Some call) = Some ChosenRows
+annotation_by flag (Some channel) None = Some ChosenRows
+annotation_by flag (Some channel) (Some call) = Some ChosenRows
+
+-- which annotation of the trace the words ask for, if they do
+abbrev pub annotation : List Text → Option Choice
+annotation words =
+    annotation_by (first_of (codes "annotate") (matches_of command words)) (first_of (codes "channel") (matches_of command words))
+    (first_of (codes "call") (matches_of command words))
+
 -- the word whose explanation is asked for; no text where the list of all words is
 abbrev pub asked_word : List Text → Option Text
 asked_word words = first_of (codes "explain") (matches_of command words)
+
+-- the name that a text is of a trace: `-` is none, which is standard input
+abbrev pub named_by : Option Text → Option Text
+named_by None = None
+named_by (Some text) = if bytes_eq text (codes "-") then None else Some text
+
+-- the name of the trace; none where it is standard input
+abbrev pub named_trace : List Text → Option Text
+named_trace words = named_by (first_of (codes "trace") (matches_of command words))

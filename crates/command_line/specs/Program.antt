@@ -1,8 +1,8 @@
 -- What the exit status of the program says.
-use Rattle.std.specs.Prelude.{◌≡◌, ℕ, ◌<◌, ◌⊎◌, List, Option, take, ◌==◌, if◌then◌else◌}
+use Rattle.std.specs.Prelude.{◌≡◌, ℕ, Bool, true, false, ◌<◌, ◌++◌, ◌⊎◌, [], List, Option, Some, None, take, ◌==◌, if◌then◌else◌}
 use Rattle.clap.specs.Words.{IsAmong, Kinds}
 use Rattle.clap.specs.declared.error.kind.ErrorKind.{ErrorKind}
-use Rattle.clap.specs.declared.error.kind.ErrorKind.TheVariants.{DisplayHelp, OutOfMemory}
+use Rattle.clap.specs.declared.error.kind.ErrorKind.TheVariants.{DisplayHelp, DisplayVersion, OutOfMemory}
 use Rattle.line_model.specs.Device.{with_more}
 use Rattle.line_model.specs.declared.fault.Kind.{Kind}
 use Rattle.line_model.specs.declared.fault.Fault.{Fault}
@@ -11,6 +11,7 @@ use Rattle.line_model.specs.declared.totals.Summary.{Summary}
 use Rattle.piece_feed.specs.Readings.{IsRefusal, IsRefusedBy}
 use Rattle.live_report.specs.Reports.{IsReported}
 use Rattle.trace_scan.specs.Follow.{IsFollowRefusal, IsToldOf}
+use Rattle.json_lines.specs.Json.{json_text}
 use Rattle.line_model.specs.Traces.{trace_report, trace_summary}
 
 -- 0 without findings, else 1
@@ -22,13 +23,14 @@ abbrev pub fault_status : Fault → ℕ
 fault_status (Trace line kind) = 2
 fault_status _ = 3
 
--- 3 for want of memory, 0 for help, else 64
+-- 3 for want of memory, 0 for help and the version, else 64
 abbrev pub words_status : ErrorKind → ℕ
 words_status OutOfMemory = 3
 words_status DisplayHelp = 0
+words_status DisplayVersion = 0
 words_status _ = 64
 
--- the status of words with these kinds of error, or memory ran out
+-- the status of words with these kinds of error, or memory ran out or the sink failed
 abbrev pub IsWordsStatus : Kinds → ℕ → Type 0
 IsWordsStatus kinds status = (status ≡ 3) ⊎ ((kind : ErrorKind) × IsAmong kind kinds × (status ≡ words_status kind))
 
@@ -61,8 +63,44 @@ pub record IsFollowStatus (text : List ℕ) (left before after : Option (List �
   pub other : status ≡ 3 → (f : Fault) × IsRefusedBy (IsToldOf before after well) text left f
   pub range : status < 4
 
--- memory ran out before the trace was read: source and sink were not asked
+-- what the status says of a text that was scanned, by whether it was followed
+abbrev pub IsScanned : (followed : Bool) → (text : List ℕ) → (left before after : Option (List ℕ)) → (well : Type 0) → (status : ℕ) → Type 0
+IsScanned false text left before after well status = IsStatus text left before after status
+IsScanned true text left before after well status = IsFollowStatus text left before after well status
+
+-- a sink that had `before` took a first part of the objects of the lines that were told
+pub record HasFirstObjects (told : List ℕ) (before after : Option (List ℕ)) : Type 0 where
+  pub front : List ℕ
+  pub rest : List ℕ
+  pub whole : json_text told ≡ front ++ rest
+  pub taken : after ≡ with_more before front
+
+-- a sink took the objects of all lines that were told, or it failed and took a first part of them
+abbrev pub AreObjects : (told : List ℕ) → (failures plain : ℕ) → (before after : Option (List ℕ)) → (status : ℕ) → Type 0
+AreObjects told failures plain before after status =
+    ((failures ≡ 0) × (status ≡ plain) × (after ≡ with_more before (json_text told))) ⊎ ((status ≡ 3) × HasFirstObjects told before after)
+
+-- what the status says of a text whose report is told as JSON lines: lines were told as to a sink that takes all, unless
+-- the sink failed, and the sink took their objects
+pub record IsScannedAsJson (followed : Bool) (text : List ℕ) (left before after : Option (List ℕ)) (status : ℕ) : Type 0 where
+  pub told : List ℕ
+  pub failures : ℕ
+  pub plain : ℕ
+  pub scanned : IsScanned followed text left (Some []) (Some told) (failures ≡ 0) plain
+  pub objects : AreObjects told failures plain before after status
+
+-- what the status says of a text, by whether its report is told as JSON lines and whether it was followed
+abbrev pub IsTold : (json followed : Bool) → (text : List ℕ) → (left before after : Option (List ℕ)) → (well : Type 0) → (status : ℕ) → Type 0
+IsTold false followed text left before after well status = IsScanned followed text left before after well status
+IsTold true followed text left before after well status = IsScannedAsJson followed text left before after status
+
+-- the trace that is read: that of its name, or standard input
+abbrev pub trace_of : (name : Option (List ℕ)) → (standard : Option (List ℕ)) → (named : List ℕ → Option (List ℕ)) → Option (List ℕ)
+trace_of None standard named = standard
+trace_of (Some name) standard named = named name
+
+-- memory ran out before the trace was read, or it could not be opened: source and sink were not asked
 pub record IsUnread {S K : Type 0} (source source' : S) (sink sink' : K) (status : ℕ) : Type 0 where
   pub unasked : source' ≡ source
   pub unwritten : sink' ≡ sink
-  pub memory : status ≡ 3
+  pub other : status ≡ 3

@@ -1,8 +1,11 @@
-//! The program over its words: which scan they choose, or which word is explained, what is told of a fault, and the
-//! exit status.
+//! The program over its words: which trace and which scan they choose, or which word is explained, what is told of a
+//! fault, and the exit status.
 #![tactic(auto)]
 
+mod annotating;
 mod explaining;
+mod help;
+mod json;
 mod options;
 pub mod program;
 #[cfg(test)]

@@ -1,10 +1,13 @@
 //! The command line.
 
 ghost use Rattle.std.specs.Prelude.{◌≡◌, ◌≤◌, IfOk, codes, false, map, option_map};
+ghost use Rattle.descriptions.specs.Rows.{choice_of};
 ghost use Rattle.clap.specs.Words.{FailsBy, app_of, first_value, found_of, rule_of};
-ghost use Rattle.command_line.specs.Options.{asked_word, command, explain_rule, flag_rule, follows, is_given, words_fault, workers_rule};
+ghost use Rattle.command_line.specs.Options.{annotation, annotation_by, as_json, asked_word, call_rule, channel_rule, command, explain_rule, flag_rule, follows, is_given, named_by, named_trace, trace_rule, words_fault, workers_rule};
 
+use crate::help::{ABOUT, AFTER_HELP, VERSION};
 use clap::{Arg, ArgAction, ArgMatches, Command, Error, value_parser};
+use descriptions::rows::Rows;
 use std::alloc::{AllocError, Global};
 
 /// What the words ask for.
@@ -16,8 +19,16 @@ pub struct Options<'a> {
     pub alone: bool,
     /// Each finding is asked for as soon as its packet is known, which one thread does.
     pub follow: bool,
+    /// The report is asked for as JSON lines.
+    pub json: bool,
+    /// The trace is asked for once more in place of its report, with comments behind these rows.
+    pub annotate: Option<Rows>,
+    /// It is asked for that the errors are told how far the reading is, also where they are no terminal.
+    pub progress: bool,
     /// The word whose explanation is asked for in place of a scan; empty where the list of all words is.
     pub explain: Option<&'a str>,
+    /// The name of the trace; none where it is standard input.
+    pub trace: Option<&'a str>,
     pub ghost some: { 1 ≤ workers },
     pub ghost few: { workers ≤ 64 },
 }
@@ -61,6 +72,43 @@ fn explain<'a>(alloc: Global) -> Arg<'a>
         .default_missing_value("")
 }
 
+/// The option that says of which logical channel rows are told.
+fn channel<'a>(alloc: Global) -> Arg<'a>
+    ensures rule { rule_of result ≡ channel_rule }
+    ensures local { result.global ≡ false }
+{
+    Arg::new(alloc, "channel")
+        .long("channel")
+        .value_name("N")
+        .help("As --annotate, with comments on the rows of this logical channel alone")
+        .action(ArgAction::Set)
+        .value_parser(value_parser!(u16).range(1..=4095))
+}
+
+/// The option that says of which call rows are told.
+fn call<'a>(alloc: Global) -> Arg<'a>
+    ensures rule { rule_of result ≡ call_rule }
+    ensures local { result.global ≡ false }
+{
+    Arg::new(alloc, "call")
+        .long("call")
+        .value_name("N")
+        .help("As --annotate, with comments on the rows of this call of the report alone")
+        .action(ArgAction::Set)
+        .value_parser(value_parser!(u32).range(1..=999_999_999))
+}
+
+/// The name of the trace.
+fn trace<'a>(alloc: Global) -> Arg<'a>
+    ensures rule { rule_of result ≡ trace_rule }
+    ensures local { result.global ≡ false }
+{
+    Arg::new(alloc, "trace")
+        .value_name("FILE")
+        .help("The trace, standard input where it is - or left out")
+        .action(ArgAction::Set)
+}
+
 /// The command as its reader is told it.
 fn command<'a>(alloc: Global) -> Result<Command<'a>, AllocError>
     ensures { IfOk result (λ told. app_of told ≡ command) }
@@ -71,12 +119,35 @@ fn command<'a>(alloc: Global) -> Result<Command<'a>, AllocError>
         "follow",
         "Write each finding as soon as its packet is known, in one thread",
     );
+    let json = flag(
+        alloc,
+        "json",
+        "Write the report as JSON, an object for each line",
+    );
+    let annotate = flag(
+        alloc,
+        "annotate",
+        "Write the trace again, with comments that say what its rows are and did",
+    );
+    let progress = flag(
+        alloc,
+        "progress",
+        "Tell each second how far the reading is, on standard error",
+    );
     Command::new(alloc, "x25scan")
-        .about("Reports what an observer of an X.25 interface finds in the trace on standard input")
+        .version(VERSION)
+        .about(ABOUT)
+        .after_help(AFTER_HELP)
         .arg(workers(alloc))?
         .arg(alone)?
         .arg(follow)?
-        .arg(explain(alloc))
+        .arg(json)?
+        .arg(annotate)?
+        .arg(channel(alloc))?
+        .arg(call(alloc))?
+        .arg(progress)?
+        .arg(explain(alloc))?
+        .arg(trace(alloc))
 }
 
 /// Whether a flag was given.
@@ -89,13 +160,47 @@ fn is_given(matches: &ArgMatches<'_>, id: &str) -> bool
     }
 }
 
+/// The name of the trace, which `-` is not.
+fn trace_in<'a>(matches: &ArgMatches<'a>) -> Option<&'a str>
+    ensures { option_map (λ name. name.now) result ≡ named_by (first_value (found_of matches.now) (codes "trace")) }
+{
+    match matches.get_str("trace") {
+        Some(name) if name != "-" => Some(name),
+        _ => None,
+    }
+}
+
+/// Which rows comments are asked for, if they are: a choice of rows asks for them too.
+fn rows_in(matches: &ArgMatches<'_>) -> Option<Rows>
+    ensures { option_map choice_of result ≡ annotation_by (first_value (found_of matches.now) (codes "annotate")) (first_value (found_of matches.now) (codes "channel")) (first_value (found_of matches.now) (codes "call")) }
+{
+    match (matches.get_str("channel"), matches.get_str("call")) {
+        (None, None) => {
+            if is_given(matches, "annotate") {
+                Some(Rows::All)
+            } else {
+                None
+            }
+        }
+        _ => Some(Rows::Chosen {
+            channel: matches.get_one::<u16>("channel"),
+            call: matches.get_one::<u32>("call"),
+        }),
+    }
+}
+
 /// What the matches of the command ask for.
 fn options_in<'a>(matches: &ArgMatches<'a>) -> Options<'a>
     ensures follow { result.follow ≡ is_given (first_value (found_of matches.now) (codes "follow")) }
+    ensures json { result.json ≡ is_given (first_value (found_of matches.now) (codes "json")) }
+    ensures annotate { option_map choice_of result.annotate ≡ annotation_by (first_value (found_of matches.now) (codes "annotate")) (first_value (found_of matches.now) (codes "channel")) (first_value (found_of matches.now) (codes "call")) }
     ensures explain { option_map (λ word. word.now) result.explain ≡ first_value (found_of matches.now) (codes "explain") }
+    ensures trace { option_map (λ name. name.now) result.trace ≡ named_by (first_value (found_of matches.now) (codes "trace")) }
 {
     let alone = is_given(matches, "alone");
     let follow = is_given(matches, "follow");
+    let json = is_given(matches, "json");
+    let progress = is_given(matches, "progress");
     let workers = match matches.get_one::<u8>("workers") {
         Some(workers) => workers.clamp(1, 64),
         None => 4,
@@ -104,7 +209,11 @@ fn options_in<'a>(matches: &ArgMatches<'a>) -> Options<'a>
         workers,
         alone,
         follow,
+        json,
+        annotate: rows_in(matches),
+        progress,
         explain: matches.get_str("explain"),
+        trace: trace_in(matches),
     }
 }
 
@@ -112,7 +221,10 @@ fn options_in<'a>(matches: &ArgMatches<'a>) -> Options<'a>
 pub fn parse<'a>(alloc: Global, words: &'a [&'a str]) -> Result<Options<'a>, Error>
     ensures kinds { FailsBy (words_fault (map (λ word. word.now) words.entry.now)) result }
     ensures follow { IfOk result (λ options. options.follow ≡ follows (map (λ word. word.now) words.entry.now)) }
+    ensures json { IfOk result (λ options. options.json ≡ as_json (map (λ word. word.now) words.entry.now)) }
+    ensures annotate { IfOk result (λ options. option_map choice_of options.annotate ≡ annotation (map (λ word. word.now) words.entry.now)) }
     ensures explain { IfOk result (λ options. option_map (λ word. word.now) options.explain ≡ asked_word (map (λ word. word.now) words.entry.now)) }
+    ensures trace { IfOk result (λ options. option_map (λ name. name.now) options.trace ≡ named_trace (map (λ word. word.now) words.entry.now)) }
 {
     let command = command(alloc)?;
     match command.try_get_matches_from(words) {

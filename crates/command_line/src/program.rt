@@ -2,22 +2,29 @@
 
 ghost use Rattle.std.specs.Prelude.{◌≡◌, ◌≢◌, ℕ, ◌<◌, ◌≤◌, ◌+◌, ◌^◌, ◌⊎◌, IfSome, List, [], None, Some, false, map, option_map, true};
 ghost use Rattle.clap.specs.Words.{kind_of};
-ghost use Rattle.clap.specs.declared.error.kind.ErrorKind.TheVariants.{DisplayHelp};
-ghost use Rattle.command_line.specs.Options.{asked_word, follows, words_fault};
+ghost use Rattle.command_line.specs.Options.{annotation, as_json, asked_word, follows, named_trace, words_fault};
 ghost use Rattle.command_line.specs.Explaining.{IsAnswered};
-ghost use Rattle.command_line.specs.Program.{IsFollowStatus, IsStatus, IsUnread, IsWordsStatus, fault_status, summary_status, words_status};
+ghost use Rattle.annotated_trace.specs.declared.choice.Choice.{Choice};
+ghost use Rattle.descriptions.specs.Rows.{choice_of};
+ghost use Rattle.command_line.specs.Annotating.{IsAnnotateAnswer};
+ghost use Rattle.command_line.specs.Program.{IsFollowStatus, IsStatus, IsTold, IsUnread, IsWordsStatus, fault_status, summary_status, trace_of, words_status};
 
+use crate::annotating::annotate_trace;
 use crate::explaining::explain_word;
+use crate::json::scan_json;
 use crate::options::{Options, parse};
+use advice::advice::advice;
 use clap::Error;
 use clap::error::ErrorKind;
-use line_model::device::{Sink, Source};
-use line_model::fault::Fault;
+use line_model::device::Sink;
+use line_model::fault::{Fault, Kind};
 use line_model::totals::Summary;
 use std::alloc::Global;
 use std::sync::Wait;
 use std::thread::Threads;
 use std::time::Clock;
+use streams::input::{Input, OpenFault};
+use streams::progress::Telling;
 use streams::writing::write_all;
 use trace_scan::following::follow;
 use trace_scan::gate::OpenGate;
@@ -40,14 +47,14 @@ fn tell_fault<E: Sink>(alloc: Global, errors: &mut E, fault: Fault) {
     }
 }
 
-/// Tells what the reader of the words has to say, as far as it can be told.
-fn tell_words<E: Sink>(alloc: Global, out: &mut E, error: &Error) {
+/// Tells what is wrong with the words, as far as it can be told.
+fn tell_words<E: Sink>(alloc: Global, errors: &mut E, error: &Error) {
     if let Ok(text) = format!(in alloc; "{error}") {
-        let _ = write_all(out, text.as_bytes());
+        let _ = write_all(errors, text.as_bytes());
     }
 }
 
-fn summary_status(summary: &Summary) -> u8
+pub(crate) fn summary_status(summary: &Summary) -> u8
     ensures { result ≡ summary_status summary.now }
 {
     if summary.findings == 0 { 0 } else { 1 }
@@ -70,8 +77,37 @@ pub(crate) fn refuse<E: Sink>(alloc: Global, errors: &mut E, fault: Fault) -> u8
     fault_status(fault)
 }
 
+/// Tells in a second line what is wrong with a faulty line of the trace, as far as it can be told.
+fn tell_advice<S: Input, E: Sink>(alloc: Global, source: &S, errors: &mut E, kind: Kind) {
+    let heard = source.heard();
+    let Ok(text) = heard.text(alloc) else {
+        return;
+    };
+    if let Ok(told) = advice(alloc, kind, text.as_slice(), heard.is_whole()) {
+        if let Ok(line) = format!(in alloc; "  {told}\n") {
+            let _ = write_all(errors, line.as_bytes());
+        }
+    }
+}
+
+/// Tells why a scan gave up, and answers the exit status.
+pub(crate) fn refuse_scan<S: Input, E: Sink>(
+    alloc: Global,
+    source: &S,
+    errors: &mut E,
+    fault: Fault,
+) -> u8
+    ensures { result ≡ fault_status fault }
+{
+    let status = refuse(alloc, errors, fault);
+    if let Fault::Trace(_, kind) = fault {
+        tell_advice(alloc, source, errors, kind);
+    }
+    status
+}
+
 /// Scans the trace in one thread, and answers the exit status.
-fn run_alone<S: Source, K: Sink, E: Sink>(
+fn run_alone<S: Input, K: Sink, E: Sink>(
     alloc: Global,
     source: &mut S,
     sink: &mut K,
@@ -83,12 +119,12 @@ fn run_alone<S: Source, K: Sink, E: Sink>(
 {
     match scan_alone(alloc, source, sink) {
         Ok(summary) => summary_status(&summary),
-        Err(fault) => refuse(alloc, errors, fault),
+        Err(fault) => refuse_scan(alloc, source, errors, fault),
     }
 }
 
 /// Follows the trace in one thread, and answers the exit status.
-fn run_follow<S: Source, K: Sink, E: Sink>(
+fn run_follow<S: Input, K: Sink, E: Sink>(
     alloc: Global,
     source: &mut S,
     sink: &mut K,
@@ -100,12 +136,12 @@ fn run_follow<S: Source, K: Sink, E: Sink>(
 {
     match follow(alloc, source, sink) {
         Ok(summary) => summary_status(&summary),
-        Err(fault) => refuse(alloc, errors, fault),
+        Err(fault) => refuse_scan(alloc, source, errors, fault),
     }
 }
 
 /// Scans the trace with workers, and answers the exit status.
-fn run_with<S: Source, K: Sink, E: Sink, R: Threads + Wait + Clock + Sync>(
+fn run_with<S: Input, K: Sink, E: Sink, R: Threads + Wait + Clock + Sync>(
     rt: &R,
     alloc: Global,
     workers: u8,
@@ -128,12 +164,24 @@ fn run_with<S: Source, K: Sink, E: Sink, R: Threads + Wait + Clock + Sync>(
         &OpenGate,
     ) {
         Ok(scan) => summary_status(&scan.summary),
-        Err(fault) => refuse(alloc, errors, fault),
+        Err(fault) => refuse_scan(alloc, source, errors, fault),
+    }
+}
+
+/// When the errors are told how far the reading is: always where it is asked for, and not by itself where the trace is
+/// followed, whose reader waits for more.
+fn telling(options: &Options<'_>) -> Telling {
+    if options.progress {
+        Telling::Always
+    } else if options.follow {
+        Telling::Never
+    } else {
+        Telling::OnTerminal
     }
 }
 
 /// Scans the trace as the options ask, and answers the exit status.
-fn scan<S: Source, K: Sink, E: Sink, R: Threads + Wait + Clock + Sync>(
+pub(crate) fn scan<S: Input, K: Sink, E: Sink, R: Threads + Wait + Clock + Sync>(
     rt: &R,
     alloc: Global,
     options: Options<'_>,
@@ -146,6 +194,7 @@ fn scan<S: Source, K: Sink, E: Sink, R: Threads + Wait + Clock + Sync>(
     ensures range { result < 4 }
     ensures asked { S.calls source.new ≤ S.calls source.old + (2 ^ 30 + 1) }
 {
+    source.tell_progress(telling(&options));
     if options.follow {
         run_follow(alloc, source, sink, errors)
     } else if options.alone {
@@ -155,8 +204,23 @@ fn scan<S: Source, K: Sink, E: Sink, R: Threads + Wait + Clock + Sync>(
     }
 }
 
-/// Explains a word, or scans the trace, as the options ask, and answers the exit status.
-fn run<S: Source, K: Sink, E: Sink, R: Threads + Wait + Clock + Sync>(
+/// Tells that a trace could not be opened, as far as it can be told, and answers the exit status.
+pub(crate) fn refuse_trace<E: Sink>(
+    alloc: Global,
+    errors: &mut E,
+    name: &str,
+    fault: OpenFault,
+) -> u8
+    ensures { result ≡ 3 }
+{
+    if let Ok(text) = format!(in alloc; "x25scan: cannot open {name}: {fault}\n") {
+        let _ = write_all(errors, text.as_bytes());
+    }
+    OTHER_FAULT
+}
+
+/// Scans the trace as the options ask, tells its report in the form that they ask, and answers the exit status.
+fn tell<S: Input, K: Sink, E: Sink, R: Threads + Wait + Clock + Sync>(
     rt: &R,
     alloc: Global,
     options: Options<'_>,
@@ -164,31 +228,109 @@ fn run<S: Source, K: Sink, E: Sink, R: Threads + Wait + Clock + Sync>(
     sink: &mut K,
     errors: &mut E,
 ) -> u8
-    ensures scanned { option_map (λ word. word.now) options.entry.explain ≡ None → options.entry.follow ≡ false → (text : List ℕ) → S.left source.old ≡ Some text → IsStatus text (S.left source.new) (K.taken sink.old) (K.taken sink.new) result }
-    ensures followed { option_map (λ word. word.now) options.entry.explain ≡ None → options.entry.follow ≡ true → (text : List ℕ) → S.left source.old ≡ Some text → IsFollowStatus text (S.left source.new) (K.taken sink.old) (K.taken sink.new) (K.failures sink.new ≡ K.failures sink.old) result }
+    ensures told { (text : List ℕ) → S.left source.old ≡ Some text → IsTold options.entry.json options.entry.follow text (S.left source.new) (K.taken sink.old) (K.taken sink.new) (K.failures sink.new ≡ K.failures sink.old) result }
+    ensures range { result < 4 }
+    ensures asked { S.calls source.new ≤ S.calls source.old + (2 ^ 30 + 1) }
+{
+    if options.json {
+        scan_json(rt, alloc, options, source, sink, errors)
+    } else {
+        scan(rt, alloc, options, source, sink, errors)
+    }
+}
+
+/// Scans the trace of a name as the options ask, and answers the exit status.
+fn tell_named<S: Input, K: Sink, E: Sink, R: Threads + Wait + Clock + Sync>(
+    rt: &R,
+    alloc: Global,
+    options: Options<'_>,
+    name: &str,
+    source: &mut S,
+    sink: &mut K,
+    errors: &mut E,
+) -> u8
+    ensures told { IsUnread source.old source.new sink.old sink.new result
+        ⊎ ((text : List ℕ) → S.named source.old name.now ≡ Some text → IsTold options.entry.json options.entry.follow text (S.left source.new) (K.taken sink.old) (K.taken sink.new) (K.failures sink.new ≡ K.failures sink.old) result) }
+    ensures range { result < 4 }
+    ensures asked { S.calls source.new ≤ S.calls source.old + (2 ^ 30 + 1) }
+{
+    match source.open(name) {
+        Ok(()) => tell(rt, alloc, options, source, sink, errors),
+        Err(fault) => refuse_trace(alloc, errors, name, fault),
+    }
+}
+
+/// Scans standard input, or the trace that is named, as the options ask, and answers the exit status.
+fn tell_trace<S: Input, K: Sink, E: Sink, R: Threads + Wait + Clock + Sync>(
+    rt: &R,
+    alloc: Global,
+    options: Options<'_>,
+    source: &mut S,
+    sink: &mut K,
+    errors: &mut E,
+) -> u8
+    ensures told { IsUnread source.old source.new sink.old sink.new result
+        ⊎ ((text : List ℕ) → trace_of (option_map (λ name. name.now) options.entry.trace) (S.left source.old) (S.named source.old) ≡ Some text → IsTold options.entry.json options.entry.follow text (S.left source.new) (K.taken sink.old) (K.taken sink.new) (K.failures sink.new ≡ K.failures sink.old) result) }
+    ensures range { result < 4 }
+    ensures asked { S.calls source.new ≤ S.calls source.old + (2 ^ 30 + 1) }
+{
+    match options.trace {
+        Some(name) => tell_named(rt, alloc, options, name, source, sink, errors),
+        None => tell(rt, alloc, options, source, sink, errors),
+    }
+}
+
+/// Explains a word, or scans the trace, as the options ask, and answers the exit status.
+fn run<S: Input, K: Sink, E: Sink, R: Threads + Wait + Clock + Sync>(
+    rt: &R,
+    alloc: Global,
+    options: Options<'_>,
+    source: &mut S,
+    sink: &mut K,
+    errors: &mut E,
+) -> u8
+    ensures told { option_map (λ word. word.now) options.entry.explain ≡ None → option_map choice_of options.entry.annotate ≡ None → IsUnread source.old source.new sink.old sink.new result
+        ⊎ ((text : List ℕ) → trace_of (option_map (λ name. name.now) options.entry.trace) (S.left source.old) (S.named source.old) ≡ Some text → IsTold options.entry.json options.entry.follow text (S.left source.new) (K.taken sink.old) (K.taken sink.new) (K.failures sink.new ≡ K.failures sink.old) result) }
+    ensures annotated { option_map (λ word. word.now) options.entry.explain ≡ None → IfSome (option_map choice_of options.entry.annotate) (λ choice. IsAnnotateAnswer options.entry.json choice source.old source.new sink.old sink.new (trace_of (option_map (λ name. name.now) options.entry.trace) (S.left source.old) (S.named source.old)) (S.left source.new) (K.taken sink.old) (K.taken sink.new) (K.failures sink.new ≡ K.failures sink.old) result) }
     ensures explained { IfSome (option_map (λ word. word.now) options.entry.explain) (λ word. (source.new ≡ source.old) × IsAnswered word (K.taken sink.old) (K.taken sink.new) result) }
     ensures unwritten { result ≡ 64 → sink.new ≡ sink.old }
     ensures asked { S.calls source.new ≤ S.calls source.old + (2 ^ 30 + 1) }
 {
     match options.explain {
         Some(word) => explain_word(alloc, word, sink, errors),
-        None => scan(rt, alloc, options, source, sink, errors),
+        None => match options.annotate {
+            Some(rows) => annotate_trace(alloc, options, rows, source, sink, errors),
+            None => tell_trace(rt, alloc, options, source, sink, errors),
+        },
     }
 }
 
-/// Help goes to the sink, and usage to the errors.
+/// Gives the sink what was asked for, help or the version, and answers the exit status.
+fn tell_asked<K: Sink, E: Sink>(alloc: Global, error: &Error, sink: &mut K, errors: &mut E) -> u8
+    ensures { (result ≡ 0) ⊎ (result ≡ 3) }
+{
+    match format!(in alloc; "{error}") {
+        Ok(text) => match write_all(sink, text.as_bytes()) {
+            Ok(()) => 0,
+            Err(fault) => refuse(alloc, errors, fault),
+        },
+        Err(_) => refuse(alloc, errors, Fault::Memory),
+    }
+}
+
+/// Help and the version go to the sink, and usage to the errors.
 fn refuse_words<K: Sink, E: Sink>(alloc: Global, error: Error, sink: &mut K, errors: &mut E) -> u8
-    ensures status { result ≡ words_status (kind_of error) }
-    ensures unwritten { kind_of error ≢ DisplayHelp → sink.new ≡ sink.old }
+    ensures status { (result ≡ 3) ⊎ (result ≡ words_status (kind_of error)) }
+    ensures unwritten { words_status (kind_of error) ≢ 0 → sink.new ≡ sink.old }
+    ensures usage { result ≡ 64 → sink.new ≡ sink.old }
 {
     match error.kind() {
         ErrorKind::OutOfMemory => {
             tell_fault(alloc, errors, Fault::Memory);
             OTHER_FAULT
         }
-        ErrorKind::DisplayHelp => {
-            tell_words(alloc, sink, &error);
-            0
+        ErrorKind::DisplayHelp | ErrorKind::DisplayVersion => {
+            tell_asked(alloc, &error, sink, errors)
         }
         _ => {
             tell_words(alloc, errors, &error);
@@ -198,9 +340,9 @@ fn refuse_words<K: Sink, E: Sink>(alloc: Global, error: Error, sink: &mut K, err
 }
 
 /// The program over its words, of which the first is its name. Answers the exit status (profile): 0 without findings
-/// or where help or an explanation was asked for, 1 with findings, 2 where the trace was refused, 3 at another fault,
-/// 64 for wrong words and for a word that no explanation has.
-pub fn program<S: Source, K: Sink, E: Sink, R: Threads + Wait + Clock + Sync>(
+/// or where help, the version or an explanation was asked for, 1 with findings, 2 where the trace was refused, 3 at
+/// another fault, 64 for wrong words and for a word that no explanation has.
+pub fn program<S: Input, K: Sink, E: Sink, R: Threads + Wait + Clock + Sync>(
     rt: &R,
     alloc: Global,
     words: &[&str],
@@ -208,17 +350,19 @@ pub fn program<S: Source, K: Sink, E: Sink, R: Threads + Wait + Clock + Sync>(
     sink: &mut K,
     errors: &mut E,
 ) -> u8
-    // Where the words are right and ask for no explanation, the status and the bytes are those of a scan of the text
-    // that the source tells.
-    ensures scanned { words_fault (map (λ word. word.now) words.now) ≡ [] → asked_word (map (λ word. word.now) words.now) ≡ None → follows (map (λ word. word.now) words.now) ≡ false → IsUnread source.old source.new sink.old sink.new result
-        ⊎ ((text : List ℕ) → S.left source.old ≡ Some text → IsStatus text (S.left source.new) (K.taken sink.old) (K.taken sink.new) result) }
-    // Where they ask that the trace be followed, those of a scan that does.
-    ensures followed { words_fault (map (λ word. word.now) words.now) ≡ [] → asked_word (map (λ word. word.now) words.now) ≡ None → follows (map (λ word. word.now) words.now) ≡ true → IsUnread source.old source.new sink.old sink.new result
-        ⊎ ((text : List ℕ) → S.left source.old ≡ Some text → IsFollowStatus text (S.left source.new) (K.taken sink.old) (K.taken sink.new) (K.failures sink.new ≡ K.failures sink.old) result) }
+    // Where the words are right and ask for no explanation and no annotation, the status and the bytes are those of a scan of the trace that
+    // is named, or of standard input: a scan that follows it where they ask so, and the objects of the report's lines
+    // where they ask for JSON. Or it could not be opened, or memory ran out, and nothing was read.
+    ensures told { words_fault (map (λ word. word.now) words.now) ≡ [] → asked_word (map (λ word. word.now) words.now) ≡ None → annotation (map (λ word. word.now) words.now) ≡ None → IsUnread source.old source.new sink.old sink.new result
+        ⊎ ((text : List ℕ) → trace_of (named_trace (map (λ word. word.now) words.now)) (S.left source.old) (S.named source.old) ≡ Some text → IsTold (as_json (map (λ word. word.now) words.now)) (follows (map (λ word. word.now) words.now)) text (S.left source.new) (K.taken sink.old) (K.taken sink.new) (K.failures sink.new ≡ K.failures sink.old) result) }
+    // Where they ask for an annotation, of each row or of those that they choose, the sink took one of that trace, or it
+    // was refused. Where they ask for JSON with it, they are refused.
+    ensures annotated { (choice : Choice) → words_fault (map (λ word. word.now) words.now) ≡ [] → asked_word (map (λ word. word.now) words.now) ≡ None → annotation (map (λ word. word.now) words.now) ≡ Some choice → IsUnread source.old source.new sink.old sink.new result
+        ⊎ IsAnnotateAnswer (as_json (map (λ word. word.now) words.now)) choice source.old source.new sink.old sink.new (trace_of (named_trace (map (λ word. word.now) words.now)) (S.left source.old) (S.named source.old)) (S.left source.new) (K.taken sink.old) (K.taken sink.new) (K.failures sink.new ≡ K.failures sink.old) result }
     // Where they ask for the explanation of a word the source is not asked, and the table answers.
     ensures explained { (word : List ℕ) → words_fault (map (λ word. word.now) words.now) ≡ [] → asked_word (map (λ word. word.now) words.now) ≡ Some word → IsUnread source.old source.new sink.old sink.new result
         ⊎ ((source.new ≡ source.old) × IsAnswered word (K.taken sink.old) (K.taken sink.new) result) }
-    // Where the words are wrong the source is not asked, and help alone goes to the sink.
+    // Where the words are wrong the source is not asked, and help and the version alone go to the sink.
     ensures usage { words_fault (map (λ word. word.now) words.now) ≢ [] → (source.new ≡ source.old) × IsWordsStatus (words_fault (map (λ word. word.now) words.now)) result }
     ensures unwritten { result ≡ 64 → sink.new ≡ sink.old }
     ensures asked { S.calls source.new ≤ S.calls source.old + (2 ^ 30 + 1) }

@@ -3,7 +3,7 @@
 mod runs;
 
 use crate::options::parse;
-use crate::tests::runs::run;
+use crate::tests::runs::{NamedText, run, run_beside};
 use std::test::Fail;
 use test_devices::Cuts;
 
@@ -24,7 +24,13 @@ fn the_status_follows_the_scan(rt: HostRuntime) -> Result<(), Fail> {
     for (rows, cuts, status, report, told) in [
         ("", whole, 0, "P 0 -\nZ 0 0 0 0 0\n", ""),
         ("1 T -\n", whole, 1, "F 1 T - 38\nP 0 -\nZ 1 1 0 0 0\n", ""),
-        ("5 T -\n5 T -\n", whole, 2, "", "x25scan: line 3: kind 25\n"),
+        (
+            "5 T -\n5 T -\n",
+            whole,
+            2,
+            "",
+            "x25scan: line 3: kind 25\n  The row's number is 5, and that of the row before is 5: numbers rise.\n",
+        ),
         ("", unread, 3, "", "x25scan: read failed\n"),
         ("", unwritten, 3, "", "x25scan: write failed\n"),
     ] {
@@ -45,6 +51,45 @@ fn the_status_follows_the_scan(rt: HostRuntime) -> Result<(), Fail> {
 }
 
 #[test]
+fn a_report_is_told_as_json(rt: HostRuntime) -> Result<(), Fail> {
+    let whole = Cuts::of_steps(usize::MAX, usize::MAX);
+    let unwritten = Cuts {
+        good_writes: 0,
+        ..whole
+    };
+    let finding =
+        "{\"line\":\"finding\",\"packet\":1,\"side\":\"T\",\"state\":null,\"code\":\"38\"}\n";
+    let rest =
+        "{\"line\":\"peak\",\"count\":0,\"packet\":null}\n{\"line\":\"sums\",\"packets\":1,\"findings\":1,\"calls\":0,\"octets\":0,\"segments\":0}\n";
+    let report = format!(in rt.alloc(); "{finding}{rest}")?;
+    for (rows, cuts, status, objects, followed, told) in [
+        ("1 T -\n", whole, 1, report.as_str(), report.as_str(), ""),
+        (
+            "1 T -\n1 T -\n",
+            whole,
+            2,
+            "",
+            finding,
+            "x25scan: line 3: kind 25\n  The row's number is 1, and that of the row before is 1: numbers rise.\n",
+        ),
+        ("1 T -\n", unwritten, 3, "", "", "x25scan: write failed\n"),
+    ] {
+        let text = format!(in rt.alloc(); "{HEADER}{rows}")?;
+        for (words, wanted) in [
+            (["x25scan", "--json"].as_slice(), objects),
+            (["x25scan", "--json", "--alone"].as_slice(), objects),
+            (["x25scan", "--follow", "--json"].as_slice(), followed),
+        ] {
+            let ran = run(&rt, rt.alloc(), words, text.as_bytes(), cuts);
+            assert_eq!(rt; ran.status, status, "at {rows}");
+            assert_eq!(rt; ran.taken.as_slice(), wanted.as_bytes());
+            assert_eq!(rt; ran.told.as_slice(), told.as_bytes());
+        }
+    }
+    Ok(())
+}
+
+#[test]
 fn a_trace_is_followed(rt: HostRuntime) -> Result<(), Fail> {
     for (rows, status, report, told) in [
         ("", 0, "P 0 -\nZ 0 0 0 0 0\n", ""),
@@ -53,7 +98,7 @@ fn a_trace_is_followed(rt: HostRuntime) -> Result<(), Fail> {
             "5 T -\n5 T -\n",
             2,
             "F 5 T - 38\n",
-            "x25scan: line 3: kind 25\n",
+            "x25scan: line 3: kind 25\n  The row's number is 5, and that of the row before is 5: numbers rise.\n",
         ),
     ] {
         let text = format!(in rt.alloc(); "{HEADER}{rows}")?;
@@ -112,7 +157,7 @@ fn other_words_are_usage(rt: HostRuntime) {
         ["x25scan", "--alone", "--workers", "0"].as_slice(),
         ["x25scan", "--follow", "--workers", "0"].as_slice(),
         ["x25scan", "--threads"].as_slice(),
-        ["x25scan", "trace.txt"].as_slice(),
+        ["x25scan", "one.trace", "two.trace"].as_slice(),
     ] {
         let ran = run(&rt, rt.alloc(), words, b"", Cuts::of_steps(1, 1));
         assert_eq!(rt; ran.status, 64);
@@ -221,4 +266,94 @@ fn an_explanation_that_is_not_taken_is_told(rt: HostRuntime) {
     assert_eq!(rt; ran.status, 3);
     assert_eq!(rt; ran.taken.as_slice(), b"F (line of".as_slice());
     assert_eq!(rt; ran.told.as_slice(), b"x25scan: write failed\n".as_slice());
+}
+
+/// A text with one finding, as a file.
+const FILE: NamedText<'_> = NamedText {
+    name: "day.trace",
+    text: b"X25 1 MOD 8 WIN 2 SIZE 128 PVC 0 SVC 4\n1 T -\n",
+};
+
+#[test]
+fn a_named_trace_is_scanned_in_place_of_standard_input(rt: HostRuntime) {
+    for words in [
+        ["x25scan", "day.trace"].as_slice(),
+        ["x25scan", "--alone", "day.trace"].as_slice(),
+        ["x25scan", "day.trace", "--follow"].as_slice(),
+        ["x25scan", "--progress", "day.trace"].as_slice(),
+        ["x25scan", "--", "day.trace"].as_slice(),
+    ] {
+        let cuts = Cuts::of_steps(5, 3);
+        let ran = run_beside(&rt, rt.alloc(), words, b"", FILE, cuts);
+        assert_eq!(rt; ran.status, 1);
+        assert_eq!(rt;
+            ran.taken.as_slice(),
+            b"F 1 T - 38\nP 0 -\nZ 1 1 0 0 0\n".as_slice()
+        );
+        assert!(rt; ran.told.is_empty());
+    }
+}
+
+#[test]
+fn a_dash_is_standard_input(rt: HostRuntime) {
+    let text = b"X25 1 MOD 8 WIN 2 SIZE 128 PVC 0 SVC 4\n";
+    let cuts = Cuts::of_steps(usize::MAX, usize::MAX);
+    let words = ["x25scan", "-"];
+    let ran = run_beside(
+        &rt,
+        rt.alloc(),
+        words.as_slice(),
+        text.as_slice(),
+        FILE,
+        cuts,
+    );
+    assert_eq!(rt; ran.status, 0);
+    assert_eq!(rt; ran.taken.as_slice(), b"P 0 -\nZ 0 0 0 0 0\n".as_slice());
+}
+
+#[test]
+fn a_trace_that_is_not_there_is_told(rt: HostRuntime) {
+    for words in [
+        ["x25scan", "night.trace"].as_slice(),
+        ["x25scan", "--follow", "night.trace"].as_slice(),
+    ] {
+        let cuts = Cuts::of_steps(1, 1);
+        let ran = run_beside(&rt, rt.alloc(), words, b"", FILE, cuts);
+        assert_eq!(rt; ran.status, 3);
+        assert!(rt; ran.taken.is_empty());
+        assert_eq!(rt;
+            ran.told.as_slice(),
+            b"x25scan: cannot open night.trace: no such file\n".as_slice()
+        );
+    }
+}
+
+#[test]
+fn the_version_goes_to_the_sink(rt: HostRuntime) {
+    for words in [
+        ["x25scan", "--version"].as_slice(),
+        ["x25scan", "-V"].as_slice(),
+    ] {
+        let cuts = Cuts::of_steps(usize::MAX, usize::MAX);
+        let ran = run(&rt, rt.alloc(), words, b"", cuts);
+        assert_eq!(rt; ran.status, 0);
+        assert!(rt; ran.told.is_empty());
+        assert!(rt; ran.taken.starts_with(b"x25scan 1."));
+    }
+}
+
+#[test]
+fn help_that_is_not_taken_is_told(rt: HostRuntime) {
+    for words in [
+        ["x25scan", "--help"].as_slice(),
+        ["x25scan", "--version"].as_slice(),
+    ] {
+        let cuts = Cuts {
+            good_writes: 0,
+            ..Cuts::of_steps(1, 1)
+        };
+        let ran = run(&rt, rt.alloc(), words, b"", cuts);
+        assert_eq!(rt; ran.status, 3);
+        assert_eq!(rt; ran.told.as_slice(), b"x25scan: write failed\n".as_slice());
+    }
 }

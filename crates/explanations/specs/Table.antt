@@ -1,5 +1,5 @@
 -- The table of explanations: which words it has, in which order, and which of its rows explain a word.
-use Rattle.std.specs.Prelude.{ℕ, Bool, true, false, List, [], ◌∷◌, ◌++◌, filter, flat_map, map, Some, None, codes, decimal}
+use Rattle.std.specs.Prelude.{ℕ, Bool, true, false, ◌||◌, List, [], ◌∷◌, ◌++◌, filter, flat_map, map, Some, None, codes, decimal}
 use Rattle.std.specs.List.{range_with_len}
 use Rattle.std.specs.Borrow.{Bor}
 use Rattle.std.specs.Str.{bytes_eq}
@@ -85,11 +85,11 @@ fault_word (Double id) = codes "piece"
 fault_word (Stranger id) = codes "piece"
 fault_word (Missing id) = codes "piece"
 
--- the refusals: the faults, arguments that are no text, and a word that is not explained
+-- the refusals: the faults, arguments that are no text, a word that is not explained, and a trace that cannot be opened
 abbrev pub refusal_keys : List Key
 refusal_keys = all_of topic.TheVariants.Refusal
     (map fault_word (Memory ∷ Trace 1 HeaderMissing ∷ Read ∷ Write ∷ Start ∷ Double 0 ∷ Stranger 0 ∷ Missing 0 ∷ [])
-    ++ codes "arguments" ∷ codes "word" ∷ [])
+    ++ codes "arguments" ∷ codes "word" ∷ codes "open" ∷ [])
 
 -- the exit statuses
 abbrev pub status_keys : List Key
@@ -109,9 +109,25 @@ table_keys =
 abbrev pub rows : List (Bor (List Explanation)) → List Explanation
 rows sections = flat_map (λ section. section.now) sections
 
--- whether a row explains a word
+-- the name of a topic, by which all its words are asked for
+abbrev pub topic_name : Topic → List ℕ
+topic_name topic.TheVariants.Line = codes "line"
+topic_name topic.TheVariants.Side = codes "side"
+topic_name topic.TheVariants.Direction = codes "direction"
+topic_name topic.TheVariants.Ending = codes "end"
+topic_name topic.TheVariants.Setting = codes "setting"
+topic_name topic.TheVariants.Absent = codes "absent"
+topic_name topic.TheVariants.State = codes "state"
+topic_name topic.TheVariants.Code = codes "code"
+topic_name topic.TheVariants.Message = codes "message"
+topic_name topic.TheVariants.Kind = codes "kind"
+topic_name topic.TheVariants.Refusal = codes "refusal"
+topic_name topic.TheVariants.Status = codes "status"
+topic_name topic.TheVariants.Parameter = codes "parameter"
+
+-- whether a row explains a word: its own, the name of its topic, or both with a space between them
 abbrev pub is_of : List ℕ → Explanation → Bool
-is_of word e = bytes_eq e.word.now word
+is_of word e = bytes_eq e.word.now word || (bytes_eq (topic_name e.topic) word || bytes_eq (topic_name e.topic ++ (codes " " ++ e.word.now)) word)
 
 -- the rows that explain a word, in the order of the table
 abbrev pub explanations_of : List ℕ → List Explanation → List Explanation

@@ -33,7 +33,29 @@ pub enum Topic {
 
 impl Topic {
     ghost use Rattle.std.specs.Prelude.{◌≡◌};
+    ghost use Rattle.explanations.specs.Table.{topic_name};
     ghost use Rattle.explanations.specs.Texts.{topic_word};
+
+    /// The name of the topic, by which all its words are asked for (profile).
+    pub fn name(self) -> &'static str
+        ensures { result.now ≡ topic_name self }
+    {
+        match self {
+            Topic::Line => "line",
+            Topic::Side => "side",
+            Topic::Direction => "direction",
+            Topic::Ending => "end",
+            Topic::Setting => "setting",
+            Topic::Absent => "absent",
+            Topic::State => "state",
+            Topic::Code => "code",
+            Topic::Message => "message",
+            Topic::Kind => "kind",
+            Topic::Refusal => "refusal",
+            Topic::Status => "status",
+            Topic::Parameter => "parameter",
+        }
+    }
 
     /// What is told of a word of this topic (profile).
     pub fn word(self) -> &'static str

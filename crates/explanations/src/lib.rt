@@ -3,11 +3,11 @@
 
 pub mod explanation;
 mod fields;
-mod flow_codes;
+pub mod flow_codes;
 mod kinds;
-mod messages;
-mod packet_codes;
-mod parameters;
+pub mod messages;
+pub mod packet_codes;
+pub mod parameters;
 mod refusals;
 mod states;
 mod statuses;

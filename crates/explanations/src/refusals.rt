@@ -5,7 +5,7 @@ ghost use Rattle.explanations.specs.Table.{key, refusal_keys};
 
 use crate::explanation::{Explanation, Topic};
 
-const REFUSALS: [Explanation; 10] = [
+const REFUSALS: [Explanation; 11] = [
     Explanation {
         topic: Topic::Refusal,
         word: "memory",
@@ -21,7 +21,7 @@ const REFUSALS: [Explanation; 10] = [
         topic: Topic::Refusal,
         word: "kind",
         name: "line L: kind K",
-        meaning: "The trace is refused at line L, counted from 1 with comments, by rule K.",
+        meaning: "The trace is refused at line L, counted from 1 with comments, by rule K. A second line tells what is wrong there.",
         when: "With status 2, by the first faulty line; 21 to 29 are the rules.",
         clause: "profile",
         definition: "crates/line_model/specs/Faults.antt",
@@ -32,7 +32,7 @@ const REFUSALS: [Explanation; 10] = [
         topic: Topic::Refusal,
         word: "read",
         name: "read failed",
-        meaning: "Standard input could not be read.",
+        meaning: "The trace could not be read.",
         when: "With status 3. Nothing was reported but what --follow had written.",
         clause: "profile",
         definition: "crates/line_model/specs/Faults.antt",
@@ -43,7 +43,7 @@ const REFUSALS: [Explanation; 10] = [
         topic: Topic::Refusal,
         word: "write",
         name: "write failed",
-        meaning: "Standard output did not take the report.",
+        meaning: "Standard output did not take the report, the help or what else was asked for, as a full device or a closed pipe.",
         when: "With status 3. A first part of the report may have been written.",
         clause: "profile",
         definition: "crates/line_model/specs/Faults.antt",
@@ -114,6 +114,17 @@ const REFUSALS: [Explanation; 10] = [
         clause: "profile",
         definition: "crates/command_line/specs/Explaining.antt",
         example: "x25scan: no such word: d4 (x25scan --explain lists them)",
+        trace: "",
+    },
+    Explanation {
+        topic: Topic::Refusal,
+        word: "open",
+        name: "cannot open FILE",
+        meaning: "The trace of this name could not be opened: no such file, permission denied, it is a directory, or the system refuses it.",
+        when: "With status 3, before anything was read, standard input too.",
+        clause: "profile",
+        definition: "crates/streams/src/input.rt",
+        example: "x25scan: cannot open day.trace: no such file",
         trace: "",
     },
 ];

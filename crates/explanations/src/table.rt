@@ -1,7 +1,7 @@
 //! The table of all words, and the explanations of one.
 
 ghost use Rattle.std.specs.Prelude.{◌≡◌, ◌++◌, IfOk, OnOk, map};
-ghost use Rattle.explanations.specs.Table.{explanations_of, key, rows, table_keys};
+ghost use Rattle.explanations.specs.Table.{explanations_of, is_of, key, rows, table_keys};
 
 use crate::explanation::Explanation;
 use crate::fields::fields;
@@ -36,8 +36,19 @@ pub fn all() -> [&'static [Explanation]; SECTIONS]
     ]
 }
 
+/// Whether a row explains a word: it is the row's own, the name of its topic, or both with a space between them, as
+/// `22`, `kind` and `kind 22`.
+fn explains(alloc: Global, explanation: &Explanation, word: &str) -> Result<bool, AllocError>
+    ensures { IfOk result (λ answer. answer ≡ is_of word.now explanation.now) }
+{
+    let topic = explanation.topic.name();
+    let both = format!(in alloc; "{} {}", topic, explanation.word)?;
+    Ok(explanation.word == word || topic == word || both.as_str() == word)
+}
+
 /// Appends the explanations of a word among those of a section.
 fn push_explanations(
+    alloc: Global,
     section: &'static [Explanation],
     word: &str,
     found: &mut Vec<Explanation>,
@@ -45,7 +56,7 @@ fn push_explanations(
     ensures { OnOk result (found.new.items ≡ found.old.items ++ explanations_of word.now section.now) }
 {
     for explanation in section {
-        if explanation.word == word {
+        if explains(alloc, explanation, word)? {
             found.push(*explanation)?;
         }
     }
@@ -62,7 +73,7 @@ pub fn explain(
 {
     let mut found = Vec::new(alloc);
     for section in sections {
-        push_explanations(section, word, &mut found)?;
+        push_explanations(alloc, section, word, &mut found)?;
     }
     Ok(found)
 }

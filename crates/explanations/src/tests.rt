@@ -43,8 +43,35 @@ fn a_word_has_all_its_meanings(rt: HostRuntime) -> Result<(), Fail> {
 }
 
 #[test]
+fn a_topic_tells_one_meaning_or_all_of_its_words(rt: HostRuntime) -> Result<(), Fail> {
+    for (word, rows, name) in [
+        ("kind 22", 1, "HeaderForm"),
+        ("parameter 2", 1, "echo"),
+        ("code 22", 1, "Packet type invalid for state p3"),
+        ("state -", 1, "no state"),
+        ("parameter", 22, "PAD recall using a character"),
+        ("status", 5, "no finding"),
+    ] {
+        let found = explain(rt.alloc(), all().as_slice(), word)?;
+        assert_eq!(rt; found.len(), rows, "at {word}");
+        assert_eq!(rt; found[0].name, name, "at {word}");
+    }
+    Ok(())
+}
+
+#[test]
 fn another_word_has_none(rt: HostRuntime) -> Result<(), Fail> {
-    for word in ["", "d4", "42", "x1", "F ", "Invalid P(S)"] {
+    for word in [
+        "",
+        "d4",
+        "42",
+        "x1",
+        "F ",
+        "Invalid P(S)",
+        "kind 30",
+        "22 kind",
+        "kind  22",
+    ] {
         let found = explain(rt.alloc(), all().as_slice(), word)?;
         assert!(rt; found.is_empty(), "at {word}");
     }
@@ -124,7 +151,7 @@ fn an_explanation_is_printed(rt: HostRuntime) -> Result<(), Fail> {
 #[test]
 fn the_list_has_a_line_for_each_row(rt: HostRuntime) -> Result<(), Fail> {
     let text = headings_text(rt.alloc(), all().as_slice())?;
-    assert_eq!(rt; text.as_str().lines().count(), 115);
+    assert_eq!(rt; text.as_str().lines().count(), 116);
     assert!(rt;
         text.as_str().starts_with("F (line of the report): finding\nC (line of the report): call\n")
     );

@@ -1,6 +1,7 @@
-//! Reports that are posted in turn, and from two threads side by side.
+//! Reports that are posted in turn, and from two threads side by side, and posts whose growths are refused.
 
 mod in_turn;
+mod refused;
 mod side_by_side;
 
 ghost use Rattle.std.specs.Prelude.{◌≡◌, ◌≤◌, ◌^◌, ◌+◌, IfOk, vec_len};
@@ -13,7 +14,7 @@ use line_model::finding::{Code, Finding};
 use line_model::piece::PieceReport;
 use line_model::state::{Side, StateName};
 use line_model::totals::Totals;
-use std::alloc::Global;
+use std::alloc::{Allocator, Global};
 use std::marker::Brand;
 use std::process::Abort;
 use std::sync::Wait;
@@ -39,13 +40,13 @@ fn finding(packet: u32) -> Finding {
 }
 
 /// The report of a piece without calls.
-fn report_of(
-    alloc: Global,
+fn report_of<A: Allocator + Copy>(
+    alloc: A,
     id: u32,
-    findings: Vec<Finding>,
+    findings: Vec<Finding, A>,
     octets: u16,
     segments: u16,
-) -> PieceReport
+) -> PieceReport<A>
     requires few { vec_len findings ≤ 2 ^ 31 }
 {
     PieceReport {
@@ -60,7 +61,12 @@ fn report_of(
 }
 
 /// The report of a piece with one finding.
-fn report(alloc: Global, id: u32, octets: u16, segments: u16) -> Result<PieceReport, Fault> {
+fn report<A: Allocator + Copy>(
+    alloc: A,
+    id: u32,
+    octets: u16,
+    segments: u16,
+) -> Result<PieceReport<A>, Fault> {
     let findings = vec![in alloc; finding(1)]?;
     Ok(report_of(alloc, id, findings, octets, segments))
 }

@@ -41,3 +41,4 @@ pub mod EventWeights
 pub mod DataLengths
 pub mod ValueBounds
 pub mod RowsSoFar
+pub mod ItemLemmas

@@ -2,6 +2,7 @@ pub mod Limits
 pub mod Choice
 pub mod Octets
 pub mod Records
+pub mod Items
 pub mod Tables
 pub mod Classes
 pub mod Bounds

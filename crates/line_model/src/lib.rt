@@ -9,6 +9,7 @@ pub mod event;
 pub mod fault;
 pub mod finding;
 pub mod interface;
+pub mod items;
 pub mod laws;
 pub mod packet;
 pub mod piece;

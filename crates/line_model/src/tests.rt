@@ -12,6 +12,8 @@ use crate::state::{ChannelState, DState, PState, RState, Side, StateName};
 use crate::table::{Action, table_n, table_t};
 use std::test::Fail;
 
+mod items;
+
 /// Channel 1 is permanent, 2 for incoming calls, 3 and 4 two-way, 5 for outgoing calls.
 const MIXED: Interface = Interface {
     modulus: 8,

@@ -1,6 +1,7 @@
 //! Reports of a trace that is fed in chunks.
 
 ghost use Rattle.std.specs.Prelude.{◌≡◌, ◌≢◌, ℕ, ◌+◌, ◌<◌, ◌≤◌, ◌^◌, ◌++◌, [], List, Some, None, Err, length, IfErr, IfOk, OnOk};
+ghost use Rattle.std.specs.Option.{option_map};
 ghost use Rattle.line_model.specs.Text.{early, ended_lines, fault};
 ghost use Rattle.line_model.specs.Traces.{trace_report};
 ghost use Rattle.trace_text.specs.Progress.{bytes_fed};
@@ -16,6 +17,7 @@ use channel_machine::run::Channel;
 use line_model::device::Sink;
 use line_model::fault::Fault;
 use line_model::finding::Finding;
+use line_model::interface::Interface;
 use line_model::report::Report;
 use line_model::row::Row;
 use line_model::state::Side;
@@ -55,6 +57,27 @@ impl<A: Allocator + Copy, C: Channel<A>> Live<A, C> {
             found: Vec::new(alloc),
             refused: None,
         }
+    }
+
+    /// The interface of the header, once an LF has ended it.
+    pub fn interface(&self) -> Option<Interface>
+        ensures { result ≡ self.now.lines.interface }
+    {
+        self.lines.interface()
+    }
+
+    /// The last row that was taken; what it holds where there is none is not said.
+    pub fn row(&self) -> &Row<A>
+        ensures { result.now ≡ self.now.row }
+    {
+        &self.row
+    }
+
+    /// The observer of the rows so far, once there is one.
+    pub fn observer(&self) -> Option<&Observer<A, C>>
+        ensures { option_map (λ o. o.now) result ≡ self.now.observer }
+    {
+        self.observer.as_ref()
     }
 
     /// What the rows of the last chunk found, in their order.
@@ -182,7 +205,7 @@ impl<A: Allocator + Copy, C: Channel<A>> Live<A, C> {
     }
 
     /// The report of the whole text.
-    pub(crate) fn whole(self) -> Result<Report<A>, Fault>
+    pub fn whole(self) -> Result<Report<A>, Fault>
         requires fed { IsFed C.interface_of C.number_of C.stands_for self }
         ensures told { (text : List ℕ) → StandsFor C.interface_of C.number_of C.stands_for self text → IfOk result (IsReportOf text) }
         ensures refused { (text : List ℕ) → StandsFor C.interface_of C.number_of C.stands_for self text → IfErr result (IsFaultOf (fault text)) }

@@ -1,6 +1,6 @@
 //! The observer that runs: it walks a trace row by row, and keeps what it found, not what it read.
 
-ghost use Rattle.std.specs.Prelude.{option_to_list, ◌≡◌, ℕ, ◌<◌, ◌≤◌, ◌+◌, ◌^◌, ◌++◌, ◌∷◌, [], List, length, map, Some, IfErr, IfOk, OnOk};
+ghost use Rattle.std.specs.Prelude.{option_to_list, ◌≡◌, ℕ, ◌<◌, ◌≤◌, ◌+◌, ◌^◌, ◌++◌, ◌∷◌, [], List, length, map, Some, IfErr, IfOk, IfSome, OnOk};
 ghost use Rattle.line_model.specs.Bounds.{IsPiece};
 ghost use Rattle.line_model.specs.Classes.{packet_of};
 ghost use Rattle.line_model.specs.Octets.{channel_of};
@@ -13,6 +13,7 @@ ghost use Rattle.restart_epochs.specs.OpenRows.{rows_of, no_rows, IsListing};
 ghost use Rattle.restart_epochs.specs.Cutting.{Cutting, IsKeptOn, IsStepped, IsLeft, pieces_out};
 ghost use Rattle.channel_machine.specs.Live.{channel_so_far};
 ghost use Rattle.channel_machine.specs.Run.{row_events};
+ghost use Rattle.channel_machine.specs.Views.{IsViewOf};
 ghost use Rattle.live_report.specs.Lanes.{begun_piece};
 ghost use Rattle.live_report.specs.Observing.{AreRows, Holds, StandsFor};
 
@@ -20,7 +21,7 @@ use crate::ending::end_channels;
 use crate::lanes::step_channel;
 use crate::telling::tell_channels;
 use channel_machine::live::LiveChannel;
-use channel_machine::run::Channel;
+use channel_machine::run::{Channel, View};
 use line_model::event::Event;
 use line_model::fault::Fault;
 use line_model::finding::Finding;
@@ -28,6 +29,7 @@ use line_model::interface::Interface;
 use line_model::packet::Packet;
 use line_model::report::Report;
 use line_model::row::Row;
+use line_model::state::RState;
 use packet_decode::decode::decode;
 use report_merge::parts::Parts;
 use restart_epochs::open_lanes::Lanes;
@@ -150,6 +152,44 @@ impl<A: Allocator + Copy, C: Channel<A>> Observer<A, C> {
         Ok(finding)
     }
 
+    /// The state of the restart machine.
+    pub fn restart_state(&self) -> RState
+        ensures { result ≡ self.now.machine.state }
+    {
+        self.machine.state()
+    }
+
+    /// Which stretch between restarts goes on, counted from 1.
+    pub fn epoch(&self) -> u32
+        ensures { result ≡ self.now.epoch }
+    {
+        self.epoch
+    }
+
+    /// How many rows were taken.
+    pub fn packets(&self) -> u32
+        ensures { result ≡ self.now.packets }
+    {
+        self.packets
+    }
+
+    /// The events of the last row that a channel took.
+    pub fn events(&self) -> &[Event]
+        ensures { result.now ≡ self.now.events.items }
+    {
+        self.events.as_slice()
+    }
+
+    /// What is known of a logical channel in the epoch that goes on, if it has rows there.
+    pub fn view(&self, channel: u16) -> Option<View>
+        ensures { (c : Cutting) (reports : List records.PieceReport) → Holds C.interface_of C.number_of C.stands_for c reports self.now → IfSome result (IsViewOf c.interface (channel_so_far (begun_piece c.interface c.epoch channel (rows_of c.open_rows channel)))) }
+    {
+        match self.lanes.get(channel) {
+            Some(live) => Some(live.view()),
+            None => None,
+        }
+    }
+
     /// Takes the next row, and answers what it finds. It refuses for want of memory alone, and stands for nothing then.
     pub fn take(&mut self, row: &Row<A>) -> Result<Option<Finding>, Fault>
         requires room { (i : AnyInterface) × (rows : List records.Row) × StandsFor C.interface_of C.number_of C.stands_for i rows self.old × AreRows (rows ++ row.now ∷ []) }
@@ -163,7 +203,7 @@ impl<A: Allocator + Copy, C: Channel<A>> Observer<A, C> {
         let packet = decode(&self.interface, octets);
         let mut machine = self.machine;
         let route = machine.step(&packet, octets.len(), row.side);
-        let finding = finding_of(route, row);
+        let finding = finding_of(route, row.number, row.side);
         match route {
             Route::ToChannel => self.step(logical_channel(octets), row, &packet),
             Route::Leave(_) => self.leave(machine, row.number, finding),

@@ -1,4 +1,4 @@
--- What is kept of the packets that a side has begun, and what a packet does to it (X.25 clause 4.3.4).
+-- What is kept of the packets that a side has begun, and what a packet does to it (X.25 clause 4.3.5).
 use Rattle.std.specs.Prelude.{ℕ, Bool, true, false, ◌≡◌, List, [], ◌∷◌, ◌++◌, ◌-◌, length, take, Option, Some, None}
 use Rattle.std.specs.List.{list_all}
 use Rattle.line_model.specs.declared.state.Side.{Side}

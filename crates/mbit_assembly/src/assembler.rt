@@ -14,7 +14,7 @@ use std::alloc::{Allocator, Global};
 use std::marker::Model;
 
 /// Joins the data packets of a channel to complete sequences, for each side by its packet size in force (X.25 clause
-/// 4.3.4). A contract speaks of the list of packets that were accepted since nothing was begun, which nothing stores.
+/// 4.3.5). A contract speaks of the list of packets that were accepted since nothing was begun, which nothing stores.
 #[derive(Drop)]
 pub struct Assembler<A: Allocator = Global> {
     of_t: Begun<A>,

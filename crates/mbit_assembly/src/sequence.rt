@@ -57,7 +57,7 @@ impl<A: Allocator> UserData<'_, A> {
     }
 }
 
-/// A complete sequence of a side (X.25 clause 4.3.4).
+/// A complete sequence of a side (X.25 clause 4.3.5).
 #[derive(Drop)]
 pub struct Sequence<'a, A: Allocator = Global> {
     /// The side that sent it.

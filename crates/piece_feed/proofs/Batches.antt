@@ -3,20 +3,14 @@ use Rattle.std.proofs.Common.{◌≡◌, ◌∙◌, sym, ap, subst, refl, ℕ, z
 use Rattle.std.specs.Prelude.{All}
 use Rattle.std.proofs.lemmas.List.{map-append}
 use Rattle.std.proofs.lemmas.List.Sums.{sum_by_push, sum_by-cons, sum_by-append}
-use Rattle.line_model.specs.Records.{Row, Item}
-use Rattle.line_model.specs.declared.interface.Interface.{Interface}
-use Rattle.line_model.specs.Classes.{packet_of}
-use Rattle.line_model.specs.Plans.{item_of}
+use Rattle.line_model.specs.Records.{Row, Item, Piece}
 use Rattle.line_model.specs.Text.{last_or}
 use Rattle.line_model.proofs.Rising.{RisesFrom, rises-from_index}
 use Rattle.line_model.proofs.InOrder.{index-from_rises}
-use Rattle.restart_epochs.specs.Cutting.{Cutting, IsCounted}
+use Rattle.restart_epochs.specs.Cutting.{Cutting, IsCounted, HasAppended}
 use Rattle.restart_epochs.proofs.Whole.{MayCome}
+use Rattle.piece_feed.specs.Batches.{rows_in}
 use Rattle.piece_feed.specs.Fronts.{CanFollow, IsCounting, IsTrace}
-
--- the rows of some items
-abbrev pub rows_in : List Item → List Row
-rows_in items = map (λ item. item.row) items
 
 pub one_more : (before : List Row) (items : List Item) (item : Item) → (before ++ rows_in items) ++ item.row ∷ [] ≡ before ++ rows_in (items ++ item ∷ [])
 one_more before items item = append_assoc before (rows_in items) (item.row ∷ []) ∙ ap (λ l. before ++ l) (sym (map-append (λ (x : Item). x.row) items (item ∷ [])))
@@ -42,15 +36,6 @@ next_octets c r rs m = let all = m.octets in omega (arith, all, sum_by-cons (λ 
 pub all_but_first : {X : Type 0} (P : X → Type 0) (x : X) (xs : List X) → All P (x ∷ xs) → All P xs
 all_but_first P x xs h k y lt = h (suc k) y (omega arith)
 
-pub rows_of_items : (i : Interface) (rs : List Row) → rows_in (map (item_of i) rs) ≡ rs
-rows_of_items i [] = refl
-rows_of_items i (r ∷ rs) = ap (λ l. r ∷ l) (rows_of_items i rs)
-
-pub packets_of_items : (i : Interface) (rs : List Row) → All (λ item. item.packet ≡ packet_of i item.row.octets) (map (item_of i) rs)
-packets_of_items i [] k d lt = absurd (omega (arith, lt))
-packets_of_items i (r ∷ rs) zero d lt = refl
-packets_of_items i (r ∷ rs) (suc k) d lt = packets_of_items i rs k d (omega (arith, lt))
-
 rises_after : (b : ℕ) (xs ys : List ℕ) → RisesFrom b (xs ++ ys) → RisesFrom (last_or b xs) ys
 rises_after b [] ys h = h
 rises_after b (x ∷ xs) ys h = rises_after x xs ys h.1
@@ -71,3 +56,7 @@ may_follow c before rs counting trace =
       numbers = all_behind (λ r. r.number ≤ 999999999) before rs trace.numbers;
       octets = omega (arith, octets, few, sum_by-append (λ (r : Row). length r.octets) before rs);
     }
+
+-- the pieces that come behind those that were given out are appended to both lists
+pub pieces_came : (first out out' known known' : List Piece) → first ++ out ≡ known → HasAppended out out' known known' → first ++ out' ≡ known'
+pieces_came first out out' known known' e h = ap (λ l. first ++ l) h.out_has ∙ sym (append_assoc first out h.more) ∙ ap (λ l. l ++ h.more) e ∙ sym h.known_has

@@ -1,6 +1,5 @@
-pub mod Decoded
 pub mod Batches
+pub mod PartReads
 pub mod Nexts
 pub mod Texts
 pub mod Courses
-pub mod Appended

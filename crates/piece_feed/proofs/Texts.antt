@@ -21,7 +21,7 @@ use Rattle.piece_feed.specs.Readings.{IsCutOf, IsReadOf}
 use Rattle.piece_feed.specs.declared.reading.Read.{Read}
 use Rattle.piece_feed.specs.declared.taking.Front.{Front}
 
-some_same : {T : Type 0} (a b : T) → Some a ≡ Some b → a ≡ b
+pub some_same : {T : Type 0} (a b : T) → Some a ≡ Some b → a ≡ b
 some_same a b h = cc
 
 -- ---- the header that is known stays

@@ -13,8 +13,8 @@ ghost use Rattle.workers.specs.Workers.{HasFed};
 ghost use Rattle.piece_feed.specs.Fronts.{HasCut, IsFedTo, IsEndReady};
 ghost use Rattle.piece_feed.specs.Readings.{HasRead, IsCutOf, IsOutcome, IsReadOf};
 
-use crate::fresh::last_rows;
-use crate::taking::{Front, front_of, take_bytes, take_rows};
+use crate::batch::Batch;
+use crate::taking::{Front, front_of, take_bytes, take_items};
 use line_model::device::Source;
 use line_model::fault::Fault;
 use line_model::finding::Finding;
@@ -77,11 +77,11 @@ fn end_front<P: Plan, A: Allocator + Copy, R: Wait + Clock>(
 }
 
 /// The text has ended: the row of its last line, and the pieces that were not fed yet.
-fn finish<P: Plan, A: Allocator + Copy, T: Threads + Sync, R: Wait + Clock>(
+fn finish<P: Plan, A: Allocator + Copy, R: Wait + Clock>(
     rt: &R,
-    threads: &T,
     alloc: A,
     lines: Lines<A>,
+    mut batch: Batch<A>,
     front: Option<Front<A>>,
     work: &Work<P, A>,
     pass: &mut FeederPass<A>,
@@ -95,12 +95,12 @@ fn finish<P: Plan, A: Allocator + Copy, T: Threads + Sync, R: Wait + Clock>(
     ensures refused { (text : List ℕ) → StandsFor lines text → IfErr result (IsFaultOf (fault text)) }
     ensures kinds { IfErr result IsTextFault }
 {
-    let (interface, rows) = match last_rows(alloc, lines) {
-        Ok(end) => end,
+    let interface = match batch.end(lines) {
+        Ok(interface) => interface,
         Err(fault) => return Err(fault),
     };
     let front = front_of(alloc, &interface, front);
-    let front = match take_rows(rt, threads, alloc, rows, front, work, pass) {
+    let front = match take_items(rt, alloc, &batch.items, front, work, pass) {
         Ok(front) => front,
         Err(fault) => return Err(fault),
     };
@@ -108,9 +108,8 @@ fn finish<P: Plan, A: Allocator + Copy, T: Threads + Sync, R: Wait + Clock>(
 }
 
 /// Reads a source to its end. The pieces of its trace are fed as soon as they are known whole.
-fn read_all<P: Plan, A: Allocator + Copy, S: Source, T: Threads + Sync, R: Wait + Clock>(
+fn read_all<P: Plan, A: Allocator + Copy, S: Source, R: Wait + Clock>(
     rt: &R,
-    threads: &T,
     alloc: A,
     source: &mut S,
     work: &Work<P, A>,
@@ -126,16 +125,17 @@ fn read_all<P: Plan, A: Allocator + Copy, S: Source, T: Threads + Sync, R: Wait 
 {
     let mut buffer = [0; PIECE];
     let mut lines = Lines::new(alloc);
+    let mut batch = Batch::new(alloc);
     let mut front = None;
     loop {
         match source.read(&mut buffer) {
-            Ok(0) => return finish(rt, threads, alloc, lines, front, work, pass),
+            Ok(0) => return finish(rt, alloc, lines, batch, front, work, pass),
             Ok(n) => match take_bytes(
                 rt,
-                threads,
                 alloc,
                 &buffer[..n],
                 &mut lines,
+                &mut batch,
                 front,
                 work,
                 pass,
@@ -148,8 +148,8 @@ fn read_all<P: Plan, A: Allocator + Copy, S: Source, T: Threads + Sync, R: Wait 
     }
 }
 
-/// The reading thread's part of a scan with threads: a source, what starts the threads that decode, and what became of
-/// reading it: nothing before.
+/// The reading thread's part of a scan with threads: a source, what starts threads that would read beside it (none is
+/// started yet), and what became of reading it: nothing before.
 #[derive(Drop)]
 pub struct Reading<'a, A: Allocator, S, T> {
     pub source: &'a mut S,
@@ -160,7 +160,7 @@ pub struct Reading<'a, A: Allocator, S, T> {
 
 impl<'a, P: Plan, A: Allocator + Copy, S: Source, T: Threads + Sync> Feed<P, A>
     for Reading<'a, A, S, T> {
-    // What starts the decoding threads may be shared with them. The plan is that of the bytes that the source tells.
+    // What starts threads may be shared with them. The plan is that of the bytes that the source tells.
     ghost can_feed = { λ task. IsSync T.row × (P.pieces ≡ option_map trace_plan (S.left task.source.now)) };
 
     ghost feed_gives = { λ task fed after. (after.source.ghost_name ≡ task.source.ghost_name) × IsOutcome (S.left task.source.now) (S.left after.source.now) (S.failures task.source.now < S.failures after.source.now) fed after.outcome × (S.calls after.source.now ≤ S.calls task.source.now + (2 ^ 30 + 1)) };
@@ -178,7 +178,7 @@ impl<'a, P: Plan, A: Allocator + Copy, S: Source, T: Threads + Sync> Feed<P, A>
             alloc,
             ..
         } = self;
-        let outcome = Some(read_all(rt, threads, alloc, source, work, pass));
+        let outcome = Some(read_all(rt, alloc, source, work, pass));
         Reading {
             source,
             threads,

@@ -3,26 +3,24 @@
 ghost use Rattle.std.specs.Prelude.{◌≡◌, ℕ, ◌++◌, ◌+◌, ◌≤◌, ◌^◌, [], List, Option, Some, None, All, IfErr, IfOk, IfSome, MatchOption, OnOk, length, map};
 ghost use Rattle.line_model.specs.Text.{early, early_head};
 ghost use Rattle.line_model.specs.Records as records;
-ghost use Rattle.line_model.specs.Classes.{packet_of};
 ghost use Rattle.line_model.specs.declared.interface.Interface.{Interface as AnyInterface};
 ghost use Rattle.line_model.specs.declared.fault.Fault.TheVariants.{Memory};
 ghost use Rattle.trace_text.specs.Progress.{bytes_fed};
 ghost use Rattle.trace_text.specs.StandsFor.{StandsFor, IsFaultOf, IsTextFault};
 ghost use Rattle.restart_epochs.specs.Cutting.{StandsFor as IsCutterOf, given_of};
 ghost use Rattle.workers.specs.Workers.{HasFed};
+ghost use Rattle.piece_feed.specs.Batches.{HasPacket, rows_in};
 ghost use Rattle.piece_feed.specs.Fronts.{CanFollow, HasCut, IsReady, IsTextReady, IsFrontOf, IsFedTo, IsCounting};
 
-use crate::decoding::decode_rows;
-use crate::fresh::{next_rows, push_item};
+use crate::batch::Batch;
 use line_model::fault::Fault;
 use line_model::interface::Interface;
+use line_model::items::Items;
 use line_model::piece::{Piece, Plan};
-use line_model::row::{Item, Row};
 use piece_queue::{FeederPass, Work};
 use restart_epochs::cutter::Cutter;
 use std::alloc::{Allocator, Global};
 use std::sync::Wait;
-use std::thread::Threads;
 use std::time::Clock;
 use trace_text::lines::Lines;
 use workers::feed_pieces;
@@ -57,43 +55,40 @@ pub fn front_of<A: Allocator + Copy>(
 /// The pieces that are known whole with these rows.
 fn push_items<A: Allocator + Copy>(
     alloc: A,
-    items: Vec<Item<A>, A>,
+    items: &Items<A>,
     cutter: &mut Cutter<A>,
 ) -> Result<Vec<Piece<A>, A>, Fault>
-    requires packets { All (λ item. item.packet ≡ packet_of cutter.old.interface item.row.octets) items.items }
-    requires follow { CanFollow cutter.old (map (λ item. item.row) items.items) }
-    ensures stands { (i : AnyInterface) (before : List records.Row) → IsCutterOf i before cutter.old → OnOk result (IsCutterOf i (before ++ map (λ item. item.row) items.items) cutter.new) }
-    ensures given { (i : AnyInterface) (before : List records.Row) → IsCutterOf i before cutter.old → IfOk result (λ pieces. given_of i before ++ pieces.items ≡ given_of i (before ++ map (λ item. item.row) items.items)) }
-    ensures counted { (before : List records.Row) → IsCounting before cutter.old → OnOk result (IsCounting (before ++ map (λ item. item.row) items.items) cutter.new) }
+    requires packets { All (HasPacket cutter.old.interface) items.now }
+    requires follow { CanFollow cutter.old (rows_in items.now) }
+    ensures stands { (i : AnyInterface) (before : List records.Row) → IsCutterOf i before cutter.old → OnOk result (IsCutterOf i (before ++ rows_in items.now) cutter.new) }
+    ensures given { (i : AnyInterface) (before : List records.Row) → IsCutterOf i before cutter.old → IfOk result (λ pieces. given_of i before ++ pieces.items ≡ given_of i (before ++ rows_in items.now)) }
+    ensures counted { (before : List records.Row) → IsCounting before cutter.old → OnOk result (IsCounting (before ++ rows_in items.now) cutter.new) }
     ensures interface { OnOk result (cutter.new.interface ≡ cutter.old.interface) }
     ensures memory { IfErr result (λ fault. fault ≡ Memory) }
 {
     let mut pieces = Vec::new(alloc);
-    for item in items {
-        match push_item(item, cutter, &mut pieces) {
-            Ok(()) => {}
-            Err(fault) => return Err(fault),
-        }
+    for item in items.iter() {
+        cutter.push(&item, &mut pieces)?;
     }
     Ok(pieces)
 }
 
-/// Decodes rows as one batch, cuts them, and feeds the pieces that are known whole with them.
-pub fn take_rows<P: Plan, A: Allocator + Copy, T: Threads + Sync, R: Wait + Clock>(
+/// Cuts rows, and feeds the pieces that are known whole with them.
+pub fn take_items<P: Plan, A: Allocator + Copy, R: Wait + Clock>(
     rt: &R,
-    threads: &T,
     alloc: A,
-    rows: Vec<Row<A>, A>,
+    items: &Items<A>,
     front: Front<A>,
     work: &Work<P, A>,
     pass: &mut FeederPass<A>,
 ) -> Result<Front<A>, Fault>
     requires queue { pass.old.queue ≡ work.now.queue }
     requires open { pass.old.record_of.ends ≡ 0 }
-    requires ready { (before : List records.Row) × IsReady P.pieces before rows.items pass.old.record_of.fed front }
+    requires ready { (before : List records.Row) × IsReady P.pieces before (rows_in items.now) pass.old.record_of.fed front }
+    requires packets { All (HasPacket front.interface) items.now }
     ensures queue { pass.new.queue ≡ pass.old.queue }
     ensures kept { HasFed pass.old.record_of pass.new.record_of }
-    ensures cut { (before : List records.Row) → HasCut before pass.old.record_of.fed front → IfOk result (HasCut (before ++ rows.items) pass.new.record_of.fed) }
+    ensures cut { (before : List records.Row) → HasCut before pass.old.record_of.fed front → IfOk result (HasCut (before ++ rows_in items.now) pass.new.record_of.fed) }
     ensures interface { IfOk result (λ after. after.interface ≡ front.interface) }
     ensures memory { IfErr result (λ fault. fault ≡ Memory) }
 {
@@ -102,7 +97,6 @@ pub fn take_rows<P: Plan, A: Allocator + Copy, T: Threads + Sync, R: Wait + Cloc
         mut cutter,
         fed,
     } = front;
-    let items = decode_rows(threads, alloc, &interface, rows)?;
     let pieces = push_items(alloc, items, &mut cutter)?;
     let fed = fed + pieces.len() as u32;
     feed_pieces(rt, work, pieces, pass);
@@ -113,14 +107,14 @@ pub fn take_rows<P: Plan, A: Allocator + Copy, T: Threads + Sync, R: Wait + Cloc
     })
 }
 
-/// Takes the next piece of the text: the rows that it completes are decoded, cut, and the pieces that are known whole
-/// with them are fed.
-pub fn take_bytes<P: Plan, A: Allocator + Copy, T: Threads + Sync, R: Wait + Clock>(
+/// Takes the next part of the text: the rows that it completes are cut, and the pieces that are known whole with them
+/// are fed.
+pub fn take_bytes<P: Plan, A: Allocator + Copy, R: Wait + Clock>(
     rt: &R,
-    threads: &T,
     alloc: A,
     bytes: &[u8],
     lines: &mut Lines<A>,
+    batch: &mut Batch<A>,
     front: Option<Front<A>>,
     work: &Work<P, A>,
     pass: &mut FeederPass<A>,
@@ -137,15 +131,15 @@ pub fn take_bytes<P: Plan, A: Allocator + Copy, T: Threads + Sync, R: Wait + Clo
     ensures limit { bytes_fed lines.new ≤ 2 ^ 30 }
     ensures kinds { IfErr result IsTextFault }
 {
-    let rows = match next_rows(alloc, lines, bytes) {
-        Ok(rows) => rows,
+    match batch.read(lines, bytes) {
+        Ok(()) => {}
         Err(fault) => return Err(fault),
-    };
+    }
     let Some(interface) = lines.interface() else {
         return Ok(None);
     };
     let front = front_of(alloc, &interface, front);
-    match take_rows(rt, threads, alloc, rows, front, work, pass) {
+    match take_items(rt, alloc, &batch.items, front, work, pass) {
         Ok(front) => Ok(Some(front)),
         Err(fault) => Err(fault),
     }

@@ -3,15 +3,13 @@
 ghost use Rattle.std.specs.Prelude.{◌≡◌, ◌<◌, Some};
 ghost use Rattle.line_model.specs.Traces.{trace_plan};
 
-use crate::{Read, Reading, decode_rows};
+use crate::batch::Batch;
+use crate::{Read, Reading};
 use line_model::count::Count;
 use line_model::device::Source;
 use line_model::fault::{Fault, Kind};
-use line_model::interface::Interface;
 use line_model::packet::Packet;
 use line_model::piece::{Piece, PieceReport, Plan};
-use line_model::row::Row;
-use line_model::state::Side;
 use std::alloc::{Allocator, Global};
 use std::marker::Brand;
 use std::sync::Wait;
@@ -19,6 +17,7 @@ use std::sync::ledger::{Blank, Ledger};
 use std::test::Fail;
 use std::thread::Threads;
 use std::time::Clock;
+use trace_text::lines::Lines;
 use workers::{Gate, Worked, work_through};
 
 /// How many bytes a source gives at once.
@@ -201,70 +200,46 @@ fn a_source_that_fails_is_told(rt: HostRuntime) -> Result<(), Fail> {
 
 #[test]
 fn rows_have_the_packets_of_their_octets(rt: HostRuntime) -> Result<(), Fail> {
-    let interface = Interface {
-        modulus: 8,
-        window: 2,
-        size: 128,
-        pvc: 0,
-        incoming: 0,
-        two_way: 4,
-        svc: 4,
-        join: false,
+    let text = b"X25 1 MOD 8 WIN 2 SIZE 128 PVC 0 SVC 4\n1 T 1000FB0000\n2 T 10030B0000\n";
+    let mut lines = Lines::new(rt.alloc());
+    let mut batch = Batch::new(rt.alloc());
+    batch.read(&mut lines, text.as_slice())?;
+    let mut items = batch.items.iter();
+    let (Some(restart), Some(call)) = (items.next(), items.next()) else {
+        return Err("not two rows")?;
     };
-    let mut rows = Vec::new(rt.alloc());
-    for (number, octets) in [(1, [16, 0, 251, 0, 0]), (2, [16, 3, 11, 0, 0])] {
-        let mut bytes = Vec::new(rt.alloc());
-        bytes.extend_from_slice(octets.as_slice())?;
-        rows.push(Row {
-            number,
-            side: Side::T,
-            octets: bytes,
-        })?;
-    }
-    let Ok(items) = decode_rows(&rt, rt.alloc(), &interface, rows) else {
-        return Err("refused")?;
-    };
-    let [restart, call] = items.as_slice() else {
-        return Err("not two items")?;
-    };
+    assert!(rt; items.next().is_none());
     assert!(rt; matches!(restart.packet, Packet::Restart));
     assert!(rt; matches!(call.packet, Packet::Channel { channel: 3, .. }));
-    assert_eq!(rt; call.row.number, 2);
+    assert_eq!(rt; call.number, 2);
     Ok(())
+}
+
+/// The text of 5000 calls: each row is on the channel behind that of the row before, and channel 1 comes behind 199.
+fn calls(alloc: Global) -> Result<Vec<u8>, Fail> {
+    let mut text = Vec::new(alloc);
+    text.extend_from_slice(b"X25 1 MOD 8 WIN 2 SIZE 128 PVC 0 SVC 200\n".as_slice())?;
+    for number in 1..=5000u32 {
+        let channel = number % 199 + 1;
+        let line = format!(in alloc; "{number} T 10{channel:02X}0B0000\n")?;
+        text.extend_from_slice(line.as_bytes())?;
+    }
+    Ok(text)
 }
 
 #[test]
 fn each_row_of_a_large_batch_has_its_packet(rt: HostRuntime) -> Result<(), Fail> {
-    let interface = Interface {
-        modulus: 8,
-        window: 2,
-        size: 128,
-        pvc: 0,
-        incoming: 0,
-        two_way: 200,
-        svc: 200,
-        join: false,
-    };
-    let mut rows = Vec::new(rt.alloc());
-    for number in 1..=5000u32 {
-        let mut octets = Vec::new(rt.alloc());
-        octets.extend_from_slice([16, (number % 199) as u8 + 1, 11, 0, 0].as_slice())?;
-        rows.push(Row {
-            number,
-            side: Side::T,
-            octets,
-        })?;
-    }
-    let Ok(items) = decode_rows(&rt, rt.alloc(), &interface, rows) else {
-        return Err("refused")?;
-    };
-    assert_eq!(rt; items.len(), 5000);
-    for (place, item) in items.iter().enumerate() {
+    let text = calls(rt.alloc())?;
+    let mut lines = Lines::new(rt.alloc());
+    let mut batch = Batch::new(rt.alloc());
+    batch.read(&mut lines, text.as_slice())?;
+    assert_eq!(rt; batch.items.len(), 5000);
+    for (number, item) in (1..=5000u32).zip(batch.items.iter()) {
         let Packet::Channel { channel, .. } = item.packet else {
             return Err("on no channel")?;
         };
-        assert_eq!(rt; item.row.number as usize, place + 1);
-        assert_eq!(rt; channel as u32, item.row.number % 199 + 1);
+        assert_eq!(rt; item.number, number);
+        assert_eq!(rt; u32::from(channel), number % 199 + 1);
     }
     Ok(())
 }

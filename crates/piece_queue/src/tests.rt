@@ -5,6 +5,7 @@ ghost use Rattle.piece_queue.specs.Rule.{worker};
 
 use crate::{FeederPass, Taken, Work, WorkerPass};
 use line_model::interface::Interface;
+use line_model::items::Items;
 use line_model::piece::Piece;
 use std::alloc::Global;
 use std::marker::Brand;
@@ -36,7 +37,7 @@ fn piece(alloc: Global, id: u32) -> Piece
         interface: PLAIN,
         epoch: 1,
         channel: 1,
-        items: Vec::new(alloc),
+        items: Items::new(alloc),
         end: None,
     }
 }

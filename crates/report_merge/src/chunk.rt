@@ -17,7 +17,7 @@ pub struct Chunk {
 }
 
 /// Gives the sink all of some bytes.
-fn send<W: Sink>(sink: &mut W, bytes: &[u8]) -> Result<(), ()>
+pub fn send<W: Sink>(sink: &mut W, bytes: &[u8]) -> Result<(), ()>
     ensures ok { OnOk result (W.taken sink.new ≡ with_more (W.taken sink.old) bytes.now) }
     ensures rising { W.failures sink.old ≤ W.failures sink.new }
     ensures cause { OnErr result (W.failures sink.old < W.failures sink.new) }

@@ -1,7 +1,7 @@
 //! The report of a trace: merged from the reports of its pieces, and written as text.
 #![tactic(auto)]
 
-mod chunk;
+pub mod chunk;
 mod judge;
 mod lines;
 pub mod merging;
@@ -9,4 +9,4 @@ pub mod parts;
 #[cfg(test)]
 mod tests;
 pub mod text;
-mod words;
+pub mod words;

@@ -217,13 +217,14 @@ fn pieces_that_come_one_by_one_give_the_report_so_far(rt: HostRuntime) -> Result
 fn reports_that_are_not_the_plans_are_refused(rt: HostRuntime) -> Result<(), Fail> {
     let alloc = rt.alloc();
     let cases = [
-        (Some(5), Fault::Double(5)),
-        (Some(12), Fault::Stranger(12)),
-        (None, Fault::Missing(3)),
+        (Some(5), 12, Fault::Double(5)),
+        (Some(5), 11, Fault::Stranger(11)),
+        (Some(12), 12, Fault::Stranger(12)),
+        (None, 12, Fault::Missing(3)),
     ];
-    for (third, fault) in cases {
+    for (third, pieces, fault) in cases {
         let reports = three_epochs(alloc, third)?;
-        match merge(alloc, reports, Vec::new(alloc), 16, 12) {
+        match merge(alloc, reports, Vec::new(alloc), 16, pieces) {
             Ok(_) => assert!(rt; false, "no refusal"),
             Err(refusal) => assert_eq!(rt; refusal, fault),
         }

@@ -8,11 +8,11 @@ ghost use Rattle.line_model.specs.declared.fault.Fault.TheVariants.{Memory};
 use crate::cutter::{Cut, Cutter};
 use line_model::fault::Fault;
 use line_model::interface::Interface;
-use line_model::row::{Item, Row};
+use line_model::row::Row;
 use packet_decode::decode::decode;
 use std::alloc::Allocator;
 
-/// Cuts the rows of a trace into pieces by epoch and logical channel (profile). The rows go into the pieces, with the
+/// Cuts the rows of a trace into pieces by epoch and logical channel (profile). The pieces have the rows with the
 /// packets that their octets are. Refuses for want of memory alone.
 pub fn cut<A: Allocator + Copy>(
     interface: &Interface,
@@ -31,10 +31,7 @@ pub fn cut<A: Allocator + Copy>(
     let mut pieces = Vec::new(*rows.allocator());
     for row in rows {
         let packet = decode(interface, row.octets.as_slice());
-        match cutter.push(Item { row, packet }, &mut pieces) {
-            Ok(()) => {}
-            Err(_) => return Err(Fault::Memory),
-        }
+        cutter.push(&row.with_packet(packet), &mut pieces)?;
     }
     let Cut {
         pieces: mut open,

@@ -16,9 +16,9 @@ use crate::showing::copy_out;
 use line_model::fault::Fault;
 use line_model::finding::Finding;
 use line_model::interface::Interface;
+use line_model::items::ItemRef;
 use line_model::piece::Piece;
-use line_model::row::Item;
-use std::alloc::{Allocator, Global};
+use std::alloc::{AllocError, Allocator, Global};
 use std::marker::Model;
 
 /// Cuts a trace into pieces.
@@ -102,26 +102,20 @@ impl<A: Allocator + Copy> Cutter<A> {
     }
 
     /// Keeps a row on its channel.
-    fn keep(&mut self, channel: u16, item: Item<A>) -> Result<(), Item<A>>
-        requires packet { item.packet ≡ packet_of self.old.interface item.row.octets }
-        requires channel { channel_of item.row.octets ≡ channel }
-        requires rising { self.old.last < item.row.number }
-        requires number { item.row.number ≤ 999999999 }
-        requires octets { self.old.octets + length item.row.octets ≤ 2 ^ 31 }
-        ensures ok { OnOk result (IsKeptOn channel item self.old self.new) }
-        ensures refused { IfErr result (λ back. (back ≡ item) × IsUnchanged self.old self.new) }
+    fn keep(&mut self, channel: u16, item: &ItemRef<'_>) -> Result<(), AllocError>
+        requires packet { item.now.packet ≡ packet_of self.old.interface item.now.row.octets }
+        requires channel { channel_of item.now.row.octets ≡ channel }
+        requires rising { self.old.last < item.now.row.number }
+        requires number { item.now.row.number ≤ 999999999 }
+        requires octets { self.old.octets + length item.now.row.octets ≤ 2 ^ 31 }
+        ensures ok { OnOk result (IsKeptOn channel item.now self.old self.new) }
+        ensures refused { OnErr result (IsUnchanged self.old self.new) }
     {
-        let number = item.row.number;
-        let length = item.row.octets.len() as u32;
-        match self.open_rows.push(channel, item) {
-            Ok(()) => {
-                self.packets += 1;
-                self.last = number;
-                self.octets += length;
-                Ok(())
-            }
-            Err(back) => Err(back),
-        }
+        self.open_rows.push(channel, item)?;
+        self.packets += 1;
+        self.last = item.number;
+        self.octets += item.octets.len() as u32;
+        Ok(())
     }
 
     /// Takes a row that steps the restart machine and does not leave r1.
@@ -130,23 +124,21 @@ impl<A: Allocator + Copy> Cutter<A> {
         machine: Restart,
         ended: u32,
         finding: Option<Finding>,
-        item: Item<A>,
-    ) -> Result<(), Item<A>>
+        item: &ItemRef<'_>,
+    ) -> Result<(), AllocError>
         requires ended { ended ≤ 1 }
-        requires rising { self.old.last < item.row.number }
-        requires number { item.row.number ≤ 999999999 }
-        requires octets { self.old.octets + length item.row.octets ≤ 2 ^ 31 }
-        ensures ok { OnOk result (IsStepped item.row machine (self.old.epoch + ended) (option_to_list finding) self.old self.new) }
-        ensures refused { IfErr result (λ back. (back ≡ item) × IsUnchanged self.old self.new) }
+        requires rising { self.old.last < item.now.row.number }
+        requires number { item.now.row.number ≤ 999999999 }
+        requires octets { self.old.octets + length item.now.row.octets ≤ 2 ^ 31 }
+        ensures ok { OnOk result (IsStepped item.now.row machine (self.old.epoch + ended) (option_to_list finding) self.old self.new) }
+        ensures refused { OnErr result (IsUnchanged self.old self.new) }
     {
-        if note(&mut self.findings, finding).is_err() {
-            return Err(item);
-        }
+        note(&mut self.findings, finding)?;
         self.machine = machine;
         self.epoch += ended;
         self.packets += 1;
-        self.last = item.row.number;
-        self.octets += item.row.octets.len() as u32;
+        self.last = item.number;
+        self.octets += item.octets.len() as u32;
         Ok(())
     }
 
@@ -155,28 +147,23 @@ impl<A: Allocator + Copy> Cutter<A> {
         &mut self,
         machine: Restart,
         finding: Option<Finding>,
-        item: Item<A>,
+        item: &ItemRef<'_>,
         out: &mut Vec<Piece<A>, A>,
-    ) -> Result<(), Item<A>>
-        requires rising { self.old.last < item.row.number }
-        requires number { item.row.number ≤ 999999999 }
-        requires octets { self.old.octets + length item.row.octets ≤ 2 ^ 31 }
-        ensures ok { OnOk result (IsLeft item.row machine (option_to_list finding) self.old self.new) }
-        ensures given { OnOk result (out.new.items ≡ out.old.items ++ pieces_out self.old.interface self.old.epoch (Some item.row.number) (rows_of self.old.open_rows) self.old.given self.old.open_rows.channels) }
-        ensures refused { IfErr result (λ back. (back ≡ item) × IsUnchanged self.old self.new × (out.new.items ≡ out.old.items)) }
+    ) -> Result<(), AllocError>
+        requires rising { self.old.last < item.now.row.number }
+        requires number { item.now.row.number ≤ 999999999 }
+        requires octets { self.old.octets + length item.now.row.octets ≤ 2 ^ 31 }
+        ensures ok { OnOk result (IsLeft item.now.row machine (option_to_list finding) self.old self.new) }
+        ensures given { OnOk result (out.new.items ≡ out.old.items ++ pieces_out self.old.interface self.old.epoch (Some item.now.row.number) (rows_of self.old.open_rows) self.old.given self.old.open_rows.channels) }
+        ensures refused { OnErr result (IsUnchanged self.old self.new × (out.new.items ≡ out.old.items)) }
     {
         let pieces = self.open_rows.len();
-        if out.reserve(pieces).is_err() {
-            return Err(item);
-        }
-        if note(&mut self.findings, finding).is_err() {
-            return Err(item);
-        }
-        let end = Some(item.row.number);
+        out.reserve(pieces)?;
+        note(&mut self.findings, finding)?;
         give_out(
             &self.interface,
             self.epoch,
-            end,
+            Some(item.number),
             self.given,
             &mut self.open_rows,
             out,
@@ -184,33 +171,33 @@ impl<A: Allocator + Copy> Cutter<A> {
         self.given += pieces as u32;
         self.machine = machine;
         self.packets += 1;
-        self.last = item.row.number;
-        self.octets += item.row.octets.len() as u32;
+        self.last = item.number;
+        self.octets += item.octets.len() as u32;
         Ok(())
     }
 
     /// Where the restart machine stands after a row, and where the row goes.
-    fn stepped(&self, item: &Item<A>) -> (Restart, Route)
+    fn stepped(&self, item: &ItemRef<'_>) -> (Restart, Route)
         ensures { record { route = result.1; after = result.0 } ≡ line_step self.now.line item.now.row.side (packet_class item.now.packet) (length item.now.row.octets) }
     {
         let mut machine = self.machine;
-        let route = machine.step(&item.packet, item.row.octets.len(), item.row.side);
+        let route = machine.step(&item.packet, item.octets.len(), item.side);
         (machine, route)
     }
 
-    /// Takes a row. Where memory is refused the row comes back, and nothing has changed.
-    fn take(&mut self, item: Item<A>, out: &mut Vec<Piece<A>, A>) -> Result<(), Item<A>>
-        requires packet { item.packet ≡ packet_of self.old.interface item.row.octets }
-        requires rising { self.old.last < item.row.number }
-        requires number { item.row.number ≤ 999999999 }
-        requires octets { self.old.octets + length item.row.octets ≤ 2 ^ 31 }
-        ensures ok { OnOk result (IsTaken item self.old self.new out.old.items out.new.items) }
-        ensures refused { IfErr result (λ back. (back ≡ item) × IsUnchanged self.old self.new × (out.new.items ≡ out.old.items)) }
+    /// Takes a row. Where memory is refused nothing has changed.
+    fn take(&mut self, item: &ItemRef<'_>, out: &mut Vec<Piece<A>, A>) -> Result<(), AllocError>
+        requires packet { item.now.packet ≡ packet_of self.old.interface item.now.row.octets }
+        requires rising { self.old.last < item.now.row.number }
+        requires number { item.now.row.number ≤ 999999999 }
+        requires octets { self.old.octets + length item.now.row.octets ≤ 2 ^ 31 }
+        ensures ok { OnOk result (IsTaken item.now self.old self.new out.old.items out.new.items) }
+        ensures refused { OnErr result (IsUnchanged self.old self.new × (out.new.items ≡ out.old.items)) }
     {
-        let (machine, route) = self.stepped(&item);
-        let finding = finding_of(route, &item.row);
+        let (machine, route) = self.stepped(item);
+        let finding = finding_of(route, item.number, item.side);
         match route {
-            Route::ToChannel => self.keep(logical_channel(item.row.octets.as_slice()), item),
+            Route::ToChannel => self.keep(logical_channel(item.octets), item),
             Route::Leave(_) => self.leave(machine, finding, item, out),
             Route::Enter => self.advance(machine, 1, finding, item),
             Route::Found(_, _) => self.advance(machine, 0, finding, item),
@@ -218,30 +205,24 @@ impl<A: Allocator + Copy> Cutter<A> {
         }
     }
 
-    /// Takes the next row, and appends the pieces of the epoch that it ends, if it leaves r1. A refusal for memory
-    /// gives the row back and changes nothing.
-    pub fn push(
-        &mut self,
-        item: Item<A>,
-        out: &mut Vec<Piece<A>, A>,
-    ) -> Result<(), (Item<A>, Fault)>
-        requires packet { item.packet ≡ packet_of self.old.interface item.row.octets }
-        requires rising { self.old.last < item.row.number }
-        requires number { item.row.number ≤ 999999999 }
-        requires octets { self.old.octets + length item.row.octets ≤ 2 ^ 31 }
+    /// Takes the next row, and appends the pieces of the epoch that it ends, if it leaves r1. A refusal
+    /// for memory changes nothing.
+    pub fn push(&mut self, item: &ItemRef<'_>, out: &mut Vec<Piece<A>, A>) -> Result<(), Fault>
+        requires packet { item.now.packet ≡ packet_of self.old.interface item.now.row.octets }
+        requires rising { self.old.last < item.now.row.number }
+        requires number { item.now.row.number ≤ 999999999 }
+        requires octets { self.old.octets + length item.now.row.octets ≤ 2 ^ 31 }
         // Of any rows that it was given: it stands for them and this one.
-        ensures stands { (i : AnyInterface) (rows : List records.Row) → StandsFor i rows self.old → OnOk result (StandsFor i (rows ++ item.row ∷ []) self.new) }
+        ensures stands { (i : AnyInterface) (rows : List records.Row) → StandsFor i rows self.old → OnOk result (StandsFor i (rows ++ item.now.row ∷ []) self.new) }
         // The pieces that are known whole came to stand behind those that were.
-        ensures given { (i : AnyInterface) (rows : List records.Row) (pieces : List records.Piece) → StandsFor i rows self.old → out.old.items ≡ pieces ++ given_of i rows → OnOk result (out.new.items ≡ pieces ++ given_of i (rows ++ item.row ∷ [])) }
+        ensures given { (i : AnyInterface) (rows : List records.Row) (pieces : List records.Piece) → StandsFor i rows self.old → out.old.items ≡ pieces ++ given_of i rows → OnOk result (out.new.items ≡ pieces ++ given_of i (rows ++ item.now.row ∷ [])) }
         // Whatever else was taken out of the list: the pieces that came to be known whole are appended.
-        ensures appended { (i : AnyInterface) (rows : List records.Row) → StandsFor i rows self.old → OnOk result (HasAppended out.old.items out.new.items (given_of i rows) (given_of i (rows ++ item.row ∷ []))) }
-        ensures counted { OnOk result (IsCounted item.row self.old self.new) }
-        ensures refused { IfErr result (λ back. (back.0 ≡ item) × (back.1 ≡ Memory) × IsUnchanged self.old self.new × (out.new.items ≡ out.old.items)) }
+        ensures appended { (i : AnyInterface) (rows : List records.Row) → StandsFor i rows self.old → OnOk result (HasAppended out.old.items out.new.items (given_of i rows) (given_of i (rows ++ item.now.row ∷ []))) }
+        ensures counted { OnOk result (IsCounted item.now.row self.old self.new) }
+        ensures refused { IfErr result (λ fault. (fault ≡ Memory) × IsUnchanged self.old self.new × (out.new.items ≡ out.old.items)) }
     {
-        match self.take(item, out) {
-            Ok(()) => Ok(()),
-            Err(back) => Err((back, Fault::Memory)),
-        }
+        self.take(item, out)?;
+        Ok(())
     }
 
     /// Copies of the pieces that were not given out yet, which have no end. The cutter stays as it is. It answers

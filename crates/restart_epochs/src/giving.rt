@@ -7,7 +7,6 @@ ghost use Rattle.restart_epochs.specs.OpenRows.{rows_of};
 ghost use Rattle.restart_epochs.specs.Cutting.{pieces_out, IsEmptied};
 
 use crate::open_epoch::OpenEpoch;
-use crate::reserved::push_reserved;
 use line_model::interface::Interface;
 use line_model::piece::Piece;
 use std::alloc::Allocator;
@@ -38,7 +37,7 @@ pub fn give_out<A: Allocator + Copy>(
             items,
             end,
         };
-        push_reserved(out, piece);
+        out.push_reserved(piece);
         id += 1;
     }
 }

@@ -6,7 +6,6 @@ pub mod cutter;
 pub mod giving;
 pub mod open_epoch;
 pub mod open_lanes;
-mod reserved;
 pub mod restart;
 pub mod routing;
 mod showing;

@@ -1,14 +1,13 @@
 //! Where a row goes: what the cutter and a running observer do alike.
 
-ghost use Rattle.std.specs.Prelude.{option_to_list, ◌≡◌, ◌++◌, OnOk, OnErr};
+ghost use Rattle.std.specs.Prelude.{option_to_list, ◌≡◌, ℕ, List, ◌++◌, OnOk, OnErr};
 ghost use Rattle.line_model.specs.Octets.{channel_of};
 ghost use Rattle.line_model.specs.Observer.{line_in_r1};
 ghost use Rattle.restart_epochs.specs.Cutting.{route_finding};
 
 use crate::restart::{Restart, Route};
 use line_model::finding::{Code, Finding};
-use line_model::row::Row;
-use line_model::state::StateName;
+use line_model::state::{Side, StateName};
 use std::alloc::{AllocError, Allocator};
 
 /// The restart machine before the first row.
@@ -33,9 +32,10 @@ pub fn logical_channel(octets: &[u8]) -> u16
     }
 }
 
-/// The finding of the restart machine on a row, if its route has one.
-pub fn finding_of<A: Allocator>(route: Route, row: &Row<A>) -> Option<Finding>
-    ensures { option_to_list result ≡ route_finding row.now route }
+/// The finding of the restart machine on the row of a number and a side, if its route has one.
+pub fn finding_of(route: Route, number: u32, side: Side) -> Option<Finding>
+    // Whatever octets the row has.
+    ensures { (octets : List ℕ) → option_to_list result ≡ route_finding (record { number = number; side = side; octets = octets }) route }
 {
     let (state, code) = match route {
         Route::Found(state, code) => (state, code),
@@ -43,8 +43,8 @@ pub fn finding_of<A: Allocator>(route: Route, row: &Row<A>) -> Option<Finding>
         _ => return None,
     };
     Some(Finding {
-        packet: row.number,
-        side: row.side,
+        packet: number,
+        side,
         state,
         code: Code::Number(code),
     })

@@ -11,9 +11,10 @@ use crate::open_epoch::OpenEpoch;
 use crate::restart::{Restart, Route};
 use line_model::finding::Code;
 use line_model::interface::Interface;
+use line_model::items::ItemRef;
 use line_model::packet::Packet;
 use line_model::piece::Piece;
-use line_model::row::{Item, Row};
+use line_model::row::Row;
 use line_model::state::{RState, Side, StateName};
 use packet_decode::decode::decode;
 use std::alloc::{Allocator, Global};
@@ -189,13 +190,11 @@ fn confirmations_pass_until_r1_is_first_left(rt: HostRuntime) {
 }
 
 /// A row without octets, with its packet.
-fn item(alloc: Global, number: u32) -> Item {
-    Item {
-        row: Row {
-            number,
-            side: Side::T,
-            octets: Vec::new(alloc),
-        },
+fn empty_item(number: u32) -> ItemRef<'static> {
+    ItemRef {
+        number,
+        side: Side::T,
+        octets: &[],
         packet: Packet::Short,
     }
 }
@@ -204,7 +203,7 @@ fn item(alloc: Global, number: u32) -> Item {
 fn channels_are_taken_out_in_order_with_their_rows(rt: HostRuntime) -> Result<(), Fail> {
     let mut open_epoch = OpenEpoch::new(rt.alloc());
     for (channel, number) in [(7, 1), (2, 2), (7, 3), (4095, 4)] {
-        let kept = open_epoch.push(channel, item(rt.alloc(), number));
+        let kept = open_epoch.push(channel, &empty_item(number));
         assert!(rt; kept.is_ok(), "row {number}");
     }
     assert_eq!(rt; open_epoch.len(), 3);
@@ -229,30 +228,19 @@ fn seen(cutter: &Cutter) -> (Interface, u32, u32)
 }
 
 /// Pushes the next row.
-fn push(
-    alloc: Global,
-    cutter: &mut Cutter,
-    side: Side,
-    octets: &[u8],
-    out: &mut Vec<Piece>,
-) -> Result<(), Fail> {
+fn push(cutter: &mut Cutter, side: Side, octets: &[u8], out: &mut Vec<Piece>) -> Result<(), Fail> {
     let (interface, last, before) = seen(cutter);
     if last >= 1000 || before >= 1000 || octets.len() >= 1000 {
         return Err("more rows than a test has")?;
     }
-    let packet = decode(&interface, octets);
-    let item = Item {
-        row: Row {
-            number: last + 1,
-            side,
-            octets: octets.to_vec(alloc)?,
-        },
-        packet,
+    let item = ItemRef {
+        number: last + 1,
+        side,
+        octets,
+        packet: decode(&interface, octets),
     };
-    match cutter.push(item, out) {
-        Ok(()) => Ok(()),
-        Err(_) => Err("a row was refused")?,
-    }
+    cutter.push(&item, out)?;
+    Ok(())
 }
 
 /// A piece's number, epoch, channel, rows and end.
@@ -280,7 +268,7 @@ fn row_that_leaves_r1_gives_out_its_epoch(rt: HostRuntime) -> Result<(), Fail> {
         (Side::T, b"\x10\x02\x0b\x00\x00".as_slice(), 2),
         (Side::N, b"\x10\x00\xff".as_slice(), 2),
     ] {
-        push(rt.alloc(), &mut cutter, side, octets, &mut out)?;
+        push(&mut cutter, side, octets, &mut out)?;
         assert_eq!(rt; out.len(), given, "{octets:?}");
     }
     let [first, second] = out.as_slice() else {
@@ -356,14 +344,8 @@ fn pieces_of_the_open_epoch_are_shown_and_stay(rt: HostRuntime) -> Result<(), Fa
     let alloc = rt.alloc();
     let mut cutter = Cutter::new(alloc, &PLAIN);
     let mut pieces = Vec::new(alloc);
-    push(
-        alloc,
-        &mut cutter,
-        Side::T,
-        b"\x10\x02\x00\xaa",
-        &mut pieces,
-    )?;
-    push(alloc, &mut cutter, Side::N, b"\x10\x00\xff", &mut pieces)?;
+    push(&mut cutter, Side::T, b"\x10\x02\x00\xaa", &mut pieces)?;
+    push(&mut cutter, Side::N, b"\x10\x00\xff", &mut pieces)?;
     for _ in 0..2 {
         let shown = cutter.peek()?;
         let [piece] = shown.as_slice() else {

@@ -1,34 +1,97 @@
 //! Readers and writers of the system as sources and sinks.
-ghost use Rattle.std.specs.Prelude.{◌≡◌};
 
+ghost use Rattle.std.specs.Prelude.{◌≡◌, ◌≤◌, IfOk, length};
+
+use crate::heard::Heard;
+use crate::input::{Input, OpenFault};
+use crate::progress::{Progress, Telling};
 use line_model::count::Count;
 use line_model::device::{Sink, Source};
-use std::io::{Read, Write};
+use std::alloc::Global;
+use std::fs::OpenFile;
+use std::io::{ErrorKind, Read, Write};
+use std::rt::Files;
 use std::sync::ledger::Ledger;
+use std::time::Clock;
+use std::{fs, io};
 
-/// A reader of the system as a source, which does not tell its bytes. Each read is one of the reader's, unbuffered.
+/// Standard input, or the file that was opened in its place, as a source that does not tell its bytes. Each read is one
+/// of the reader's, unbuffered.
 #[derive(Drop)]
-pub struct ReadSource<R: Read + Drop, L: Ledger, M: Ledger> {
-    reader: R,
+pub struct FileInput<'a, R: Files + Clock, I: Read + Drop, W: Write + Drop, L: Ledger, M: Ledger> {
+    system: &'a R,
+    standard: I,
+    // That standard input is a terminal is still to be told.
+    is_terminal: bool,
+    file: Option<R::File>,
+    heard: Heard,
+    progress: Progress<W>,
     calls: Count<L>,
     failures: Count<M>,
 }
 
-impl<R: Read + Drop, L: Ledger, M: Ledger> ReadSource<R, L, M> {
-    /// A source over a reader, with its counts of calls and failures.
-    pub fn new(reader: R, calls: Count<L>, failures: Count<M>) -> Self
-        ensures calls { ⟦<ReadSource<R, L, M> as Source>⟧.calls result ≡ calls }
-        ensures failures { ⟦<ReadSource<R, L, M> as Source>⟧.failures result ≡ failures }
+impl<'a, R: Files + Clock, I: Read + Drop, W: Write + Drop, L: Ledger, M: Ledger> FileInput<
+    'a,
+    R,
+    I,
+    W,
+    L,
+    M,
+> {
+    /// Standard input, with its counts of calls and failures, the system that has the files and the clock, and the
+    /// progress that is told. Where standard input is a terminal that is told once, before it is read.
+    pub fn new(
+        alloc: Global,
+        system: &'a R,
+        standard: I,
+        is_terminal: bool,
+        progress: Progress<W>,
+        calls: Count<L>,
+        failures: Count<M>,
+    ) -> Self
+        ensures calls { ⟦<FileInput<'a, R, I, W, L, M> as Source>⟧.calls result ≡ calls }
+        ensures failures { ⟦<FileInput<'a, R, I, W, L, M> as Source>⟧.failures result ≡ failures }
     {
-        ReadSource {
-            reader,
+        FileInput {
+            system,
+            standard,
+            is_terminal,
+            file: None,
+            heard: Heard::new(alloc),
+            progress,
             calls,
             failures,
         }
     }
+
+    /// Reads from standard input, which is told once where it is a terminal.
+    fn read_standard(&mut self, buffer: &mut [u8]) -> io::Result<usize>
+        ensures fits { IfOk result (λ n. n ≤ length buffer.old) }
+        ensures calls { self.new.calls ≡ self.old.calls }
+        ensures failures { self.new.failures ≡ self.old.failures }
+    {
+        if self.is_terminal {
+            self.is_terminal = false;
+            self.progress.tell_terminal();
+        }
+        self.standard.read(buffer)
+    }
+
+    /// Reads from the file that was opened, else from standard input.
+    fn read_some(&mut self, buffer: &mut [u8]) -> io::Result<usize>
+        ensures fits { IfOk result (λ n. n ≤ length buffer.old) }
+        ensures calls { self.new.calls ≡ self.old.calls }
+        ensures failures { self.new.failures ≡ self.old.failures }
+    {
+        match &mut self.file {
+            Some(file) => file.read(buffer),
+            None => self.read_standard(buffer),
+        }
+    }
 }
 
-impl<R: Read + Drop, L: Ledger, M: Ledger> Source for ReadSource<R, L, M> {
+impl<R: Files + Clock, I: Read + Drop, W: Write + Drop, L: Ledger, M: Ledger> Source
+    for FileInput<'_, R, I, W, L, M> {
     ghost use Rattle.std.specs.Prelude.{None};
 
     ghost left = { λ s. None };
@@ -39,13 +102,57 @@ impl<R: Read + Drop, L: Ledger, M: Ledger> Source for ReadSource<R, L, M> {
 
     fn read(&mut self, buffer: &mut [u8]) -> Result<usize, ()> {
         self.calls.add_one();
-        match self.reader.read(buffer) {
-            Ok(n) => Ok(n),
+        match self.read_some(buffer) {
+            Ok(n) => {
+                self.heard.keep(&buffer[..n]);
+                self.progress.read(self.system, &buffer[..n]);
+                Ok(n)
+            }
             Err(_) => {
                 self.failures.add_one();
                 Err(())
             }
         }
+    }
+}
+
+/// What is told of an error of the system at opening.
+fn open_fault(error: &io::Error) -> OpenFault {
+    match error.kind() {
+        ErrorKind::NotFound | ErrorKind::NotADirectory => OpenFault::Missing,
+        ErrorKind::PermissionDenied => OpenFault::Denied,
+        ErrorKind::IsADirectory => OpenFault::Directory,
+        _ => OpenFault::Refused,
+    }
+}
+
+/// Opens a file for reading, which is no directory.
+fn open_file<R: Files>(files: &R, name: &str) -> Result<R::File, OpenFault> {
+    let file = fs::open(files, name).map_err(|error| open_fault(&error))?;
+    match file.metadata() {
+        Ok(told) if told.is_dir() => Err(OpenFault::Directory),
+        _ => Ok(file),
+    }
+}
+
+impl<R: Files + Clock, I: Read + Drop, W: Write + Drop, L: Ledger, M: Ledger> Input
+    for FileInput<'_, R, I, W, L, M> {
+    ghost use Rattle.std.specs.Prelude.{None};
+
+    ghost named = { λ s name. None };
+
+    fn open(&mut self, name: &str) -> Result<(), OpenFault> {
+        let file = open_file(self.system, name)?;
+        self.file = Some(file);
+        Ok(())
+    }
+
+    fn heard(&self) -> &Heard {
+        &self.heard
+    }
+
+    fn tell_progress(&mut self, telling: Telling) {
+        self.progress.choose(telling);
     }
 }
 

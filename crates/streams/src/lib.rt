@@ -1,5 +1,9 @@
-//! Readers and writers of the system as sources and sinks, and the writing of whole texts to a sink.
+//! Readers and writers of the system as sources and sinks, what the program reads its trace from, and the writing of
+//! whole texts to a sink.
 #![tactic(auto)]
 
+pub mod heard;
+pub mod input;
 pub mod io;
+pub mod progress;
 pub mod writing;

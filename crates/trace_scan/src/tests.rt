@@ -1,9 +1,11 @@
 //! Worked traces, refused texts and failing devices.
 
+mod all_crews;
 mod checks;
 mod crews;
 mod cut_packets;
 mod failing;
+mod first_read;
 mod following;
 mod growing;
 mod held;

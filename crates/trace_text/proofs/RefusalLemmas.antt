@@ -34,7 +34,7 @@ content_both : (v : Bool) (l : Line) (xs ys zs : List Line) → zs ≡ xs ++ ys 
 content_both true l xs ys zs h = ap (λ ls. l ∷ ls) h
 content_both false l xs ys zs h = h
 
-content_of-append : (xs ys : List Line) → content_of (xs ++ ys) ≡ content_of xs ++ content_of ys
+pub content_of-append : (xs ys : List Line) → content_of (xs ++ ys) ≡ content_of xs ++ content_of ys
 content_of-append [] ys = refl
 content_of-append (x ∷ xs) ys = content_both (not (is_comment x)) x (content_of xs) (content_of ys) _ (content_of-append xs ys)
 

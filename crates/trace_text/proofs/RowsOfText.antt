@@ -29,7 +29,7 @@ use Rattle.trace_text.proofs.NumberLemmas.{number_parts}
 -- ---- one row's line
 
 -- a line writes a row, after one with the number `last`
-record WritesRow (last : ℕ) (line : Line) : Type 0 where
+pub record WritesRow (last : ℕ) (line : Line) : Type 0 where
   pub row : Row
   pub is : row_of line ≡ Some row
   pub above : last < row.number
@@ -81,7 +81,7 @@ unfolding row_words
 words_within line w h = subst (λ l. length w.hex ≤ length l) (join_with_byte-slice_split 32 line) (hex_within (words_of line) w h)
 
 -- no rule is broken
-parts_there : (a : Option ℕ) (b : Option Side) (c : Option (List ℕ))
+pub parts_there : (a : Option ℕ) (b : Option Side) (c : Option (List ℕ))
     → (if is_none a then Some Number else if is_none b then Some SideKind else if is_none c then Some Hex else None) ≡ None
     → (n : ℕ) × (s : Side) × (xs : List ℕ) × (a ≡ Some n) × (b ≡ Some s) × (c ≡ Some xs)
 parts_there None b c h = absurd (cc)
@@ -94,7 +94,7 @@ is_written : (line : Line) (w : RowWords) (n : ℕ) (x : Side) (xs : List ℕ) �
 unfolding row_of
 is_written line w n x xs e number side octets = rw (e, number, side, octets) refl
 
-writes_row : (last : ℕ) (line : Line) → row_kind last line ≡ None → WritesRow last line
+pub writes_row : (last : ℕ) (line : Line) → row_kind last line ≡ None → WritesRow last line
 unfolding row_kind
 writes_row last line h = at (row_words line) refl h
   where

@@ -2,13 +2,15 @@
 #![tactic(auto)]
 
 mod content;
-mod cuts;
+pub mod cuts;
 mod digits;
 mod header;
+pub mod line_ends;
 pub mod lines;
 mod number;
 mod reading;
 mod row_line;
+pub mod shares;
 #[cfg(test)]
 mod tests;
 mod words;

@@ -1,6 +1,7 @@
 //! Texts from outside, read in chunks of several sizes.
 
 mod refused;
+mod shares;
 
 use crate::digits::read_digits;
 use crate::lines::Lines;

@@ -34,6 +34,20 @@ impl Model for Flow {
     ghost inverse = { unkept };
 }
 
+/// What a side may send next (X.25 clauses 4.4.1.1 and 4.4.1.2): the packet `next`, where fewer than `window` packets
+/// from `lowest` on are not acknowledged.
+#[derive(Clone, Copy, Debug, PartialEq, Eq)]
+pub struct SendWindow {
+    /// The P(S) of the next packet.
+    pub next: u8,
+    /// The P(S) of the first packet that is not acknowledged: the lower window edge.
+    pub lowest: u8,
+    /// How many packets may be unacknowledged.
+    pub window: u8,
+    /// Whether an interrupt of the side is unconfirmed.
+    pub interrupted: bool,
+}
+
 impl Flow {
     /// Nothing was sent yet. `window_t` bounds the packets of T that are unacknowledged, `window_n` those of N.
     pub fn new(modulus: u8, window_t: u8, window_n: u8) -> Flow
@@ -90,7 +104,7 @@ impl Flow {
         Ok(())
     }
 
-    /// Judges an interrupt of a side: 44 while one of that side is unconfirmed (X.25 clause 4.3.5).
+    /// Judges an interrupt of a side: 44 while one of that side is unconfirmed (X.25 clause 4.3.7).
     pub fn interrupt(&mut self, side: Side) -> Result<(), u8>
         ensures modulus { self.new.modulus ≡ self.old.modulus }
         ensures windows { self.new.windows ≡ self.old.windows }
@@ -111,7 +125,7 @@ impl Flow {
         Ok(())
     }
 
-    /// Judges an interrupt confirmation of a side: 43 while none of the other side is unconfirmed (X.25 clause 4.3.5).
+    /// Judges an interrupt confirmation of a side: 43 while none of the other side is unconfirmed (X.25 clause 4.3.7).
     pub fn confirm(&mut self, side: Side) -> Result<(), u8>
         ensures modulus { self.new.modulus ≡ self.old.modulus }
         ensures windows { self.new.windows ≡ self.old.windows }
@@ -130,6 +144,34 @@ impl Flow {
             },
         );
         Ok(())
+    }
+
+    /// What a side may send next.
+    pub fn send_window(&self, side: Side) -> SendWindow
+        ensures next { result.next ≡ of_side side self.now.sent }
+        ensures lowest { result.lowest ≡ of_side side self.now.acknowledged }
+        ensures window { result.window ≡ of_side side self.now.windows }
+        ensures interrupted { result.interrupted ≡ of_side side self.now.unconfirmed }
+    {
+        let Direction {
+            window,
+            sent,
+            acknowledged,
+            unconfirmed,
+        } = self.direction(side);
+        SendWindow {
+            next: sent,
+            lowest: acknowledged,
+            window,
+            interrupted: unconfirmed,
+        }
+    }
+
+    /// The modulus of the numbers, 8 or 128.
+    pub fn modulus(&self) -> u8
+        ensures { result ≡ self.now.modulus }
+    {
+        self.modulus
     }
 
     /// Forgets what was sent, as entering d1 does; the windows stay.

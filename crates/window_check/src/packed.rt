@@ -73,6 +73,17 @@ impl FlowWord {
         self.word = with_field(self.word, 45, 19, u64::from(above));
     }
 
+    /// What a channel keeps, by itself.
+    pub fn flow(&self) -> Flow
+        ensures { result ≡ self.now.flow }
+    {
+        Flow {
+            modulus: self.modulus(),
+            of_t: self.direction(Side::T),
+            of_n: self.direction(Side::N),
+        }
+    }
+
     /// The window of a side.
     pub fn window(&self, side: Side) -> u8
         ensures { result ≡ of_side side self.now.flow.windows }
@@ -111,7 +122,7 @@ impl FlowWord {
         self.acknowledge(side, receive)
     }
 
-    /// Judges an interrupt of a side: 44 while one of that side is unconfirmed (X.25 clause 4.3.5).
+    /// Judges an interrupt of a side: 44 while one of that side is unconfirmed (X.25 clause 4.3.7).
     pub fn interrupt(&mut self, side: Side) -> Result<(), u8>
         ensures modulus { self.new.flow.modulus ≡ self.old.flow.modulus }
         ensures windows { self.new.flow.windows ≡ self.old.flow.windows }
@@ -126,7 +137,7 @@ impl FlowWord {
         Ok(())
     }
 
-    /// Judges an interrupt confirmation of a side: 43 while none of the other side is unconfirmed (X.25 clause 4.3.5).
+    /// Judges an interrupt confirmation of a side: 43 while none of the other side is unconfirmed (X.25 clause 4.3.7).
     pub fn confirm(&mut self, side: Side) -> Result<(), u8>
         ensures modulus { self.new.flow.modulus ≡ self.old.flow.modulus }
         ensures windows { self.new.flow.windows ≡ self.old.flow.windows }

@@ -1,11 +1,14 @@
 //! Pieces without rows, through any number of workers.
 
+mod looking;
+
 ghost use Rattle.std.specs.Prelude.{◌≡◌, ◌<◌, ◌≤◌, ℕ, None, vec_len};
 ghost use Rattle.workers.specs.Workers.{ArePlanned};
 
 use crate::{Feed, Gate, Worked, feed_piece, feed_pieces, work_through};
 use line_model::fault::Fault;
 use line_model::interface::Interface;
+use line_model::items::Items;
 use line_model::piece::{Piece, PieceReport};
 use piece_queue::{FeederPass, Work};
 use std::alloc::{Allocator, Global};
@@ -37,7 +40,7 @@ fn piece(alloc: Global, id: u32) -> Piece
         interface: PLAIN,
         epoch: 1,
         channel: 1,
-        items: Vec::new(alloc),
+        items: Items::new(alloc),
         end: None,
     }
 }
@@ -79,20 +82,21 @@ impl Gate for NoMemory {
     }
 }
 
-/// Feeds pieces without rows.
+/// Feeds so many pieces without rows.
 #[derive(Drop)]
-struct Twelve {
+struct Plain {
     alloc: Global,
+    count: u32,
 }
 
-impl Feed<Brand, Global> for Twelve {
+impl Feed<Brand, Global> for Plain {
     ghost can_feed = { λ task. Unit {0} };
 
-    ghost feed_gives = { λ task fed after. fed ≡ 12 };
+    ghost feed_gives = { λ task fed after. fed ≡ task.count };
 
     ghost unfed = { λ task after. Unit {0} };
 
-    fn back(self) -> Twelve {
+    fn back(self) -> Plain {
         self
     }
 
@@ -101,11 +105,19 @@ impl Feed<Brand, Global> for Twelve {
         rt: &R,
         work: &Work<Brand, Global>,
         pass: &mut FeederPass<Global>,
-    ) -> Twelve {
-        for id in 0..PIECES {
+    ) -> Plain {
+        for id in 0..self.count {
             feed_piece(rt, work, piece(self.alloc, id), pass);
         }
         self
+    }
+}
+
+/// The pieces of three epochs.
+fn twelve(alloc: Global) -> Plain {
+    Plain {
+        alloc,
+        count: PIECES,
     }
 }
 
@@ -156,7 +168,7 @@ fn each_piece_is_posted_once_by_any_number_of_workers(rt: HostRuntime) -> Result
             workers,
             capacity,
             &EmptyPieces,
-            Twelve { alloc: rt.alloc() },
+            twelve(rt.alloc()),
         )
         else {
             return Err("refused")?;
@@ -170,14 +182,7 @@ fn each_piece_is_posted_once_by_any_number_of_workers(rt: HostRuntime) -> Result
 
 #[test]
 fn a_worker_without_memory_stops_at_its_end(rt: HostRuntime) -> Result<(), Fail> {
-    let Ok(worked) = work_through(
-        &rt,
-        rt.alloc(),
-        2,
-        1,
-        &NoMemory,
-        Twelve { alloc: rt.alloc() },
-    ) else {
+    let Ok(worked) = work_through(&rt, rt.alloc(), 2, 1, &NoMemory, twelve(rt.alloc())) else {
         return Err("refused")?;
     };
     assert!(rt; matches!(worked.gathered, Err(Fault::Memory)));

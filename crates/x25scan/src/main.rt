@@ -6,14 +6,15 @@ ghost use Rattle.std.specs.Prelude.{◌≡◌, ◌<◌};
 use command_line::program::{OTHER_FAULT, USAGE, program};
 use line_model::count::Count;
 use std::env;
-use std::io::ErrorKind;
+use std::io::{ErrorKind, IsTerminal};
 use std::marker::Brand;
 use std::process::ExitCode;
 use std::sync::Wait;
 use std::sync::ledger::{Blank, Ledger};
 use std::thread::Threads;
 use std::time::Clock;
-use streams::io::{ReadSource, WriteSink};
+use streams::io::{FileInput, WriteSink};
+use streams::progress::Progress;
 
 /// Runs the program over the streams of the process.
 fn run_streams<C: Ledger, F: Ledger, K: Ledger, E: Ledger, R: Threads + Wait + Clock + Sync>(
@@ -38,8 +39,12 @@ fn run_streams<C: Ledger, F: Ledger, K: Ledger, E: Ledger, R: Threads + Wait + C
     requires tell_parts { tell_failures.parts ≡ E.parts }
     requires tell_shared { 0 < E.parts }
 {
-    let mut source = ReadSource::new(
+    let mut source = FileInput::new(
+        rt.alloc(),
+        rt,
         rt.stdin(),
+        rt.stdin().is_terminal(),
+        Progress::new(rt.stderr(), rt.stderr().is_terminal()),
         Count::<C>::open(calls),
         Count::<F>::open(read_failures),
     );

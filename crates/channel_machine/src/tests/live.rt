@@ -9,6 +9,7 @@ use line_model::event::{Entry, How};
 use line_model::fault::Fault;
 use line_model::finding::{Code, Xcode};
 use line_model::piece::{Piece, PieceReport};
+use line_model::row::Row;
 use line_model::state::{Side, StateName};
 use std::alloc::{Allocator, Global};
 use std::test::Fail;
@@ -28,9 +29,15 @@ fn followed<A: Allocator + Clone, C: Channel<A>>(
         piece.channel,
         piece.epoch,
     )?;
+    let mut row = Row {
+        number: 0,
+        side: Side::T,
+        octets: Vec::new(alloc.clone()?),
+    };
     let mut events = Vec::new(alloc.clone()?);
-    for item in &piece.items {
-        let finding = live.take(&item.row, &item.packet, &mut events)?;
+    for item in piece.items.iter() {
+        item.copy_to(&mut row)?;
+        let finding = live.take(&row, &item.packet, &mut events)?;
         let report = live.report(alloc.clone()?, piece.id)?;
         let findings = live.findings().len();
         told.push((

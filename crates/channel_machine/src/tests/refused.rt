@@ -15,7 +15,7 @@ use test_devices::scarce::Scarce;
 const GROWTHS: u64 = 1000;
 
 /// A PAD call, its messages and their faults.
-const LINES: [Line; 7] = [
+pub const LINES: [Line; 7] = [
     (1, Side::T, "10010B000001000000"),
     (2, Side::N, "10010F"),
     (3, Side::N, "9001000202"),

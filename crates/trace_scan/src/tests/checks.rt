@@ -1,5 +1,6 @@
 //! Scans of worked traces, as their sources and sinks cut them, and fail.
 
+use crate::tests::all_crews::check_crews;
 use crate::tests::following::check_followed;
 use crate::tests::growing::check_growing;
 use crate::tests::runs::{Outcome, Way, scan};
@@ -102,13 +103,6 @@ pub enum Test {
     Followed,
     ByCrews,
     WhileItGrows,
-}
-
-/// Scans a trace in steps of any size, by crews of several sizes.
-fn check_crews<R: Threads + Wait + Clock + Sync + Abort>(rt: &R, alloc: Global, worked: &Worked) {
-    check_bytes(rt, alloc, Way::Crew(1, 1), worked, usize::MAX);
-    check_bytes(rt, alloc, Way::Crew(2, 64), worked, usize::MAX);
-    check_bytes(rt, alloc, Way::Crew(64, 1), worked, usize::MAX);
 }
 
 /// Tests a trace.

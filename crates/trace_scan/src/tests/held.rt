@@ -27,7 +27,10 @@ use workers::Gate;
 const PIECES: usize = 12;
 
 /// No hold takes more turns.
-const TURNS: u32 = 20_000_000;
+const TURNS: u32 = 100_000_000;
+
+/// A hold lets the other threads run once in so many turns.
+const TURNS_OF_ONE_YIELD: u32 = 8;
 
 /// How often each piece was entered, and whether a hold ended before the pieces came that it waited for.
 #[derive(Drop)]
@@ -69,14 +72,16 @@ impl Record {
 
     /// Waits until so many pieces from this one on were entered, and says whether they were.
     fn wait_for(&self, first: usize, count: usize) -> bool {
-        for _turn in 0..TURNS {
+        for turn in 0..TURNS {
             if self.has(first, count, 1, u64::MAX) {
                 return true;
             }
             if self.late.load(SeqCst) {
                 return false;
             }
-            thread::yield_now();
+            if turn % TURNS_OF_ONE_YIELD == 0 {
+                thread::yield_now();
+            }
         }
         self.late.store(true, SeqCst);
         false
@@ -106,7 +111,10 @@ impl Gate for Holding<'_> {
 
 /// The scan found what the one observer finds in three epochs, and each piece was entered once.
 fn check_three_epochs(rt: &impl Abort, scanned: &Scanned, record: &Record, work: &Work) {
-    assert!(rt; !record.late.load(SeqCst), "a hold ended too late");
+    assert!(rt;
+        !record.late.load(SeqCst),
+        "a piece was held for {TURNS} turns"
+    );
     assert!(rt; record.has_each(1));
     agree(
         rt,

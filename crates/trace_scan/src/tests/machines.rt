@@ -143,5 +143,5 @@ fn check_all_machines<R: Threads + Wait + Clock + Sync + Abort>(rt: &R, alloc: G
 #[test]
 fn pieces_have_one_report_by_both_machines(rt: HostRuntime) {
     let pieces = check_all_machines(&rt, rt.alloc());
-    assert_eq!(rt; pieces, 77);
+    assert_eq!(rt; pieces, 78);
 }

@@ -1,9 +1,11 @@
-//! A reader whose growths are refused.
+//! A reader and a share whose growths are refused.
 
 use crate::lines::Lines;
+use crate::shares::{Share, ShareFault};
 use crate::tests::HEADER;
 use line_model::fault::Fault;
 use line_model::row::Row;
+use line_model::state::Side;
 use std::alloc::{Allocator, Global};
 use std::process::Abort;
 use std::test::Fail;
@@ -60,4 +62,23 @@ fn a_reader_that_wanted_memory_wants_it_from_then_on(rt: HostRuntime) -> Result<
         }
     }
     Err("a reader has fewer growths".into())
+}
+
+#[test]
+fn a_share_that_wanted_memory_is_read_again(rt: HostRuntime) -> Result<(), Fail> {
+    let heap = Scarce::new(rt.alloc());
+    let mut row = Row {
+        number: 0,
+        side: Side::T,
+        octets: Vec::new(&heap),
+    };
+    let bytes = b"1 T 10010B0000\n".as_slice();
+    heap.refuse_one(0);
+    let mut share = Share::new();
+    assert!(rt; share.next_row(bytes, &mut row) == Err(ShareFault::Memory));
+    heap.grant_all();
+    let mut share = Share::new();
+    assert!(rt; share.next_row(bytes, &mut row) == Ok(Some(b"".as_slice())));
+    assert_eq!(rt; row.octets.len(), 5);
+    Ok(())
 }

@@ -1,10 +1,14 @@
-use Rattle.std.proofs.Common.{sym, subst}
+use Rattle.std.proofs.Common.{◌∙◌, ap, sym, subst, rules}
 use Rattle.std.specs.Prelude.{All}
 use Rattle.std.proofs.lemmas.List.Elements.{All-push}
 use Rattle.line_model.specs.Bounds.{IsItem}
+use Rattle.line_model.specs.Classes.{packet_of}
 use Rattle.channel_machine.proofs.tests.add_item.Goals as goal
 
-pub returns-in_ok-push-in-Some-clause-of_channel : goal.returns-in_ok-push-in-Some-clause-of_channel
-returns-in_ok-push-in-Some-clause-of_channel g c h =
-    subst (λ l. All (IsItem c.args.interface.now c.args.channel) l) (sym c.in_ok-push-in-Some.ensures.items)
-    (All-push (IsItem c.args.interface.now c.args.channel) c.args.items.now.items c.in-Some.item h (rw c.in-Some.is at c.in_ok-item.ensures.of_channel))
+pub returns-clause-of_channel : goal.returns-clause-of_channel
+returns-clause-of_channel g c h =
+    subst (λ l. All (IsItem c.args.interface.now c.args.channel) l) (sym c.in_ok-push.ensures.ok)
+    (All-push (IsItem c.args.interface.now c.args.channel) c.args.items.now _ h (record {
+      packet = c.decode-2.ensures ∙ ap (packet_of c.args.interface.now) (c.deref-2.ensures.value ∙ sym c.as_slice.ensures.value);
+      channel = search rules;
+    }))

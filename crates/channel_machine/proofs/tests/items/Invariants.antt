@@ -5,7 +5,7 @@ use Rattle.channel_machine.proofs.tests.items.Given as goal
 
 abbrev pub invariant-loop-line : goal.invariant-loop-line
 invariant-loop-line g l = record {
-  of_channel : All (IsItem l.interface l.channel) l.items.items;
-  short : all_octets l.items.items ≤ 4200 * length l.items.items;
-  few : length l.items.items ≤ l.line-index;
+  of_channel : All (IsItem l.interface l.channel) l.items;
+  short : all_octets l.items ≤ 4200 * length l.items;
+  few : length l.items ≤ l.line-index;
 }

@@ -1,8 +1,8 @@
-use Rattle.std.proofs.Common.{◌≡◌, ◌∙◌, ap, refl, sym, true, map, codes, ℕ, List}
-use Rattle.clap.specs.Words.{app_of, fault_of, found_of, first_value, is_simple, is_simple_and_free, matches_of, first_of}
+use Rattle.std.proofs.Common.{◌≡◌, ◌∙◌, ap, refl, subst, sym, true, map, codes, ℕ, List}
+use Rattle.clap.specs.Words.{HasKind, app_of, fault_of, found_of, first_value, is_simple, is_simple_and_free, matches_of, first_of}
 use Rattle.clap.proofs.OnLiterals.{clap_on_literals}
 use Rattle.clap.proofs.WalkLemmas.{first_value-rows}
-use Rattle.command_line.specs.Options.{command, is_given}
+use Rattle.command_line.specs.Options.{annotation_by, command, is_given, named_by}
 use Rattle.command_line.proofs.options.parse.Goals as goal
 use Rattle.command_line.proofs.options.parse.Goals.{Joined-matches}
 
@@ -19,6 +19,11 @@ returns-in-Ok-clause-kinds c =
     let told : app_of c.in_ok-command.command ≡ command = c.in_ok-command.ensures in
     sym (ap (λ app. fault_of app (map (λ word. word.now) c.args.words.now)) told) ∙ c.in-Ok.ensures.kinds (ap is_simple_and_free told ∙ is_free)
 
+pub returns-in-Err-clause-kinds : goal.returns-in-Err-clause-kinds
+returns-in-Err-clause-kinds c =
+    let told : app_of c.in_ok-command.command ≡ command = c.in_ok-command.ensures in
+    subst (λ app. HasKind (fault_of app (map (λ word. word.now) c.args.words.now)) c.in-Err.error) told (c.in-Err.ensures.kinds (ap is_simple_and_free told ∙ is_free))
+
 -- the first value of an argument is that of the words
 value_of : (c : Joined-matches) → (id : List ℕ) → first_value (found_of c.in-Ok.matches) id ≡ first_of id (matches_of command (map (λ word. word.now) c.args.words.now))
 value_of c id =
@@ -30,5 +35,16 @@ value_of c id =
 pub returns-in-Ok-clause-follow : goal.returns-in-Ok-clause-follow
 returns-in-Ok-clause-follow c = c.options_in.ensures.follow ∙ ap is_given (value_of c (codes "follow"))
 
+pub returns-in-Ok-clause-json : goal.returns-in-Ok-clause-json
+returns-in-Ok-clause-json c = c.options_in.ensures.json ∙ ap is_given (value_of c (codes "json"))
+
+pub returns-in-Ok-clause-annotate : goal.returns-in-Ok-clause-annotate
+returns-in-Ok-clause-annotate c =
+    c.options_in.ensures.annotate
+    ∙ (λ i. annotation_by (value_of c (codes "annotate") i) (value_of c (codes "channel") i) (value_of c (codes "call") i))
+
 pub returns-in-Ok-clause-explain : goal.returns-in-Ok-clause-explain
 returns-in-Ok-clause-explain c = c.options_in.ensures.explain ∙ value_of c (codes "explain")
+
+pub returns-in-Ok-clause-trace : goal.returns-in-Ok-clause-trace
+returns-in-Ok-clause-trace c = c.options_in.ensures.trace ∙ ap named_by (value_of c (codes "trace"))

@@ -1,12 +1,43 @@
-use Rattle.std.proofs.Common.{◌≡◌, ◌∙◌, inr, subst, IfSome}
+use Rattle.std.proofs.Common.{◌≡◌, ◌∙◌, option_map, Bool, ℕ, List, Option, Some, IfSome, inr, map, subst, ◌⊎◌}
+use Rattle.annotated_trace.specs.declared.choice.Choice.{Choice}
+use Rattle.command_line.specs.Annotating.{IsAnnotateAnswer}
 use Rattle.command_line.specs.Explaining.{IsAnswered}
+use Rattle.command_line.specs.Options.{follows, named_trace}
+use Rattle.command_line.specs.Program.{IsTold, IsUnread, trace_of}
+use Rattle.command_line.proofs.program.program.Given.{Over}
 use Rattle.command_line.proofs.program.program.Goals as goal
 
-pub returns-in-Ok-clause-scanned : goal.returns-in-Ok-clause-scanned
-returns-in-Ok-clause-scanned g c right unasked none = inr (c.run.ensures.scanned (c.in-Ok.ensures.explain ∙ unasked) (c.in-Ok.ensures.follow ∙ none))
+-- what is told of a trace of this name
+Tells : (g : Over) → (c : goal.After-run g) → (json followed : Bool) → (name : Option (List ℕ)) → Type 0
+Tells g c json followed name =
+    IsUnread c.args.source.now c.run.new.source c.args.sink.now c.run.new.sink c.run.result
+    ⊎ ((text : List ℕ) → trace_of name (g.S.Source.left c.args.source.now) (g.S.Input.named c.args.source.now) ≡ Some text →
+    IsTold json followed text (g.S.Source.left c.run.new.source) (g.K.Sink.taken c.args.sink.now) (g.K.Sink.taken c.run.new.sink)
+    (g.K.Sink.failures c.run.new.sink ≡ g.K.Sink.failures c.args.sink.now) c.run.result)
 
-pub returns-in-Ok-clause-followed : goal.returns-in-Ok-clause-followed
-returns-in-Ok-clause-followed g c right unasked asks = inr (c.run.ensures.followed (c.in-Ok.ensures.explain ∙ unasked) (c.in-Ok.ensures.follow ∙ asks))
+pub returns-in-Ok-clause-told : goal.returns-in-Ok-clause-told
+unfolding Tells
+returns-in-Ok-clause-told g c right unasked unannotated =
+    let words : List (List ℕ) = map (λ word. word.now) c.args.words.now in
+    subst (λ json. Tells g c json (follows words) (named_trace words)) c.in-Ok.ensures.json
+    (subst (λ followed. Tells g c c.in-Ok.options.json followed (named_trace words)) c.in-Ok.ensures.follow
+    (subst (λ name. Tells g c c.in-Ok.options.json c.in-Ok.options.follow name) c.in-Ok.ensures.trace (c.run.ensures.told (c.in-Ok.ensures.explain ∙ unasked) (c.in-Ok.ensures.annotate ∙ unannotated))))
+
+-- what is answered where an annotation of a trace of this name is asked for
+Annotates : (g : Over) → (c : goal.After-run g) → (json : Bool) → (name : Option (List ℕ)) → Choice → Type 0
+Annotates g c json name choice =
+    IsAnnotateAnswer json choice c.args.source.now c.run.new.source c.args.sink.now c.run.new.sink
+    (trace_of name (g.S.Source.left c.args.source.now) (g.S.Input.named c.args.source.now)) (g.S.Source.left c.run.new.source)
+    (g.K.Sink.taken c.args.sink.now) (g.K.Sink.taken c.run.new.sink) (g.K.Sink.failures c.run.new.sink ≡ g.K.Sink.failures c.args.sink.now) c.run.result
+
+pub returns-in-Ok-clause-annotated : goal.returns-in-Ok-clause-annotated
+unfolding Annotates
+returns-in-Ok-clause-annotated g c choice right unasked asked =
+    let words : List (List ℕ) = map (λ word. word.now) c.args.words.now in
+    inr (subst (λ json. Annotates g c json (named_trace words) choice) c.in-Ok.ensures.json
+    (subst (λ name. Annotates g c c.in-Ok.options.json name choice) c.in-Ok.ensures.trace
+    (subst (λ o. IfSome o (λ of. Annotates g c c.in-Ok.options.json (option_map (λ name. name.now) c.in-Ok.options.trace) of)) (c.in-Ok.ensures.annotate ∙ asked)
+    (c.run.ensures.annotated (c.in-Ok.ensures.explain ∙ unasked)))))
 
 pub returns-in-Ok-clause-explained : goal.returns-in-Ok-clause-explained
 returns-in-Ok-clause-explained g c word right asks =

@@ -7,7 +7,7 @@ returns-in-Ok-clause-status g c text told =
 
 pub returns-in-Err-clause-status : goal.returns-in-Err-clause-status
 returns-in-Err-clause-status g c text told =
-    refused_status text (g.S.Source.left c.scan_with.new.source) (g.K.Sink.taken c.args.sink.now) (g.K.Sink.taken c.scan_with.new.sink) c.in-Err.fault c.refuse.result (c.in-Err.ensures.refused text told) (c.in-Err.ensures.taken text told) c.refuse.ensures
+    refused_status text (g.S.Source.left c.scan_with.new.source) (g.K.Sink.taken c.args.sink.now) (g.K.Sink.taken c.scan_with.new.sink) c.in-Err.fault c.refuse_scan.result (c.in-Err.ensures.refused text told) (c.in-Err.ensures.taken text told) c.refuse_scan.ensures
 
 pub returns-in-Err-clause-range : goal.returns-in-Err-clause-range
-returns-in-Err-clause-range g c = status_range c.in-Err.fault c.refuse.result c.refuse.ensures
+returns-in-Err-clause-range g c = status_range c.in-Err.fault c.refuse_scan.result c.refuse_scan.ensures

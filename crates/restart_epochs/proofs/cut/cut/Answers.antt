@@ -1,5 +1,5 @@
 use Rattle.std.proofs.lemmas.Grind.{elements}
-use Rattle.std.proofs.Common.{◌≡◌, ◌∙◌, ◌++◌, ◌∷◌, length-append, ap, subst, sym, List, [], length, true, arith, rules}
+use Rattle.std.proofs.Common.{◌≡◌, ◌∙◌, ◌++◌, ◌∷◌, ◌<◌, ◌≤◌, length-append, ap, subst, sym, List, [], length, true, arith, rules}
 use Rattle.std.specs.Vec.Iter.{into_iter_items}
 use Rattle.std.proofs.lemmas.List.{map-id}
 use Rattle.std.proofs.lemmas.Iterator.Adapters.{YieldsList-from_vec}
@@ -7,7 +7,7 @@ use Rattle.std.proofs.lemmas.Iterator.Consumers.{YieldsList-end}
 use Rattle.line_model.specs.Classes.{packet_of}
 use Rattle.line_model.specs.Plans.{plan, line_findings}
 use Rattle.line_model.specs.Records.{Row, Piece}
-use Rattle.restart_epochs.specs.Cutting.{given_of}
+use Rattle.restart_epochs.specs.Cutting.{given_of, StandsFor, IsCounted}
 use Rattle.restart_epochs.proofs.Growth.{ends_nothing, given_pieces}
 use Rattle.restart_epochs.proofs.Whole.{MayCome, all_may_come, rest_may_come}
 use Rattle.restart_epochs.proofs.cut.cut.Given.{Over}
@@ -24,26 +24,28 @@ loop-row-init g c = record {
 pub push-requires-clause-packet : goal.push-requires-clause-packet
 push-requires-clause-packet g c =
     let octets : c.as_slice.result.now ≡ c.in-Some.row.octets = c.as_slice.ensures.value ∙ ap (λ r. r.octets) c.row.view_is in
-    c.decode-packet.ensures ∙ (λ j. packet_of (sym c.loop-row.invariant.stands.interface j) (octets j))
+    let is = c.with_packet.ensures in
+    ap (λ i. i.packet) is ∙ c.decode-packet.ensures ∙ (λ j. packet_of (sym c.loop-row.invariant.stands.interface j) (octets j)) ∙ ap (λ i. packet_of c.loop-row.cutter.interface i.row.octets) (sym is)
 
 pub push-requires-clause-rising : goal.push-requires-clause-rising
 push-requires-clause-rising g c =
     let left : MayCome c.loop-row.cutter (c.in-Some.row ∷ into_iter_items c.next.new.self) = subst (MayCome c.loop-row.cutter) c.in-Some.ensures.steps.0 c.loop-row.invariant.left in
-    left.rising.0
+    subst (λ i. c.loop-row.cutter.last < i.row.number) (sym c.with_packet.ensures) left.rising.0
 
 pub push-requires-clause-number : goal.push-requires-clause-number
 push-requires-clause-number g c =
     let left : MayCome c.loop-row.cutter (c.in-Some.row ∷ into_iter_items c.next.new.self) = subst (MayCome c.loop-row.cutter) c.in-Some.ensures.steps.0 c.loop-row.invariant.left in
-    left.numbers 0 c.in-Some.row (omega arith)
+    subst (λ i. i.row.number ≤ 999999999) (sym c.with_packet.ensures) (left.numbers 0 c.in-Some.row (omega arith))
 
 pub loop-row-preserved : goal.loop-row-preserved
 loop-row-preserved g c =
     let inv = c.loop-row.invariant in
     let left : MayCome c.loop-row.cutter (c.in-Some.row ∷ into_iter_items c.next.new.self) = subst (MayCome c.loop-row.cutter) c.in-Some.ensures.steps.0 inv.left in
+    let row = ap (λ i. i.row) c.with_packet.ensures in
     record {
-      stands = c.in-Ok.ensures.stands c.args.interface.now c.loop-row.yielded inv.stands;
-      given = c.in-Ok.ensures.given c.args.interface.now c.loop-row.yielded [] inv.stands inv.given;
-      left = rest_may_come c.loop-row.cutter c.push.new.self c.in-Some.row (into_iter_items c.next.new.self) left c.in-Ok.ensures.counted;
+      stands = subst (λ r. StandsFor c.args.interface.now (c.loop-row.yielded ++ r ∷ []) c.push.new.self) row (c.in_ok-push.ensures.stands c.args.interface.now c.loop-row.yielded inv.stands);
+      given = subst (λ r. c.push.new.out.items ≡ given_of c.args.interface.now (c.loop-row.yielded ++ r ∷ [])) row (c.in_ok-push.ensures.given c.args.interface.now c.loop-row.yielded [] inv.stands inv.given);
+      left = rest_may_come c.loop-row.cutter c.push.new.self c.in-Some.row (into_iter_items c.next.new.self) left (subst (λ r. IsCounted r c.loop-row.cutter c.push.new.self) row c.in_ok-push.ensures.counted);
     }
 
 all_yielded : (g : Over) (c : goal.After-drop-open-2 g) → c.loop-row.yielded ≡ c.args.rows.items

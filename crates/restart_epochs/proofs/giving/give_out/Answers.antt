@@ -13,12 +13,12 @@ loop-channel-init g c = record {
 
 pub invariant_of-piece : goal.invariant_of-piece
 invariant_of-piece g c =
-    let taken : IsTakenOut c.in-Some.channel c.in-Some.items.items c.loop-channel.epoch_rows c.pop_first.new.self = c.in-Some.ensures in
-    subst (IsPiece c.args.interface.now c.in-Some.channel) (sym (first_rows _ _ _ _ _ _ _ _ _ _ c.in-Some.channel c.in-Some.items.items c.loop-channel.invariant.given taken)) (c.requires.pieces c.in-Some.channel)
+    let taken : IsTakenOut c.in-Some.channel c.in-Some.items c.loop-channel.epoch_rows c.pop_first.new.self = c.in-Some.ensures in
+    subst (IsPiece c.args.interface.now c.in-Some.channel) (sym (first_rows _ _ _ _ _ _ _ _ _ _ c.in-Some.channel c.in-Some.items c.loop-channel.invariant.given taken)) (c.requires.pieces c.in-Some.channel)
 
 pub loop-channel-preserved : goal.loop-channel-preserved
 loop-channel-preserved g c =
-    let taken : IsTakenOut c.in-Some.channel c.in-Some.items.items c.loop-channel.epoch_rows c.pop_first.new.self = c.in-Some.ensures in
+    let taken : IsTakenOut c.in-Some.channel c.in-Some.items c.loop-channel.epoch_rows c.pop_first.new.self = c.in-Some.ensures in
     let one = ap (λ ks. length ks) taken.channels in
     let room = c.loop-channel.invariant.room in
     let ids = c.loop-channel.invariant.ids in
@@ -26,5 +26,5 @@ loop-channel-preserved g c =
       room = omega (arith, one, room, c.push_reserved.ensures.len, c.push_reserved.ensures.capacity);
       ids = omega (arith, one, ids);
       given = subst (Giving c.args.interface.now c.args.epoch c.args.end c.args.first c.args.epoch_rows.now c.args.out.now.items (c.loop-channel.id + 1) c.pop_first.new.self) (sym c.push_reserved.ensures.items)
-          (giving_more c.args.interface.now c.args.epoch c.args.end c.args.first c.args.epoch_rows.now c.args.out.now.items c.loop-channel.id c.loop-channel.epoch_rows c.pop_first.new.self c.loop-channel.out.items c.in-Some.channel c.in-Some.items.items c.loop-channel.invariant.given taken);
+          (giving_more c.args.interface.now c.args.epoch c.args.end c.args.first c.args.epoch_rows.now c.args.out.now.items c.loop-channel.id c.loop-channel.epoch_rows c.pop_first.new.self c.loop-channel.out.items c.in-Some.channel c.in-Some.items c.loop-channel.invariant.given taken);
     }

@@ -5,7 +5,7 @@ use Rattle.line_model.specs.Octets.{channel_of}
 use Rattle.line_model.specs.Plans.{value}
 use Rattle.line_model.specs.RestartMachine.{Routing}
 use Rattle.restart_epochs.specs.OpenRows.{rows_of}
-use Rattle.restart_epochs.specs.Cutting.{IsKeptOn, given_of, pieces_out}
+use Rattle.restart_epochs.specs.Cutting.{IsKeptOn, given_of, pieces_out, route_finding}
 use Rattle.restart_epochs.proofs.Listings.{bare, has_one_more, listing}
 use Rattle.restart_epochs.proofs.Routes.{is_to_channel, is_quiet}
 use Rattle.restart_epochs.proofs.Taken.{enters_unready, on_ok}
@@ -63,7 +63,7 @@ returns-in-Leave-clause-stands g c i rs s sound =
     let after = left_with s.cutting r step.after found in
     on_ok c.leave.result _ _
     (c.leave.ensures.holds s.cutting after (map value (given_of i rs)) r s.holds (listing i rs s.cutting s.cut) (sym number) refl (is_left s.cutting r step.after found))
-    (λ holds. leave_stands g.C.Channel.interface_of g.C.Channel.number_of g.C.Channel.stands_for i rs c.args.self.now c.leave.new.self r p step c.in-Leave.field-0 found s sound told c.in-Leave.is c.finding_of-finding.ensures
+    (λ holds. leave_stands g.C.Channel.interface_of g.C.Channel.number_of g.C.Channel.stands_for i rs c.args.self.now c.leave.new.self r p step c.in-Leave.field-0 found s sound told c.in-Leave.is (c.finding_of-finding.ensures c.row.inside.octets.items ∙ ap (λ x. route_finding x step.route) c.row.view_is)
     (subst (λ n. Holds g.C.Channel.interface_of g.C.Channel.number_of g.C.Channel.stands_for after (map value (given_of i rs) ++ map value (pieces_out s.cutting.interface s.cutting.epoch (Some n) (rows_of s.cutting.open_rows) (length (map value (given_of i rs))) s.cutting.open_rows.channels)) c.leave.new.self) number holds))
 
 pub returns-in-Enter-clause-stands : goal.returns-in-Enter-clause-stands
@@ -77,7 +77,7 @@ returns-in-Enter-clause-stands g c i rs s sound =
     let after = stepped_with s.cutting r step.after (s.cutting.epoch + 1) found in
     on_ok c.enter.result _ _
     (c.enter.ensures.holds s.cutting after (map value (given_of i rs)) r s.holds (bare i rs s.cutting s.cut (enters_unready i rs s.cutting (record { row = r; packet = p }) step s.cut told c.in-Enter.is)) (is_stepped s.cutting r step.after (s.cutting.epoch + 1) found))
-    (enter_stands g.C.Channel.interface_of g.C.Channel.number_of g.C.Channel.stands_for i rs c.args.self.now c.enter.new.self r p step found s sound told c.in-Enter.is c.finding_of-finding.ensures)
+    (enter_stands g.C.Channel.interface_of g.C.Channel.number_of g.C.Channel.stands_for i rs c.args.self.now c.enter.new.self r p step found s sound told c.in-Enter.is (c.finding_of-finding.ensures c.row.inside.octets.items ∙ ap (λ x. route_finding x step.route) c.row.view_is))
 
 pub returns-in-Found-clause-stands : goal.returns-in-Found-clause-stands
 returns-in-Found-clause-stands g c i rs s sound =
@@ -90,7 +90,7 @@ returns-in-Found-clause-stands g c i rs s sound =
     let after = stepped_with s.cutting r step.after s.cutting.epoch found in
     on_ok c.advance.result _ _
     (c.advance.ensures.holds s.cutting after (map value (given_of i rs)) r s.holds (is_stepped s.cutting r step.after s.cutting.epoch found))
-    (quiet_stands g.C.Channel.interface_of g.C.Channel.number_of g.C.Channel.stands_for i rs c.args.self.now c.advance.new.self r p step found s sound told (ap is_quiet c.in-Found.is) c.finding_of-finding.ensures)
+    (quiet_stands g.C.Channel.interface_of g.C.Channel.number_of g.C.Channel.stands_for i rs c.args.self.now c.advance.new.self r p step found s sound told (ap is_quiet c.in-Found.is) (c.finding_of-finding.ensures c.row.inside.octets.items ∙ ap (λ x. route_finding x step.route) c.row.view_is))
 
 pub returns-in-Pass-clause-stands : goal.returns-in-Pass-clause-stands
 returns-in-Pass-clause-stands g c i rs s sound =
@@ -103,7 +103,7 @@ returns-in-Pass-clause-stands g c i rs s sound =
     let after = stepped_with s.cutting r step.after s.cutting.epoch found in
     on_ok c.advance-in-Pass.result _ _
     (c.advance-in-Pass.ensures.holds s.cutting after (map value (given_of i rs)) r s.holds (is_stepped s.cutting r step.after s.cutting.epoch found))
-    (quiet_stands g.C.Channel.interface_of g.C.Channel.number_of g.C.Channel.stands_for i rs c.args.self.now c.advance-in-Pass.new.self r p step found s sound told (ap is_quiet c.in-Pass.is) c.finding_of-finding.ensures)
+    (quiet_stands g.C.Channel.interface_of g.C.Channel.number_of g.C.Channel.stands_for i rs c.args.self.now c.advance-in-Pass.new.self r p step found s sound told (ap is_quiet c.in-Pass.is) (c.finding_of-finding.ensures c.row.inside.octets.items ∙ ap (λ x. route_finding x step.route) c.row.view_is))
 
 pub returns-in-ToChannel-clause-finding : goal.returns-in-ToChannel-clause-finding
 returns-in-ToChannel-clause-finding g c i rs s =
@@ -121,7 +121,7 @@ returns-in-Leave-clause-finding g c i rs s =
     let step : Routing = record { route = c.step-route.result; after = c.step-route.new.self } in
     let octets : c.as_slice-octets.result.now ≡ r.octets = c.as_slice-octets.ensures.value ∙ ap (λ x. x.octets) c.row.view_is in
     let told = told_of g.C.Channel.interface_of g.C.Channel.number_of g.C.Channel.stands_for i rs c.args.self.now r p step s c.as_slice-octets.result.now c.row.inside.side (length c.as_slice-octets.result.now) octets (ap (λ x. x.side) c.row.view_is) (ap (λ l. length l) octets) c.decode-packet.ensures c.step-route.ensures in
-    line_finds g.C.Channel.interface_of g.C.Channel.number_of g.C.Channel.stands_for i rs c.args.self.now r p step s c.finding_of-finding.result told (ap is_to_channel c.in-Leave.is) c.finding_of-finding.ensures c.leave.result c.leave.ensures.found
+    line_finds g.C.Channel.interface_of g.C.Channel.number_of g.C.Channel.stands_for i rs c.args.self.now r p step s c.finding_of-finding.result told (ap is_to_channel c.in-Leave.is) (c.finding_of-finding.ensures c.row.inside.octets.items ∙ ap (λ x. route_finding x step.route) c.row.view_is) c.leave.result c.leave.ensures.found
 
 pub returns-in-Enter-clause-finding : goal.returns-in-Enter-clause-finding
 returns-in-Enter-clause-finding g c i rs s =
@@ -130,7 +130,7 @@ returns-in-Enter-clause-finding g c i rs s =
     let step : Routing = record { route = c.step-route.result; after = c.step-route.new.self } in
     let octets : c.as_slice-octets.result.now ≡ r.octets = c.as_slice-octets.ensures.value ∙ ap (λ x. x.octets) c.row.view_is in
     let told = told_of g.C.Channel.interface_of g.C.Channel.number_of g.C.Channel.stands_for i rs c.args.self.now r p step s c.as_slice-octets.result.now c.row.inside.side (length c.as_slice-octets.result.now) octets (ap (λ x. x.side) c.row.view_is) (ap (λ l. length l) octets) c.decode-packet.ensures c.step-route.ensures in
-    line_finds g.C.Channel.interface_of g.C.Channel.number_of g.C.Channel.stands_for i rs c.args.self.now r p step s c.finding_of-finding.result told (ap is_to_channel c.in-Enter.is) c.finding_of-finding.ensures c.enter.result c.enter.ensures.found
+    line_finds g.C.Channel.interface_of g.C.Channel.number_of g.C.Channel.stands_for i rs c.args.self.now r p step s c.finding_of-finding.result told (ap is_to_channel c.in-Enter.is) (c.finding_of-finding.ensures c.row.inside.octets.items ∙ ap (λ x. route_finding x step.route) c.row.view_is) c.enter.result c.enter.ensures.found
 
 pub returns-in-Found-clause-finding : goal.returns-in-Found-clause-finding
 returns-in-Found-clause-finding g c i rs s =
@@ -139,7 +139,7 @@ returns-in-Found-clause-finding g c i rs s =
     let step : Routing = record { route = c.step-route.result; after = c.step-route.new.self } in
     let octets : c.as_slice-octets.result.now ≡ r.octets = c.as_slice-octets.ensures.value ∙ ap (λ x. x.octets) c.row.view_is in
     let told = told_of g.C.Channel.interface_of g.C.Channel.number_of g.C.Channel.stands_for i rs c.args.self.now r p step s c.as_slice-octets.result.now c.row.inside.side (length c.as_slice-octets.result.now) octets (ap (λ x. x.side) c.row.view_is) (ap (λ l. length l) octets) c.decode-packet.ensures c.step-route.ensures in
-    line_finds g.C.Channel.interface_of g.C.Channel.number_of g.C.Channel.stands_for i rs c.args.self.now r p step s c.finding_of-finding.result told (ap is_to_channel c.in-Found.is) c.finding_of-finding.ensures c.advance.result c.advance.ensures.found
+    line_finds g.C.Channel.interface_of g.C.Channel.number_of g.C.Channel.stands_for i rs c.args.self.now r p step s c.finding_of-finding.result told (ap is_to_channel c.in-Found.is) (c.finding_of-finding.ensures c.row.inside.octets.items ∙ ap (λ x. route_finding x step.route) c.row.view_is) c.advance.result c.advance.ensures.found
 
 pub returns-in-Pass-clause-finding : goal.returns-in-Pass-clause-finding
 returns-in-Pass-clause-finding g c i rs s =
@@ -148,4 +148,4 @@ returns-in-Pass-clause-finding g c i rs s =
     let step : Routing = record { route = c.step-route.result; after = c.step-route.new.self } in
     let octets : c.as_slice-octets.result.now ≡ r.octets = c.as_slice-octets.ensures.value ∙ ap (λ x. x.octets) c.row.view_is in
     let told = told_of g.C.Channel.interface_of g.C.Channel.number_of g.C.Channel.stands_for i rs c.args.self.now r p step s c.as_slice-octets.result.now c.row.inside.side (length c.as_slice-octets.result.now) octets (ap (λ x. x.side) c.row.view_is) (ap (λ l. length l) octets) c.decode-packet.ensures c.step-route.ensures in
-    line_finds g.C.Channel.interface_of g.C.Channel.number_of g.C.Channel.stands_for i rs c.args.self.now r p step s c.finding_of-finding.result told (ap is_to_channel c.in-Pass.is) c.finding_of-finding.ensures c.advance-in-Pass.result c.advance-in-Pass.ensures.found
+    line_finds g.C.Channel.interface_of g.C.Channel.number_of g.C.Channel.stands_for i rs c.args.self.now r p step s c.finding_of-finding.result told (ap is_to_channel c.in-Pass.is) (c.finding_of-finding.ensures c.row.inside.octets.items ∙ ap (λ x. route_finding x step.route) c.row.view_is) c.advance-in-Pass.result c.advance-in-Pass.ensures.found

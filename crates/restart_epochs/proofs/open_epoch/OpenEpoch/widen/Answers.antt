@@ -5,6 +5,6 @@ use Rattle.restart_epochs.proofs.open_epoch.OpenEpoch.widen.Goals as goal
 
 pub loop-self-preserved : goal.loop-self-preserved
 loop-self-preserved g c = record {
-  rows = λ k. ap (λ lanes. lane_at lanes k) (c.in_ok-push.ensures.items ∙ ap (λ x. c.loop-self.self-inside.lanes.items ++ x ∷ []) c.new-items.ensures.items) ∙ lane-empty c.loop-self.self-inside.lanes.items k ∙ c.loop-self.invariant.rows k;
+  rows = λ k. ap (λ lanes. lane_at lanes k) (c.in_ok-push.ensures.items ∙ ap (λ x. c.loop-self.self-inside.lanes.items ++ x ∷ []) c.new-lane.ensures) ∙ lane-empty c.loop-self.self-inside.lanes.items k ∙ c.loop-self.invariant.rows k;
   channels = c.loop-self.invariant.channels;
 }

@@ -1,0 +1,77 @@
+//! Files that are no trace, by their first bytes.
+
+/// What a file is that begins with some bytes, and what to do with it.
+struct Form {
+    magic: &'static [u8],
+    told: &'static str,
+}
+
+const CAPTURE: &str = "This is a capture: tools/x25trace FILE | x25scan reads it.";
+
+const UTF16: &str = "The text is UTF-16: iconv -f UTF-16 -t ASCII FILE | x25scan reads it.";
+
+const FORMS: [Form; 13] = [
+    Form {
+        magic: b"\xef\xbb\xbf",
+        told: "The text begins with a byte order mark: tail -c +4 FILE | x25scan reads it.",
+    },
+    Form {
+        magic: b"\xff\xfe",
+        told: UTF16,
+    },
+    Form {
+        magic: b"\xfe\xff",
+        told: UTF16,
+    },
+    Form {
+        magic: b"\x1f\x8b",
+        told: "This is a gzip file: gzip -dc FILE | x25scan reads what is in it.",
+    },
+    Form {
+        magic: b"\x28\xb5\x2f\xfd",
+        told: "This is a zstd file: zstd -dc FILE | x25scan reads what is in it.",
+    },
+    Form {
+        magic: b"\xfd7zXZ\x00",
+        told: "This is an xz file: xz -dc FILE | x25scan reads what is in it.",
+    },
+    Form {
+        magic: b"BZh",
+        told: "This is a bzip2 file: bzip2 -dc FILE | x25scan reads what is in it.",
+    },
+    Form {
+        magic: b"PK\x03\x04",
+        told: "This is a zip file: unzip -p FILE | x25scan reads what is in it.",
+    },
+    Form {
+        magic: b"\xd4\xc3\xb2\xa1",
+        told: CAPTURE,
+    },
+    Form {
+        magic: b"\xa1\xb2\xc3\xd4",
+        told: CAPTURE,
+    },
+    Form {
+        magic: b"\x4d\x3c\xb2\xa1",
+        told: CAPTURE,
+    },
+    Form {
+        magic: b"\xa1\xb2\x3c\x4d",
+        told: CAPTURE,
+    },
+    Form {
+        magic: b"\x0a\x0d\x0d\x0a",
+        told: CAPTURE,
+    },
+];
+
+/// What a text is, and what to do with it, where its first bytes are those of another kind of file: a byte order mark,
+/// UTF-16, a compressed file, a capture in pcap (with times in micro- or nanoseconds, of either byte order) or pcapng.
+pub fn file_advice(text: &[u8]) -> Option<&'static str> {
+    for form in FORMS.as_slice() {
+        if text.starts_with(form.magic) {
+            return Some(form.told);
+        }
+    }
+    None
+}

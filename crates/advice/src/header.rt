@@ -1,0 +1,196 @@
+//! What is wrong with the form of a header.
+
+use crate::line::{number_in, space_advice};
+use crate::quoted::quoted;
+use crate::ranges::{Numbers, range_advice};
+use std::alloc::{AllocError, Global};
+
+/// A header of the first form, as an example.
+const HEADER: &str = "X25 1 MOD 8 WIN 2 SIZE 128 PVC 0 SVC 4";
+
+/// The names of the numbers in a header of the first form.
+pub const FIRST_FORM: [&str; 5] = ["MOD", "WIN", "SIZE", "PVC", "SVC"];
+
+/// The names of the numbers in a header of the second form.
+pub const SECOND_FORM: [&str; 7] = ["MOD", "WIN", "SIZE", "PVC", "IN", "TWO", "OUT"];
+
+/// The words of a line that are left.
+#[derive(Drop)]
+struct WordsLeft<'a> {
+    line: Option<&'a [u8]>,
+}
+
+impl<'a> WordsLeft<'a> {
+    /// The next word; none at the end.
+    fn next(&mut self) -> Option<&'a [u8]> {
+        let line = self.line?;
+        let mut parts = line.splitn(2, |byte| *byte == b' ');
+        let word = parts.next();
+        self.line = parts.next();
+        word
+    }
+}
+
+/// What is wrong with a word where a name belongs, if it is another.
+fn name_advice(
+    alloc: Global,
+    word: Option<&[u8]>,
+    name: &str,
+) -> Result<Option<String>, AllocError> {
+    let Some(word) = word else {
+        return Ok(Some(format!(in alloc; "The header ends where {name} belongs.")?));
+    };
+    if word == name.as_bytes() {
+        return Ok(None);
+    }
+    let is_same = word.eq_ignore_ascii_case(name.as_bytes());
+    let word = quoted(alloc, word)?;
+    Ok(Some(if is_same {
+        format!(in alloc; "The header's words are in capitals: {word} is written {name}.")?
+    } else {
+        format!(in alloc; "In the header stands {word} where {name} belongs.")?
+    }))
+}
+
+/// The number behind a name, or what is wrong there.
+fn number_behind(
+    alloc: Global,
+    word: Option<&[u8]>,
+    name: &str,
+) -> Result<Result<u32, String>, AllocError> {
+    let Some(word) = word else {
+        return Ok(Err(format!(in alloc; "The header ends where the number of {name} belongs.")?));
+    };
+    match number_in(word) {
+        Some(number) => Ok(Ok(number)),
+        None => {
+            let word = quoted(alloc, word)?;
+            Ok(Err(format!(in alloc;
+                "Behind {name} stands {word}: a number of 1 to 9 digits without a leading zero belongs there."
+            )?))
+        }
+    }
+}
+
+/// Takes a name and its number off the words, or tells what is wrong there.
+fn next_number(
+    alloc: Global,
+    words: &mut WordsLeft<'_>,
+    name: &str,
+) -> Result<Result<u32, String>, AllocError> {
+    if let Some(told) = name_advice(alloc, words.next(), name)? {
+        return Ok(Err(told));
+    }
+    number_behind(alloc, words.next(), name)
+}
+
+/// Takes the names and their numbers off the words, or tells what is wrong with the first that is wrong.
+fn next_numbers(
+    alloc: Global,
+    words: &mut WordsLeft<'_>,
+    names: &[&str],
+) -> Result<Result<Numbers, String>, AllocError> {
+    let mut numbers = Numbers::none();
+    for name in names {
+        match next_number(alloc, words, name)? {
+            Ok(number) => numbers.put(name, number),
+            Err(told) => return Ok(Err(told)),
+        }
+    }
+    Ok(Ok(numbers))
+}
+
+/// What is wrong behind the last number, if something is.
+fn end_advice(
+    alloc: Global,
+    words: &mut WordsLeft<'_>,
+    may_join: bool,
+) -> Result<Option<String>, AllocError> {
+    let Some(word) = words.next() else {
+        return Ok(None);
+    };
+    if !may_join {
+        let word = quoted(alloc, word)?;
+        return Ok(Some(format!(in alloc; "Behind the header's last number stands {word}.")?));
+    }
+    if let Some(told) = name_advice(alloc, Some(word), "JOIN")? {
+        return Ok(Some(told));
+    }
+    end_advice_behind(alloc, words)
+}
+
+/// What is wrong behind JOIN, if something is.
+fn end_advice_behind(
+    alloc: Global,
+    words: &mut WordsLeft<'_>,
+) -> Result<Option<String>, AllocError> {
+    match words.next() {
+        None => Ok(None),
+        Some(word) => {
+            let word = quoted(alloc, word)?;
+            Ok(Some(format!(in alloc; "Behind the header's JOIN stands {word}.")?))
+        }
+    }
+}
+
+/// What is wrong with a header of one of the forms, behind its number, if something is.
+fn numbers_advice(
+    alloc: Global,
+    words: &mut WordsLeft<'_>,
+    names: &[&str],
+    may_join: bool,
+) -> Result<Option<String>, AllocError> {
+    match next_numbers(alloc, words, names)? {
+        Err(told) => Ok(Some(told)),
+        Ok(numbers) => match end_advice(alloc, words, may_join)? {
+            Some(told) => Ok(Some(told)),
+            None => range_advice(alloc, &numbers, may_join),
+        },
+    }
+}
+
+/// What is wrong with the words of a header, if something is.
+fn words_advice(alloc: Global, line: &[u8]) -> Result<Option<String>, AllocError> {
+    let mut words = WordsLeft { line: Some(line) };
+    if let Some(told) = name_advice(alloc, words.next(), "X25")? {
+        return Ok(Some(told));
+    }
+    match words.next() {
+        Some([b'1']) => numbers_advice(alloc, &mut words, FIRST_FORM.as_slice(), false),
+        Some([b'2']) => numbers_advice(alloc, &mut words, SECOND_FORM.as_slice(), true),
+        _ => Ok(Some(String::from_str(
+            alloc,
+            "Behind X25 belongs 1 or 2, the form of the header.",
+        )?)),
+    }
+}
+
+/// What is wrong with a header, if something is.
+fn header_advice(alloc: Global, line: &[u8]) -> Result<Option<String>, AllocError> {
+    if let Some(told) = space_advice(alloc, line)? {
+        return Ok(Some(told));
+    }
+    match line.first() {
+        Some(byte) if byte.is_ascii_digit() => Ok(Some(format!(in alloc;
+            "A row stands before the header, which comes first, as {HEADER}."
+        )?)),
+        _ => words_advice(alloc, line),
+    }
+}
+
+/// What is wrong with the header among some lines, its first that is no comment. The lines begin with the text where
+/// `whole` is true, else in the midst of a line.
+pub fn headers_advice(
+    alloc: Global,
+    text: &[u8],
+    whole: bool,
+) -> Result<Option<String>, AllocError> {
+    let mut line_began = whole;
+    for line in text.split(|byte| *byte == b'\n') {
+        if line_began && !line.starts_with(b"#") {
+            return header_advice(alloc, line);
+        }
+        line_began = true;
+    }
+    Ok(None)
+}

@@ -1,0 +1,12 @@
+//! What is wrong with a faulty line of a trace, in words, by the line itself where that tells more than its kind.
+#![tactic(auto)]
+
+pub mod advice;
+mod files;
+mod header;
+mod line;
+mod quoted;
+mod ranges;
+mod rows;
+#[cfg(test)]
+mod tests;

@@ -1,0 +1,25 @@
+//! Words of a trace as they are quoted.
+
+use std::alloc::{AllocError, Global};
+
+/// How many bytes of a word are quoted.
+const QUOTED: usize = 24;
+
+/// Appends a byte, in hex where it is no printable ASCII.
+fn push_byte(text: &mut String, byte: u8) -> Result<(), AllocError> {
+    if byte == b' ' || byte.is_ascii_graphic() {
+        text.push(char::from(byte))
+    } else {
+        write!(text, "\\x{byte:02x}")
+    }
+}
+
+/// A word between quotes, of a long one its beginning, and each byte that is no printable ASCII in hex.
+pub fn quoted(alloc: Global, word: &[u8]) -> Result<String, AllocError> {
+    let mut text = String::from_str(alloc, "\"")?;
+    for byte in word.iter().take(QUOTED) {
+        push_byte(&mut text, *byte)?;
+    }
+    text.push_str(if word.len() > QUOTED { "..\"" } else { "\"" })?;
+    Ok(text)
+}

@@ -1,0 +1,190 @@
+//! What is wrong with a row.
+
+use crate::line::{RETURN, ends_in_return, number_in, space_advice};
+use crate::quoted::quoted;
+use line_model::fault::Kind;
+use std::alloc::{AllocError, Global};
+
+/// The octets that a row may have.
+const OCTET_LIMIT: usize = 4200;
+
+/// The three words of a row.
+#[derive(Clone, Copy)]
+struct RowWords<'a> {
+    number: &'a [u8],
+    side: &'a [u8],
+    octets: &'a [u8],
+}
+
+fn row_words(line: &[u8]) -> Option<RowWords<'_>> {
+    let mut words = line.split(|byte| *byte == b' ');
+    let number = words.next()?;
+    let side = words.next()?;
+    let octets = words.next()?;
+    match words.next() {
+        None if !number.is_empty() && !side.is_empty() && !octets.is_empty() => Some(RowWords {
+            number,
+            side,
+            octets,
+        }),
+        _ => None,
+    }
+}
+
+fn form_advice(alloc: Global, line: &[u8]) -> Result<Option<String>, AllocError> {
+    if let Some(told) = space_advice(alloc, line)? {
+        return Ok(Some(told));
+    }
+    let count = line.split(|byte| *byte == b' ').count();
+    let words = if count == 1 { "word" } else { "words" };
+    Ok(Some(format!(in alloc;
+        "The line has {count} {words}, and a row has three: its number, its side and its octets."
+    )?))
+}
+
+/// What is wrong with a number behind that of the row before, if it is wrong.
+fn number_advice(
+    alloc: Global,
+    word: &[u8],
+    before: Option<u32>,
+) -> Result<Option<String>, AllocError> {
+    let Some(number) = number_in(word) else {
+        let word = quoted(alloc, word)?;
+        return Ok(Some(format!(in alloc;
+            "The row's number is {word}: 1 to 999999999 without a leading zero belongs there."
+        )?));
+    };
+    match before {
+        _ if number == 0 => Ok(Some(String::from_str(
+            alloc,
+            "The row's number is 0: rows are numbered from 1.",
+        )?)),
+        Some(before) if number <= before => Ok(Some(format!(in alloc;
+            "The row's number is {number}, and that of the row before is {before}: numbers rise."
+        )?)),
+        _ => Ok(None),
+    }
+}
+
+fn side_advice(alloc: Global, word: &[u8]) -> Result<Option<String>, AllocError> {
+    match word {
+        [b'T'] | [b'N'] => Ok(None),
+        [b't'] => Ok(Some(String::from_str(alloc, "The side t is written T.")?)),
+        [b'n'] => Ok(Some(String::from_str(alloc, "The side n is written N.")?)),
+        _ => {
+            let word = quoted(alloc, word)?;
+            Ok(Some(format!(in alloc;
+                "The side is {word}: T for the DTE or N for the DCE belongs there."
+            )?))
+        }
+    }
+}
+
+/// What is wrong with octets that begin behind so many bytes of their line, if they are wrong.
+fn octets_advice(alloc: Global, word: &[u8], front: usize) -> Result<Option<String>, AllocError> {
+    if word == b"-".as_slice() {
+        return Ok(None);
+    }
+    if ends_in_return(word) {
+        return Ok(Some(String::from_str(alloc, RETURN)?));
+    }
+    if let Some(place) = word.iter().position(|byte| !byte.is_ascii_hexdigit()) {
+        let column = front.saturating_add(place).saturating_add(1);
+        let byte = quoted(
+            alloc,
+            word.get(place..place.saturating_add(1)).unwrap_or(b""),
+        )?;
+        return Ok(Some(format!(in alloc;
+            "At column {column} stands {byte}, which is no hex digit."
+        )?));
+    }
+    count_advice(alloc, word.len(), front)
+}
+
+/// What is wrong with the number of hex digits, if it is wrong.
+fn count_advice(alloc: Global, count: usize, front: usize) -> Result<Option<String>, AllocError> {
+    let octets = count / 2;
+    if octets > OCTET_LIMIT {
+        return Ok(Some(format!(in alloc;
+            "The row has {octets} octets, and {OCTET_LIMIT} are the most."
+        )?));
+    }
+    if count % 2 == 1 {
+        let column = front.saturating_add(count);
+        return Ok(Some(format!(in alloc;
+            "The octets have {count} hex digits, an odd number: the last one, at column {column}, stands alone."
+        )?));
+    }
+    Ok(None)
+}
+
+/// What is wrong with the words of a row by a rule, if it breaks that rule.
+fn words_advice(
+    alloc: Global,
+    kind: Kind,
+    row: RowWords<'_>,
+    before: Option<u32>,
+) -> Result<Option<String>, AllocError> {
+    match kind {
+        Kind::Number => number_advice(alloc, row.number, before),
+        Kind::Side => side_advice(alloc, row.side),
+        Kind::Hex => {
+            let front = row.number.len().saturating_add(row.side.len());
+            octets_advice(alloc, row.octets, front.saturating_add(2))
+        }
+        _ => Ok(None),
+    }
+}
+
+/// What is wrong with a row by a rule, if it breaks that rule; the row before had this number, where it is known.
+fn row_advice(
+    alloc: Global,
+    kind: Kind,
+    line: &[u8],
+    before: Option<u32>,
+) -> Result<Option<String>, AllocError> {
+    match row_words(line) {
+        Some(row) => words_advice(alloc, kind, row, before),
+        None if kind == Kind::LineForm => form_advice(alloc, line),
+        None => Ok(None),
+    }
+}
+
+/// The number of a row.
+fn row_number(line: &[u8]) -> Option<u32> {
+    match row_words(line) {
+        Some(row) => number_in(row.number),
+        None => None,
+    }
+}
+
+/// Whether a line behind the beginning of a text may be its header.
+fn may_be_header(line: &[u8]) -> bool {
+    line.starts_with(b"X25 ")
+}
+
+/// What is wrong with the first row of some lines that breaks a rule, if one does. The lines begin with the text where
+/// `whole` is true, else in the midst of a line.
+pub fn rows_advice(
+    alloc: Global,
+    kind: Kind,
+    text: &[u8],
+    whole: bool,
+) -> Result<Option<String>, AllocError> {
+    let mut header_came = !whole;
+    let mut line_began = whole;
+    let mut before = if whole { Some(0) } else { None };
+    for line in text.split(|byte| *byte == b'\n') {
+        let is_other = line.starts_with(b"#") || (!whole && may_be_header(line));
+        let is_row = line_began && header_came && !is_other;
+        header_came = header_came || !is_other;
+        line_began = true;
+        if is_row {
+            if let Some(told) = row_advice(alloc, kind, line, before)? {
+                return Ok(Some(told));
+            }
+            before = row_number(line);
+        }
+    }
+    Ok(None)
+}

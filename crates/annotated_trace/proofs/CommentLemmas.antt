@@ -1,0 +1,68 @@
+-- The comments behind a line.
+use Rattle.std.proofs.Common.{◌≡◌, ◌∙◌, sym, ap, subst, refl, ℕ, List, [], ◌++◌, Option, Result, Ok, Err, OnOk, OnErr, IfErr, append_assoc, append-nil, inl, inr}
+use Rattle.line_model.specs.Text.{Line}
+use Rattle.line_model.specs.Traces.{text}
+use Rattle.line_model.specs.declared.fault.Fault.{Fault}
+use Rattle.line_model.specs.declared.fault.Fault.TheVariants.{Memory}
+use Rattle.line_model.specs.declared.fault.Kind.{Kind}
+use Rattle.line_model.specs.declared.finding.Finding.{Finding}
+use Rattle.annotated_trace.specs.Annotation.{AreMarksOf, marks_in}
+use Rattle.annotated_trace.specs.Marking.{AreMarksBehind, HasClosing, HasCommentsOf, HasMarksOf}
+use Rattle.trace_text.specs.StandsFor.{IsFaultOf, IsTextFault}
+use Rattle.annotated_trace.specs.Wording.{AreNotes}
+use Rattle.annotated_trace.specs.declared.choice.Choice.{Choice}
+use Rattle.annotated_trace.specs.declared.choice.Choice.TheVariants.{EveryRow, ChosenRows}
+use Rattle.annotated_trace.proofs.LinesOfText.{text_append}
+use Rattle.annotated_trace.proofs.MarkLemmas.{marks_in-append}
+use Rattle.annotated_trace.proofs.MarkingLemmas.{both_comments}
+use Rattle.annotated_trace.proofs.WordingLemmas.{notes_are_comments, notes_mark_nothing}
+
+pub on_ok : {T E : Type 0} (r : Result T E) (P Q : Type 0) → OnOk r P → (P → Q) → OnOk r Q
+on_ok (Ok x) P Q h k = k h
+on_ok (Err e) P Q h k = tt
+
+pub always : {T E : Type 0} (r : Result T E) (P : Type 0) → P → OnOk r P
+always (Ok x) P h = h
+always (Err e) P h = tt
+
+pub on_err : {T E : Type 0} (r : Result T E) (P Q : E → Type 0) → IfErr r P → ((e : E) → P e → Q e) → IfErr r Q
+on_err (Ok x) P Q h k = tt
+on_err (Err e) P Q h k = k e h
+
+pub memory_of : (at : Option (ℕ × Kind)) (f : Fault) → f ≡ Memory → IsFaultOf at f
+memory_of at f h = subst (IsFaultOf at) (sym h) tt
+
+pub memory_text : (f : Fault) → f ≡ Memory → IsTextFault f
+memory_text f h = subst IsTextFault (sym h) tt
+
+behind_of : (choice : Choice) (findings : List Finding) (marks : List Line) → AreMarksOf findings marks → AreMarksBehind choice findings marks
+behind_of EveryRow findings marks h = h
+behind_of ChosenRows findings marks h = inr h
+
+pub marks_alone : (choice : Choice) (findings : List Finding) (before after : List ℕ) → HasMarksOf findings before after → HasCommentsOf choice findings before after
+marks_alone choice findings before after h = record {
+  behind = h.marks;
+  written = h.written;
+  comments = h.comments;
+  marks = behind_of choice findings (marks_in h.marks) (subst (AreMarksOf findings) (sym h.all) h.marks_are);
+}
+
+pub notes_and_marks : (choice : Choice) (findings : List Finding) (before mid after : List ℕ) (notes : List Line) → mid ≡ before ++ text notes → AreNotes notes → HasMarksOf findings mid after → HasCommentsOf choice findings before after
+notes_and_marks choice findings before mid after notes e n h =
+    let all : marks_in (notes ++ h.marks) ≡ h.marks = marks_in-append notes h.marks ∙ ap (λ xs. xs ++ marks_in h.marks) (notes_mark_nothing notes n) ∙ h.all in
+    record {
+      behind = notes ++ h.marks;
+      written = h.written ∙ ap (λ xs. xs ++ text h.marks) e ∙ append_assoc before (text notes) (text h.marks) ∙ ap (λ xs. before ++ xs) (sym (text_append notes h.marks));
+      comments = both_comments notes h.marks (notes_are_comments notes n) h.comments;
+      marks = behind_of choice findings (marks_in (notes ++ h.marks)) (subst (AreMarksOf findings) (sym all) h.marks_are);
+    }
+
+pub left_out : (findings : List Finding) (out : List ℕ) → HasCommentsOf ChosenRows findings out out
+left_out findings out = record { behind = []; written = sym (append-nil out); comments = tt; marks = inl refl }
+
+pub notes_alone : (before after : List ℕ) (notes : List Line) → after ≡ before ++ text notes → AreNotes notes → HasClosing before after
+notes_alone before after notes e n = record { closing = notes; written = e; comments = notes_are_comments notes n; unmarked = notes_mark_nothing notes n }
+
+pub part_err : {T E : Type 0} (r : Result T E) (P Q : Type 0) → OnErr r P → (P → Q) → IfErr r (λ e. Q)
+part_err (Ok x) P Q h k = tt
+part_err (Err e) P Q h k = k h

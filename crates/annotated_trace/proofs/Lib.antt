@@ -1,0 +1,11 @@
+pub mod LinesOfText
+pub mod SameReport
+pub mod MarkLemmas
+pub mod WordingLemmas
+pub mod AnnotatedLemmas
+pub mod MarkingLemmas
+pub mod PassedLemmas
+pub mod CommentLemmas
+pub mod EndOfText
+pub mod ReadingLemmas
+pub mod WatchedLemmas

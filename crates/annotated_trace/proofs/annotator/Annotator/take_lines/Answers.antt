@@ -1,0 +1,64 @@
+use Rattle.std.proofs.Common.{◌+◌, sym, refl, length, take, [], ◌++◌, arith}
+use Rattle.report_merge.proofs.WrittenLemmas.{with_more-nil}
+use Rattle.annotated_trace.proofs.CommentLemmas.{always, on_err}
+use Rattle.annotated_trace.proofs.PassedLemmas.{line_end, line_passed, line_refusal, line_stopped, much_stopped, rest_annotated, rest_stopped}
+use Rattle.annotated_trace.proofs.annotator.Annotator.take_lines.Goals as goal
+
+pub returns-in-Err-clause-refused : goal.returns-in-Err-clause-refused
+returns-in-Err-clause-refused g c text s =
+    let p = c.loop-front.invariant.passed in
+    let front = c.in-Some.front.now in
+    let rest = c.loop-front.rest.now in
+    let end = line_end front c.in-Some.back.now rest c.in-Some.ensures.0 in
+    line_refusal g.W.Watcher.stands_for c.args.self.now c.loop-front.self (g.K.Sink.taken c.args.sink.now) (g.K.Sink.taken c.loop-front.sink) c.args.chunk.now rest front c.in-Some.back.now (take (length front + 1) rest) text c.in-Err.fault p c.in-Some.ensures.0 end
+    (c.in-Err.ensures.refused (text ++ p.fed) (p.stands text s))
+
+pub returns-in-Err-clause-stopped : goal.returns-in-Err-clause-stopped
+returns-in-Err-clause-stopped g c text before s h =
+    let p = c.loop-front.invariant.passed in
+    let front = c.in-Some.front.now in
+    let rest = c.loop-front.rest.now in
+    let end = line_end front c.in-Some.back.now rest c.in-Some.ensures.0 in
+    let stands = p.stands text s in
+    line_stopped g.W.Watcher.stands_for c.args.self.now c.loop-front.self (g.K.Sink.taken c.args.sink.now) (g.K.Sink.taken c.loop-front.sink) before c.args.chunk.now rest front c.in-Some.back.now (take (length front + 1) rest) text c.take_line.new.self.held.items
+    c.in-Err.fault p c.in-Some.ensures.0 end c.in-Some.ensures.1 s (g.met.W.Watcher.sound c.loop-front.self.trace (text ++ p.fed) stands.trace) h (c.in-Err.ensures.refused (text ++ p.fed) stands) c.in-Err.ensures.not_held
+
+pub loop-front-preserved : goal.loop-front-preserved
+loop-front-preserved g c =
+    let p = c.loop-front.invariant.passed in
+    let front = c.in-Some.front.now in
+    let rest = c.loop-front.rest.now in
+    let end = line_end front c.in-Some.back.now rest c.in-Some.ensures.0 in
+    let put = c.in-Ok-send_much.ensures.ok in
+    record {
+      passed = line_passed g.W.Watcher.stands_for c.args.self.now c.loop-front.self c.take_line.new.self (record c.take_line.new.self { held = c.send_much.new.held }) (g.K.Sink.taken c.args.sink.now) (g.K.Sink.taken c.loop-front.sink)
+          (g.K.Sink.taken c.send_much.new.sink) c.args.chunk.now rest front c.in-Some.back.now (take (length front + 1) rest) put.0 p c.in-Some.ensures.0 end c.in-Some.ensures.1 c.in-Ok.ensures.stands c.in-Ok.ensures.held c.in-Ok.ensures.choice refl refl refl
+          put.1 put.2;
+      rising = omega (arith, c.loop-front.invariant.rising, c.in-Ok-send_much.ensures.rising);
+    }
+
+pub returns-in-Err-send_much-clause-stopped : goal.returns-in-Err-send_much-clause-stopped
+returns-in-Err-send_much-clause-stopped g c text before s h =
+    let p = c.loop-front.invariant.passed in
+    let front = c.in-Some.front.now in
+    let rest = c.loop-front.rest.now in
+    let end = line_end front c.in-Some.back.now rest c.in-Some.ensures.0 in
+    let taken = g.K.Sink.taken c.loop-front.sink in
+    let q = line_passed g.W.Watcher.stands_for c.args.self.now c.loop-front.self c.take_line.new.self c.take_line.new.self (g.K.Sink.taken c.args.sink.now) taken taken c.args.chunk.now rest front c.in-Some.back.now (take (length front + 1) rest) [] p c.in-Some.ensures.0
+    end c.in-Some.ensures.1 c.in-Ok.ensures.stands c.in-Ok.ensures.held c.in-Ok.ensures.choice refl refl refl (sym (with_more-nil taken)) refl in
+    let part = c.in-Err-send_much.ensures.part in
+    much_stopped g.W.Watcher.stands_for c.args.self.now c.take_line.new.self (g.K.Sink.taken c.args.sink.now) taken (g.K.Sink.taken c.send_much.new.sink) before c.args.chunk.now c.in-Some.back.now text c.send_much.new.held.items part.0 part.1
+    c.in-Err-send_much.fault q s h part.2 part.3 c.in-Err-send_much.ensures.write
+
+pub returns-clause-annotated : goal.returns-clause-annotated
+returns-clause-annotated g c text before s h =
+    always c.begin.result _ (rest_annotated g.W.Watcher.stands_for c.args.self.now c.loop-front.self (g.K.Sink.taken c.args.sink.now) (g.K.Sink.taken c.loop-front.sink) before c.args.chunk.now c.loop-front.rest.now text c.begin.new.self.held.items
+    c.loop-front.invariant.passed c.in_default.ensures s h c.begin.ensures.held)
+
+pub returns-clause-stopped : goal.returns-clause-stopped
+returns-clause-stopped g c text before s h =
+    let p = c.loop-front.invariant.passed in
+    let stands = p.stands text s in
+    on_err c.begin.result _ _ (c.begin.ensures.refused (text ++ p.fed) stands) (λ f fault.
+    rest_stopped g.W.Watcher.stands_for c.args.self.now c.loop-front.self (g.K.Sink.taken c.args.sink.now) (g.K.Sink.taken c.loop-front.sink) before c.args.chunk.now c.loop-front.rest.now text c.begin.new.self.held.items f p c.in_default.ensures s
+    (g.met.W.Watcher.sound c.loop-front.self.trace (text ++ p.fed) stands.trace) h c.begin.ensures.held fault)

@@ -1,0 +1,18 @@
+use Rattle.annotated_trace.proofs.CommentLemmas.{always, on_ok}
+use Rattle.annotated_trace.proofs.MarkingLemmas.{finding_put}
+use Rattle.std.proofs.Common.{◌∙◌, ap, ◌++◌}
+use Rattle.annotated_trace.proofs.marks.append_finding.Goals as goal
+
+pub returns-clause-ok : goal.returns-clause-ok
+returns-clause-ok g c =
+    on_ok c.append_code.result _ _ c.append_code.ensures.ok (λ e.
+    finding_put c.args.out.now.items c.extend_from_slice.new.self.items c.append_number.new.out.items c.push.new.self.items c.extend_from_slice-2.new.self.items c.push-2.new.self.items c.extend_from_slice-3.new.self.items c.push-3.new.self.items c.append_code.new.out.items _ _ _ _
+    c.in_ok-extend_from_slice.ensures.items c.in_ok-append_number.ensures.ok c.in_ok-push.ensures.items
+    (c.in_ok-extend_from_slice-2.ensures.items ∙ ap (λ xs. c.push.new.self.items ++ xs) c.side_word.ensures) c.in_ok-push-2.ensures.items
+    (c.in_ok-extend_from_slice-3.ensures.items ∙ ap (λ xs. c.push-2.new.self.items ++ xs) c.state_word.ensures) c.in_ok-push-3.ensures.items e)
+
+pub returns-clause-packet : goal.returns-clause-packet
+returns-clause-packet g c = always c.append_code.result _ c.append_number.ensures.fits
+
+pub returns-clause-code : goal.returns-clause-code
+returns-clause-code g c = always c.append_code.result _ c.append_code.ensures.fits

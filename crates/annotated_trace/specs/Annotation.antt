@@ -1,0 +1,104 @@
+-- A trace with comments behind its lines.
+use Rattle.std.specs.Prelude.{◌≡◌, ◌⊎◌, ℕ, ◌==◌, ◌&&◌, ◌≤◌, Bool, true, false, List, [], ◌∷◌, ◌++◌, filter, flat_map, map, length, Some, None, codes}
+use Rattle.std.specs.List.{list_any, AllByRecursion}
+use Rattle.line_model.specs.Report.{finding_line, report_of}
+use Rattle.line_model.specs.Text.{Line, head_of, is_comment, is_lf, line_limit, lines_of, rows_in}
+use Rattle.line_model.specs.Traces.{text}
+use Rattle.line_model.specs.declared.finding.Finding.{Finding}
+use Rattle.annotated_trace.specs.declared.choice.Choice.{Choice}
+use Rattle.annotated_trace.specs.declared.choice.Choice.TheVariants.{EveryRow, ChosenRows}
+
+-- the bytes have no LF
+abbrev pub IsOneLine : List ℕ → Type 0
+IsOneLine bytes = list_any is_lf bytes ≡ false
+
+-- a comment line of a trace: it begins with `#`, and is no longer than a line may be
+pub record IsComment (comment : Line) : Type 0 where
+  pub begins : is_comment comment ≡ true
+  pub one : IsOneLine comment
+  pub short : length comment ≤ line_limit
+
+-- each is one
+abbrev pub AreComments : List Line → Type 0
+AreComments comments = AllByRecursion IsComment comments
+
+-- a line that begins with `#!` marks a finding
+abbrev pub is_mark : Line → Bool
+is_mark (a ∷ b ∷ rest) = (a == 35) && (b == 33)
+is_mark _ = false
+
+-- the marks among some lines
+abbrev pub marks_in : List Line → List Line
+marks_in ls = filter is_mark ls
+
+-- what a mark says behind its finding: nothing, or words behind a colon
+abbrev pub explained : (words : List ℕ) → List ℕ
+explained [] = []
+explained words = codes ": " ++ words
+
+-- `#! ` and the finding's line of the report, and words that explain it or none
+pub record IsMarkOf (finding : Finding) (mark : Line) : Type 0 where
+  pub told : Line
+  pub words : List ℕ
+  pub line : finding_line finding ≡ told ++ 10 ∷ []
+  pub mark_is : mark ≡ codes "#! " ++ (told ++ explained words)
+
+-- a mark for each finding, in the same order
+abbrev pub AreMarksOf : List Finding → List Line → Type 0
+AreMarksOf [] [] = Unit {0}
+AreMarksOf (finding ∷ findings) (mark ∷ marks) = IsMarkOf finding mark × AreMarksOf findings marks
+AreMarksOf _ _ = ⊥
+
+-- the findings of the rows that some lines write, none without a header
+abbrev pub found_in : List Line → List Finding
+found_in ls = elim (head_of ls) [ None ↦ [] | Some i ↦ (report_of i (rows_in ls)).findings ]
+
+-- a line of a trace, and the comments behind it
+pub record Annotated : Type 0 where
+  pub line : Line
+  pub comments : List Line
+
+-- the line and its comments
+abbrev pub with_comments : Annotated → List Line
+with_comments a = a.line ∷ a.comments
+
+-- the lines without their comments
+abbrev pub bare_lines : List Annotated → List Line
+bare_lines annotated = map (λ a. a.line) annotated
+
+-- all of these lines
+abbrev pub all_lines : List Annotated → List Line
+all_lines annotated = flat_map with_comments annotated
+
+-- behind a line stand the marks of the findings that came with it, and of no others
+pub record HasItsMarks (before : List Line) (a : Annotated) : Type 0 where
+  pub findings : List Finding
+  pub came : found_in (before ++ a.line ∷ []) ≡ found_in before ++ findings
+  pub marks : AreMarksOf findings (marks_in a.comments)
+
+-- so it is with every line, or with those that are told of, and behind the others stand none
+abbrev pub IsMarked : Choice → (before : List Line) → Annotated → Type 0
+IsMarked EveryRow before a = HasItsMarks before a
+IsMarked ChosenRows before a = (marks_in a.comments ≡ []) ⊎ HasItsMarks before a
+
+-- of lines that stand behind others
+abbrev pub AreMarked : Choice → (before : List Line) → List Annotated → Type 0
+AreMarked choice before [] = Unit {0}
+AreMarked choice before (a ∷ annotated) = IsMarked choice before a × AreMarked choice (before ++ a.line ∷ []) annotated
+
+-- bytes are some lines, each with comments behind it that mark its findings
+pub record IsAnnotationOf (choice : Choice) (ls : List Line) (bytes : List ℕ) : Type 0 where
+  pub annotated : List Annotated
+  pub bare : bare_lines annotated ≡ ls
+  pub written : bytes ≡ text (all_lines annotated)
+  pub comments : AllByRecursion (λ a. AreComments a.comments) annotated
+  pub marked : AreMarked choice [] annotated
+
+-- an annotation of a whole text: that of its lines, and behind them comments that mark nothing
+pub record IsAnnotation (choice : Choice) (source bytes : List ℕ) : Type 0 where
+  pub front : List ℕ
+  pub closing : List Line
+  pub lines : IsAnnotationOf choice (lines_of source) front
+  pub whole : bytes ≡ front ++ text closing
+  pub comments : AreComments closing
+  pub unmarked : marks_in closing ≡ []

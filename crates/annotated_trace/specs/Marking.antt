@@ -1,0 +1,58 @@
+-- The marks that are written.
+use Rattle.std.specs.Prelude.{◌≡◌, ◌⊎◌, ℕ, ◌<◌, ◌^◌, List, [], ◌∷◌, ◌++◌, codes, decimal}
+use Rattle.line_model.specs.Report.{code_word, side_word, state_word}
+use Rattle.line_model.specs.Text.{Line}
+use Rattle.line_model.specs.Traces.{text}
+use Rattle.line_model.specs.declared.finding.Code.{Code}
+use Rattle.line_model.specs.declared.finding.Code.TheVariants.{Number, Pad}
+use Rattle.line_model.specs.declared.finding.Finding.{Finding}
+use Rattle.annotated_trace.specs.Annotation.{AreComments, AreMarksOf, IsComment, IsMarkOf, explained, marks_in}
+use Rattle.annotated_trace.specs.declared.choice.Choice.{Choice}
+use Rattle.annotated_trace.specs.declared.choice.Choice.TheVariants.{EveryRow, ChosenRows}
+
+-- a finding's line of the report, without its LF
+abbrev pub finding_words : Finding → List ℕ
+finding_words f = codes "F " ++ (decimal f.packet ++ 32 ∷ (side_word f.side ++ 32 ∷ (state_word f.state ++ 32 ∷ code_word f.code)))
+
+-- its mark, with words that explain it or none
+abbrev pub mark_line : Finding → (words : List ℕ) → Line
+mark_line f words = codes "#! " ++ (finding_words f ++ explained words)
+
+-- what a code's number is within
+abbrev pub IsCode : Code → Type 0
+IsCode (Number n) = n < 2 ^ 32
+IsCode (Pad x) = Unit {0}
+
+-- the mark of a finding was appended to bytes
+pub record HasMarkOf (finding : Finding) (before after : List ℕ) : Type 0 where
+  pub mark : Line
+  pub written : after ≡ before ++ text (mark ∷ [])
+  pub comment : IsComment mark
+  pub mark_of : IsMarkOf finding mark
+
+-- lines that are the marks of these findings were appended to bytes, and nothing else
+pub record HasMarksOf (findings : List Finding) (before after : List ℕ) : Type 0 where
+  pub marks : List Line
+  pub written : after ≡ before ++ text marks
+  pub comments : AreComments marks
+  pub all : marks_in marks ≡ marks
+  pub marks_are : AreMarksOf findings marks
+
+-- these are the marks behind a line with these findings, or there are none where not each row is told of
+abbrev pub AreMarksBehind : Choice → List Finding → List Line → Type 0
+AreMarksBehind EveryRow findings marks = AreMarksOf findings marks
+AreMarksBehind ChosenRows findings marks = (marks ≡ []) ⊎ AreMarksOf findings marks
+
+-- the comments behind a line with these findings were appended to bytes
+pub record HasCommentsOf (choice : Choice) (findings : List Finding) (before after : List ℕ) : Type 0 where
+  pub behind : List Line
+  pub written : after ≡ before ++ text behind
+  pub comments : AreComments behind
+  pub marks : AreMarksBehind choice findings (marks_in behind)
+
+-- comments that mark nothing were appended to bytes
+pub record HasClosing (before after : List ℕ) : Type 0 where
+  pub closing : List Line
+  pub written : after ≡ before ++ text closing
+  pub comments : AreComments closing
+  pub unmarked : marks_in closing ≡ []

@@ -1,0 +1,10 @@
+//! Which rows an annotated trace tells of.
+
+/// Which rows are told of.
+#[derive(Clone, Copy, Debug, PartialEq, Eq)]
+pub enum Choice {
+    /// Behind every row stand the marks of its findings.
+    EveryRow,
+    /// Behind the rows that were chosen stand the marks of their findings, and behind the others no comments.
+    ChosenRows,
+}

@@ -1,0 +1,88 @@
+//! The comments behind a line.
+
+ghost use Rattle.std.specs.Prelude.{◌≡◌, IfErr, OnOk};
+ghost use Rattle.line_model.specs.declared.fault.Fault.TheVariants.{Memory};
+ghost use Rattle.annotated_trace.specs.Marking.{HasClosing, HasCommentsOf, HasMarksOf};
+
+use crate::choice::Choice;
+use crate::describer::Describer;
+use crate::marks::append_mark;
+use crate::notes::{Notes, Words};
+use crate::watcher::Watcher;
+use line_model::fault::Fault;
+use line_model::report::Report;
+use std::alloc::Allocator;
+
+/// Room for the words of comments, which is used again.
+#[derive(Drop)]
+pub struct Scratch<A: Allocator> {
+    notes: Notes<A>,
+    words: Words<A>,
+}
+
+impl<A: Allocator + Copy> Scratch<A> {
+    /// Room in which nothing was said. It takes no memory.
+    pub fn new(alloc: A) -> Self {
+        Scratch {
+            notes: Notes::new(alloc),
+            words: Words::new(alloc),
+        }
+    }
+}
+
+/// Appends the marks of what the last line found.
+fn append_marks<A: Allocator + Copy, W: Watcher<A>, D: Describer<A, W>>(
+    trace: &W,
+    describer: &mut D,
+    words: &mut Words<A>,
+    out: &mut Vec<u8, A>,
+) -> Result<(), Fault>
+    ensures ok { OnOk result (HasMarksOf (W.last_found trace.now) out.old.items out.new.items) }
+    ensures memory { IfErr result (λ fault. fault ≡ Memory) }
+{
+    let found = trace.found();
+    for finding in found {
+        words.clear();
+        describer.explain(trace, finding, words)?;
+        append_mark(finding, words, out)?;
+    }
+    Ok(())
+}
+
+/// Appends the comments behind the last line.
+pub fn append_comments<A: Allocator + Copy, W: Watcher<A>, D: Describer<A, W>>(
+    trace: &W,
+    choice: Choice,
+    describer: &mut D,
+    scratch: &mut Scratch<A>,
+    out: &mut Vec<u8, A>,
+) -> Result<(), Fault>
+    ensures ok { OnOk result (HasCommentsOf choice (W.last_found trace.now) out.old.items out.new.items) }
+    ensures memory { IfErr result (λ fault. fault ≡ Memory) }
+{
+    scratch.notes.clear();
+    let told = describer.describe(trace, &mut scratch.notes)?;
+    match (told, choice) {
+        (true, _) => {
+            scratch.notes.append_to(out)?;
+            append_marks(trace, describer, &mut scratch.words, out)
+        }
+        (false, Choice::EveryRow) => append_marks(trace, describer, &mut scratch.words, out),
+        (false, Choice::ChosenRows) => Ok(()),
+    }
+}
+
+/// Appends the comments behind the last line of a text.
+pub fn append_closing<A: Allocator + Copy, W, D: Describer<A, W>>(
+    report: &Report<A>,
+    describer: &mut D,
+    scratch: &mut Scratch<A>,
+    out: &mut Vec<u8, A>,
+) -> Result<(), Fault>
+    ensures ok { OnOk result (HasClosing out.old.items out.new.items) }
+    ensures memory { IfErr result (λ fault. fault ≡ Memory) }
+{
+    scratch.notes.clear();
+    describer.close(report, &mut scratch.notes)?;
+    scratch.notes.append_to(out)
+}

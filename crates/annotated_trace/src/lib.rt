@@ -1,0 +1,16 @@
+//! A trace written again, with comments that say what its rows did.
+#![tactic(auto)]
+
+pub mod annotating;
+pub mod annotator;
+pub mod choice;
+mod commenting;
+pub mod describer;
+mod holding;
+pub mod laws;
+mod marks;
+pub mod notes;
+#[cfg(test)]
+mod tests;
+mod watched;
+pub mod watcher;

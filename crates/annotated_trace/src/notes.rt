@@ -1,0 +1,231 @@
+//! Comments in words, as they are written.
+
+ghost use Rattle.std.specs.Prelude.{◌≡◌, ◌==◌, ◌++◌, ◌∷◌, ◌≤◌, ℕ, List, [], IfErr, OnErr, OnOk, decimal, length};
+ghost use Rattle.hex.specs.Hex.{encode_upper};
+ghost use Rattle.line_model.specs.Traces.{text};
+ghost use Rattle.line_model.specs.declared.fault.Fault.TheVariants.{Memory};
+ghost use Rattle.annotated_trace.specs.Wording.{BeginsWith, IsWords, note_line, notes_of, plain, with_words, words_limit};
+
+use itoa::Buffer;
+use line_model::fault::Fault;
+use std::alloc::{AllocError, Allocator};
+use std::marker::Model;
+use trace_text::cuts::split_at_byte;
+
+/// The bytes that the words of a line may have (profile).
+pub const WORDS_LIMIT: usize = 8000;
+
+/// Appends words to bytes, a space in place of each LF. For want of memory a first part of them may be appended.
+fn append_plain<A: Allocator>(words: &[u8], out: &mut Vec<u8, A>) -> Result<(), AllocError>
+    ensures ok { OnOk result (out.new.items ≡ out.old.items ++ plain words.now) }
+    ensures kept { BeginsWith out.old.items out.new.items }
+{
+    let mut rest = words;
+    while let Some((front, back)) = split_at_byte(rest, b'\n') {
+        out.extend_from_slice(front)?;
+        out.push(b' ')?;
+        rest = back;
+    }
+    out.extend_from_slice(rest)
+}
+
+/// Appends a line that notes words. For want of memory a first part of it may be appended.
+fn append_note<A: Allocator>(words: &Words<A>, out: &mut Vec<u8, A>) -> Result<(), AllocError>
+    ensures ok { OnOk result (out.new.items ≡ out.old.items ++ text (note_line words.now ∷ [])) }
+    ensures kept { BeginsWith out.old.items out.new.items }
+    ensures words { OnOk result (IsWords words.now) }
+{
+    out.extend_from_slice(b"# ")?;
+    words.append_to(out)?;
+    out.push(b'\n')?;
+    Ok(())
+}
+
+/// The words of a line. They have no LF, for which a space is said; what goes past 8,000 bytes is cut off.
+#[derive(Drop)]
+pub struct Words<A: Allocator> {
+    /// As they were said, with their LFs.
+    bytes: Vec<u8, A>,
+}
+
+impl<A: Allocator> Model for Words<A> {
+    ghost Value = { List ℕ };
+
+    ghost view = { λ words. plain words.bytes.items };
+
+    ghost invariant = { λ words. length words.bytes.items ≤ words_limit };
+}
+
+impl<A: Allocator> Words<A> {
+    /// No words. It takes no memory.
+    pub fn new(alloc: A) -> Self
+        ensures { result ≡ [] }
+    {
+        Words {
+            bytes: Vec::new(alloc),
+        }
+    }
+
+    /// Forgets what was said, and keeps its room.
+    pub fn clear(&mut self)
+        ensures { self.new ≡ [] }
+    {
+        self.bytes.clear();
+    }
+
+    /// Whether nothing was said.
+    pub fn is_empty(&self) -> bool
+        ensures none { result ≡ (length self.now == 0) }
+        ensures words { IsWords self.now }
+    {
+        self.bytes.is_empty()
+    }
+
+    /// Appends what was said to bytes. For want of memory a first part of it may be appended.
+    pub(crate) fn append_to(&self, out: &mut Vec<u8, A>) -> Result<(), AllocError>
+        ensures ok { OnOk result (out.new.items ≡ out.old.items ++ self.now) }
+        ensures kept { BeginsWith out.old.items out.new.items }
+        ensures words { IsWords self.now }
+    {
+        append_plain(self.bytes.as_slice(), out)
+    }
+
+    /// Says bytes.
+    fn add(&mut self, words: &[u8]) -> Result<(), Fault>
+        ensures ok { OnOk result (self.new ≡ with_words self.old words.now) }
+        ensures memory { IfErr result (λ fault. fault ≡ Memory) }
+    {
+        let room = WORDS_LIMIT - self.bytes.len();
+        let front = &words[..room.min(words.len())];
+        self.bytes.extend_from_slice(front)?;
+        Ok(())
+    }
+
+    /// Says words. For want of memory, its only refusal, a first part of them may be said.
+    pub fn say(&mut self, words: &str) -> Result<(), Fault>
+        ensures ok { OnOk result (self.new ≡ with_words self.old words.now) }
+        ensures memory { IfErr result (λ fault. fault ≡ Memory) }
+    {
+        self.add(words.as_bytes())
+    }
+
+    /// Says a number in decimal digits, as `say` says words.
+    pub fn number(&mut self, number: u64) -> Result<(), Fault>
+        ensures ok { OnOk result (self.new ≡ with_words self.old (decimal number)) }
+        ensures memory { IfErr result (λ fault. fault ≡ Memory) }
+    {
+        let mut buffer = Buffer::new();
+        self.add(buffer.format(number).as_bytes())
+    }
+}
+
+impl<A: Allocator + Copy> Words<A> {
+    /// Says octets in hex digits, two for each, as `say` says words.
+    pub fn octets(&mut self, octets: &[u8]) -> Result<(), Fault>
+        ensures ok { OnOk result (self.new ≡ with_words self.old (encode_upper octets.now)) }
+        ensures memory { IfErr result (λ fault. fault ≡ Memory) }
+    {
+        let digits = hex::encode_upper(*self.bytes.allocator(), octets)?;
+        self.add(digits.as_bytes())
+    }
+}
+
+/// Comment lines that mark no finding: `# ` and words, each. The last one has not ended, so words can be added to it.
+#[derive(Drop)]
+pub struct Notes<A: Allocator> {
+    /// The lines that ended, with their LFs.
+    lines: Vec<u8, A>,
+    /// The words of the one that has not.
+    line: Words<A>,
+}
+
+impl<A: Allocator> Model for Notes<A> {
+    ghost use Rattle.line_model.specs.Text.{ended_lines};
+    ghost use Rattle.annotated_trace.specs.Wording.{AreNoteBytes, Remarks};
+
+    ghost Value = { Remarks };
+
+    ghost view = { λ notes. record { lines = ended_lines notes.lines.items; line = notes.line } };
+
+    ghost invariant = { λ notes. AreNoteBytes notes.lines.items };
+}
+
+impl<A: Allocator + Copy> Notes<A> {
+    ghost use Rattle.annotated_trace.specs.Wording.{AreNotes, Remarks, ended_notes};
+
+    /// No notes. It takes no memory.
+    pub fn new(alloc: A) -> Self
+        ensures { result ≡ record { lines = []; line = [] } }
+    {
+        Notes {
+            lines: Vec::new(alloc),
+            line: Words::new(alloc),
+        }
+    }
+
+    /// Forgets all notes, and keeps their room.
+    pub fn clear(&mut self)
+        ensures { self.new ≡ record { lines = []; line = [] } }
+    {
+        self.lines.clear();
+        self.line.clear();
+    }
+
+    /// Adds words to the last line. For want of memory, its only refusal, a first part of them may be added.
+    pub fn say(&mut self, words: &str) -> Result<(), Fault>
+        ensures ok { OnOk result (self.new ≡ record self.old { line = with_words self.old.line words.now }) }
+        ensures memory { IfErr result (λ fault. fault ≡ Memory) }
+    {
+        self.line.say(words)
+    }
+
+    /// Adds a number in decimal digits, as `say` adds words.
+    pub fn number(&mut self, number: u64) -> Result<(), Fault>
+        ensures ok { OnOk result (self.new ≡ record self.old { line = with_words self.old.line (decimal number) }) }
+        ensures memory { IfErr result (λ fault. fault ≡ Memory) }
+    {
+        self.line.number(number)
+    }
+
+    /// Adds octets in hex digits, two for each, as `say` adds words.
+    pub fn octets(&mut self, octets: &[u8]) -> Result<(), Fault>
+        ensures ok { OnOk result (self.new ≡ record self.old { line = with_words self.old.line (encode_upper octets.now) }) }
+        ensures memory { IfErr result (λ fault. fault ≡ Memory) }
+    {
+        self.line.octets(octets)
+    }
+
+    /// Ends the last line, and begins a further one. For want of memory, its only refusal, nothing has changed.
+    pub fn next(&mut self) -> Result<(), Fault>
+        ensures ok { OnOk result (self.new ≡ ended_notes self.old) }
+        ensures same { OnErr result (self.new ≡ self.old) }
+        ensures memory { IfErr result (λ fault. fault ≡ Memory) }
+    {
+        let ended = self.lines.len();
+        match append_note(&self.line, &mut self.lines) {
+            Ok(()) => {
+                self.line.clear();
+                Ok(())
+            }
+            Err(_) => {
+                self.lines.truncate(ended);
+                Err(Fault::Memory)
+            }
+        }
+    }
+
+    /// Appends the notes to bytes, the last line only where it says something.
+    pub(crate) fn append_to(&self, out: &mut Vec<u8, A>) -> Result<(), Fault>
+        ensures ok { OnOk result (out.new.items ≡ out.old.items ++ text (notes_of self.now)) }
+        ensures notes { AreNotes (notes_of self.now) }
+        ensures memory { IfErr result (λ fault. fault ≡ Memory) }
+    {
+        let is_ended = self.line.is_empty();
+        out.extend_from_slice(self.lines.as_slice())?;
+        if is_ended {
+            return Ok(());
+        }
+        append_note(&self.line, out)?;
+        Ok(())
+    }
+}

@@ -1,0 +1,21 @@
+-- What is told of a channel at one moment.
+use Rattle.std.specs.Prelude.{◌≡◌, option_map}
+use Rattle.line_model.specs.declared.interface.Interface.{Interface}
+use Rattle.line_model.specs.declared.state.Side.TheVariants.{T, N}
+use Rattle.line_model.specs.Channels.{Channel}
+use Rattle.line_model.specs.ChannelStep.{counts_of}
+use Rattle.line_model.specs.Formats.{size_in_force}
+use Rattle.window_check.specs.Kept.{Stands}
+use Rattle.channel_machine.specs.TermsStand.{is_fast, is_pad, opened_of}
+use Rattle.channel_machine.specs.declared.run.View.{View}
+
+-- the state of a channel, whether an indication is owed, whether its call is a PAD call and asked fast select, the sizes in
+-- force, and numbers that stand for its counts
+pub record IsViewOf (i : Interface) (c : Channel) (v : View) : Type 0 where
+  pub state : v.state ≡ c.state
+  pub owed : v.owed ≡ c.owed
+  pub pad_call : v.pad_call ≡ is_pad (option_map opened_of c.opening)
+  pub fast : v.fast ≡ is_fast (option_map opened_of c.opening)
+  pub size_t : v.size_t ≡ size_in_force i c T
+  pub size_n : v.size_n ≡ size_in_force i c N
+  pub flow : Stands v.flow (counts_of c)

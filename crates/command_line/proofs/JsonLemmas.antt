@@ -1,0 +1,32 @@
+-- What the status says of a report that is told as JSON lines.
+use Rattle.std.proofs.Common.{◌≡◌, ◌<◌, ℕ, zero, suc, Bool, true, false, List, [], Option, Some, Result, Ok, Err, refl, subst, sym, arith}
+use Rattle.line_model.specs.declared.fault.Fault.{Fault}
+use Rattle.line_model.specs.declared.fault.Fault.TheVariants.{Write}
+use Rattle.command_line.specs.Program.{IsScanned, IsStatus, IsFollowStatus}
+
+-- what a scan says, by whether it follows
+pub scanned_by : (well : Type 0) (followed : Bool) (text : List ℕ) (left before after : Option (List ℕ)) (status : ℕ) →
+    (followed ≡ false → IsStatus text left before after status) → (followed ≡ true → IsFollowStatus text left before after well status) →
+    IsScanned followed text left before after well status
+scanned_by well false text left before after status plain follow = plain refl
+scanned_by well true text left before after status plain follow = follow refl
+
+-- the same of a sink that had taken nothing and not failed
+pub scanned_afresh : (followed : Bool) (text : List ℕ) (left before after : Option (List ℕ)) (failed failures status : ℕ) →
+    before ≡ Some [] → failed ≡ 0 →
+    (followed ≡ false → IsStatus text left before after status) → (followed ≡ true → IsFollowStatus text left before after (failures ≡ failed) status) →
+    IsScanned followed text left (Some []) after (failures ≡ 0) status
+scanned_afresh followed text left before after failed failures status fresh well plain follow =
+    subst (λ f. IsScanned followed text left (Some []) after (failures ≡ f) status) well
+    (subst (λ b. IsScanned followed text left b after (failures ≡ failed) status) fresh
+    (scanned_by (failures ≡ failed) followed text left before after status plain follow))
+
+-- no refusal
+abbrev IsFine : {U : Type 0} → Result U Fault → Type 0
+IsFine (Ok u) = Unit {0}
+IsFine (Err fault) = ⊥
+
+-- a sink that answers well has not failed
+pub none_failed : {U : Type 0} (failures : ℕ) (answer : Result U Fault) (u : U) → answer ≡ Ok u → (0 < failures → answer ≡ Err Write) → failures ≡ 0
+none_failed zero answer u fine failed = refl
+none_failed (suc n) answer u fine failed = absurd (subst (λ r. IsFine r) (failed (omega (arith))) (subst (λ r. IsFine r) (sym fine) tt))

@@ -1,0 +1,104 @@
+//! The trace once more, with comments behind its rows.
+
+ghost use Rattle.std.specs.Prelude.{◌≡◌, ◌<◌, ◌≤◌, ◌+◌, ◌^◌, ◌⊎◌, map, option_map};
+ghost use Rattle.descriptions.specs.Rows.{choice_of};
+ghost use Rattle.command_line.specs.Annotating.{IsAnnotateAnswer, IsAnnotateStatus};
+ghost use Rattle.command_line.specs.Program.{IsUnread, trace_of};
+
+use crate::options::Options;
+use crate::program::{USAGE, refuse_scan, refuse_trace, summary_status};
+use descriptions::rows::Rows;
+use descriptions::scan::annotate;
+use line_model::device::Sink;
+use std::alloc::Global;
+use streams::input::Input;
+use streams::writing::write_all;
+
+/// Annotates the trace, and answers the exit status.
+fn run_annotate<S: Input, K: Sink, E: Sink>(
+    alloc: Global,
+    rows: Rows,
+    source: &mut S,
+    sink: &mut K,
+    errors: &mut E,
+) -> u8
+    ensures status { IsAnnotateStatus (choice_of rows) (S.left source.old) (S.left source.new) (K.taken sink.old) (K.taken sink.new) (K.failures sink.new ≡ K.failures sink.old) result }
+    ensures range { result < 4 }
+    ensures asked { S.calls source.new ≤ S.calls source.old + (2 ^ 30 + 1) }
+{
+    match annotate(alloc, rows, source, sink) {
+        Ok(summary) => summary_status(&summary),
+        Err(fault) => refuse_scan(alloc, source, errors, fault),
+    }
+}
+
+/// Annotates the trace of a name, and answers the exit status.
+fn annotate_named<S: Input, K: Sink, E: Sink>(
+    alloc: Global,
+    rows: Rows,
+    name: &str,
+    source: &mut S,
+    sink: &mut K,
+    errors: &mut E,
+) -> u8
+    ensures status { IsUnread source.old source.new sink.old sink.new result
+        ⊎ IsAnnotateStatus (choice_of rows) (S.named source.old name.now) (S.left source.new) (K.taken sink.old) (K.taken sink.new) (K.failures sink.new ≡ K.failures sink.old) result }
+    ensures range { result < 4 }
+    ensures asked { S.calls source.new ≤ S.calls source.old + (2 ^ 30 + 1) }
+{
+    match source.open(name) {
+        Ok(()) => run_annotate(alloc, rows, source, sink, errors),
+        Err(fault) => refuse_trace(alloc, errors, name, fault),
+    }
+}
+
+/// Annotates standard input, or the trace that is named, and answers the exit status.
+fn annotate_input<S: Input, K: Sink, E: Sink>(
+    alloc: Global,
+    options: Options<'_>,
+    rows: Rows,
+    source: &mut S,
+    sink: &mut K,
+    errors: &mut E,
+) -> u8
+    ensures status { IsUnread source.old source.new sink.old sink.new result
+        ⊎ IsAnnotateStatus (choice_of rows) (trace_of (option_map (λ name. name.now) options.entry.trace) (S.left source.old) (S.named source.old)) (S.left source.new) (K.taken sink.old) (K.taken sink.new) (K.failures sink.new ≡ K.failures sink.old) result }
+    ensures range { result < 4 }
+    ensures asked { S.calls source.new ≤ S.calls source.old + (2 ^ 30 + 1) }
+{
+    match options.trace {
+        Some(name) => annotate_named(alloc, rows, name, source, sink, errors),
+        None => run_annotate(alloc, rows, source, sink, errors),
+    }
+}
+
+/// Tells that a trace is asked for which is no JSON, as far as it can be told.
+fn refuse_json<E: Sink>(errors: &mut E) -> u8
+    ensures { result ≡ 64 }
+{
+    let _ = write_all(
+        errors,
+        b"error: --json tells a report, and --annotate, --channel and --call write a trace in its place\n",
+    );
+    USAGE
+}
+
+/// Annotates standard input, or the trace that is named, and answers the exit status. JSON can't be asked for with it.
+pub(crate) fn annotate_trace<S: Input, K: Sink, E: Sink>(
+    alloc: Global,
+    options: Options<'_>,
+    rows: Rows,
+    source: &mut S,
+    sink: &mut K,
+    errors: &mut E,
+) -> u8
+    ensures answer { IsAnnotateAnswer options.entry.json (choice_of rows) source.old source.new sink.old sink.new (trace_of (option_map (λ name. name.now) options.entry.trace) (S.left source.old) (S.named source.old)) (S.left source.new) (K.taken sink.old) (K.taken sink.new) (K.failures sink.new ≡ K.failures sink.old) result }
+    ensures unwritten { result ≡ 64 → sink.new ≡ sink.old }
+    ensures asked { S.calls source.new ≤ S.calls source.old + (2 ^ 30 + 1) }
+{
+    if options.json {
+        refuse_json(errors)
+    } else {
+        annotate_input(alloc, options, rows, source, sink, errors)
+    }
+}

@@ -1,0 +1,352 @@
+//! The describer of an annotated trace.
+
+use crate::closing;
+use crate::effects::{Passed, channel_move, event, of_call, restart_move};
+use crate::faults::{Before, fault};
+use crate::lanes::{Lane, Lanes};
+use crate::messages::message;
+use crate::packets::packet;
+use crate::prose::Page;
+use crate::rows::Rows;
+use crate::uncounted::Uncounted;
+use annotated_trace::describer::Describer;
+use annotated_trace::notes::{Notes, Words};
+use channel_machine::run::{Channel, View};
+use line_model::event::{Event, What};
+use line_model::fault::Fault;
+use line_model::finding::Finding;
+use line_model::interface::Interface;
+use line_model::packet::{DataHeader, Kind, Packet};
+use line_model::report::Report;
+use line_model::row::Row;
+use line_model::state::{ChannelState, RState, Side};
+use live_report::live::Live;
+use live_report::observer::Observer;
+use packet_decode::decode::decode;
+use std::alloc::{AllocError, Allocator};
+
+/// A row, as its describer sees it.
+#[derive(Drop)]
+struct Seen<'a> {
+    interface: Interface,
+    number: u32,
+    side: Side,
+    octets: &'a [u8],
+    packet: Packet,
+    /// It has a finding.
+    faulty: bool,
+}
+
+impl Seen<'_> {
+    /// What stands before the row with what was known of its channel.
+    fn before(&self, view: Option<View>) -> Before {
+        Before {
+            interface: self.interface,
+            view,
+            packet: self.packet,
+        }
+    }
+
+    /// The user data of a data packet.
+    fn data(&self) -> &[u8] {
+        let header = if self.interface.modulus == 8 { 3 } else { 4 };
+        match self.octets.split_at_checked(header) {
+            Some((_, data)) => data,
+            None => &[],
+        }
+    }
+
+    /// Whether these are the events of the row, and tell data that was counted.
+    fn is_counted(&self, events: &[Event]) -> bool {
+        for told in events {
+            if let What::Data { .. } = told.what {
+                return told.packet == self.number;
+            }
+        }
+        false
+    }
+
+    /// Says the PAD message of a data packet that was counted, where it is whole in it.
+    fn say_message<P: Page>(
+        &self,
+        header: &DataHeader,
+        lane: &mut Lane,
+        notes: &mut P,
+    ) -> Result<(), AllocError> {
+        let data = self.data();
+        let begins = !lane.continues(self.side);
+        let goes_on = header.more
+            && !header.delivery
+            && data.len() == usize::from(self.size(lane.view));
+        lane.set_continues(self.side, goes_on);
+        if header.qualified && is_pad_call(lane.view) && begins && !goes_on {
+            return message(notes, data);
+        }
+        Ok(())
+    }
+
+    /// The packet size in force for data from the side of the row.
+    fn size(&self, view: Option<View>) -> u16 {
+        match view {
+            Some(view) => match self.side {
+                Side::T => view.size_t,
+                Side::N => view.size_n,
+            },
+            None => self.interface.size,
+        }
+    }
+
+    /// Says what the row is.
+    fn say<P: Page>(&self, fast_before: bool, notes: &mut P) -> Result<(), AllocError> {
+        packet(
+            notes,
+            &self.interface,
+            self.side,
+            self.octets,
+            &self.packet,
+            fast_before,
+        )
+    }
+}
+
+/// Whether the call that is open asked fast select.
+fn is_fast(view: Option<View>) -> bool {
+    match view {
+        Some(view) => view.fast,
+        None => false,
+    }
+}
+
+/// Whether a PAD call is open.
+fn is_pad_call(view: Option<View>) -> bool {
+    match view {
+        Some(view) => view.pad_call,
+        None => false,
+    }
+}
+
+/// Tells what each row is and did: it remembers what was known of each logical channel before the row, and counts the
+/// calls, and what is not counted.
+#[derive(Drop)]
+pub struct Descriptions<A: Allocator> {
+    rows: Rows,
+    /// How many rows were described.
+    packets: u32,
+    epoch: u32,
+    restart: RState,
+    calls: u32,
+    lanes: Lanes<A>,
+    before: Option<Before>,
+    uncounted: Uncounted,
+}
+
+impl<A: Allocator + Copy> Descriptions<A> {
+    /// No row was described. It takes no memory.
+    pub fn new(alloc: A, rows: Rows) -> Self {
+        Descriptions {
+            rows,
+            packets: 0,
+            epoch: 1,
+            restart: RState::R1,
+            calls: 0,
+            lanes: Lanes::new(alloc),
+            before: None,
+            uncounted: Uncounted::new(),
+        }
+    }
+
+    /// Describes the observer's last row, and answers whether it is told of.
+    fn row<C: Channel<A>, P: Page>(
+        &mut self,
+        seen: &Seen<'_>,
+        observer: &Observer<A, C>,
+        notes: &mut P,
+    ) -> Result<bool, AllocError> {
+        match seen.packet {
+            Packet::Channel { channel, kind } if self.restart == RState::R1 => {
+                self.on_channel(seen, channel, kind, observer, notes)
+            }
+            _ => {
+                self.on_interface(seen, observer, notes)?;
+                Ok(self.rows.has_of_interface(&seen.packet))
+            }
+        }
+    }
+
+    /// A row that the restart machine judged.
+    fn on_interface<C: Channel<A>, P: Page>(
+        &mut self,
+        seen: &Seen<'_>,
+        observer: &Observer<A, C>,
+        notes: &mut P,
+    ) -> Result<(), AllocError> {
+        self.remember(seen, &Lane::fresh());
+        seen.say(false, notes)?;
+        notes.next_line()?;
+        restart_move(notes, self.restart, observer.restart_state())?;
+        if let Packet::Channel {
+            kind: Kind::Data(_),
+            ..
+        } = seen.packet
+        {
+            self.uncounted.restarting(seen.data().len() as u64);
+        }
+        self.restart = observer.restart_state();
+        if observer.epoch() != self.epoch {
+            self.epoch = observer.epoch();
+            self.lanes.clear();
+        }
+        Ok(())
+    }
+
+    /// A row that its channel took.
+    fn on_channel<C: Channel<A>, P: Page>(
+        &mut self,
+        seen: &Seen<'_>,
+        channel: u16,
+        kind: Kind,
+        observer: &Observer<A, C>,
+        notes: &mut P,
+    ) -> Result<bool, AllocError> {
+        let mut lane = self.lanes.get(channel);
+        self.remember(seen, &lane);
+        let first_call = lane.call;
+        let fresh = seen.interface.fresh_state(self.epoch, channel);
+        let state = lane.state(fresh);
+        self.say_on_channel(seen, kind, observer.events(), &mut lane, notes)?;
+        notes.next_line()?;
+        let lane_after = Lane::seen_as(observer.view(channel));
+        channel_move(notes, state, lane_after.state(state))?;
+        self.tell(seen, observer.events(), &mut lane, notes)?;
+        if let Kind::Data(_) = kind {
+            if !seen.is_counted(observer.events()) {
+                self.leave_out(seen, &lane, notes)?;
+            }
+        }
+        let last_call = lane.call;
+        self.lanes.set(channel, lane_after.with_course(&lane))?;
+        Ok(self.rows.has(channel, first_call, last_call))
+    }
+
+    /// Remembers what stands before a row with a finding.
+    fn remember(&mut self, seen: &Seen<'_>, lane: &Lane) {
+        if seen.faulty {
+            self.before = Some(seen.before(lane.view));
+        }
+    }
+
+    /// Says what a row on a channel is.
+    fn say_on_channel<P: Page>(
+        &self,
+        seen: &Seen<'_>,
+        kind: Kind,
+        events: &[Event],
+        lane: &mut Lane,
+        notes: &mut P,
+    ) -> Result<(), AllocError> {
+        seen.say(is_fast(lane.view), notes)?;
+        match kind {
+            Kind::Data(Some(header)) if seen.is_counted(events) => {
+                seen.say_message(&header, lane, notes)
+            }
+            _ => Ok(()),
+        }
+    }
+
+    /// Tells the events of a row and the call that it belongs to.
+    fn tell<P: Page>(
+        &mut self,
+        seen: &Seen<'_>,
+        events: &[Event],
+        lane: &mut Lane,
+        notes: &mut P,
+    ) -> Result<(), AllocError> {
+        let mut named = false;
+        for told in events {
+            if told.packet == seen.number {
+                if let What::Open { .. } = told.what {
+                    self.calls = self.calls.saturating_add(1);
+                    lane.call = self.calls;
+                    named = false;
+                }
+                if !named {
+                    of_call(notes, lane.call)?;
+                    named = true;
+                }
+                event(notes, told)?;
+                if let What::End(_) = told.what {
+                    lane.call = 0;
+                }
+            }
+        }
+        if named {
+            return Ok(());
+        }
+        of_call(notes, lane.call)
+    }
+
+    /// A data packet that was not counted. Of one with a finding the finding tells why.
+    fn leave_out<P: Page>(
+        &mut self,
+        seen: &Seen<'_>,
+        lane: &Lane,
+        notes: &mut P,
+    ) -> Result<(), AllocError> {
+        let octets = seen.data().len() as u64;
+        if seen.faulty {
+            self.uncounted.faulty(octets);
+            return Ok(());
+        }
+        let why = match lane.view {
+            Some(view) => Passed::before(view.state, view.owed),
+            None => Passed::Unknown,
+        };
+        self.uncounted.passed(why, octets);
+        notes.say("; not counted: ")?;
+        notes.say(why.reason())
+    }
+}
+
+impl<A: Allocator + Copy, C: Channel<A>> Describer<A, Live<A, C>> for Descriptions<A> {
+    fn describe(&mut self, trace: &Live<A, C>, notes: &mut Notes<A>) -> Result<bool, Fault> {
+        let Some(observer) = trace.observer() else {
+            return Ok(false);
+        };
+        let Some(interface) = trace.interface() else {
+            return Ok(false);
+        };
+        if observer.packets() == self.packets {
+            return Ok(false);
+        }
+        self.packets = observer.packets();
+        let row = trace.row();
+        let octets = row.octets.as_slice();
+        let seen = Seen {
+            interface,
+            number: row.number,
+            side: row.side,
+            octets,
+            packet: decode(&interface, octets),
+            faulty: !trace.found().is_empty(),
+        };
+        let told = self.row(&seen, observer, notes)?;
+        Ok(told)
+    }
+
+    fn explain(
+        &mut self,
+        trace: &Live<A, C>,
+        finding: &Finding,
+        words: &mut Words<A>,
+    ) -> Result<(), Fault> {
+        if let Some(before) = &self.before {
+            fault(words, before, trace.row().octets.as_slice(), finding)?;
+        }
+        Ok(())
+    }
+
+    fn close(&mut self, report: &Report<A>, notes: &mut Notes<A>) -> Result<(), Fault> {
+        closing::report(notes, report, &self.uncounted)?;
+        Ok(())
+    }
+}

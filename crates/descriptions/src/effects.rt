@@ -1,0 +1,136 @@
+//! What a row did, in words.
+
+use crate::names;
+use crate::parameters::setting;
+use crate::prose::{Prose, count};
+use line_model::event::{Event, How, What};
+use line_model::state::{ChannelState, RState};
+use std::alloc::AllocError;
+
+/// A change of state, or the state where none changed.
+fn moved<P: Prose>(out: &mut P, before: &str, after: &str) -> Result<(), AllocError> {
+    if before == after {
+        out.say("stays ")?;
+    } else {
+        out.say(before)?;
+        out.say(" to ")?;
+    }
+    out.say(after)
+}
+
+/// What a packet of the restart machine did.
+pub fn restart_move<P: Prose>(
+    out: &mut P,
+    before: RState,
+    after: RState,
+) -> Result<(), AllocError> {
+    moved(
+        out,
+        names::restart_state(before),
+        names::restart_state(after),
+    )?;
+    match (before, after) {
+        (RState::R1, RState::R1) => Ok(()),
+        (RState::R1, _) => out.say("; all channels and their calls end"),
+        (_, RState::R1) => out.say("; all channels are fresh"),
+        _ => Ok(()),
+    }
+}
+
+/// How the state of a channel changed.
+pub fn channel_move<P: Prose>(
+    out: &mut P,
+    before: ChannelState,
+    after: ChannelState,
+) -> Result<(), AllocError> {
+    moved(
+        out,
+        names::channel_state(before),
+        names::channel_state(after),
+    )
+}
+
+/// The call that a row belongs to, by its number in the report; nothing for 0.
+pub fn of_call<P: Prose>(out: &mut P, call: u32) -> Result<(), AllocError> {
+    if call == 0 {
+        return Ok(());
+    }
+    out.say("; call ")?;
+    out.number(u64::from(call))
+}
+
+/// What a row told.
+pub fn event<P: Prose>(out: &mut P, event: &Event) -> Result<(), AllocError> {
+    match &event.what {
+        What::Found { .. } => Ok(()),
+        What::Open { .. } => out.say(" begins"),
+        What::Up => out.say(", in data transfer from here on"),
+        What::End(how) => out.say(ending(*how)),
+        What::Data { octets, .. } => {
+            out.say("; counted: ")?;
+            count(out, u64::from(*octets), " octet", " octets")?;
+            out.say(" in ")?;
+            count(out, segments(*octets), " segment", " segments")
+        }
+        What::Setting {
+            pad,
+            parameter: reference,
+            entry,
+        } => {
+            out.say("; ")?;
+            setting(out, *pad, *reference, *entry)
+        }
+        What::Initial { pad } => {
+            out.say("; the settings of the PAD of the ")?;
+            out.say(names::side(*pad))?;
+            out.say(" are unknown again")
+        }
+    }
+}
+
+/// The segments of 64 octets that some octets count.
+fn segments(octets: u32) -> u64 {
+    u64::from(octets).div_ceil(64)
+}
+
+/// How a call ended.
+fn ending(how: How) -> &'static str {
+    match how {
+        How::T => " ends, cleared by the DTE",
+        How::N => " ends, cleared by the DCE",
+        How::Collision => " ends, cancelled by a call request",
+        How::Restart => " ends with a restart",
+    }
+}
+
+/// Why a data packet without a finding was not counted.
+#[derive(Clone, Copy, Debug, PartialEq, Eq)]
+pub enum Passed {
+    /// The DCE owes its indication.
+    Owed,
+    /// The state discards it.
+    Discarded,
+    /// Nothing is known of the channel.
+    Unknown,
+}
+
+impl Passed {
+    /// By what was known of the channel before.
+    pub fn before(state: ChannelState, owed: bool) -> Passed {
+        match state {
+            ChannelState::Unknown => Passed::Unknown,
+            _ if owed => Passed::Owed,
+            _ => Passed::Discarded,
+        }
+    }
+
+    /// The reason in words.
+    pub fn reason(self) -> &'static str {
+        match self {
+            Passed::Owed => "the DCE owes its indication",
+            Passed::Discarded => "the state discards data",
+            Passed::Unknown =>
+                "the recording began in the middle, and nothing is known of the channel yet",
+        }
+    }
+}

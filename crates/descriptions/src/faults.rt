@@ -1,0 +1,338 @@
+//! What is wrong with a row, in words.
+
+use crate::prose::{Prose, count};
+use channel_machine::run::View;
+use explanations::explanation::Explanation;
+use explanations::flow_codes::flow_codes;
+use explanations::messages::messages;
+use explanations::packet_codes::packet_codes;
+use line_model::finding::{Code, Finding, Xcode};
+use line_model::interface::Interface;
+use line_model::packet::{DataHeader, Kind, Packet};
+use line_model::state::{Side, StateName};
+use std::alloc::AllocError;
+use window_check::flow::SendWindow;
+
+/// What was known before a row, and the row's packet.
+#[derive(Clone, Copy)]
+pub struct Before {
+    /// The interface.
+    pub interface: Interface,
+    /// What was known of the packet's channel, if the channel had rows.
+    pub view: Option<View>,
+    /// The packet.
+    pub packet: Packet,
+}
+
+/// The row of the table of explanations for a code.
+fn explanation(code: Code) -> Option<&'static Explanation> {
+    match code {
+        Code::Number(number) => numbered(number),
+        Code::Pad(code) => messages().get(message_place(code)),
+    }
+}
+
+/// The place of a code among those of messages.
+fn message_place(code: Xcode) -> usize {
+    match code {
+        Xcode::X1 => 0,
+        Xcode::X2 => 1,
+        Xcode::X3 => 2,
+        Xcode::X4 => 3,
+        Xcode::XL => 4,
+    }
+}
+
+/// The row of the table of explanations for a diagnostic code.
+fn numbered(number: u8) -> Option<&'static Explanation> {
+    let place = usize::from(number);
+    match number {
+        1 | 2 => flow_codes().get(place - 1),
+        17..=29 => flow_codes().get(place - 15),
+        33..=41 => packet_codes().get(place - 33),
+        43 | 44 => packet_codes().get(place - 34),
+        66..=69 => packet_codes().get(place - 55),
+        83 => packet_codes().get(15),
+        _ => None,
+    }
+}
+
+/// A finding: the name of its code, what is wrong with the values of the row, what the DCE does next, and the clause.
+pub fn fault<P: Prose>(
+    out: &mut P,
+    before: &Before,
+    octets: &[u8],
+    finding: &Finding,
+) -> Result<(), AllocError> {
+    let Some(row) = explanation(finding.code) else {
+        return Ok(());
+    };
+    out.say(row.name)?;
+    out.say(": ")?;
+    if values(out, before, octets, finding)? {
+        out.say(".")?;
+    } else {
+        out.say(row.meaning)?;
+    }
+    out.say(" ")?;
+    out.say(consequence(finding))?;
+    out.say(". (")?;
+    out.say(row.clause)?;
+    out.say(")")
+}
+
+/// What an error has the DCE do.
+fn consequence(finding: &Finding) -> &'static str {
+    match finding.code {
+        Code::Pad(_) => "No state changes",
+        Code::Number(code) => match finding.side {
+            Side::N => "Nothing changes",
+            Side::T => reaction(finding.state, code),
+        },
+    }
+}
+
+/// What the DCE does after an error of the DTE in a state.
+fn reaction(state: StateName, code: u8) -> &'static str {
+    match state {
+        StateName::Dash => "Nothing changes",
+        StateName::R1 | StateName::R2 | StateName::R3 => match code {
+            38 | 39 => "Nothing changes",
+            _ => "The DCE restarts the interface (r3)",
+        },
+        StateName::D1 | StateName::D2 | StateName::D3 => "The DCE resets the channel (d3)",
+        _ => "The DCE clears the channel (p7)",
+    }
+}
+
+/// What is wrong with the values of a row, where its values tell it.
+fn values<P: Prose>(
+    out: &mut P,
+    before: &Before,
+    octets: &[u8],
+    finding: &Finding,
+) -> Result<bool, AllocError> {
+    match finding.code {
+        Code::Number(1) => send_number(out, before, finding.side),
+        Code::Number(2) => receive_number(out, before, finding.side),
+        Code::Number(34) => direction(out, before, finding.side),
+        Code::Number(36) => channel(out, before, octets),
+        Code::Number(38) => length(out, octets, "which is too short"),
+        Code::Number(39) => too_long(out, before, octets, finding.side),
+        Code::Number(40) => format(out, before, octets),
+        Code::Number(33) => packet_type(out, octets),
+        Code::Number(83) => qualifier(out, before),
+        _ => Ok(false),
+    }
+}
+
+/// A P(S) that does not follow, or lies outside the window.
+fn send_number<P: Prose>(out: &mut P, before: &Before, side: Side) -> Result<bool, AllocError> {
+    let Some(header) = header(&before.packet) else {
+        return Ok(false);
+    };
+    let window = send_window(before, side);
+    out.say("P(S) ")?;
+    out.number(u64::from(header.send))?;
+    if header.send != window.next {
+        out.say(" where ")?;
+        out.number(u64::from(window.next))?;
+        out.say(" comes next")?;
+        return Ok(true);
+    }
+    out.say(" where ")?;
+    let highest = u64::from(window.lowest) + u64::from(window.window).saturating_sub(1);
+    range(out, before, u64::from(window.lowest), highest)?;
+    Ok(true)
+}
+
+/// A P(R) that acknowledges nothing that was sent.
+fn receive_number<P: Prose>(out: &mut P, before: &Before, side: Side) -> Result<bool, AllocError> {
+    let Some(number) = acknowledged(&before.packet) else {
+        return Ok(false);
+    };
+    let window = send_window(before, side.other());
+    out.say("P(R) ")?;
+    out.number(u64::from(number))?;
+    out.say(" where ")?;
+    range(
+        out,
+        before,
+        u64::from(window.lowest),
+        u64::from(window.next),
+    )?;
+    Ok(true)
+}
+
+/// The numbers that were allowed, from a first to a last one, which is brought below the modulus.
+fn range<P: Prose>(out: &mut P, before: &Before, first: u64, last: u64) -> Result<(), AllocError> {
+    let modulus = if before.interface.modulus == 8 {
+        8
+    } else {
+        128
+    };
+    let last = last % modulus;
+    out.number(first)?;
+    if first == last {
+        return out.say(" alone was allowed");
+    }
+    out.say(" to ")?;
+    out.number(last)?;
+    out.say(" were allowed")
+}
+
+/// The header of a data packet.
+fn header(packet: &Packet) -> Option<DataHeader> {
+    match packet {
+        Packet::Channel {
+            kind: Kind::Data(header),
+            ..
+        } => *header,
+        _ => None,
+    }
+}
+
+/// The P(R) of a packet.
+fn acknowledged(packet: &Packet) -> Option<u8> {
+    match packet {
+        Packet::Channel { kind, .. } => match kind {
+            Kind::Rr(number) | Kind::Rnr(number) => *number,
+            Kind::Data(Some(header)) => Some(header.receive),
+            _ => None,
+        },
+        _ => None,
+    }
+}
+
+/// What a side could send before the row; on a channel without rows the first packet of a window.
+fn send_window(before: &Before, side: Side) -> SendWindow {
+    match before.view {
+        Some(view) => view.flow.send_window(side),
+        None => SendWindow {
+            next: 0,
+            lowest: 0,
+            window: before.interface.window,
+            interrupted: false,
+        },
+    }
+}
+
+/// A call against the direction of its channel.
+fn direction<P: Prose>(out: &mut P, before: &Before, side: Side) -> Result<bool, AllocError> {
+    let interface = &before.interface;
+    match side {
+        Side::T => channels(out, interface.pvc, interface.incoming, "incoming")?,
+        Side::N => channels(out, interface.two_way, interface.svc, "outgoing")?,
+    }
+    Ok(true)
+}
+
+/// Which channels are for calls of one side.
+fn channels<P: Prose>(out: &mut P, below: u16, last: u16, calls: &str) -> Result<(), AllocError> {
+    out.say("logical channels ")?;
+    out.number(u64::from(below) + 1)?;
+    out.say(" to ")?;
+    out.number(u64::from(last))?;
+    out.say(" are for ")?;
+    out.say(calls)?;
+    out.say(" calls")
+}
+
+/// A channel that the interface does not have.
+fn channel<P: Prose>(out: &mut P, before: &Before, octets: &[u8]) -> Result<bool, AllocError> {
+    let channel = match octets {
+        [first, second, ..] => u64::from(*first % 16) * 256 + u64::from(*second),
+        _ => return Ok(false),
+    };
+    if channel <= u64::from(before.interface.svc) {
+        return Ok(false);
+    }
+    out.say("logical channel ")?;
+    out.number(channel)?;
+    out.say(" where ")?;
+    out.number(u64::from(before.interface.svc))?;
+    out.say(" is the last")?;
+    Ok(true)
+}
+
+/// How long a packet is.
+fn length<P: Prose>(out: &mut P, octets: &[u8], why: &str) -> Result<bool, AllocError> {
+    count(out, octets.len() as u64, " octet", " octets")?;
+    out.say(", ")?;
+    out.say(why)?;
+    Ok(true)
+}
+
+/// How long a packet is that is too long, and what it may have where it is a data packet.
+fn too_long<P: Prose>(
+    out: &mut P,
+    before: &Before,
+    octets: &[u8],
+    side: Side,
+) -> Result<bool, AllocError> {
+    if header(&before.packet).is_none() {
+        return length(out, octets, "which is too long");
+    }
+    let own = if before.interface.modulus == 8 { 3 } else { 4 };
+    let size = match before.view {
+        Some(view) => match side {
+            Side::T => view.size_t,
+            Side::N => view.size_n,
+        },
+        None => before.interface.size,
+    };
+    count(
+        out,
+        octets.len().saturating_sub(own) as u64,
+        " octet",
+        " octets",
+    )?;
+    out.say(" of user data where ")?;
+    out.number(u64::from(size))?;
+    out.say(" are allowed")?;
+    Ok(true)
+}
+
+/// Bits 6 and 5 of the first octet.
+fn format<P: Prose>(out: &mut P, before: &Before, octets: &[u8]) -> Result<bool, AllocError> {
+    let [first, ..] = octets else {
+        return Ok(false);
+    };
+    out.say("bits 6 and 5 of octet 1 are ")?;
+    out.say(match *first / 16 % 4 {
+        0 => "00",
+        1 => "01",
+        2 => "10",
+        _ => "11",
+    })?;
+    out.say(if before.interface.modulus == 8 {
+        " where modulo 8 has 01"
+    } else {
+        " where modulo 128 has 10"
+    })?;
+    Ok(true)
+}
+
+/// The type octet of a packet.
+fn packet_type<P: Prose>(out: &mut P, octets: &[u8]) -> Result<bool, AllocError> {
+    let [_, _, kind, ..] = octets else {
+        return Ok(false);
+    };
+    out.say("octet 3 is ")?;
+    out.octets(&[*kind])?;
+    out.say(", the type of no packet")?;
+    Ok(true)
+}
+
+/// The Q bit of a packet in a sequence with another one.
+fn qualifier<P: Prose>(out: &mut P, before: &Before) -> Result<bool, AllocError> {
+    let Some(header) = header(&before.packet) else {
+        return Ok(false);
+    };
+    out.say(if header.qualified {
+        "Q 1 in a sequence that began with Q 0"
+    } else {
+        "Q 0 in a sequence that began with Q 1"
+    })?;
+    Ok(true)
+}

@@ -1,0 +1,21 @@
+//! What the rows of a trace are and did, in words.
+#![tactic(auto)]
+
+mod calls;
+mod causes;
+mod closing;
+pub mod descriptions;
+mod diagnostics;
+mod effects;
+mod faults;
+mod lanes;
+mod messages;
+mod names;
+mod packets;
+mod parameters;
+mod prose;
+pub mod rows;
+pub mod scan;
+#[cfg(test)]
+mod tests;
+mod uncounted;

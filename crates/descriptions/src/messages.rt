@@ -1,0 +1,53 @@
+//! PAD messages in words (X.29 clause 4).
+
+use crate::parameters::parameter;
+use crate::prose::Prose;
+use std::alloc::AllocError;
+use x29_messages::message::{Message, MessageCode, read_message};
+
+/// What a message is for (X.29 Table 3).
+fn name(code: MessageCode) -> &'static str {
+    match code {
+        MessageCode::Indication => "parameter indication",
+        MessageCode::InvitationToClear => "invitation to clear",
+        MessageCode::Set => "set",
+        MessageCode::Break => "indication of break",
+        MessageCode::Read => "read",
+        MessageCode::Error => "error",
+        MessageCode::SetAndRead => "set and read",
+        MessageCode::Reselection => "reselection",
+        MessageCode::ReselectionWithAddress => "reselection with TOA/NPI addresses",
+    }
+}
+
+/// A PAD message that is whole in these octets.
+pub fn message<P: Prose>(out: &mut P, octets: &[u8]) -> Result<(), AllocError> {
+    match read_message(octets) {
+        Ok(message) => say_message(out, &message),
+        Err(_) => out.say("; a PAD message that can't be read"),
+    }
+}
+
+fn say_message<P: Prose>(out: &mut P, message: &Message<'_>) -> Result<(), AllocError> {
+    out.say("; PAD message: ")?;
+    out.say(name(message.code))?;
+    match message.code {
+        MessageCode::Indication | MessageCode::Set | MessageCode::Read | MessageCode::SetAndRead =>
+            { say_pairs(out, message) }
+        _ => Ok(()),
+    }
+}
+
+/// The standard pairs of a message; a read has no values.
+fn say_pairs<P: Prose>(out: &mut P, message: &Message<'_>) -> Result<(), AllocError> {
+    let read = message.code == MessageCode::Read;
+    for pair in message.standard_pairs() {
+        out.say(", ")?;
+        parameter(out, pair.reference % 128)?;
+        if !read {
+            out.say(" = ")?;
+            out.number(u64::from(pair.value))?;
+        }
+    }
+    Ok(())
+}

@@ -1,0 +1,9 @@
+use Rattle.findings_book.proofs.tests.refused.play.Given as goal
+
+abbrev pub ghosts-play_refused : goal.ghosts-play_refused
+ghosts-play_refused g a = record {
+  posts = a.blanks.posts.name;
+  findings = a.blanks.findings.name;
+  octets = a.blanks.octets.name;
+  segments = a.blanks.segments.name;
+}

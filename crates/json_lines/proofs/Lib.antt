@@ -1,0 +1,6 @@
+pub mod CutLemmas
+pub mod WrittenLemmas
+pub mod JsonLemmas
+pub mod StandingLemmas
+pub mod MemberLemmas
+pub mod ObjectLemmas

@@ -1,0 +1,82 @@
+-- Texts that a sink takes in parts.
+use Rattle.std.proofs.Common.{◌≡◌, ℕ, ◌-◌, true, false, ◌<◌, ◌≤◌, List, [], ◌++◌, length, take, drop, refl, sym, ap, ◌∙◌, arith, Option, Some, None, append_assoc}
+use Rattle.std.proofs.lemmas.List.{append-nil, take-append-drop}
+use Rattle.std.proofs.lemmas.Grind.{common_steps}
+use Rattle.line_model.specs.Device.{with_more}
+use Rattle.json_lines.specs.declared.chunk.Chunk.{Chunk}
+use Rattle.json_lines.specs.Written.{Writes}
+
+pub with_more-append : (o : Option (List ℕ)) (a b : List ℕ) → with_more (with_more o a) b ≡ with_more o (a ++ b)
+with_more-append None a b = refl
+with_more-append (Some t) a b = ap Some (append_assoc t a b)
+
+pub with_more-nil : (o : Option (List ℕ)) → with_more o [] ≡ o
+with_more-nil None = refl
+with_more-nil (Some t) = ap Some (append-nil t)
+
+-- what is held is sent, all of it or a first part, and nothing is held then
+pub flushed : (before taken after : Option (List ℕ) × ℕ) (c d : Chunk) (text front rest : List ℕ) → Writes before taken c text → c.failed ≡ false → c.bytes.items ≡ front ++ rest → after.0 ≡ with_more taken.0 front
+    → (d.failed ≡ false → rest ≡ []) → d.bytes.items ≡ [] → taken.1 ≤ after.1 → (d.failed ≡ true → taken.1 < after.1) → Writes before after d text
+flushed before taken after c d text front rest w fine split sent all empty rising cause = record {
+  sent = w.sent ++ front;
+  left = rest;
+  took = sent ∙ ap (λ o. with_more o front) w.took ∙ with_more-append before.0 w.sent front;
+  whole = append_assoc w.sent front rest ∙ ap (λ l. w.sent ++ l) (sym split ∙ sym (w.held fine)) ∙ w.whole;
+  held = λ e. all e ∙ sym empty;
+  rising = omega (arith, w.rising, rising);
+  cause = λ e. omega (arith, w.rising, cause e);
+}
+
+-- after a failure nothing is known of what is held
+pub given_up : (before taken : Option (List ℕ) × ℕ) (c d : Chunk) (text more : List ℕ) → Writes before taken c text → c.failed ≡ true → d.failed ≡ true → Writes before taken d (text ++ more)
+given_up before taken c d text more w was failed = record {
+  sent = w.sent;
+  left = w.left ++ more;
+  took = w.took;
+  whole = sym (append_assoc w.sent w.left more) ∙ ap (λ l. l ++ more) w.whole;
+  held = λ e. absurd (cc);
+  rising = w.rising;
+  cause = λ e. w.cause was;
+}
+
+pub held_more : (before taken : Option (List ℕ) × ℕ) (c d : Chunk) (text more : List ℕ) → Writes before taken c text → d.failed ≡ c.failed → d.bytes.items ≡ c.bytes.items ++ more → Writes before taken d (text ++ more)
+held_more before taken c d text more w same items = record {
+  sent = w.sent;
+  left = w.left ++ more;
+  took = w.took;
+  whole = sym (append_assoc w.sent w.left more) ∙ ap (λ l. l ++ more) w.whole;
+  held = λ e. ap (λ l. l ++ more) (w.held (sym same ∙ e)) ∙ sym items;
+  rising = w.rising;
+  cause = λ e. w.cause (sym same ∙ e);
+}
+
+pub passed : (before taken after : Option (List ℕ) × ℕ) (c d : Chunk) (text more front rest : List ℕ) → Writes before taken c text → c.failed ≡ false → c.bytes.items ≡ [] → more ≡ front ++ rest → after.0 ≡ with_more taken.0 front
+    → (d.failed ≡ false → rest ≡ d.bytes.items) → taken.1 ≤ after.1 → (d.failed ≡ true → taken.1 < after.1) → Writes before after d (text ++ more)
+passed before taken after c d text more front rest w fine empty split sent held rising cause =
+    let all : w.sent ≡ text = sym (append-nil w.sent) ∙ ap (λ l. w.sent ++ l) (sym (w.held fine ∙ empty)) ∙ w.whole in
+    record {
+      sent = w.sent ++ front;
+      left = rest;
+      took = sent ∙ ap (λ o. with_more o front) w.took ∙ with_more-append before.0 w.sent front;
+      whole = append_assoc w.sent front rest ∙ ap (λ l. w.sent ++ l) (sym split) ∙ ap (λ l. l ++ more) all;
+      held = held;
+      rising = omega (arith, w.rising, rising);
+      cause = λ e. omega (arith, w.rising, cause e);
+    }
+
+-- what was given up stays so
+pub still_given_up : (before taken : Option (List ℕ) × ℕ) (c d : Chunk) (text : List ℕ) → Writes before taken c text → c.failed ≡ true → d.failed ≡ true → Writes before taken d text
+still_given_up before taken c d text w was failed = record {
+  sent = w.sent;
+  left = w.left;
+  took = w.took;
+  whole = w.whole;
+  held = λ e. absurd (cc);
+  rising = w.rising;
+  cause = λ e. w.cause was;
+}
+
+pub split_rest : (front rest text : List ℕ) (n : ℕ) → text ≡ front ++ rest → text ≡ (front ++ take n rest) ++ take (length rest - n) (drop n rest)
+split_rest front rest text n e =
+    let back : take (length rest - n) (drop n rest) ≡ drop n rest = grind (arith, common_steps) in
+    e ∙ ap (λ xs. front ++ xs) (sym (take-append-drop n rest)) ∙ sym (append_assoc front (take n rest) (drop n rest)) ∙ ap (λ xs. (front ++ take n rest) ++ xs) (sym back)

@@ -1,0 +1,18 @@
+-- Bytes that a list lacks, and lines that are known by their words.
+use Rattle.std.specs.Prelude.{◌≡◌, ◌≤◌, ℕ, List, [], ◌∷◌, false, ◌==◌, length}
+use Rattle.std.specs.List.{AllByRecursion, list_any}
+use Rattle.line_model.specs.Report.{line}
+use Rattle.json_lines.specs.Json.{line_room}
+
+-- the byte isn't there
+abbrev pub Lacks : ℕ → List ℕ → Type 0
+Lacks byte xs = list_any (λ b. b == byte) xs ≡ false
+
+-- a word of a line: it has no space and no line feed
+abbrev pub IsPlain : List ℕ → Type 0
+IsPlain word = Lacks 32 word × Lacks 10 word
+
+-- the words of a line that has room: at least one, each of them plain
+abbrev pub IsLine : List (List ℕ) → Type 0
+IsLine [] = ⊥
+IsLine (word ∷ words) = AllByRecursion IsPlain (word ∷ words) × (length (line (word ∷ words)) ≤ line_room)

@@ -1,0 +1,13 @@
+-- What contracts see of the table of fields.
+use Rattle.std.specs.Prelude.{map}
+use Rattle.json_lines.specs.Forms as forms
+use Rattle.json_lines.specs.declared.fields.Field.{Field}
+use Rattle.json_lines.specs.declared.fields.Form.{Form}
+
+-- a field of the table
+abbrev pub field_shown : Field → forms.Field
+field_shown f = record { name = f.name.now; kind = f.kind }
+
+-- a form of the table
+abbrev pub form_shown : Form → forms.Form
+form_shown f = record { title = f.title.now; fields = map field_shown f.fields.now }

@@ -1,0 +1,37 @@
+-- What the sink behind stands at, by what was taken before it.
+use Rattle.std.specs.Prelude.{◌≡◌, ℕ, ◌<◌, ◌≤◌, true, false, List, [], length, take, drop, Option, None, Some}
+use Rattle.line_model.specs.Device.{with_more}
+use Rattle.line_model.specs.Text.{begun_line}
+use Rattle.json_lines.specs.Json.{json_text, line_room}
+use Rattle.json_lines.specs.Written.{Writes}
+use Rattle.json_lines.specs.declared.lines.JsonLines.{JsonLines}
+
+-- what a sink that tells its bytes took since it had taken others
+abbrev pub since : (before taken : Option (List ℕ)) → List ℕ
+since None taken = []
+since (Some front) None = []
+since (Some front) (Some all) = drop (length front) all
+
+-- a sink took a first part of a text
+abbrev pub IsFirstPart : (before taken : Option (List ℕ)) → (text : List ℕ) → Type 0
+IsFirstPart before taken text = (taken ≡ with_more before (since before taken)) × (take (length (since before taken)) text ≡ since before taken)
+
+-- the line that has not ended is held, as far as there is room
+abbrev pub HoldsLine : JsonLines → Type 0
+HoldsLine l = l.line.items ≡ take line_room (begun_line l.told.bytes)
+
+-- on the way: the objects of the lines that were told and have ended
+pub record Goes (before taken : Option (List ℕ) × ℕ) (l : JsonLines) : Type 0 where
+  pub writes : Writes before taken l.chunk (json_text l.told.bytes)
+  pub line : HoldsLine l
+
+-- between calls: the sink took these objects and nothing is held back, or it has failed and took a first part of them
+abbrev pub Stands : (before taken : Option (List ℕ) × ℕ) → JsonLines → Type 0
+Stands before taken l =
+    HoldsLine l
+    × (l.chunk.bytes.items ≡ [])
+    × (l.chunk.failed ≡ false → taken.0 ≡ with_more before.0 (json_text l.told.bytes))
+    × IsFirstPart before.0 taken.0 (json_text l.told.bytes)
+    × (before.1 ≤ taken.1)
+    × (l.chunk.failed ≡ true → before.1 < taken.1)
+    × (0 < length l.refused.bytes → l.chunk.failed ≡ true)

@@ -1,0 +1,14 @@
+//! The report as JSON lines: a sink that takes the text of a report and gives another sink one object for each line.
+#![tactic(auto)]
+
+mod chunk;
+pub mod fields;
+mod history;
+pub mod laws;
+mod lines;
+mod objects;
+pub mod sink;
+#[cfg(test)]
+mod tests;
+pub mod text;
+mod words;

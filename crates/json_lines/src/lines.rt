@@ -1,0 +1,77 @@
+//! A text that comes in parts, and the objects of its lines.
+
+ghost use Rattle.std.specs.Prelude.{◌≡◌, ℕ, ◌+◌, List, [], ◌∷◌, ◌++◌, Option, OnErr, OnOk, is_err, length, if◌then◌else◌};
+ghost use Rattle.json_lines.specs.Standing.{Goes, Stands};
+
+use crate::chunk::Chunk;
+use crate::history::History;
+use arrayvec::ArrayVec;
+use line_model::device::Sink;
+
+/// The line that has not ended, and the objects that are on their way to a sink.
+#[derive(Drop)]
+pub struct JsonLines {
+    chunk: Chunk,
+    line: ArrayVec<u8, 256>,
+    /// The bytes that were taken.
+    told: History,
+    /// A byte for each refusal.
+    refused: History,
+}
+
+impl JsonLines {
+    /// Nothing was taken.
+    pub fn new() -> JsonLines
+        ensures stands { (taken : Option (List ℕ) × ℕ) → Stands taken taken result }
+        ensures told { result.told.bytes ≡ [] }
+        ensures refused { result.refused.bytes ≡ [] }
+    {
+        JsonLines {
+            chunk: Chunk::new(),
+            line: ArrayVec::new(),
+            told: History::new(),
+            refused: History::new(),
+        }
+    }
+
+    /// Takes a byte.
+    fn take_byte<W: Sink>(&mut self, sink: &mut W, byte: u8)
+        ensures goes { (before : Option (List ℕ) × ℕ) → Goes before (W.taken sink.old, W.failures sink.old) self.old → Goes before (W.taken sink.new, W.failures sink.new) self.new }
+        ensures told { self.new.told.bytes ≡ self.old.told.bytes ++ byte ∷ [] }
+        ensures refused { self.new.refused.bytes ≡ self.old.refused.bytes }
+    {
+        self.told = History::with(&self.told, &byte);
+        if byte == b'\n' {
+            self.chunk.object(sink, self.line.as_slice());
+            self.line.clear();
+        } else if !self.line.is_full() {
+            self.line.push(byte);
+        }
+    }
+
+    /// Takes bytes, and has a sink take the objects of the lines that end in them. Once the sink has failed it refuses
+    /// all bytes; what was taken before the sink failed stays taken.
+    pub fn take<W: Sink>(&mut self, sink: &mut W, bytes: &[u8]) -> Result<(), ()>
+        ensures stands { (before : Option (List ℕ) × ℕ) → Stands before (W.taken sink.old, W.failures sink.old) self.old → Stands before (W.taken sink.new, W.failures sink.new) self.new }
+        ensures ok { OnOk result (self.new.told.bytes ≡ self.old.told.bytes ++ bytes.now) }
+        ensures err { OnErr result (self.new.told.bytes ≡ self.old.told.bytes) }
+        ensures refused { length self.new.refused.bytes ≡ (if is_err result then length self.old.refused.bytes + 1 else length self.old.refused.bytes) }
+    {
+        if self.chunk.has_failed() {
+            self.refused = History::with(&self.refused, &0);
+            return Err(());
+        }
+        for byte in bytes {
+            self.take_byte(sink, *byte);
+        }
+        self.chunk.flush(sink);
+        Ok(())
+    }
+
+    /// The sink has failed.
+    pub fn has_failed(&self) -> bool
+        ensures { result ≡ self.now.chunk.failed }
+    {
+        self.chunk.has_failed()
+    }
+}

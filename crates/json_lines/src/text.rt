@@ -1,0 +1,48 @@
+//! A whole text of a report as JSON lines.
+
+ghost use Rattle.std.specs.Prelude.{◌≡◌, ◌<◌, ◌++◌, ℕ, List, IfErr, OnErr, OnOk};
+ghost use Rattle.line_model.specs.Device.{with_more};
+ghost use Rattle.json_lines.specs.Json.{json_text};
+
+use crate::sink::{JsonSink, Lent, Origin, Returned};
+use line_model::device::Sink;
+use line_model::fault::Fault;
+use std::marker::Brand;
+use streams::writing::write_all;
+
+/// As `write_json_lines`, to the sink of an origin.
+fn write_to<'a, K: Sink, B: Origin>(text: &[u8], to: Lent<'a, K>) -> Returned<'a, K>
+    requires name { to.sink.ghost_name ≡ B.name }
+    requires before { (K.taken to.sink.now, K.failures to.sink.now) ≡ B.before }
+    ensures name { result.sink.ghost_name ≡ B.name }
+    ensures ok { OnOk result.answer (K.taken result.sink.now ≡ with_more B.before.0 (json_text text.now)) }
+    ensures part { OnErr result.answer ((front : List ℕ) × (rest : List ℕ) × (json_text text.now ≡ front ++ rest) × (K.taken result.sink.now ≡ with_more B.before.0 front)) }
+    ensures failed { IfErr result.answer (λ fault. (fault ≡ Fault.Write) × (B.before.1 < K.failures result.sink.now)) }
+{
+    let mut json = JsonSink::<K, B>::new(to);
+    let written = write_all(&mut json, text);
+    let Returned { sink, answer } = json.finish();
+    match written {
+        Ok(()) => Returned { sink, answer },
+        Err(fault) => Returned {
+            sink,
+            answer: Err(fault),
+        },
+    }
+}
+
+/// The sink that comes back is the one that was lent.
+fn take_back<K>(_sink: &mut K)
+    ensures { _sink.new ≡ _sink.old }
+{}
+
+/// Gives a sink the objects of the lines of a text. Where the sink fails it took a first part of them.
+pub fn write_json_lines<K: Sink>(text: &[u8], sink: &mut K) -> Result<(), Fault>
+    ensures ok { OnOk result (K.taken sink.new ≡ with_more (K.taken sink.old) (json_text text.now)) }
+    ensures part { OnErr result ((front : List ℕ) × (rest : List ℕ) × (json_text text.now ≡ front ++ rest) × (K.taken sink.new ≡ with_more (K.taken sink.old) front)) }
+    ensures failed { IfErr result (λ fault. (fault ≡ Fault.Write) × (K.failures sink.old < K.failures sink.new)) }
+{
+    let Returned { sink, answer } = write_to::<K, Brand>(text, Lent { sink });
+    take_back(sink);
+    answer
+}

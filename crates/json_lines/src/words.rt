@@ -1,0 +1,79 @@
+//! The words of a line, parted by single spaces.
+
+ghost use Rattle.std.specs.Prelude.{◌≡◌, ◌∷◌, ◌++◌, [], length, drop, MatchOption};
+ghost use Rattle.line_model.specs.Header.{words_of};
+ghost use Rattle.json_lines.specs.Cuts.{Lacks};
+ghost use Rattle.json_lines.specs.Json.{first_word, line_words};
+
+use memchr::memchr;
+use std::marker::Model;
+
+/// What stands before the first such byte, and after it.
+fn split_at_byte(text: &[u8], byte: u8) -> Option<(&[u8], &[u8])>
+    ensures { MatchOption result (Lacks byte text.now)
+        (λ parts. (text.now ≡ parts.0.now ++ byte ∷ parts.1.now) × Lacks byte parts.0.now) }
+{
+    match memchr(byte, text) {
+        Some(i) => Some((&text[..i], &text[i + 1..])),
+        None => None,
+    }
+}
+
+/// The words of a line that are still to come. Single spaces part them.
+#[derive(Drop)]
+pub struct Words<'a> {
+    rest: Option<&'a [u8]>,
+}
+
+impl<'a> Model for Words<'a> {
+    ghost use Rattle.std.specs.Prelude.{List, ℕ};
+    ghost use Rattle.json_lines.specs.WordsLeft.{words_left};
+
+    ghost Value = { List (List ℕ) };
+
+    ghost view = { λ w. words_left w.rest };
+}
+
+/// The octets that a line of a report does not have.
+const LINE_ROOM: usize = 256;
+
+impl<'a> Words<'a> {
+    /// The words of a line, none where it is too long for a report.
+    pub fn new(line: &'a [u8]) -> Self
+        ensures { result ≡ line_words line.entry.now }
+    {
+        if line.len() >= LINE_ROOM {
+            Words { rest: None }
+        } else {
+            Words { rest: Some(line) }
+        }
+    }
+
+    /// The next word, which may be empty, if one is left.
+    fn next(&mut self) -> Option<&'a [u8]>
+        ensures { MatchOption result ((self.old ≡ []) × (self.new ≡ [])) (λ word. self.old ≡ word.now ∷ self.new) }
+    {
+        let text = self.rest?;
+        match split_at_byte(text, b' ') {
+            Some((word, rest)) => {
+                self.rest = Some(rest);
+                Some(word)
+            }
+            None => {
+                self.rest = None;
+                Some(text)
+            }
+        }
+    }
+
+    /// The next word, or a dash where none is left.
+    pub fn take(&mut self) -> &'a [u8]
+        ensures word { result.now ≡ first_word self.old }
+        ensures rest { self.new ≡ drop 1 self.old }
+    {
+        match self.next() {
+            Some(word) => word,
+            None => b"-",
+        }
+    }
+}

@@ -1,0 +1,17 @@
+use Rattle.std.proofs.Common.{◌≡◌, ◌∙◌, ap, ap₂, refl, ℕ, List, [], ◌∷◌, ◌++◌, length, rules}
+use Rattle.line_model.specs.Records.{Item}
+use Rattle.line_model.specs.Items.{items_of}
+use Rattle.line_model.specs.declared.items.Head.{Head}
+use Rattle.line_model.proofs.ItemLemmas.{items-push}
+use Rattle.line_model.proofs.items.Items.push.Goals as goal
+
+pub returns-clause-ok : goal.returns-clause-ok
+returns-clause-ok g c =
+    let heads = c.self.inside.heads.items in
+    let octets = c.self.inside.octets.items in
+    let head : Head = record { number = c.item.inside.number; side = c.item.inside.side; packet = c.item.inside.packet; octets = length c.item.inside.octets.now } in
+    let heads_are : c.push_reserved.new.self.items ≡ heads ++ head ∷ [] = search rules in
+    let octets_are : c.extend_from_slice.new.self.items ≡ octets ++ c.item.inside.octets.now = search rules in
+    ap₂ items_of heads_are octets_are
+    ∙ items-push heads octets head c.item.inside.octets.now c.self.invariant refl
+    ∙ ap₂ (λ l i. l ++ i ∷ []) c.self.view_is c.item.view_is

@@ -1,0 +1,139 @@
+//! Rows with their packets in two lists, by values from outside.
+
+use crate::items::{ItemRef, Items};
+use crate::packet::{DataHeader, Kind, Packet};
+use crate::row::Row;
+use crate::state::Side;
+use std::process::Abort;
+use std::test::Fail;
+
+/// A row: its number, its side, its octets and what they are.
+type Line = (u32, Side, &'static [u8], Packet);
+
+/// A call request on channel 1, a row without octets, a call that is connected, and data.
+fn lines() -> [Line; 4] {
+    [
+        (
+            1,
+            Side::T,
+            b"\x10\x01\x0b\x00\x00".as_slice(),
+            on_channel_1(Kind::Call),
+        ),
+        (2, Side::T, b"".as_slice(), Packet::Short),
+        (
+            4,
+            Side::N,
+            b"\x10\x01\x0f".as_slice(),
+            on_channel_1(Kind::Accepted),
+        ),
+        (
+            9,
+            Side::T,
+            b"\x10\x01\x22\xaa".as_slice(),
+            on_channel_1(Kind::Data(Some(DataHeader {
+                send: 1,
+                receive: 1,
+                more: false,
+                delivery: false,
+                qualified: false,
+            }))),
+        ),
+    ]
+}
+
+/// A packet on channel 1.
+fn on_channel_1(kind: Kind) -> Packet {
+    Packet::Channel { channel: 1, kind }
+}
+
+/// Appends rows.
+fn push_all(items: &mut Items, lines: &[Line]) -> Result<(), Fail> {
+    for (number, side, octets, packet) in lines {
+        items.push(&ItemRef {
+            number: *number,
+            side: *side,
+            octets,
+            packet: *packet,
+        })?;
+    }
+    Ok(())
+}
+
+/// The rows are these, in this order.
+fn check_rows(rt: &impl Abort, items: &Items, lines: &[Line]) -> Result<(), Fail> {
+    assert_eq!(rt; items.len(), lines.len());
+    assert_eq!(rt; items.is_empty(), lines.is_empty());
+    let mut rows = items.iter();
+    for (number, side, octets, packet) in lines {
+        let Some(row) = rows.next() else {
+            return Err("a row is missing")?;
+        };
+        assert_eq!(rt; (row.number, row.side), (*number, *side));
+        assert_eq!(rt; row.octets, *octets, "row {number}");
+        assert_eq!(rt; row.packet, *packet, "row {number}");
+    }
+    assert!(rt; rows.next().is_none());
+    Ok(())
+}
+
+#[test]
+fn rows_stand_in_order_with_their_octets(rt: HostRuntime) -> Result<(), Fail> {
+    let lines = lines();
+    let mut items = Items::new(rt.alloc());
+    check_rows(&rt, &items, &[])?;
+    push_all(&mut items, lines.as_slice())?;
+    check_rows(&rt, &items, lines.as_slice())?;
+    // A walk takes no row away.
+    check_rows(&rt, &items, lines.as_slice())
+}
+
+#[test]
+fn a_copy_has_the_rows_and_a_cleared_list_has_none(rt: HostRuntime) -> Result<(), Fail> {
+    let lines = lines();
+    let [call, .., data] = lines;
+    let mut items = Items::new(rt.alloc());
+    push_all(&mut items, lines.as_slice())?;
+    let copy = items.copy()?;
+    items.clear();
+    check_rows(&rt, &items, &[])?;
+    check_rows(&rt, &copy, lines.as_slice())?;
+    push_all(&mut items, &[data, call])?;
+    check_rows(&rt, &items, &[data, call])?;
+    check_rows(&rt, &copy, lines.as_slice())
+}
+
+#[test]
+fn a_row_is_copied_into_the_place_of_another(rt: HostRuntime) -> Result<(), Fail> {
+    let mut row = Row {
+        number: 7,
+        side: Side::N,
+        octets: b"\x10\x02\x13\x00\x00\x00".as_slice().to_vec(rt.alloc())?,
+    };
+    for (number, side, octets, packet) in lines() {
+        let item = ItemRef {
+            number,
+            side,
+            octets,
+            packet,
+        };
+        item.copy_to(&mut row)?;
+        assert_eq!(rt; (row.number, row.side), (number, side));
+        assert_eq!(rt; row.octets.as_slice(), octets, "row {number}");
+    }
+    Ok(())
+}
+
+#[test]
+fn a_row_stands_with_the_packet_that_it_is_given(rt: HostRuntime) -> Result<(), Fail> {
+    let octets = b"\x10\x01\x0f".as_slice();
+    let row = Row {
+        number: 4,
+        side: Side::N,
+        octets: octets.to_vec(rt.alloc())?,
+    };
+    let item = row.with_packet(on_channel_1(Kind::Accepted));
+    assert_eq!(rt; (item.number, item.side), (4, Side::N));
+    assert_eq!(rt; item.octets, octets);
+    assert_eq!(rt; item.packet, on_channel_1(Kind::Accepted));
+    Ok(())
+}

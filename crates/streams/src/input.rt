@@ -1,0 +1,47 @@
+//! Where the program reads its trace.
+
+ghost use Rattle.std.specs.Prelude.{◌≡◌, ℕ, List, Option, OnOk, OnErr};
+
+use crate::heard::Heard;
+use crate::progress::Telling;
+use line_model::device::Source;
+use thiserror::Error;
+
+/// Why a trace could not be opened by its name (profile).
+#[derive(Clone, Copy, Debug, PartialEq, Eq, Error)]
+pub enum OpenFault {
+    /// Nothing has this name.
+    #[error("no such file")]
+    Missing,
+    /// The reader may not read it.
+    #[error("permission denied")]
+    Denied,
+    /// The name is that of a directory.
+    #[error("it is a directory")]
+    Directory,
+    /// The system refused it for another reason.
+    #[error("the system refuses it")]
+    Refused,
+}
+
+/// A source that begins as standard input, and turns to the trace that is opened by its name.
+pub trait Input: Source {
+    /// The bytes of the trace of a name, where it tells them.
+    ghost named: { Self → List ℕ → Option (List ℕ) };
+
+    /// Turns to the trace of this name, or stays as it was.
+    fn open(&mut self, name: &str) -> Result<(), OpenFault>
+        ensures opened { OnOk result (Self.left self.new ≡ named self.old name.now) }
+        ensures calls { Self.calls self.new ≡ Self.calls self.old }
+        ensures failures { Self.failures self.new ≡ Self.failures self.old }
+        ensures refused { OnErr result (self.new ≡ self.old) };
+
+    /// The last bytes that it gave.
+    fn heard(&self) -> &Heard;
+
+    /// Chooses when it tells how far the reading is.
+    fn tell_progress(&mut self, telling: Telling)
+        ensures left { Self.left self.new ≡ Self.left self.old }
+        ensures calls { Self.calls self.new ≡ Self.calls self.old }
+        ensures failures { Self.failures self.new ≡ Self.failures self.old };
+}

@@ -1,0 +1,228 @@
+//! Four workers that post reports of their own to one book, and look after each post.
+
+ghost use Rattle.std.specs.Prelude.{◌≡◌, ◌≤◌, IfOk, vec_len};
+
+use crate::gathering::{Gathered, gather};
+use crate::handler::Handler;
+use crate::run::{Ran, run_scoped};
+use crate::starting::crew_for;
+use crate::tests::Plain;
+use findings_book::{Blanks, Book, Desk, Ledgers, Share};
+use line_model::fault::Fault;
+use line_model::finding::{Code, Finding};
+use line_model::piece::{Piece, PieceReport};
+use line_model::state::{Side, StateName};
+use line_model::totals::Totals;
+use piece_queue::Work;
+use std::alloc::Global;
+use std::marker::Brand;
+use std::process::Abort;
+use std::sync::Wait;
+use std::sync::atomic::AtomicU64;
+use std::sync::atomic::Ordering::SeqCst;
+use std::test::Fail;
+use std::thread::Threads;
+use std::time::Clock;
+
+/// How many workers there are.
+const WORKERS: usize = 4;
+
+/// How many pieces they take.
+const PIECES: u32 = 400;
+
+/// What the reports of all pieces count: piece n has n modulo 3 findings, n octets and n modulo 5
+/// segments.
+const ALL: Totals = Totals {
+    posts: 400,
+    findings: 399,
+    octets: 79_800,
+    segments: 800,
+};
+
+/// The totals of nothing.
+const NONE: Totals = Totals {
+    posts: 0,
+    findings: 0,
+    octets: 0,
+    segments: 0,
+};
+
+/// A data packet of the DTE came while the channel was ready.
+const FINDING: Finding = Finding {
+    packet: 1,
+    side: Side::T,
+    state: StateName::P1,
+    code: Code::Number(20),
+};
+
+/// No finding, one or two.
+fn findings(alloc: Global, count: u32) -> Result<Vec<Finding>, Fault>
+    ensures few { IfOk result (λ findings. vec_len findings ≤ 2) }
+{
+    Ok(match count {
+        0 => Vec::new(alloc),
+        1 => vec![in alloc; FINDING]?,
+        _ => vec![in alloc; FINDING, FINDING]?,
+    })
+}
+
+/// The report of a piece.
+fn report_of(alloc: Global, piece: &Piece) -> Result<PieceReport, Fault> {
+    let id = piece.id;
+    Ok(PieceReport {
+        id,
+        epoch: piece.epoch,
+        channel: piece.channel,
+        findings: findings(alloc, id % 3)?,
+        calls: Vec::new(alloc),
+        octets: (id % 1000) as u64,
+        segments: (id % 5) as u64,
+    })
+}
+
+/// Whether no number of the first is above that of the second.
+fn is_within(own: Totals, seen: Totals) -> bool {
+    own.posts <= seen.posts
+        && own.findings <= seen.findings
+        && own.octets <= seen.octets
+        && own.segments <= seen.segments
+}
+
+/// Posts a report for each piece and looks. Counts the looks, and those that were below the worker's own share.
+#[derive(Drop)]
+struct Looking<'a, L: Ledgers> {
+    desk: &'a Desk<Brand, L>,
+    looks: &'a AtomicU64,
+    below: &'a AtomicU64,
+}
+
+impl<'a, L: Ledgers> Handler<Brand, Global, Share<L>> for Looking<'a, L> {
+    fn handle<R: Wait>(
+        &self,
+        rt: &R,
+        alloc: Global,
+        piece: &Piece,
+        share: &mut Share<L>,
+    ) -> Result<(), Fault> {
+        let Ok(report) = report_of(alloc, piece) else {
+            return Err(Fault::Memory);
+        };
+        if self.desk.post(rt, report, share).is_err() {
+            return Err(Fault::Memory);
+        }
+        let seen = self.desk.look(rt, share);
+        self.looks.fetch_add(1, SeqCst);
+        if !is_within(share.totals(), seen) {
+            self.below.fetch_add(1, SeqCst);
+        }
+        Ok(())
+    }
+}
+
+/// Has four workers take all pieces and post to a book without posts.
+fn work_together<R: Threads + Wait + Clock + Sync, L: Ledgers + Sync>(
+    rt: &R,
+    alloc: Global,
+    mut book: Book<Brand, L>,
+    looks: &AtomicU64,
+    below: &AtomicU64,
+) -> Result<Gathered, Fault>
+    requires fresh { book ≡ 0 }
+{
+    let (work, pass) = Work::<Brand>::new(alloc, 2)?;
+    let crew = crew_for(alloc, &work, &mut book, pass, WORKERS)?;
+    let looking = Looking {
+        desk: book.desk(),
+        looks,
+        below,
+    };
+    let pieces = Plain {
+        alloc,
+        count: PIECES,
+    };
+    match run_scoped(rt, alloc, &work, &looking, crew, pieces) {
+        Ok(
+            Ran {
+                task: _,
+                shares,
+                fault: None,
+            },
+        ) => gather(alloc, book, shares),
+        Ok(
+            Ran {
+                fault: Some(fault),
+                ..
+            },
+        ) => Err(fault),
+        Err((_, fault)) => Err(fault),
+    }
+}
+
+/// The same over the ledgers of these blanks.
+fn work_over<R: Threads + Wait + Clock + Sync, L: Ledgers + Sync>(
+    rt: &R,
+    alloc: Global,
+    blanks: Blanks,
+    looks: &AtomicU64,
+    below: &AtomicU64,
+) -> Result<Gathered, Fault>
+    requires posts { (blanks.posts.name ≡ L.posts) × (blanks.posts.parts ≡ 4096) }
+    requires findings { (blanks.findings.name ≡ L.findings) × (blanks.findings.parts ≡ 4096) }
+    requires octets { (blanks.octets.name ≡ L.octets) × (blanks.octets.parts ≡ 4096) }
+    requires segments { (blanks.segments.name ≡ L.segments) × (blanks.segments.parts ≡ 4096) }
+{
+    work_together(
+        rt,
+        alloc,
+        Book::<Brand, L>::new(alloc, blanks),
+        looks,
+        below,
+    )
+}
+
+/// The same over four new ledgers.
+fn work<R: Threads + Wait + Clock + Sync>(
+    rt: &R,
+    alloc: Global,
+    looks: &AtomicU64,
+    below: &AtomicU64,
+) -> Result<Gathered, Fault> {
+    work_over::<R, Brand>(rt, alloc, Blanks::new(), looks, below)
+}
+
+/// Adds totals.
+fn plus(one: Totals, other: Totals) -> Totals {
+    Totals {
+        posts: one.posts.wrapping_add(other.posts),
+        findings: one.findings.wrapping_add(other.findings),
+        octets: one.octets.wrapping_add(other.octets),
+        segments: one.segments.wrapping_add(other.segments),
+    }
+}
+
+/// The sums over all shares.
+fn sum(shares: &[Totals]) -> Totals {
+    let mut sums = NONE;
+    for share in shares {
+        sums = plus(sums, *share);
+    }
+    sums
+}
+
+/// The totals are those of all pieces and the sums of the shares.
+fn has_all(rt: &impl Abort, gathered: &Gathered) {
+    assert_eq!(rt; gathered.totals, ALL);
+    assert_eq!(rt; gathered.shares.len(), WORKERS);
+    assert_eq!(rt; sum(gathered.shares.as_slice()), ALL);
+    assert_eq!(rt; gathered.reports.len(), PIECES as usize);
+}
+
+#[test]
+fn no_look_of_four_workers_is_below_their_own_share(rt: HostRuntime) -> Result<(), Fail> {
+    let (looks, below) = (AtomicU64::new(0), AtomicU64::new(0));
+    let gathered = work(&rt, rt.alloc(), &looks, &below)?;
+    has_all(&rt, &gathered);
+    assert_eq!(rt; looks.load(SeqCst), PIECES as u64);
+    assert_eq!(rt; below.load(SeqCst), 0);
+    Ok(())
+}
