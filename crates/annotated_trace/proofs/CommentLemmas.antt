@@ -7,7 +7,7 @@ use Rattle.line_model.specs.declared.fault.Fault.TheVariants.{Memory}
 use Rattle.line_model.specs.declared.fault.Kind.{Kind}
 use Rattle.line_model.specs.declared.finding.Finding.{Finding}
 use Rattle.annotated_trace.specs.Annotation.{AreMarksOf, marks_in}
-use Rattle.annotated_trace.specs.Marking.{AreMarksBehind, HasClosing, HasCommentsOf, HasMarksOf}
+use Rattle.annotated_trace.specs.Marking.{AreMarksBehind, HasCommentsOf, HasMarksOf}
 use Rattle.trace_text.specs.StandsFor.{IsFaultOf, IsTextFault}
 use Rattle.annotated_trace.specs.Wording.{AreNotes}
 use Rattle.annotated_trace.specs.declared.choice.Choice.{Choice}
@@ -59,9 +59,6 @@ notes_and_marks choice findings before mid after notes e n h =
 
 pub left_out : (findings : List Finding) (out : List ℕ) → HasCommentsOf ChosenRows findings out out
 left_out findings out = record { behind = []; written = sym (append-nil out); comments = tt; marks = inl refl }
-
-pub notes_alone : (before after : List ℕ) (notes : List Line) → after ≡ before ++ text notes → AreNotes notes → HasClosing before after
-notes_alone before after notes e n = record { closing = notes; written = e; comments = notes_are_comments notes n; unmarked = notes_mark_nothing notes n }
 
 pub part_err : {T E : Type 0} (r : Result T E) (P Q : Type 0) → OnErr r P → (P → Q) → IfErr r (λ e. Q)
 part_err (Ok x) P Q h k = tt

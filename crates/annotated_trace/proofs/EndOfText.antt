@@ -19,9 +19,9 @@ use Rattle.line_model.proofs.TextLemmas.{begun-lf, ended-lf, first_fault-append,
 use Rattle.trace_text.proofs.FeedLemmas.{early-none, no_fault, size-sound}
 use Rattle.line_model.proofs.LineLemmas.{size_kind-zero}
 use Rattle.report_merge.proofs.WrittenLemmas.{with_more-append}
-use Rattle.annotated_trace.specs.Annotation.{IsAnnotation, IsAnnotationOf}
+use Rattle.annotated_trace.specs.Annotation.{AreComments, IsAnnotation, IsAnnotationOf, marks_in}
 use Rattle.annotated_trace.specs.Annotators.{HasAnnotated, HasFirstOf, IsAnnotated, IsCloseRefusal, IsEndRefusal, IsFull}
-use Rattle.annotated_trace.specs.Marking.{HasClosing}
+use Rattle.annotated_trace.specs.Marking.{HasClosing, HasFirstOfClosing}
 use Rattle.trace_text.specs.StandsFor.{IsFaultOf}
 use Rattle.annotated_trace.specs.Watched.{IsReportOf}
 use Rattle.annotated_trace.specs.declared.choice.Choice.{Choice}
@@ -163,33 +163,47 @@ sums_of x r h = ap (λ (s : Report). s.summary) h.report ∙ ap (λ o. elim o as
 no_last : (x : List ℕ) → begun_line x ≡ [] → lines_of x ≡ ended_lines x
 no_last x h = ap (λ b. ended_lines x ++ line_or_none b) h ∙ append-nil (ended_lines x)
 
-closed : (choice : Choice) (x : List ℕ) (before taken : Option (List ℕ)) (held now : List ℕ) → begun_line x ≡ [] → (h : HasAnnotated choice before taken held (ended_lines x)) → HasClosing held now → IsAnnotation choice x (h.sent ++ now)
-closed choice x before taken held now none h c = record {
-  front = h.sent ++ held;
-  closing = c.closing;
-  lines = subst (λ ls. IsAnnotationOf choice ls (h.sent ++ held)) (sym (no_last x none)) h.lines;
-  whole = ap (λ xs. h.sent ++ xs) c.written ∙ sym (append_assoc h.sent held (text c.closing));
-  comments = c.comments;
-  unmarked = c.unmarked;
+-- comments behind the lines
+closed : (choice : Choice) (x front rest : List ℕ) (closing : List Line) → begun_line x ≡ [] → IsAnnotationOf choice (ended_lines x) front → rest ≡ text closing → AreComments closing → marks_in closing ≡ [] → IsAnnotation choice x (front ++ rest)
+closed choice x front rest closing none lines written comments unmarked = record {
+  front = front;
+  closing = closing;
+  lines = subst (λ ls. IsAnnotationOf choice ls front) (sym (no_last x none)) lines;
+  whole = ap (λ xs. front ++ xs) written;
+  comments = comments;
+  unmarked = unmarked;
 }
 
-pub all_annotated : (choice : Choice) (x : List ℕ) (before taken after : Option (List ℕ)) (held now : List ℕ) (r : Report) (sums : Summary) → begun_line x ≡ [] → HasAnnotated choice before taken held (ended_lines x) → HasClosing held now → IsReportOf x r
-    → after ≡ with_more taken now → sums ≡ r.summary → IsAnnotated choice x before after sums
-all_annotated choice x before taken after held now r sums none h c told t s = record {
+-- what is behind what a sink has
+behind : (before taken after : Option (List ℕ)) (sent more : List ℕ) → taken ≡ with_more before sent → after ≡ with_more taken more → after ≡ with_more before (sent ++ more)
+behind before taken after sent more t a = a ∙ ap (λ o. with_more o more) t ∙ with_more-append before sent more
+
+pub all_annotated : (choice : Choice) (x : List ℕ) (before taken after : Option (List ℕ)) (r : Report) (sums : Summary) → begun_line x ≡ [] → HasAnnotated choice before taken [] (ended_lines x) → HasClosing taken after → IsReportOf x r
+    → sums ≡ r.summary → IsAnnotated choice x before after sums
+all_annotated choice x before taken after r sums none h c told s = record {
   sound = told.sound;
-  bytes = h.sent ++ now;
-  taken = t ∙ ap (λ o. with_more o now) h.taken_is ∙ with_more-append before h.sent now;
-  annotation = closed choice x before taken held now none h c;
+  bytes = h.sent ++ text c.closing;
+  taken = behind before taken after h.sent (text c.closing) h.taken_is c.taken;
+  annotation = closed choice x h.sent (text c.closing) c.closing none (subst (IsAnnotationOf choice (ended_lines x)) (append-nil h.sent) h.lines) refl c.comments c.unmarked;
   counted = s ∙ sums_of x r told;
 }
 
-pub first_annotated : (choice : Choice) (x : List ℕ) (before taken after : Option (List ℕ)) (held now front left : List ℕ) → begun_line x ≡ [] → HasAnnotated choice before taken held (ended_lines x) → HasClosing held now
-    → now ≡ front ++ left → after ≡ with_more taken front → HasFirstOf choice x before after
-first_annotated choice x before taken after held now front left none h c split t = record {
+pub first_annotated : (choice : Choice) (x : List ℕ) (before taken after : Option (List ℕ)) → begun_line x ≡ [] → HasAnnotated choice before taken [] (ended_lines x) → HasFirstOfClosing taken after → HasFirstOf choice x before after
+first_annotated choice x before taken after none h c = record {
+  front = h.sent ++ c.front;
+  left = c.left;
+  taken = behind before taken after h.sent c.front h.taken_is c.taken;
+  annotation = subst (IsAnnotation choice x) (sym (append_assoc h.sent c.front c.left))
+      (closed choice x h.sent (c.front ++ c.left) c.closing none (subst (IsAnnotationOf choice (ended_lines x)) (append-nil h.sent) h.lines) (sym c.whole) c.comments c.unmarked);
+}
+
+-- the sink failed before the comments behind all lines
+pub part_annotated : (choice : Choice) (x : List ℕ) (before taken after : Option (List ℕ)) (held front left : List ℕ) → begun_line x ≡ [] → HasAnnotated choice before taken held (ended_lines x) → held ≡ front ++ left → after ≡ with_more taken front → HasFirstOf choice x before after
+part_annotated choice x before taken after held front left none h split t = record {
   front = h.sent ++ front;
   left = left;
-  taken = t ∙ ap (λ o. with_more o front) h.taken_is ∙ with_more-append before h.sent front;
-  annotation = subst (IsAnnotation choice x) (ap (λ xs. h.sent ++ xs) split ∙ sym (append_assoc h.sent front left)) (closed choice x before taken held now none h c);
+  taken = behind before taken after h.sent front h.taken_is t;
+  annotation = subst (IsAnnotation choice x) (append-nil (h.sent ++ held) ∙ ap (λ xs. h.sent ++ xs) split ∙ sym (append_assoc h.sent front left)) (closed choice x (h.sent ++ held) [] [] none h.lines refl tt refl);
 }
 
 -- ---- of the text without the LF

@@ -2,6 +2,8 @@ pub mod LinesOfText
 pub mod SameReport
 pub mod MarkLemmas
 pub mod WordingLemmas
+pub mod PageLemmas
+pub mod ClosingLemmas
 pub mod AnnotatedLemmas
 pub mod MarkingLemmas
 pub mod PassedLemmas

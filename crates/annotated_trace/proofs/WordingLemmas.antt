@@ -85,7 +85,7 @@ words_said said words h =
     let room : 8000 ≡ length said + (8000 - length said) = omega (arith, h.short) in
     ap (λ xs. said ++ xs) (sym (take-map plain_byte (8000 - length said) words)) ∙ sym (take-append-add said (plain words) (8000 - length said)) ∙ ap (λ n. take n (said ++ plain words)) (sym room)
 
-added_all : (said words now : List ℕ) (n k : ℕ) → IsWords said → n ≡ length said → k ≡ min (8000 - n) (length words) → now ≡ said ++ plain (take k words) → now ≡ with_words said words
+pub added_all : (said words now : List ℕ) (n k : ℕ) → IsWords said → n ≡ length said → k ≡ min (8000 - n) (length words) → now ≡ said ++ plain (take k words) → now ≡ with_words said words
 added_all said words now n k h en ek e =
     e ∙ ap (λ m. said ++ plain (take m words)) ek ∙ ap (λ xs. said ++ plain xs) (take_min (8000 - n) words) ∙ ap (λ m. said ++ plain (take (8000 - m) words)) en ∙ words_said said words h
 

@@ -1,5 +1,6 @@
 pub mod Annotation
 pub mod Wording
+pub mod Pages
 pub mod Watched
 pub mod Marking
 pub mod Annotators

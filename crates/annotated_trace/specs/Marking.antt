@@ -1,5 +1,6 @@
 -- The marks that are written.
-use Rattle.std.specs.Prelude.{◌≡◌, ◌⊎◌, ℕ, ◌<◌, ◌^◌, List, [], ◌∷◌, ◌++◌, codes, decimal}
+use Rattle.std.specs.Prelude.{◌≡◌, ◌⊎◌, ℕ, ◌<◌, ◌^◌, List, [], ◌∷◌, ◌++◌, Option, codes, decimal}
+use Rattle.line_model.specs.Device.{with_more}
 use Rattle.line_model.specs.Report.{code_word, side_word, state_word}
 use Rattle.line_model.specs.Text.{Line}
 use Rattle.line_model.specs.Traces.{text}
@@ -50,9 +51,19 @@ pub record HasCommentsOf (choice : Choice) (findings : List Finding) (before aft
   pub comments : AreComments behind
   pub marks : AreMarksBehind choice findings (marks_in behind)
 
--- comments that mark nothing were appended to bytes
-pub record HasClosing (before after : List ℕ) : Type 0 where
+-- a sink took comments that mark nothing
+pub record HasClosing (before after : Option (List ℕ)) : Type 0 where
   pub closing : List Line
-  pub written : after ≡ before ++ text closing
+  pub taken : after ≡ with_more before (text closing)
+  pub comments : AreComments closing
+  pub unmarked : marks_in closing ≡ []
+
+-- it took a first part of some
+pub record HasFirstOfClosing (before after : Option (List ℕ)) : Type 0 where
+  pub closing : List Line
+  pub front : List ℕ
+  pub left : List ℕ
+  pub whole : text closing ≡ front ++ left
+  pub taken : after ≡ with_more before front
   pub comments : AreComments closing
   pub unmarked : marks_in closing ≡ []

@@ -1,5 +1,5 @@
 -- The words of comments.
-use Rattle.std.specs.Prelude.{◌≡◌, ℕ, ◌≤◌, List, [], ◌∷◌, ◌++◌, codes, if◌then◌else◌, length, map, take}
+use Rattle.std.specs.Prelude.{◌≡◌, ℕ, ◌==◌, ◌≤◌, List, [], ◌∷◌, ◌++◌, codes, if◌then◌else◌, length, map, take}
 use Rattle.std.specs.List.{AllByRecursion}
 use Rattle.line_model.specs.Text.{Line, begun_line, ended_lines, is_lf}
 use Rattle.annotated_trace.specs.Annotation.{IsOneLine}
@@ -61,6 +61,19 @@ ended_notes notes = record { lines = notes.lines ++ note_line notes.line ∷ [];
 abbrev pub note_or_none : (words : List ℕ) → List Line
 note_or_none [] = []
 note_or_none words = note_line words ∷ []
+
+-- how a line begins in which so much was said
+abbrev pub hash_of : (said : ℕ) → List ℕ
+hash_of said = if said == 0 then codes "# " else []
+
+-- how it ends: one that says nothing has not begun
+abbrev pub feed_of : (said : ℕ) → List ℕ
+feed_of said = if said == 0 then [] else 10 ∷ []
+
+-- the line that notes words and has not ended, none where there are none
+abbrev pub begun_note : (words : List ℕ) → List ℕ
+begun_note [] = []
+begun_note words = note_line words
 
 -- all notes, the last line where it says something
 abbrev pub notes_of : Remarks → List Line

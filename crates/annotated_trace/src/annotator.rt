@@ -8,7 +8,8 @@ ghost use Rattle.trace_text.specs.StandsFor.{IsFaultOf, IsTextFault};
 ghost use Rattle.annotated_trace.specs.Annotators.{HasAnnotated, HasFirst, HasFirstOf, HasLinesBefore, IsAnnotated, IsAnnotatorFault, IsCloseRefusal, IsEndRefusal, IsRefusalOf, IsStoppedAt, StandsFor, is_line};
 
 use crate::choice::Choice;
-use crate::commenting::{Scratch, append_closing, append_comments};
+use crate::closing::write_closing;
+use crate::commenting::{Scratch, append_comments};
 use crate::describer::Describer;
 use crate::holding::{send_held, send_much};
 use crate::watcher::Watcher;
@@ -183,7 +184,6 @@ impl<A: Allocator + Copy, W: Watcher<A>, D: Describer<A, W>> Annotator<A, W, D> 
         let Annotator {
             trace,
             mut describer,
-            mut scratch,
             mut held,
             ..
         } = self;
@@ -191,11 +191,11 @@ impl<A: Allocator + Copy, W: Watcher<A>, D: Describer<A, W>> Annotator<A, W, D> 
             Ok(report) => report,
             Err(fault) => return Err(fault),
         };
-        match append_closing(&report, &mut describer, &mut scratch, &mut held) {
+        match send_held(&mut held, sink) {
             Ok(()) => {}
             Err(fault) => return Err(fault),
         }
-        match send_held(&mut held, sink) {
+        match write_closing(&report, &mut describer, sink) {
             Ok(()) => Ok(report.summary),
             Err(fault) => Err(fault),
         }

@@ -2,7 +2,7 @@
 
 ghost use Rattle.std.specs.Prelude.{◌≡◌, IfErr, OnOk};
 ghost use Rattle.line_model.specs.declared.fault.Fault.TheVariants.{Memory};
-ghost use Rattle.annotated_trace.specs.Marking.{HasClosing, HasCommentsOf, HasMarksOf};
+ghost use Rattle.annotated_trace.specs.Marking.{HasCommentsOf, HasMarksOf};
 
 use crate::choice::Choice;
 use crate::describer::Describer;
@@ -10,7 +10,6 @@ use crate::marks::append_mark;
 use crate::notes::{Notes, Words};
 use crate::watcher::Watcher;
 use line_model::fault::Fault;
-use line_model::report::Report;
 use std::alloc::Allocator;
 
 /// Room for the words of comments, which is used again.
@@ -70,19 +69,4 @@ pub fn append_comments<A: Allocator + Copy, W: Watcher<A>, D: Describer<A, W>>(
         (false, Choice::EveryRow) => append_marks(trace, describer, &mut scratch.words, out),
         (false, Choice::ChosenRows) => Ok(()),
     }
-}
-
-/// Appends the comments behind the last line of a text.
-pub fn append_closing<A: Allocator + Copy, W, D: Describer<A, W>>(
-    report: &Report<A>,
-    describer: &mut D,
-    scratch: &mut Scratch<A>,
-    out: &mut Vec<u8, A>,
-) -> Result<(), Fault>
-    ensures ok { OnOk result (HasClosing out.old.items out.new.items) }
-    ensures memory { IfErr result (λ fault. fault ≡ Memory) }
-{
-    scratch.notes.clear();
-    describer.close(report, &mut scratch.notes)?;
-    scratch.notes.append_to(out)
 }

@@ -4,13 +4,15 @@ ghost use Rattle.std.specs.Prelude.{◌≡◌, IfErr};
 ghost use Rattle.line_model.specs.declared.fault.Fault.TheVariants.{Memory};
 
 use crate::notes::{Notes, Words};
+use crate::page::{ClosingPage, Origin};
+use line_model::device::Sink;
 use line_model::fault::Fault;
 use line_model::finding::Finding;
 use line_model::report::Report;
 use std::alloc::Allocator;
 
-/// Finds the words of an annotated trace. What it says is free: `Notes` and `Words` keep the form. `W` is the trace that
-/// it reads of, as `Live<A, C>`.
+/// Finds the words of an annotated trace. What it says is free: `Notes`, `Words` and `ClosingPage` keep the form. `W` is
+/// the trace that it reads of, as `Live<A, C>`.
 pub trait Describer<A: Allocator, W>: Drop {
     /// Says what a line did, which the trace has just taken, and whether it is told of at all: where it is not, what was
     /// said is left out. It refuses for want of memory alone.
@@ -22,8 +24,7 @@ pub trait Describer<A: Allocator, W>: Drop {
     fn explain(&mut self, trace: &W, finding: &Finding, words: &mut Words<A>) -> Result<(), Fault>
         ensures memory { IfErr result (λ fault. fault ≡ Memory) };
 
-    /// Says what stands behind the last line of a text that has ended: its report in words. It refuses for want of memory
-    /// alone.
-    fn close(&mut self, report: &Report<A>, notes: &mut Notes<A>) -> Result<(), Fault>
-        ensures memory { IfErr result (λ fault. fault ≡ Memory) };
+    /// Says what stands behind the last line of a text that has ended: its report in words. A sink takes them as they are
+    /// said, so there is nothing that it could refuse for.
+    fn close<K: Sink, B: Origin>(&mut self, report: &Report<A>, page: &mut ClosingPage<'_, K, B>);
 }

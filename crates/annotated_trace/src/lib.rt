@@ -4,12 +4,14 @@
 pub mod annotating;
 pub mod annotator;
 pub mod choice;
+mod closing;
 mod commenting;
 pub mod describer;
 mod holding;
 pub mod laws;
 mod marks;
 pub mod notes;
+pub mod page;
 #[cfg(test)]
 mod tests;
 mod watched;

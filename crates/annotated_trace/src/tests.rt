@@ -1,13 +1,17 @@
 //! Traces that are annotated, and read again.
 
+mod closing;
+
 ghost use Rattle.std.specs.Prelude.{◌≡◌, ◌<◌};
 
 use crate::annotating::annotate;
 use crate::choice::Choice;
 use crate::describer::Describer;
 use crate::notes::{Notes, Words};
+use crate::page::{ClosingPage, Origin};
 use channel_machine::channel::PlainChannel;
 use line_model::count::Count;
+use line_model::device::Sink;
 use line_model::fault::{Fault, Kind};
 use line_model::finding::Finding;
 use line_model::report::Report;
@@ -43,11 +47,11 @@ impl<A: Allocator + Copy, W> Describer<A, W> for Numbered {
         words.number(u64::from(finding.packet))
     }
 
-    fn close(&mut self, report: &Report<A>, notes: &mut Notes<A>) -> Result<(), Fault> {
-        notes.say("findings: ")?;
-        notes.number(report.summary.findings)?;
-        notes.next()?;
-        notes.octets(b"\x0b\xff")
+    fn close<K: Sink, B: Origin>(&mut self, report: &Report<A>, page: &mut ClosingPage<'_, K, B>) {
+        page.say("findings: ");
+        page.number(report.summary.findings);
+        page.next();
+        page.octets(b"\x0b\xff");
     }
 }
 

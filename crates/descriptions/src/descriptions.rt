@@ -11,7 +11,9 @@ use crate::rows::Rows;
 use crate::uncounted::Uncounted;
 use annotated_trace::describer::Describer;
 use annotated_trace::notes::{Notes, Words};
+use annotated_trace::page::{ClosingPage, Origin};
 use channel_machine::run::{Channel, View};
+use line_model::device::Sink;
 use line_model::event::{Event, What};
 use line_model::fault::Fault;
 use line_model::finding::Finding;
@@ -345,8 +347,8 @@ impl<A: Allocator + Copy, C: Channel<A>> Describer<A, Live<A, C>> for Descriptio
         Ok(())
     }
 
-    fn close(&mut self, report: &Report<A>, notes: &mut Notes<A>) -> Result<(), Fault> {
-        closing::report(notes, report, &self.uncounted)?;
-        Ok(())
+    fn close<K: Sink, B: Origin>(&mut self, report: &Report<A>, page: &mut ClosingPage<'_, K, B>) {
+        // A page refuses nothing.
+        let _ = closing::report(page, report, &self.uncounted);
     }
 }

@@ -1,10 +1,13 @@
 //! Words, numbers and octets, one behind the other.
 
 use annotated_trace::notes::{Notes, Words};
+use annotated_trace::page::{ClosingPage, Origin};
 use line_model::address::Address;
+use line_model::device::Sink;
 use std::alloc::{AllocError, Allocator};
 
-/// What prose is written to: the comments of a row, or the words of a mark.
+/// What prose is written to: the comments of a row, the words of a mark, or the page of the closing comments, which refuses
+/// nothing.
 pub trait Prose {
     /// Appends words.
     fn say(&mut self, words: &str) -> Result<(), AllocError>;
@@ -53,6 +56,30 @@ impl<A: Allocator + Copy> Prose for Words<A> {
 
     fn octets(&mut self, octets: &[u8]) -> Result<(), AllocError> {
         self.octets(octets).map_err(|_| AllocError)
+    }
+}
+
+impl<K: Sink, B: Origin> Page for ClosingPage<'_, K, B> {
+    fn next_line(&mut self) -> Result<(), AllocError> {
+        self.next();
+        Ok(())
+    }
+}
+
+impl<K: Sink, B: Origin> Prose for ClosingPage<'_, K, B> {
+    fn say(&mut self, words: &str) -> Result<(), AllocError> {
+        self.say(words);
+        Ok(())
+    }
+
+    fn number(&mut self, number: u64) -> Result<(), AllocError> {
+        self.number(number);
+        Ok(())
+    }
+
+    fn octets(&mut self, octets: &[u8]) -> Result<(), AllocError> {
+        self.octets(octets);
+        Ok(())
     }
 }
 

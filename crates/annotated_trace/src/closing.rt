@@ -1,0 +1,53 @@
+//! The comments behind the last line of a text are written.
+
+ghost use Rattle.std.specs.Prelude.{◌≡◌, ◌<◌, IfErr, OnErr, OnOk};
+ghost use Rattle.annotated_trace.specs.Marking.{HasClosing, HasFirstOfClosing};
+
+use crate::describer::Describer;
+use crate::page::{ClosingPage, Lent, Origin, Returned};
+use line_model::device::Sink;
+use line_model::fault::Fault;
+use line_model::report::Report;
+use std::alloc::Allocator;
+use std::marker::Brand;
+
+/// As `write_closing`, to the sink of an origin.
+fn write_to<'a, A: Allocator, W, D: Describer<A, W>, K: Sink, B: Origin>(
+    report: &Report<A>,
+    describer: &mut D,
+    to: Lent<'a, K>,
+) -> Returned<'a, K>
+    requires name { to.sink.ghost_name ≡ B.name }
+    requires before { (K.taken to.sink.now, K.failures to.sink.now) ≡ B.before }
+    ensures name { result.sink.ghost_name ≡ B.name }
+    ensures ok { OnOk result.answer (HasClosing B.before.0 (K.taken result.sink.now)) }
+    ensures part { OnErr result.answer (HasFirstOfClosing B.before.0 (K.taken result.sink.now)) }
+    ensures cause { OnErr result.answer (B.before.1 < K.failures result.sink.now) }
+    ensures write { IfErr result.answer (λ fault. fault ≡ Fault.Write) }
+{
+    let mut page = ClosingPage::<K, B>::new(to);
+    describer.close(report, &mut page);
+    page.finish()
+}
+
+/// The sink that comes back is the one that was lent.
+fn take_back<K>(_sink: &mut K)
+    ensures { _sink.new ≡ _sink.old }
+{}
+
+/// Gives a sink the comments behind the last line of a text. It takes no memory. Where the sink fails it took a first part
+/// of them.
+pub fn write_closing<A: Allocator, W, D: Describer<A, W>, K: Sink>(
+    report: &Report<A>,
+    describer: &mut D,
+    sink: &mut K,
+) -> Result<(), Fault>
+    ensures ok { OnOk result (HasClosing (K.taken sink.old) (K.taken sink.new)) }
+    ensures part { OnErr result (HasFirstOfClosing (K.taken sink.old) (K.taken sink.new)) }
+    ensures cause { OnErr result (K.failures sink.old < K.failures sink.new) }
+    ensures write { IfErr result (λ fault. fault ≡ Fault.Write) }
+{
+    let Returned { sink, answer } = write_to::<A, W, D, K, Brand>(report, describer, Lent { sink });
+    take_back(sink);
+    answer
+}
