@@ -1,5 +1,6 @@
 -- The answers of the counts, for a channel.
 use Rattle.std.proofs.Common.{◌≡◌, ◌+◌, ℕ, Bool, true, false, refl, sym, ◌∙◌, ap, subst, List, [], ◌∷◌, ◌++◌, length, length-append, Option, Some, None, Result, Ok, Err}
+use Rattle.line_model.specs.declared.diagnostic.TheConstants.{UNAUTHORIZED_INTERRUPT_CONFIRMATION, UNAUTHORIZED_INTERRUPT}
 use Rattle.line_model.specs.declared.interface.Interface.{Interface}
 use Rattle.line_model.specs.declared.state.Side.{Side}
 use Rattle.line_model.specs.declared.state.Side.TheVariants.{T, N}
@@ -35,12 +36,12 @@ pub receive_keeps : (m : ℕ) (c v : Counts) (x : Side) (n : ℕ) → count_rece
 receive_keeps m c v x n e = receive_by c v x (count_acknowledged m (of_side (other x) c.sent) (of_side (other x) c.acknowledged) n) e
 
 interrupt_by : (c v : Counts) (x : Side) (b : Bool) →
-    ◌≡◌ {A = Result Counts ℕ} (elim b [ true ↦ Err 44 | false ↦ Ok (record c { unconfirmed = with_side x true c.unconfirmed }) ]) (Ok v) → v.sent ≡ c.sent
+    ◌≡◌ {A = Result Counts ℕ} (elim b [ true ↦ Err UNAUTHORIZED_INTERRUPT | false ↦ Ok (record c { unconfirmed = with_side x true c.unconfirmed }) ]) (Ok v) → v.sent ≡ c.sent
 interrupt_by c v x true e = cc
 interrupt_by c v x false e = ap (λ u. u.sent) (sym (ok_is v (record c { unconfirmed = with_side x true c.unconfirmed }) e))
 
 confirm_by : (c v : Counts) (x : Side) (b : Bool) →
-    ◌≡◌ {A = Result Counts ℕ} (elim b [ false ↦ Err 43 | true ↦ Ok (record c { unconfirmed = with_side (other x) false c.unconfirmed }) ]) (Ok v) → v.sent ≡ c.sent
+    ◌≡◌ {A = Result Counts ℕ} (elim b [ false ↦ Err UNAUTHORIZED_INTERRUPT_CONFIRMATION | true ↦ Ok (record c { unconfirmed = with_side (other x) false c.unconfirmed }) ]) (Ok v) → v.sent ≡ c.sent
 confirm_by c v x false e = cc
 confirm_by c v x true e = ap (λ u. u.sent) (sym (ok_is v (record c { unconfirmed = with_side (other x) false c.unconfirmed }) e))
 

@@ -2,6 +2,7 @@
 use Rattle.std.proofs.Common.{◌≡◌, ℕ, ◌+◌, ◌≤◌, Bool, true, false, eqb, Option, Some, None, List, [], ◌∷◌, length, map, refl, ◌∙◌, ap, arith}
 use Rattle.std.specs.Prelude.{Result, Ok, Err, option_to_list, option_map}
 use Rattle.std.proofs.lemmas.List.{map-append}
+use Rattle.line_model.specs.declared.diagnostic.TheConstants.{INCONSISTENT_Q_BIT_SETTING}
 use Rattle.line_model.specs.declared.interface.Interface.{Interface}
 use Rattle.line_model.specs.declared.packet.Class.{Class}
 use Rattle.line_model.specs.declared.packet.Class.TheVariants.{Data}
@@ -101,7 +102,7 @@ telling_data x p told (Some m) =
     omega arith
 
 alike_data : (i : Interface) (x : Side) (s : StateName) (p : Heard) (v : Counts) (b : Bool) (c : Channel) → packets_told (data_alike i x s p v b c).reported ≤ 1
-alike_data i x s p v false c = let none = failing_none x s 83 c in omega arith
+alike_data i x s p v false c = let none = failing_none x s INCONSISTENT_Q_BIT_SETTING c in omega arith
 alike_data i x s p v true c = let told_is = telling_data x p c.told (completed_message i x c p) in omega arith
 
 counted_data : (i : Interface) (x : Side) (s : StateName) (p : Heard) (r : Result Counts ℕ) (c : Channel) → packets_told (data_counted i x s p r c).reported ≤ 1

@@ -1,6 +1,7 @@
 -- What a data packet does to a channel.
 use Rattle.std.proofs.Common.{◌≡◌, ◌+◌, ℕ, Bool, true, false, refl, sym, ◌∙◌, ap, subst, List, [], ◌∷◌, ◌++◌, Option, Some, None, Result, Ok, Err}
 use Rattle.std.specs.Prelude.{◌&&◌}
+use Rattle.line_model.specs.declared.diagnostic.TheConstants.{INCONSISTENT_Q_BIT_SETTING}
 use Rattle.line_model.specs.declared.interface.Interface.{Interface}
 use Rattle.line_model.specs.declared.state.Side.{Side}
 use Rattle.line_model.specs.declared.state.Side.TheVariants.{T, N}
@@ -42,7 +43,7 @@ refused U e i s t new before x p r c answer =
 -- another Q bit
 pub mixed : {U : Type 0} (u : U) (i : Interface) (s : Stamp) (t new : Transfer) (flow : Kept) (before after : List Event) (x : Side) (p : Heard) (r : Result Counts ℕ) (c : Channel) →
     StandsFor i t c → Answers (Ok u) t.flow flow r → is_alike p (assembly.begun_by t.assembler x c.heard) ≡ false → new ≡ t → after ≡ before →
-    IsHeard (Some 83) i s t new before after x p r c
+    IsHeard (Some INCONSISTENT_Q_BIT_SETTING) i s t new before after x p r c
 mixed u i s t new flow before after x p r c stands answer other same none =
     let (v, is, _) = answered_ok u t.flow flow r answer in
     let unlike : is_alike p (begun (size_in_force i c x) x c.heard) ≡ false = subst (λ n. is_alike p (begun n x c.heard) ≡ false) (size_is i t c x stands) other in

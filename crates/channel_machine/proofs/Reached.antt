@@ -1,6 +1,7 @@
 -- A channel stays one that was heard from its beginning.
 use Rattle.std.proofs.Common.{◌≡◌, ℕ, Bool, true, false, true≢false, refl, sym, ◌∙◌, ap, subst, List, [], ◌∷◌, Option, Some, None, Result, Ok, Err}
 use Rattle.std.specs.Prelude.{IfNone, is_some, not, ◌&&◌, ◌||◌, unwrap_or}
+use Rattle.line_model.specs.declared.diagnostic.TheConstants.{INCONSISTENT_Q_BIT_SETTING}
 use Rattle.line_model.specs.declared.interface.Interface.{Interface}
 use Rattle.line_model.specs.declared.packet.Class.{Class}
 use Rattle.line_model.specs.declared.packet.Class.TheVariants.{Short, WrongFormat, Unassigned, Restart, RestartConfirm, Diagnostic, Registration, TwoOctets, RestartHere, Call, Accepted, Clear, ClearConfirm, Interrupt, InterruptConfirm, Reset, ResetConfirm, Data, Rr, Rnr, Rej, Undefined}
@@ -120,7 +121,7 @@ counts_alone x s (Err n) c r = failed x s n c r
 counts_alone x s (Ok v) c r = same c (counting x s (Ok v) c).after refl refl refl r
 
 alike_by : (i : Interface) (x : Side) (s : StateName) (p : Heard) (v : Counts) (b : Bool) (c : Channel) → IsReached c → IsReached (data_alike i x s p v b c).after
-alike_by i x s p v false c r = failed x s 83 c r
+alike_by i x s p v false c r = failed x s INCONSISTENT_Q_BIT_SETTING c r
 alike_by i x s p v true c r = same c (data_alike i x s p v true c).after refl refl refl r
 
 counted_by : (i : Interface) (x : Side) (s : StateName) (p : Heard) (a : Result Counts ℕ) (c : Channel) → IsReached c → IsReached (data_counted i x s p a c).after

@@ -13,6 +13,7 @@ ghost use Rattle.channel_machine.specs.Channels.{Stands};
 use crate::channel::StatusChannel;
 use crate::status::StatusStore;
 use crate::terms::was_fast;
+use line_model::diagnostic::{CALL_ON_ONE_WAY_LOGICAL_CHANNEL, PACKET_TOO_LONG, PACKET_TOO_SHORT};
 use line_model::interface::Interface;
 use line_model::packet::{Class, DataHeader, Kind, Packet};
 use line_model::state::Side;
@@ -63,12 +64,12 @@ pub(crate) fn user_data<'a>(interface: &Interface, octets: &'a [u8]) -> &'a [u8]
 
 /// The fault of a length below one bound or above another.
 fn length_fault(length: usize, low: usize, high: usize) -> Option<u8>
-    ensures { result ≡ first_fault ((nat_lt length low, 38) ∷ (nat_lt high length, 39) ∷ []) }
+    ensures { result ≡ first_fault ((nat_lt length low, PACKET_TOO_SHORT) ∷ (nat_lt high length, PACKET_TOO_LONG) ∷ []) }
 {
     if length < low {
-        Some(38)
+        Some(PACKET_TOO_SHORT)
     } else if length > high {
-        Some(39)
+        Some(PACKET_TOO_LONG)
     } else {
         None
     }
@@ -87,7 +88,7 @@ fn call_fault(interface: &Interface, class: Class, octets: &[u8], fast: bool) ->
 }
 
 impl<A: Allocator + Clone, S: StatusStore> StatusChannel<A, S> {
-    /// The first fault of a packet: a call against the direction of its channel (34, profile), or a fault of its format.
+    /// The first fault of a packet: a call against the direction of its channel (profile), or a fault of its format.
     #[tactic(auto, using(crate::proofs::Steps::first_fault_is))]
     pub(crate) fn packet_fault(&self, side: Side, class: Class, octets: &[u8]) -> Option<u8>
         requires class { class_of self.now.terms.interface octets.now ≡ class }
@@ -108,7 +109,7 @@ impl<A: Allocator + Clone, S: StatusStore> StatusChannel<A, S> {
         match class {
             Class::Call => {
                 if self.status.interface().is_against(side, self.channel) {
-                    Some(34)
+                    Some(CALL_ON_ONE_WAY_LOGICAL_CHANNEL)
                 } else {
                     None
                 }
@@ -130,7 +131,13 @@ impl<A: Allocator + Clone, S: StatusStore> StatusChannel<A, S> {
         match class {
             Class::Call => call_fault(interface, class, octets, false),
             Class::Accepted => call_fault(interface, class, octets, was_fast(self.status.call())),
-            Class::Clear => { if length < 4 { Some(38) } else { None } }
+            Class::Clear => {
+                if length < 4 {
+                    Some(PACKET_TOO_SHORT)
+                } else {
+                    None
+                }
+            }
             Class::Reset => length_fault(length, 4, 5),
             Class::Interrupt => length_fault(length, 4, 35),
             Class::ResetConfirm => too_long(length),
@@ -149,7 +156,11 @@ impl<A: Allocator + Clone, S: StatusStore> StatusChannel<A, S> {
 
 /// The fault of a packet that ends after octet 3.
 fn too_long(length: usize) -> Option<u8>
-    ensures { result ≡ first_fault ((nat_lt 3 length, 39) ∷ []) }
+    ensures { result ≡ first_fault ((nat_lt 3 length, PACKET_TOO_LONG) ∷ []) }
 {
-    if length > 3 { Some(39) } else { None }
+    if length > 3 {
+        Some(PACKET_TOO_LONG)
+    } else {
+        None
+    }
 }

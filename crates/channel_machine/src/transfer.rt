@@ -12,6 +12,7 @@ use crate::events::Stamp;
 use crate::messages::{ROOM, heard};
 use crate::status::StatusStore;
 use crate::terms::is_pad_call;
+use line_model::diagnostic::INCONSISTENT_Q_BIT_SETTING;
 use line_model::event::Event;
 use line_model::fault::Fault;
 use line_model::packet::DataHeader;
@@ -20,7 +21,7 @@ use mbit_assembly::sequence::{DataField, Put};
 use std::alloc::Allocator;
 
 impl<A: Allocator + Clone, S: StatusStore> StatusChannel<A, S> {
-    /// Takes a data packet of a side, or tells its fault: 1 or 2 of its numbers, 83 of its Q bit.
+    /// Takes a data packet of a side, or tells its fault: that of its numbers, or of its Q bit.
     pub(crate) fn hear(
         &mut self,
         stamp: Stamp,
@@ -51,7 +52,7 @@ impl<A: Allocator + Clone, S: StatusStore> StatusChannel<A, S> {
         let put = self.assembler.put(side, &field)?;
         let length = user_data.len() as u32;
         match put {
-            Put::Mixed => Ok(Some(83)),
+            Put::Mixed => Ok(Some(INCONSISTENT_Q_BIT_SETTING)),
             Put::Going => {
                 report.push_reserved(stamp.event(heard(side, length)));
                 self.status = status;

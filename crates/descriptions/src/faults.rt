@@ -6,6 +6,11 @@ use explanations::explanation::Explanation;
 use explanations::flow_codes::flow_codes;
 use explanations::messages::messages;
 use explanations::packet_codes::packet_codes;
+use line_model::diagnostic::{
+    CALL_ON_ONE_WAY_LOGICAL_CHANNEL, INCONSISTENT_Q_BIT_SETTING, INVALID_GENERAL_FORMAT_IDENTIFIER,
+    INVALID_P_R, INVALID_P_S, PACKET_ON_UNASSIGNED_LOGICAL_CHANNEL, PACKET_TOO_LONG,
+    PACKET_TOO_SHORT, UNIDENTIFIABLE_PACKET,
+};
 use line_model::finding::{Code, Finding, Xcode};
 use line_model::interface::Interface;
 use line_model::packet::{DataHeader, Kind, Packet};
@@ -97,7 +102,7 @@ fn reaction(state: StateName, code: u8) -> &'static str {
     match state {
         StateName::Dash => "Nothing changes",
         StateName::R1 | StateName::R2 | StateName::R3 => match code {
-            38 | 39 => "Nothing changes",
+            PACKET_TOO_SHORT | PACKET_TOO_LONG => "Nothing changes",
             _ => "The DCE restarts the interface (r3)",
         },
         StateName::D1 | StateName::D2 | StateName::D3 => "The DCE resets the channel (d3)",
@@ -113,15 +118,15 @@ fn values<P: Prose>(
     finding: &Finding,
 ) -> Result<bool, AllocError> {
     match finding.code {
-        Code::Number(1) => send_number(out, before, finding.side),
-        Code::Number(2) => receive_number(out, before, finding.side),
-        Code::Number(34) => direction(out, before, finding.side),
-        Code::Number(36) => channel(out, before, octets),
-        Code::Number(38) => length(out, octets, "which is too short"),
-        Code::Number(39) => too_long(out, before, octets, finding.side),
-        Code::Number(40) => format(out, before, octets),
-        Code::Number(33) => packet_type(out, octets),
-        Code::Number(83) => qualifier(out, before),
+        Code::Number(INVALID_P_S) => send_number(out, before, finding.side),
+        Code::Number(INVALID_P_R) => receive_number(out, before, finding.side),
+        Code::Number(CALL_ON_ONE_WAY_LOGICAL_CHANNEL) => direction(out, before, finding.side),
+        Code::Number(PACKET_ON_UNASSIGNED_LOGICAL_CHANNEL) => channel(out, before, octets),
+        Code::Number(PACKET_TOO_SHORT) => length(out, octets, "which is too short"),
+        Code::Number(PACKET_TOO_LONG) => too_long(out, before, octets, finding.side),
+        Code::Number(INVALID_GENERAL_FORMAT_IDENTIFIER) => format(out, before, octets),
+        Code::Number(UNIDENTIFIABLE_PACKET) => packet_type(out, octets),
+        Code::Number(INCONSISTENT_Q_BIT_SETTING) => qualifier(out, before),
         _ => Ok(false),
     }
 }

@@ -6,6 +6,8 @@ use crate::text::{explanations_text, headings_text};
 use std::alloc::{AllocError, Global};
 use std::test::Fail;
 
+mod codes;
+
 #[test]
 fn a_word_of_each_topic_has_its_name(rt: HostRuntime) -> Result<(), Fail> {
     for (word, topic, name) in [

@@ -1,6 +1,7 @@
 -- What a packet on a channel does (X.25 Annexes B and C, clauses 4 to 6).
 use Rattle.std.specs.Prelude.{ℕ, Bool, true, false, List, [], ◌∷◌, ◌++◌, length, drop, Option, Some, None, unwrap_or, option_to_list, option_map, Result, Ok, Err}
 use Rattle.line_model.specs.declared.interface.Interface.{Interface}
+use Rattle.line_model.specs.declared.diagnostic.TheConstants.{INCONSISTENT_Q_BIT_SETTING}
 use Rattle.line_model.specs.declared.packet.Class.{Class}
 use Rattle.line_model.specs.declared.packet.Class.TheVariants.{Call, Accepted, Clear, Reset, Interrupt, InterruptConfirm, Data}
 use Rattle.line_model.specs.declared.packet.DataHeader.{DataHeader}
@@ -229,9 +230,9 @@ hearing x p v message c = record {
   after = record c { heard = c.heard ++ p ∷ []; acknowledged = v.acknowledged; told = told_after x c.told message };
 }
 
--- a data packet whose numbers are valid, by the Q bit of the sequence that was begun (83)
+-- a data packet whose numbers are valid, by the Q bit of the sequence that was begun
 abbrev pub data_alike : Interface → Side → StateName → Heard → Counts → (alike : Bool) → Channel → Outcome
-data_alike i x s p v false c = failing x s 83 c
+data_alike i x s p v false c = failing x s INCONSISTENT_Q_BIT_SETTING c
 data_alike i x s p v true c = hearing x p v (completed_message i x c p) c
 
 -- a data packet by its numbers

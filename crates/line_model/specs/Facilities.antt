@@ -2,6 +2,7 @@
 use Rattle.std.specs.Prelude.{ℕ, zero, suc, Bool, true, false, not, ◌&&◌, ◌||◌, ◌==◌, nat_lt, nat_le, ◌+◌, ◌/◌, ◌^◌, List, [], ◌∷◌, length, map, reverse, take, drop, find, take_while, Option, Some, None, option_map, unwrap_or, is_none, if◌then◌else◌}
 use Rattle.std.specs.List.{list_any}
 use Rattle.std.specs.Option.{option_map_or}
+use Rattle.line_model.specs.declared.diagnostic.TheConstants.{PACKET_TOO_SHORT, PACKET_TOO_LONG, FACILITY_PARAMETER_NOT_ALLOWED, INVALID_CALLED_DTE_ADDRESS, INVALID_CALLING_DTE_ADDRESS, INVALID_FACILITY_OR_REGISTRATION_LENGTH}
 use Rattle.line_model.specs.declared.interface.Interface.{Interface}
 use Rattle.line_model.specs.Octets.{octet, bits, half_octets}
 use Rattle.line_model.specs.Choice.{first_fault}
@@ -114,21 +115,21 @@ user_data_limit fast = if fast then 128 else 16
 -- `fast` says whether the packet that opened the call asked fast select
 abbrev pub block_fault : Interface → (fast : Bool) → List ℕ → Option ℕ
 block_fault i fast xs = first_fault
-    ((nat_lt (length xs) (4 + address_octets xs), 38)
-    ∷ (list_any (λ d. nat_lt 9 d) (called_digits xs), 67)
-    ∷ (list_any (λ d. nat_lt 9 d) (calling_digits xs), 68)
-    ∷ (nat_lt 109 (facility_length xs), 69)
-    ∷ (nat_lt (length (after_addresses xs)) (1 + facility_length xs) && nat_lt 0 (length (after_addresses xs)), 69)
-    ∷ (is_none (facilities xs), 69)
-    ∷ (list_any (is_out_of_range i) (read_facilities xs), 66)
-    ∷ (nat_lt (user_data_limit (asks_fast (read_facilities xs) || fast)) (length (user_data xs)), 39) ∷ [])
+    ((nat_lt (length xs) (4 + address_octets xs), PACKET_TOO_SHORT)
+    ∷ (list_any (λ d. nat_lt 9 d) (called_digits xs), INVALID_CALLED_DTE_ADDRESS)
+    ∷ (list_any (λ d. nat_lt 9 d) (calling_digits xs), INVALID_CALLING_DTE_ADDRESS)
+    ∷ (nat_lt 109 (facility_length xs), INVALID_FACILITY_OR_REGISTRATION_LENGTH)
+    ∷ (nat_lt (length (after_addresses xs)) (1 + facility_length xs) && nat_lt 0 (length (after_addresses xs)), INVALID_FACILITY_OR_REGISTRATION_LENGTH)
+    ∷ (is_none (facilities xs), INVALID_FACILITY_OR_REGISTRATION_LENGTH)
+    ∷ (list_any (is_out_of_range i) (read_facilities xs), FACILITY_PARAMETER_NOT_ALLOWED)
+    ∷ (nat_lt (user_data_limit (asks_fast (read_facilities xs) || fast)) (length (user_data xs)), PACKET_TOO_LONG) ∷ [])
 
 -- the fault of a call request or incoming call
 abbrev pub call_fault : Interface → List ℕ → Option ℕ
 call_fault i xs = elim (has_a_bit xs) [
   | true ↦ None
   | false ↦ elim (nat_lt (length xs) 4 || nat_lt (length xs) (5 + address_octets xs)) [
-    | true ↦ Some 38
+    | true ↦ Some PACKET_TOO_SHORT
     | false ↦ block_fault i false xs
   ]
 ]

@@ -2,6 +2,7 @@
 use Rattle.std.specs.Prelude.{ℕ, Bool, true, false, ◌==◌, nat_lt, ◌&&◌, ◌+◌, ◌-◌, ◌%◌, List, length, filter, find, Option, Some, None, Result, Ok, Err}
 use Rattle.line_model.specs.declared.state.Side.{Side}
 use Rattle.line_model.specs.declared.state.Side.TheVariants.{T, N}
+use Rattle.line_model.specs.declared.diagnostic.TheConstants.{INVALID_P_S, INVALID_P_R, UNAUTHORIZED_INTERRUPT_CONFIRMATION, UNAUTHORIZED_INTERRUPT}
 use Rattle.std.specs.List.{range_with_len}
 use Rattle.line_model.specs.Channels.{Heard, Sides, of_side, with_side, other}
 
@@ -41,35 +42,35 @@ no_counts = record {
   unconfirmed = record { of_t = false; of_n = false };
 }
 
--- a P(R) of a side acknowledges packets of the other (2)
+-- a P(R) of a side acknowledges packets of the other
 abbrev pub count_receive : (modulus : ℕ) → Counts → Side → (receive : ℕ) → Result Counts ℕ
 count_receive m c x pr =
     elim (count_acknowledged m (of_side (other x) c.sent) (of_side (other x) c.acknowledged) pr) [
       | Some k ↦ Ok (record c { acknowledged = with_side (other x) k c.acknowledged })
-      | None ↦ Err 2
+      | None ↦ Err INVALID_P_R
     ]
 
--- a data packet of a side: P(S) first (1), then P(R)
+-- a data packet of a side: P(S) first, then P(R)
 abbrev pub count_data : (modulus window : ℕ) → Counts → Side → (send receive : ℕ) → Result Counts ℕ
 count_data m w c x ps pr =
     elim (is_send_valid m w (of_side x c.sent) (of_side x c.acknowledged) ps) [
       | true ↦ count_receive m (record c { sent = with_side x (of_side x c.sent + 1) c.sent }) x pr
-      | false ↦ Err 1
+      | false ↦ Err INVALID_P_S
     ]
 
--- an interrupt (44) and its confirmation (43)
+-- an interrupt of a side, whose interrupt before was confirmed
 abbrev pub count_interrupt : Counts → Side → Result Counts ℕ
 count_interrupt c x =
     elim (of_side x c.unconfirmed) [
-      | true ↦ Err 44
+      | true ↦ Err UNAUTHORIZED_INTERRUPT
       | false ↦ Ok (record c { unconfirmed = with_side x true c.unconfirmed })
     ]
 
--- the confirmation of an interrupt of the other side (43)
+-- the confirmation of an interrupt of the other side
 abbrev pub count_confirm : Counts → Side → Result Counts ℕ
 count_confirm c x =
     elim (of_side (other x) c.unconfirmed) [
-      | false ↦ Err 43
+      | false ↦ Err UNAUTHORIZED_INTERRUPT_CONFIRMATION
       | true ↦ Ok (record c { unconfirmed = with_side (other x) false c.unconfirmed })
     ]
 

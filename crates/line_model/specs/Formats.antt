@@ -1,6 +1,7 @@
 -- Values in force, and faults of format (X.25 clause 5 and Annex E; the order is profile).
 use Rattle.std.specs.Prelude.{ℕ, Bool, true, false, ◌==◌, nat_lt, ◌+◌, List, [], ◌∷◌, length, Option, Some, None, option_map, option_and_then}
 use Rattle.std.specs.Option.{option_map_or}
+use Rattle.line_model.specs.declared.diagnostic.TheConstants.{CALL_ON_ONE_WAY_LOGICAL_CHANNEL, PACKET_TOO_SHORT, PACKET_TOO_LONG}
 use Rattle.line_model.specs.declared.interface.Interface.{Interface}
 use Rattle.line_model.specs.declared.packet.Class.{Class}
 use Rattle.line_model.specs.declared.packet.Class.TheVariants.{Call, Accepted, Clear, Interrupt, InterruptConfirm, Reset, ResetConfirm, Data, Rr, Rnr}
@@ -60,23 +61,23 @@ is_pad_call c = option_map_or (λ f. octet 1 f.data_of_user == 1) (opening_field
 abbrev pub format_fault : Interface → Channel → Side → Class → List ℕ → Option ℕ
 format_fault i c x Call xs = call_fault i xs
 format_fault i c x Accepted xs = accepted_fault i (was_fast c) xs
-format_fault i c x Clear xs = first_fault ((nat_lt (length xs) 4, 38) ∷ [])
-format_fault i c x Reset xs = first_fault ((nat_lt (length xs) 4, 38) ∷ (nat_lt 5 (length xs), 39) ∷ [])
-format_fault i c x ResetConfirm xs = first_fault ((nat_lt 3 (length xs), 39) ∷ [])
-format_fault i c x InterruptConfirm xs = first_fault ((nat_lt 3 (length xs), 39) ∷ [])
-format_fault i c x Interrupt xs = first_fault ((nat_lt (length xs) 4, 38) ∷ (nat_lt 35 (length xs), 39) ∷ [])
+format_fault i c x Clear xs = first_fault ((nat_lt (length xs) 4, PACKET_TOO_SHORT) ∷ [])
+format_fault i c x Reset xs = first_fault ((nat_lt (length xs) 4, PACKET_TOO_SHORT) ∷ (nat_lt 5 (length xs), PACKET_TOO_LONG) ∷ [])
+format_fault i c x ResetConfirm xs = first_fault ((nat_lt 3 (length xs), PACKET_TOO_LONG) ∷ [])
+format_fault i c x InterruptConfirm xs = first_fault ((nat_lt 3 (length xs), PACKET_TOO_LONG) ∷ [])
+format_fault i c x Interrupt xs = first_fault ((nat_lt (length xs) 4, PACKET_TOO_SHORT) ∷ (nat_lt 35 (length xs), PACKET_TOO_LONG) ∷ [])
 format_fault i c x Rr xs =
-    first_fault ((nat_lt (length xs) (header_length i), 38) ∷ (nat_lt (header_length i) (length xs), 39) ∷ [])
+    first_fault ((nat_lt (length xs) (header_length i), PACKET_TOO_SHORT) ∷ (nat_lt (header_length i) (length xs), PACKET_TOO_LONG) ∷ [])
 format_fault i c x Rnr xs =
-    first_fault ((nat_lt (length xs) (header_length i), 38) ∷ (nat_lt (header_length i) (length xs), 39) ∷ [])
+    first_fault ((nat_lt (length xs) (header_length i), PACKET_TOO_SHORT) ∷ (nat_lt (header_length i) (length xs), PACKET_TOO_LONG) ∷ [])
 format_fault i c x Data xs =
-    first_fault ((nat_lt (length xs) (header_length i), 38)
-    ∷ (nat_lt (header_length i + size_in_force i c x) (length xs), 39) ∷ [])
+    first_fault ((nat_lt (length xs) (header_length i), PACKET_TOO_SHORT)
+    ∷ (nat_lt (header_length i + size_in_force i c x) (length xs), PACKET_TOO_LONG) ∷ [])
 format_fault i c x _ xs = None
 
 -- a call against the direction of its channel (profile)
 abbrev pub direction_fault : Interface → (channel : ℕ) → Side → Class → Option ℕ
-direction_fault i n x Call = first_fault ((is_against i x n, 34) ∷ [])
+direction_fault i n x Call = first_fault ((is_against i x n, CALL_ON_ONE_WAY_LOGICAL_CHANNEL) ∷ [])
 direction_fault i n x _ = None
 
 -- the first fault of a packet on a channel

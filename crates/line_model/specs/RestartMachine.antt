@@ -1,5 +1,6 @@
 -- The restart machine (X.25 clause 3.3, Table C-2, Annex B).
 use Rattle.std.specs.Prelude.{ℕ, Bool, true, false, nat_lt, ◌&&◌, [], ◌∷◌, Option, Some, None}
+use Rattle.line_model.specs.declared.diagnostic.TheConstants.{PACKET_TOO_SHORT, PACKET_TOO_LONG}
 use Rattle.line_model.specs.declared.packet.Class.{Class}
 use Rattle.line_model.specs.declared.packet.Class.TheVariants.{Short, WrongFormat, Unassigned, Diagnostic, Registration, Restart, RestartConfirm}
 use Rattle.line_model.specs.declared.state.Side.{Side}
@@ -44,8 +45,8 @@ is_outside _ = false
 
 -- the fault of a restart packet's format, by its length
 abbrev pub restart_fault : Class → ℕ → Option ℕ
-restart_fault Restart n = first_fault ((nat_lt n 4, 38) ∷ (nat_lt 5 n, 39) ∷ [])
-restart_fault RestartConfirm n = first_fault ((nat_lt 3 n, 39) ∷ [])
+restart_fault Restart n = first_fault ((nat_lt n 4, PACKET_TOO_SHORT) ∷ (nat_lt 5 n, PACKET_TOO_LONG) ∷ [])
+restart_fault RestartConfirm n = first_fault ((nat_lt 3 n, PACKET_TOO_LONG) ∷ [])
 restart_fault _ n = None
 
 -- a move: r1 is entered, or left without a finding, or neither

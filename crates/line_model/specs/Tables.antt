@@ -1,4 +1,5 @@
 -- The state tables (X.25 Annexes B and C), row by row as they are printed.
+-- The codes stand as numbers here; src/diagnostic.rt has their names.
 use Rattle.std.specs.Prelude.{ℕ, Bool, false, ◌==◌, List, [], ◌∷◌, ◌++◌, Option, Some, None, if◌then◌else◌}
 use Rattle.std.specs.List.{list_any}
 use Rattle.line_model.specs.declared.state.Side.{Side}

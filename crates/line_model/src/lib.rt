@@ -5,6 +5,7 @@ pub mod address;
 pub mod call;
 pub mod count;
 pub mod device;
+pub mod diagnostic;
 pub mod event;
 pub mod fault;
 pub mod finding;

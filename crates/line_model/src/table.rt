@@ -1,4 +1,5 @@
-//! The state tables (X.25 Annexes B and C; the codes and the judgement of the DCE are profile).
+//! The state tables (X.25 Annexes B and C; the codes and the judgement of the DCE are profile). The codes stand as
+//! numbers here, as in the tables of the definitions; `crate::diagnostic` has their names.
 
 ghost use Rattle.std.specs.Prelude.{◌≡◌, if◌then◌else◌};
 ghost use Rattle.line_model.specs.Tables.{action_t, action_n, code_of};

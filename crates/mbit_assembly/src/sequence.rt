@@ -75,6 +75,6 @@ pub enum Put<'a, A: Allocator = Global> {
     Going,
     /// The packet completes the sequence.
     Complete(Sequence<'a, A>),
-    /// The packet has another Q bit than those begun, diagnostic code 83.
+    /// The packet has another Q bit than those begun (`INCONSISTENT_Q_BIT_SETTING`).
     Mixed,
 }

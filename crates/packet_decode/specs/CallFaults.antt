@@ -1,6 +1,7 @@
 -- The faults of call packets by their parts.
 use Rattle.std.specs.Prelude.{ℕ, Bool, ◌+◌, ◌&&◌, ◌||◌, nat_lt, List, [], ◌∷◌, length, take, drop, Option, is_none}
 use Rattle.std.specs.List.{list_any}
+use Rattle.line_model.specs.declared.diagnostic.TheConstants.{PACKET_TOO_LONG, FACILITY_PARAMETER_NOT_ALLOWED, INVALID_FACILITY_OR_REGISTRATION_LENGTH}
 use Rattle.line_model.specs.declared.interface.Interface.{Interface}
 use Rattle.line_model.specs.declared.packet.Class.{Class}
 use Rattle.line_model.specs.declared.packet.Class.TheVariants.{Call, Accepted}
@@ -21,11 +22,11 @@ is_field_cut ys = nat_lt 109 (octet 1 ys) || (nat_lt (length ys) (1 + octet 1 ys
 -- the faults of what follows the addresses (X.25 clause 6; the order is profile)
 abbrev pub tail_fault : Interface → (fast : Bool) → List ℕ → Option ℕ
 tail_fault i fast ys = first_fault
-    ((nat_lt 109 (octet 1 ys), 69)
-    ∷ (nat_lt (length ys) (1 + octet 1 ys) && nat_lt 0 (length ys), 69)
-    ∷ (is_none (facilities_of (length (facility_field ys)) (facility_field ys)), 69)
-    ∷ (list_any (is_out_of_range i) (read_of (facility_field ys)), 66)
-    ∷ (nat_lt (user_data_limit (asks_fast (read_of (facility_field ys)) || fast)) (length (drop (1 + octet 1 ys) ys)), 39) ∷ [])
+    ((nat_lt 109 (octet 1 ys), INVALID_FACILITY_OR_REGISTRATION_LENGTH)
+    ∷ (nat_lt (length ys) (1 + octet 1 ys) && nat_lt 0 (length ys), INVALID_FACILITY_OR_REGISTRATION_LENGTH)
+    ∷ (is_none (facilities_of (length (facility_field ys)) (facility_field ys)), INVALID_FACILITY_OR_REGISTRATION_LENGTH)
+    ∷ (list_any (is_out_of_range i) (read_of (facility_field ys)), FACILITY_PARAMETER_NOT_ALLOWED)
+    ∷ (nat_lt (user_data_limit (asks_fast (read_of (facility_field ys)) || fast)) (length (drop (1 + octet 1 ys) ys)), PACKET_TOO_LONG) ∷ [])
 
 -- a call request, incoming call, call accepted or call connected (X.25 clauses 5.2.1 and 5.2.2)
 abbrev pub IsCallPacket : Class → Type 0

@@ -13,6 +13,10 @@ ghost use Rattle.packet_decode.specs.Asked.{IsInRange};
 use crate::address::address;
 use crate::facility::{Asked, facilities};
 use line_model::address::Address;
+use line_model::diagnostic::{
+    FACILITY_PARAMETER_NOT_ALLOWED, INVALID_CALLED_DTE_ADDRESS, INVALID_CALLING_DTE_ADDRESS,
+    INVALID_FACILITY_OR_REGISTRATION_LENGTH, PACKET_TOO_LONG, PACKET_TOO_SHORT,
+};
 use line_model::interface::Interface;
 
 /// The fields of a call packet without fault (X.25 clauses 5.2.1, 5.2.2 and 7.2).
@@ -66,16 +70,16 @@ fn read_tail<'a>(interface: &Interface, octets: &'a [u8], fast_before: bool) -> 
     ensures fault { MatchResult result (λ _. tail_fault interface.now fast_before octets.now ≡ None) (λ code. tail_fault interface.now fast_before octets.now ≡ Some code) }
 {
     let Some((field, user_data)) = split_tail(octets) else {
-        return Err(69);
+        return Err(INVALID_FACILITY_OR_REGISTRATION_LENGTH);
     };
     let Some(asked) = facilities(interface, field) else {
-        return Err(69);
+        return Err(INVALID_FACILITY_OR_REGISTRATION_LENGTH);
     };
     if asked.out_of_range {
-        return Err(66);
+        return Err(FACILITY_PARAMETER_NOT_ALLOWED);
     }
     if user_data.len() > user_data_limit(asked.fast() || fast_before) {
-        return Err(39);
+        return Err(PACKET_TOO_LONG);
     }
     Ok(Tail { asked, user_data })
 }
@@ -126,13 +130,13 @@ fn read_addresses(octets: &[u8]) -> Result<Addresses<'_>, u8>
     let digits = &octets[4..];
     let block = (called_length + calling_length).div_ceil(2);
     if digits.len() < block {
-        return Err(38);
+        return Err(PACKET_TOO_SHORT);
     }
     let Some(called) = address(digits, 0, called_length) else {
-        return Err(67);
+        return Err(INVALID_CALLED_DTE_ADDRESS);
     };
     let Some(calling) = address(digits, called_length, calling_length) else {
-        return Err(68);
+        return Err(INVALID_CALLING_DTE_ADDRESS);
     };
     Ok(Addresses {
         called,
@@ -194,7 +198,7 @@ fn opening_fields<'a>(interface: &Interface, octets: &'a [u8]) -> Result<CallFie
         return Ok(no_fields());
     }
     if octets.len() < 4 || octets.len() < 5 + address_octets(octets[3]) {
-        return Err(38);
+        return Err(PACKET_TOO_SHORT);
     }
     block_fields(interface, octets, false)
 }

@@ -5,6 +5,7 @@ ghost use Rattle.line_model.specs.Classes.{packet_class};
 ghost use Rattle.line_model.specs.Observer.{line_in_r1};
 ghost use Rattle.line_model.specs.RestartMachine.{Routing, restart_fault, restart_move, restart_error, restart_step, inside_step, passes_joining, line_step};
 
+use line_model::diagnostic::{PACKET_TOO_LONG, PACKET_TOO_SHORT};
 use line_model::packet::{Class, Packet};
 use line_model::state::{RState, Side, StateName};
 use line_model::table::{Action, table_n, table_t};
@@ -35,9 +36,9 @@ fn fault(class: Class, length: usize) -> Option<u8>
     ensures { result ≡ restart_fault class length }
 {
     match class {
-        Class::Restart if length < 4 => Some(38),
-        Class::Restart if length > 5 => Some(39),
-        Class::RestartConfirm if length > 3 => Some(39),
+        Class::Restart if length < 4 => Some(PACKET_TOO_SHORT),
+        Class::Restart if length > 5 => Some(PACKET_TOO_LONG),
+        Class::RestartConfirm if length > 3 => Some(PACKET_TOO_LONG),
         _ => None,
     }
 }

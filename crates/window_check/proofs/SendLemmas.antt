@@ -1,5 +1,6 @@
 -- A data packet counts as its P(R) does and adds one packet sent.
 use Rattle.std.proofs.Common.{◌≡◌, ◌⊎◌, ◌<◌, ◌-◌, ◌%◌, ◌+◌, ℕ, true, sym, subst, arith, Option, Some, None, Result, Ok, Err, rules}
+use Rattle.line_model.specs.declared.diagnostic.TheConstants.{INVALID_P_R}
 use Rattle.line_model.specs.declared.state.Side.{Side}
 use Rattle.line_model.specs.declared.state.Side.TheVariants.{T, N}
 use Rattle.line_model.specs.Channels.{of_side, with_side, other}
@@ -23,9 +24,9 @@ received : {A : Type 0} (x : Side) (u : A) (old mid : Kept) (c : Counts) (o : Op
     (old.modulus ≡ 8) ⊎ (old.modulus ≡ 128) → Stands old c →
     of_side x c.sent - of_side x c.acknowledged < of_side x old.windows →
     mid.modulus ≡ old.modulus → mid.windows ≡ old.windows →
-    Answers (Ok u) old mid (elim o as (λ v. Result Counts ℕ) [ Some k ↦ Ok (record c { acknowledged = with_side (other x) k c.acknowledged }) | None ↦ Err 2 ]) →
+    Answers (Ok u) old mid (elim o as (λ v. Result Counts ℕ) [ Some k ↦ Ok (record c { acknowledged = with_side (other x) k c.acknowledged }) | None ↦ Err INVALID_P_R ]) →
     Answers (Ok u) old (with_direction x (record (direction_of x old) { sent = (of_side x old.sent + 1) % old.modulus }) mid)
-    (elim o as (λ v. Result Counts ℕ) [ Some k ↦ Ok (record c { sent = with_side x (of_side x c.sent + 1) c.sent; acknowledged = with_side (other x) k c.acknowledged }) | None ↦ Err 2 ])
+    (elim o as (λ v. Result Counts ℕ) [ Some k ↦ Ok (record c { sent = with_side x (of_side x c.sent + 1) c.sent; acknowledged = with_side (other x) k c.acknowledged }) | None ↦ Err INVALID_P_R ])
 received x u old mid c None e h l m w r = r
 received T u old mid c (Some k) e h l m w r = record {
   of_t = rw m (sent_one _ _ _ _ _ _ e h.of_t l);

@@ -7,6 +7,9 @@ ghost use Rattle.window_check.specs.Kept.{IsDirection, Stands, Answers};
 ghost use Rattle.window_check.specs.Directions.{direction_of, with_direction};
 
 use crate::direction::{Direction, residue};
+use line_model::diagnostic::{
+    INVALID_P_R, INVALID_P_S, UNAUTHORIZED_INTERRUPT, UNAUTHORIZED_INTERRUPT_CONFIRMATION,
+};
 use line_model::state::Side;
 use std::marker::Model;
 
@@ -65,8 +68,8 @@ impl Flow {
         }
     }
 
-    /// Judges a data packet of a side by its P(S) and then its P(R): 1 where P(S) is not the next number or lies
-    /// outside the window, 2 where P(R) acknowledges no packet sent (X.25 clauses 4.4.1.1 to 4.4.1.3).
+    /// Judges a data packet of a side by its P(S) and then its P(R): `INVALID_P_S` where P(S) is not the next number or
+    /// lies outside the window, `INVALID_P_R` where P(R) acknowledges no packet sent (X.25 clauses 4.4.1.1 to 4.4.1.3).
     pub fn data(&mut self, side: Side, send: u8, receive: u8) -> Result<(), u8>
         ensures modulus { self.new.modulus ≡ self.old.modulus }
         ensures windows { self.new.windows ≡ self.old.windows }
@@ -75,7 +78,7 @@ impl Flow {
     {
         let sender = self.direction(side);
         if !sender.is_next(self.modulus, send) {
-            return Err(1);
+            return Err(INVALID_P_S);
         }
         let sent = residue(sender.sent + 1, self.modulus);
         self.ack(side, receive)?;
@@ -83,7 +86,8 @@ impl Flow {
         Ok(())
     }
 
-    /// Judges the P(R) of a side: 2 where it acknowledges no packet that the other side sent (X.25 clause 4.4.1.3).
+    /// Judges the P(R) of a side: `INVALID_P_R` where it acknowledges no packet that the other side sent (X.25 clause
+    /// 4.4.1.3).
     pub fn ack(&mut self, side: Side, receive: u8) -> Result<(), u8>
         ensures modulus { self.new.modulus ≡ self.old.modulus }
         ensures windows { self.new.windows ≡ self.old.windows }
@@ -92,7 +96,7 @@ impl Flow {
     {
         let acknowledged = self.direction(side.other());
         if !acknowledged.acknowledges(self.modulus, receive) {
-            return Err(2);
+            return Err(INVALID_P_R);
         }
         self.set(
             side.other(),
@@ -104,7 +108,7 @@ impl Flow {
         Ok(())
     }
 
-    /// Judges an interrupt of a side: 44 while one of that side is unconfirmed (X.25 clause 4.3.7).
+    /// Judges an interrupt of a side: `UNAUTHORIZED_INTERRUPT` while one of that side is unconfirmed (X.25 clause 4.3.7).
     pub fn interrupt(&mut self, side: Side) -> Result<(), u8>
         ensures modulus { self.new.modulus ≡ self.old.modulus }
         ensures windows { self.new.windows ≡ self.old.windows }
@@ -113,7 +117,7 @@ impl Flow {
     {
         let sender = self.direction(side);
         if sender.unconfirmed {
-            return Err(44);
+            return Err(UNAUTHORIZED_INTERRUPT);
         }
         self.set(
             side,
@@ -125,7 +129,8 @@ impl Flow {
         Ok(())
     }
 
-    /// Judges an interrupt confirmation of a side: 43 while none of the other side is unconfirmed (X.25 clause 4.3.7).
+    /// Judges an interrupt confirmation of a side: `UNAUTHORIZED_INTERRUPT_CONFIRMATION` while none of the other side is
+    /// unconfirmed (X.25 clause 4.3.7).
     pub fn confirm(&mut self, side: Side) -> Result<(), u8>
         ensures modulus { self.new.modulus ≡ self.old.modulus }
         ensures windows { self.new.windows ≡ self.old.windows }
@@ -134,7 +139,7 @@ impl Flow {
     {
         let confirmed = self.direction(side.other());
         if !confirmed.unconfirmed {
-            return Err(43);
+            return Err(UNAUTHORIZED_INTERRUPT_CONFIRMATION);
         }
         self.set(
             side.other(),

@@ -9,6 +9,9 @@ ghost use Rattle.window_check.specs.Directions.{direction_of, with_direction};
 use crate::direction::{Direction, residue};
 use crate::flow::Flow;
 use crate::word::{acknowledged_at, direction, modulus, sent_at, unconfirmed_at, with_field};
+use line_model::diagnostic::{
+    INVALID_P_R, INVALID_P_S, UNAUTHORIZED_INTERRUPT, UNAUTHORIZED_INTERRUPT_CONFIRMATION,
+};
 use line_model::state::Side;
 use std::marker::Model;
 
@@ -103,7 +106,7 @@ impl FlowWord {
         let modulus = self.modulus();
         let sender = self.direction(side);
         if !sender.is_next(modulus, send) {
-            return Err(1);
+            return Err(INVALID_P_S);
         }
         let sent = residue(sender.sent + 1, modulus);
         self.acknowledge(side, receive)?;
@@ -131,7 +134,7 @@ impl FlowWord {
         ensures counts { (c : Counts) → Stands self.old.flow c → Answers result self.old.flow self.new.flow (count_interrupt c side) }
     {
         if self.direction(side).unconfirmed {
-            return Err(44);
+            return Err(UNAUTHORIZED_INTERRUPT);
         }
         self.set_unconfirmed(side, true);
         Ok(())
@@ -146,7 +149,7 @@ impl FlowWord {
         ensures counts { (c : Counts) → Stands self.old.flow c → Answers result self.old.flow self.new.flow (count_confirm c side) }
     {
         if !self.direction(side.other()).unconfirmed {
-            return Err(43);
+            return Err(UNAUTHORIZED_INTERRUPT_CONFIRMATION);
         }
         self.set_unconfirmed(side.other(), false);
         Ok(())
@@ -190,7 +193,7 @@ impl FlowWord {
     {
         let acknowledged = self.direction(side.other());
         if !acknowledged.acknowledges(self.modulus(), receive) {
-            return Err(2);
+            return Err(INVALID_P_R);
         }
         self.set_acknowledged(side.other(), receive);
         Ok(())

@@ -1,5 +1,6 @@
 use Rattle.std.proofs.Common.{◌≡◌, true, refl, sym, ◌∙◌, ap, subst, List, ℕ, [], ◌∷◌, ◌++◌, Ok, Err, None, Some}
 use Rattle.std.specs.Prelude.{◌&&◌, map, length}
+use Rattle.line_model.specs.declared.diagnostic.TheConstants.{INCONSISTENT_Q_BIT_SETTING}
 use Rattle.line_model.specs.Channels.{Heard}
 use Rattle.line_model.specs.Sequences.{sequence_octets}
 use Rattle.line_model.specs.Formats.{is_pad_call}
@@ -40,7 +41,7 @@ returns-in-Mixed-clause-heard g c k s =
     let b : IsPut {A = g.row.A.Denot} Mixed i.assembler c.put.new.self c.args.side h k.heard =
     subst (λ q. IsPut q i.assembler c.put.new.self c.args.side h k.heard) c.in-Mixed.is (c.in_ok-put.ensures.put k.heard st.transfer.sequences) in
     let new : Transfer = record old.transfer { assembler = c.put.new.self } in
-    subst (λ o. IsHeard (Some 83) o.terms.interface c.args.stamp o.transfer new c.args.report.now.items c.reserve.new.self.items c.args.side h (counted_in_force o.terms.interface c.args.side c.args.header.now.send c.args.header.now.receive k) k) c.self.view_is
+    subst (λ o. IsHeard (Some INCONSISTENT_Q_BIT_SETTING) o.terms.interface c.args.stamp o.transfer new c.args.report.now.items c.reserve.new.self.items c.args.side h (counted_in_force o.terms.interface c.args.side c.args.header.now.send c.args.header.now.receive k) k) c.self.view_is
     (mixed c.in_default.field-0 before.terms.interface c.args.stamp old.transfer new after.flow c.args.report.now.items c.reserve.new.self.items c.args.side h r k st.transfer
     (in_force (Unit {0}) (Ok c.in_default.field-0) before.terms.interface old.transfer after.flow k c.args.side c.args.header.now.send c.args.header.now.receive st.transfer (c.in_default.ensures.counts (counts_of k) st.transfer.flow))
     b.0 (ap (λ a. record old.transfer { assembler = a }) b.1) c.in_ok-reserve.ensures.items)
