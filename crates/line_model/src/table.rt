@@ -1,7 +1,7 @@
 //! The state tables (X.25 Annexes B and C; the codes and the judgement of the DCE are profile).
 
 ghost use Rattle.std.specs.Prelude.{◌≡◌, if◌then◌else◌};
-ghost use Rattle.line_model.specs.Tables.{action_t, action_n, code_of};
+ghost use Rattle.line_model.specs.channels.Tables.{action_t, action_n, code_of};
 
 use crate::packet::Class;
 use crate::state::StateName;

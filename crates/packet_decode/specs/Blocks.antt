@@ -1,8 +1,8 @@
 -- The address block of call packets.
 use Rattle.std.specs.Prelude.{ℕ, ◌≡◌, ◌+◌, nat_lt, List, [], ◌∷◌, length, Option}
 use Rattle.std.specs.List.{list_any}
-use Rattle.line_model.specs.Choice.{first_fault}
-use Rattle.line_model.specs.Facilities.{address_octets, called_digits, calling_digits, after_addresses, ascii_digits}
+use Rattle.line_model.specs.basics.Choice.{first_fault}
+use Rattle.line_model.specs.packets.Facilities.{address_octets, called_digits, calling_digits, after_addresses, ascii_digits}
 use Rattle.packet_decode.specs.declared.fields.Addresses.{Addresses}
 
 -- the faults of the addresses

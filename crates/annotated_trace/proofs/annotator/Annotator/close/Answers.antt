@@ -1,5 +1,5 @@
 use Rattle.std.proofs.Common.{ap}
-use Rattle.line_model.specs.Records.{Report}
+use Rattle.line_model.specs.basics.Records.{Report}
 use Rattle.annotated_trace.proofs.EndOfText.{all_annotated, first_annotated}
 use Rattle.annotated_trace.proofs.annotator.Annotator.close.Goals as goal
 
