@@ -1,8 +1,8 @@
 #!/usr/bin/env python3
 """worked_traces.py [--check]: writes the worked traces of tests/traces/worked as theorems about the definitions alone.
 
-In crates/line_model they are specs/WorkedTexts.antt (the texts), specs/WorkedReports.antt (their reports),
-specs/WorkedTraces.antt (the statement) and proofs/WorkedTraces.antt (by computing). Run it after a change of those traces.
+In crates/line_model they are specs/traces/WorkedTexts.antt (the texts), specs/traces/WorkedReports.antt (their reports),
+specs/traces/WorkedTraces.antt (the statement) and proofs/WorkedTraces.antt (by computing). Run it after a change of those traces.
 With --check it writes nothing, and names each file that is another one. The last line is 'N passed, M failed'.
 """
 import pathlib
@@ -94,7 +94,7 @@ def constants_file(title, terms):
     return f"""-- {title}
 {WRITTEN}
 use Rattle.std.specs.Prelude.{{ℕ, List, [], ◌∷◌, ◌++◌, codes}}
-use Rattle.line_model.specs.Traces.{{text, repeated}}
+use Rattle.line_model.specs.traces.Traces.{{text, repeated}}
 {terms}"""
 
 
@@ -111,8 +111,8 @@ def statement_file(uses):
 {WRITTEN}
 use Rattle.std.specs.Prelude.{{◌≡◌, Some, length}}
 {USES_OF_KINDS}
-use Rattle.line_model.specs.Text.{{fault}}
-use Rattle.line_model.specs.Traces.{{IsReported, trace_plan}}
+use Rattle.line_model.specs.text.Text.{{fault}}
+use Rattle.line_model.specs.traces.Traces.{{IsReported, trace_plan}}
 {uses}
 
 pub record WorkedTraces : Type 0 where
@@ -137,12 +137,12 @@ use Rattle.std.proofs.Common.{{◌≡◌, refl, length, Some}}
 use Rattle.std.specs.Fmt.{{digits}}
 use Rattle.hex.specs.Hex.{{decode_pairs}}
 {USES_OF_KINDS}
-use Rattle.line_model.specs.Header.{{header_numbers, interface_with, interface_of}}
-use Rattle.line_model.specs.RowLine.{{row_words, octets_of, row_kind, row_of}}
-use Rattle.line_model.specs.Text.{{fault, head, rows, head_of, rows_in, last_number, size_kind, header_kind, contents_kind, has_header}}
-use Rattle.line_model.specs.Traces.{{IsReported, trace_plan}}
+use Rattle.line_model.specs.text.Header.{{header_numbers, interface_with, interface_of}}
+use Rattle.line_model.specs.text.RowLine.{{row_words, octets_of, row_kind, row_of}}
+use Rattle.line_model.specs.text.Text.{{fault, head, rows, head_of, rows_in, last_number, size_kind, header_kind, contents_kind, has_header}}
+use Rattle.line_model.specs.traces.Traces.{{IsReported, trace_plan}}
 {uses}
-use Rattle.line_model.specs.WorkedTraces.{{WorkedTraces}}
+use Rattle.line_model.specs.traces.WorkedTraces.{{WorkedTraces}}
 {proofs}
 three_epochs-planned : length (trace_plan three_epochs-text) ≡ 12
 unfolding {UNFOLDING}
@@ -160,13 +160,13 @@ def files():
     """The files that are written, with what stands in each."""
     texts = constants("text", {trace: content(trace) for trace in traces()})
     reports = constants("report", {trace: report(trace) for trace in traces() if not refusal(trace)})
-    uses = uses_of_constants(texts, "WorkedTexts") + "\n" + uses_of_constants(reports, "WorkedReports")
+    uses = uses_of_constants(texts, "traces.WorkedTexts") + "\n" + uses_of_constants(reports, "traces.WorkedReports")
     return {
-        CRATE / "specs/WorkedTexts.antt": constants_file("The texts of the worked traces.", texts),
-        CRATE / "specs/WorkedReports.antt": constants_file(
+        CRATE / "specs/traces/WorkedTexts.antt": constants_file("The texts of the worked traces.", texts),
+        CRATE / "specs/traces/WorkedReports.antt": constants_file(
             "The reports of the worked traces that are not refused.", reports
         ),
-        CRATE / "specs/WorkedTraces.antt": statement_file(uses),
+        CRATE / "specs/traces/WorkedTraces.antt": statement_file(uses),
         CRATE / "proofs/WorkedTraces.antt": proof_file(uses),
     }
 

@@ -5,8 +5,8 @@ use Rattle.std.specs.Option.{option_or}
 use Rattle.std.proofs.lemmas.Grind.{flat_map-append}
 use Rattle.std.proofs.lemmas.List.{map-append}
 use Rattle.std.proofs.Math.Seq.{take-append_seam}
-use Rattle.line_model.specs.Text.{Line, begun_line, early, ended_lines, first_fault, good_lines, line_kind, size_kind, size_of}
-use Rattle.line_model.specs.Traces.{text}
+use Rattle.line_model.specs.text.Text.{Line, begun_line, early, ended_lines, first_fault, good_lines, line_kind, size_kind, size_of}
+use Rattle.line_model.specs.traces.Traces.{text}
 use Rattle.line_model.specs.declared.fault.Kind.{Kind}
 use Rattle.line_model.specs.declared.finding.Finding.{Finding}
 use Rattle.line_model.proofs.FinalFaults.{early-append, early-begun, early-ended, one_fault}

@@ -9,9 +9,9 @@ use Rattle.std.proofs.lemmas.Bool.Decides.{nat_tests}
 use Rattle.std.proofs.lemmas.List.Folds.{list_all-append, list_any-append}
 use Rattle.std.proofs.Math.Logic.{∥∥₁_elim, ∥∥₁_map}
 use Rattle.std.proofs.Math.Seq.{drop-append_seam}
-use Rattle.line_model.specs.Device.{with_more}
-use Rattle.line_model.specs.Text.{Line, begun_line, ended_lines, is_lf}
-use Rattle.line_model.specs.Traces.{text}
+use Rattle.line_model.specs.basics.Device.{with_more}
+use Rattle.line_model.specs.text.Text.{Line, begun_line, ended_lines, is_lf}
+use Rattle.line_model.specs.traces.Traces.{text}
 use Rattle.line_model.proofs.TextLemmas.{begun-lf, begun-more, ended-lf, ended-more}
 use Rattle.report_merge.specs.declared.chunk.Chunk.{Chunk}
 use Rattle.annotated_trace.specs.Annotation.{IsOneLine}

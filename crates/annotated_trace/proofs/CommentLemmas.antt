@@ -1,7 +1,7 @@
 -- The comments behind a line.
 use Rattle.std.proofs.Common.{◌≡◌, ◌∙◌, sym, ap, subst, refl, ℕ, List, [], ◌++◌, Option, Result, Ok, Err, OnOk, OnErr, IfErr, append_assoc, append-nil, inl, inr}
-use Rattle.line_model.specs.Text.{Line}
-use Rattle.line_model.specs.Traces.{text}
+use Rattle.line_model.specs.text.Text.{Line}
+use Rattle.line_model.specs.traces.Traces.{text}
 use Rattle.line_model.specs.declared.fault.Fault.{Fault}
 use Rattle.line_model.specs.declared.fault.Fault.TheVariants.{Memory}
 use Rattle.line_model.specs.declared.fault.Kind.{Kind}

@@ -4,11 +4,11 @@ use Rattle.std.specs.Prelude.{◌==◌}
 use Rattle.std.proofs.lemmas.Bool.{eqb-true}
 use Rattle.std.specs.Option.{option_or, option_map}
 use Rattle.std.proofs.lemmas.Bool.Decides.{nat_tests}
-use Rattle.line_model.specs.Device.{with_more}
-use Rattle.line_model.specs.Records.{Report}
-use Rattle.line_model.specs.Report.{no_summary, report_of}
-use Rattle.line_model.specs.Text.{Line, begun_kind, begun_line, content_of, early, end_kind, ended_lines, fault, first_fault, form_kind, head, head_of, line_kind, line_or_none, lines_of, rows, rows_in, size_kind, size_of}
-use Rattle.line_model.specs.Traces.{text, trace_summary}
+use Rattle.line_model.specs.basics.Device.{with_more}
+use Rattle.line_model.specs.basics.Records.{Report}
+use Rattle.line_model.specs.observer.Report.{no_summary, report_of}
+use Rattle.line_model.specs.text.Text.{Line, begun_kind, begun_line, content_of, early, end_kind, ended_lines, fault, first_fault, form_kind, head, head_of, line_kind, line_or_none, lines_of, rows, rows_in, size_kind, size_of}
+use Rattle.line_model.specs.traces.Traces.{text, trace_summary}
 use Rattle.line_model.specs.declared.fault.Fault.{Fault}
 use Rattle.line_model.specs.declared.fault.Fault.TheVariants.{Memory, Trace, Read, Write, Start, Double, Stranger, Missing}
 use Rattle.line_model.specs.declared.fault.Kind.{Kind}

@@ -1,8 +1,8 @@
 -- The lines of a text that is written as lines.
 use Rattle.std.proofs.Common.{◌≡◌, ◌∙◌, sym, ap, refl, ℕ, Bool, true, false, List, [], ◌∷◌, ◌++◌, length, cond, ◌||◌, arith, append_assoc, append-nil, length-append}
 use Rattle.std.specs.List.{list_any, AllByRecursion}
-use Rattle.line_model.specs.Text.{Line, begun_line, ended_lines, is_lf, line_or_none, lines_of, onto_begun, onto_first_line, size_of}
-use Rattle.line_model.specs.Traces.{text}
+use Rattle.line_model.specs.text.Text.{Line, begun_line, ended_lines, is_lf, line_or_none, lines_of, onto_begun, onto_first_line, size_of}
+use Rattle.line_model.specs.traces.Traces.{text}
 use Rattle.annotated_trace.specs.Annotation.{IsOneLine}
 
 -- each has no LF

@@ -1,8 +1,8 @@
 -- The marks of an annotation.
 use Rattle.std.proofs.Common.{◌≡◌, ◌∙◌, sym, ap, subst, refl, ℕ, List, [], ◌∷◌, ◌++◌, Some, None, append_assoc, append-nil}
 use Rattle.std.proofs.lemmas.List.Elements.{filter-append}
-use Rattle.line_model.specs.Report.{report_of}
-use Rattle.line_model.specs.Text.{Line, fault, head, head_of, lines_of, rows, rows_in}
+use Rattle.line_model.specs.observer.Report.{report_of}
+use Rattle.line_model.specs.text.Text.{Line, fault, head, head_of, lines_of, rows, rows_in}
 use Rattle.line_model.specs.declared.finding.Finding.{Finding}
 use Rattle.line_model.specs.declared.interface.Interface.{Interface}
 use Rattle.annotated_trace.specs.Annotation.{Annotated, AreMarked, AreMarksOf, all_lines, bare_lines, found_in, is_mark, marks_in}

@@ -5,9 +5,9 @@ use Rattle.std.specs.List.{list_any}
 use Rattle.std.specs.Str.Parse.{AllDigits}
 use Rattle.std.proofs.lemmas.Fmt.{digits_decimal, length-decimal-le}
 use Rattle.std.proofs.lemmas.Str.Parse.{numerals_by_value, tells_digits}
-use Rattle.line_model.specs.Report.{code_word, finding_line, pad_word, side_word, state_word}
-use Rattle.line_model.specs.Text.{is_lf}
-use Rattle.line_model.specs.Traces.{text}
+use Rattle.line_model.specs.observer.Report.{code_word, finding_line, pad_word, side_word, state_word}
+use Rattle.line_model.specs.text.Text.{is_lf}
+use Rattle.line_model.specs.traces.Traces.{text}
 use Rattle.line_model.specs.declared.finding.Code.{Code}
 use Rattle.line_model.specs.declared.finding.Code.TheVariants.{Number, Pad}
 use Rattle.line_model.specs.declared.finding.Finding.{Finding}

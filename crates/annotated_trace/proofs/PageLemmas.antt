@@ -4,7 +4,7 @@ use Rattle.std.specs.Prelude.{◌==◌, slice_index}
 use Rattle.std.proofs.lemmas.Bool.Decides.{nat_tests}
 use Rattle.std.proofs.lemmas.List.{length-map, length-take, map-append, take_all}
 use Rattle.hex.specs.Hex.{encode_upper, encode_with, upper_digits}
-use Rattle.line_model.specs.Traces.{text}
+use Rattle.line_model.specs.traces.Traces.{text}
 use Rattle.report_merge.specs.Written.{Puts, Writes}
 use Rattle.report_merge.specs.declared.chunk.Chunk.{Chunk}
 use Rattle.annotated_trace.specs.Pages.{HasNoted}

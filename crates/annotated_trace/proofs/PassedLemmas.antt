@@ -3,8 +3,8 @@ use Rattle.std.proofs.Common.{◌≡◌, ◌≢◌, ◌∙◌, sym, ap, subst, r
 use Rattle.std.proofs.Math.Seq.{take-append_seam}
 use Rattle.std.proofs.lemmas.List.{take-append-drop}
 use Rattle.line_model.proofs.TextLemmas.{ended-more}
-use Rattle.line_model.specs.Device.{with_more}
-use Rattle.line_model.specs.Text.{early, ended_lines, good_lines}
+use Rattle.line_model.specs.basics.Device.{with_more}
+use Rattle.line_model.specs.text.Text.{early, ended_lines, good_lines}
 use Rattle.line_model.specs.declared.fault.Fault.{Fault}
 use Rattle.line_model.specs.declared.fault.Fault.TheVariants.{Memory, Trace, Write}
 use Rattle.line_model.proofs.FinalFaults.{early-append}

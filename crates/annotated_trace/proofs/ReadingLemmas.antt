@@ -1,7 +1,7 @@
 -- What an annotator was fed of a source, and what its sink took.
 use Rattle.std.proofs.Common.{◌≡◌, ◌≢◌, ◌∙◌, sym, ap, subst, refl, ℕ, ◌<◌, ◌≤◌, List, [], ◌++◌, Option, Some, None, Result, Ok, Err, IfOk, IfErr, append-nil, append_assoc, arith, inl, inr}
-use Rattle.line_model.specs.Device.{Gives}
-use Rattle.line_model.specs.Text.{early, ended_lines}
+use Rattle.line_model.specs.basics.Device.{Gives}
+use Rattle.line_model.specs.text.Text.{early, ended_lines}
 use Rattle.line_model.specs.declared.fault.Fault.{Fault}
 use Rattle.line_model.specs.declared.fault.Fault.TheVariants.{Memory, Trace, Read, Write}
 use Rattle.line_model.specs.declared.totals.Summary.{Summary}

@@ -1,8 +1,8 @@
 -- The reports of a trace that grows, as an annotator asks them.
 use Rattle.std.proofs.Common.{◌≡◌, ◌∙◌, sym, ap, ℕ, List, [], ◌++◌, Some, None, Result, Ok, Err, OnOk, IfOk}
-use Rattle.line_model.specs.Records.{Report}
-use Rattle.line_model.specs.Report.{report_of}
-use Rattle.line_model.specs.Text.{early, early_head, early_rows, ended_lines, good_lines, head_of}
+use Rattle.line_model.specs.basics.Records.{Report}
+use Rattle.line_model.specs.observer.Report.{report_of}
+use Rattle.line_model.specs.text.Text.{early, early_head, early_rows, ended_lines, good_lines, head_of}
 use Rattle.line_model.specs.declared.fault.Fault.{Fault}
 use Rattle.line_model.specs.declared.finding.Finding.{Finding}
 use Rattle.trace_text.proofs.FeedLemmas.{rows-sound}

@@ -6,8 +6,8 @@ use Rattle.std.proofs.lemmas.List.{length-map, length-take, map-append, take_min
 use Rattle.std.proofs.lemmas.List.Folds.{list_any-append}
 use Rattle.std.proofs.Math.Seq.{take-append-add, take-append_seam}
 use Rattle.std.proofs.lemmas.Bool.{eqb-true}
-use Rattle.line_model.specs.Text.{Line, begun_line, ended_lines, is_lf, onto_begun, onto_first_line}
-use Rattle.line_model.specs.Traces.{text}
+use Rattle.line_model.specs.text.Text.{Line, begun_line, ended_lines, is_lf, onto_begun, onto_first_line}
+use Rattle.line_model.specs.traces.Traces.{text}
 use Rattle.line_model.proofs.TextLemmas.{begun-lf, begun-more, ended-lf, ended-more}
 use Rattle.annotated_trace.proofs.LinesOfText.{text_append}
 use Rattle.annotated_trace.specs.Annotation.{AreComments, IsComment, IsOneLine, marks_in}

@@ -1,6 +1,6 @@
 -- What a scan that annotates a trace answers, and what its sink took.
 use Rattle.std.specs.Prelude.{◌≡◌, ◌⊎◌, ℕ, List, [], ◌++◌, Option, Some, None}
-use Rattle.line_model.specs.Text.{early, ended_lines}
+use Rattle.line_model.specs.text.Text.{early, ended_lines}
 use Rattle.line_model.specs.declared.fault.Fault.{Fault}
 use Rattle.line_model.specs.declared.fault.Fault.TheVariants.{Memory, Trace, Read, Write}
 use Rattle.line_model.specs.declared.totals.Summary.{Summary}

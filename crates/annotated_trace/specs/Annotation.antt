@@ -1,9 +1,9 @@
 -- A trace with comments behind its lines.
 use Rattle.std.specs.Prelude.{◌≡◌, ◌⊎◌, ℕ, ◌==◌, ◌&&◌, ◌≤◌, Bool, true, false, List, [], ◌∷◌, ◌++◌, filter, flat_map, map, length, Some, None, codes}
 use Rattle.std.specs.List.{list_any, AllByRecursion}
-use Rattle.line_model.specs.Report.{finding_line, report_of}
-use Rattle.line_model.specs.Text.{Line, head_of, is_comment, is_lf, line_limit, lines_of, rows_in}
-use Rattle.line_model.specs.Traces.{text}
+use Rattle.line_model.specs.observer.Report.{finding_line, report_of}
+use Rattle.line_model.specs.text.Text.{Line, head_of, is_comment, is_lf, line_limit, lines_of, rows_in}
+use Rattle.line_model.specs.traces.Traces.{text}
 use Rattle.line_model.specs.declared.finding.Finding.{Finding}
 use Rattle.annotated_trace.specs.declared.choice.Choice.{Choice}
 use Rattle.annotated_trace.specs.declared.choice.Choice.TheVariants.{EveryRow, ChosenRows}

@@ -1,8 +1,8 @@
 -- An annotator: what it was fed, and what its sink has.
 use Rattle.std.specs.Prelude.{◌≡◌, ◌⊎◌, ℕ, Bool, true, false, List, [], ◌++◌, length, Option, Some, None}
-use Rattle.line_model.specs.Device.{with_more}
-use Rattle.line_model.specs.Text.{Line, begun_line, fault, good_lines, text_limit}
-use Rattle.line_model.specs.Traces.{trace_summary}
+use Rattle.line_model.specs.basics.Device.{with_more}
+use Rattle.line_model.specs.text.Text.{Line, begun_line, fault, good_lines, text_limit}
+use Rattle.line_model.specs.traces.Traces.{trace_summary}
 use Rattle.line_model.specs.declared.fault.Fault.{Fault}
 use Rattle.line_model.specs.declared.fault.Fault.TheVariants.{Memory, Trace, Write}
 use Rattle.line_model.specs.declared.fault.Kind.{Kind}

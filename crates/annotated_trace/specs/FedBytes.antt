@@ -1,7 +1,7 @@
 -- How many bytes a reader was fed.
 use Rattle.std.specs.Prelude.{◌≡◌, ℕ, ◌+◌, List, length}
 use Rattle.std.proofs.Common.{◌∙◌, ap}
-use Rattle.line_model.specs.Text.{ended_lines, size_of}
+use Rattle.line_model.specs.text.Text.{ended_lines, size_of}
 use Rattle.line_model.proofs.TextLemmas.{size_of-ended}
 use Rattle.trace_text.specs.Progress.{Progress, bytes_fed}
 use Rattle.trace_text.specs.StandsFor.{StandsFor}

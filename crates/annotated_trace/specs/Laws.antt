@@ -1,8 +1,8 @@
 -- An annotated trace is a trace, and says the same.
 use Rattle.std.specs.Prelude.{◌≡◌, ℕ, ◌≤◌, List, [], Some, None, length}
-use Rattle.line_model.specs.Report.{report_of}
-use Rattle.line_model.specs.Text.{fault, head, lines_of, rows, text_limit}
-use Rattle.line_model.specs.Traces.{trace_report}
+use Rattle.line_model.specs.observer.Report.{report_of}
+use Rattle.line_model.specs.text.Text.{fault, head, lines_of, rows, text_limit}
+use Rattle.line_model.specs.traces.Traces.{trace_report}
 use Rattle.line_model.specs.declared.interface.Interface.{Interface}
 use Rattle.annotated_trace.specs.Annotation.{AreMarksOf, IsAnnotation, marks_in}
 use Rattle.annotated_trace.specs.declared.choice.Choice.{Choice}

@@ -1,9 +1,9 @@
 -- The marks that are written.
 use Rattle.std.specs.Prelude.{◌≡◌, ◌⊎◌, ℕ, ◌<◌, ◌^◌, List, [], ◌∷◌, ◌++◌, Option, codes, decimal}
-use Rattle.line_model.specs.Device.{with_more}
-use Rattle.line_model.specs.Report.{code_word, side_word, state_word}
-use Rattle.line_model.specs.Text.{Line}
-use Rattle.line_model.specs.Traces.{text}
+use Rattle.line_model.specs.basics.Device.{with_more}
+use Rattle.line_model.specs.observer.Report.{code_word, side_word, state_word}
+use Rattle.line_model.specs.text.Text.{Line}
+use Rattle.line_model.specs.traces.Traces.{text}
 use Rattle.line_model.specs.declared.finding.Code.{Code}
 use Rattle.line_model.specs.declared.finding.Code.TheVariants.{Number, Pad}
 use Rattle.line_model.specs.declared.finding.Finding.{Finding}

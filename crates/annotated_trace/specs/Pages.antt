@@ -1,6 +1,6 @@
 -- What a page has written to its sink.
 use Rattle.std.specs.Prelude.{◌≡◌, ℕ, List, ◌++◌, Option, length}
-use Rattle.line_model.specs.Traces.{text}
+use Rattle.line_model.specs.traces.Traces.{text}
 use Rattle.report_merge.specs.Written.{Writes}
 use Rattle.report_merge.specs.declared.chunk.Chunk.{Chunk}
 use Rattle.annotated_trace.specs.Wording.{AreNotes, IsWords, Remarks, begun_note}

@@ -1,8 +1,8 @@
 -- What the reader of a trace answers.
 use Rattle.std.specs.Prelude.{◌≡◌, ℕ, List, Some, None}
-use Rattle.line_model.specs.Records.{Report}
-use Rattle.line_model.specs.Report.{report_of}
-use Rattle.line_model.specs.Text.{fault, head, rows}
+use Rattle.line_model.specs.basics.Records.{Report}
+use Rattle.line_model.specs.observer.Report.{report_of}
+use Rattle.line_model.specs.text.Text.{fault, head, rows}
 use Rattle.line_model.specs.declared.interface.Interface.{Interface}
 
 -- a text without a fault, and its report

@@ -1,7 +1,7 @@
 -- The words of comments.
 use Rattle.std.specs.Prelude.{◌≡◌, ℕ, ◌==◌, ◌≤◌, List, [], ◌∷◌, ◌++◌, codes, if◌then◌else◌, length, map, take}
 use Rattle.std.specs.List.{AllByRecursion}
-use Rattle.line_model.specs.Text.{Line, begun_line, ended_lines, is_lf}
+use Rattle.line_model.specs.text.Text.{Line, begun_line, ended_lines, is_lf}
 use Rattle.annotated_trace.specs.Annotation.{IsOneLine}
 
 -- how many bytes the words of a line may have (profile)

@@ -1,7 +1,7 @@
 //! A trace that is written again as it grows, with comments behind its lines.
 
 ghost use Rattle.std.specs.Prelude.{◌≡◌, ◌≢◌, ℕ, ◌<◌, ◌≤◌, ◌++◌, ◌∷◌, [], List, Option, Err, IfErr, IfOk, OnOk};
-ghost use Rattle.line_model.specs.Text.{begun_line, early, ended_lines};
+ghost use Rattle.line_model.specs.text.Text.{begun_line, early, ended_lines};
 ghost use Rattle.line_model.specs.declared.fault.Fault.TheVariants.{Memory};
 ghost use Rattle.annotated_trace.specs.Annotation.{IsAnnotationOf, IsOneLine};
 ghost use Rattle.trace_text.specs.StandsFor.{IsFaultOf, IsTextFault};

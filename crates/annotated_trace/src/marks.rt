@@ -1,7 +1,7 @@
 //! The marks of findings.
 
 ghost use Rattle.std.specs.Prelude.{◌≡◌, ◌<◌, ◌^◌, ◌++◌, IfErr, OnOk, decimal};
-ghost use Rattle.line_model.specs.Report.{code_word};
+ghost use Rattle.line_model.specs.observer.Report.{code_word};
 ghost use Rattle.line_model.specs.declared.fault.Fault.TheVariants.{Memory};
 ghost use Rattle.annotated_trace.specs.Annotation.{explained};
 ghost use Rattle.annotated_trace.specs.Marking.{HasMarkOf, IsCode, finding_words};

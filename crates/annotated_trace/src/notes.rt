@@ -2,7 +2,7 @@
 
 ghost use Rattle.std.specs.Prelude.{◌≡◌, ◌==◌, ◌++◌, ◌∷◌, ◌≤◌, ℕ, List, [], IfErr, OnErr, OnOk, decimal, length};
 ghost use Rattle.hex.specs.Hex.{encode_upper};
-ghost use Rattle.line_model.specs.Traces.{text};
+ghost use Rattle.line_model.specs.traces.Traces.{text};
 ghost use Rattle.line_model.specs.declared.fault.Fault.TheVariants.{Memory};
 ghost use Rattle.annotated_trace.specs.Wording.{BeginsWith, IsWords, note_line, notes_of, plain, with_words, words_limit};
 
@@ -140,7 +140,7 @@ pub struct Notes<A: Allocator> {
 }
 
 impl<A: Allocator> Model for Notes<A> {
-    ghost use Rattle.line_model.specs.Text.{ended_lines};
+    ghost use Rattle.line_model.specs.text.Text.{ended_lines};
     ghost use Rattle.annotated_trace.specs.Wording.{AreNoteBytes, Remarks};
 
     ghost Value = { Remarks };

@@ -104,8 +104,8 @@ pub struct ClosingPage<'a, K: Sink, B: Origin> {
 
 impl<'a, K: Sink, B: Origin> ClosingPage<'a, K, B> {
     ghost use Rattle.std.specs.Prelude.{◌<◌, IfErr, OnErr, OnOk, decimal};
-    ghost use Rattle.line_model.specs.Device.{with_more};
-    ghost use Rattle.line_model.specs.Traces.{text};
+    ghost use Rattle.line_model.specs.basics.Device.{with_more};
+    ghost use Rattle.line_model.specs.traces.Traces.{text};
     ghost use Rattle.annotated_trace.specs.Wording.{Remarks, ended_notes, notes_of, with_words};
 
     /// Nothing was said. The sink is the one of the origin, as it was lent.

@@ -8,7 +8,7 @@ use std::alloc::Allocator;
 /// A trace that is fed in chunks of any size, and tells what its rows found.
 pub trait Watcher<A: Allocator>: Drop {
     ghost use Rattle.std.specs.Prelude.{◌≡◌, ℕ, ◌++◌, List, None, IfErr, IfOk, OnOk, length};
-    ghost use Rattle.line_model.specs.Text.{early, ended_lines, fault};
+    ghost use Rattle.line_model.specs.text.Text.{early, ended_lines, fault};
     ghost use Rattle.line_model.specs.declared.finding.Finding.{Finding as AnyFinding};
     ghost use Rattle.annotated_trace.specs.Annotation.{found_in};
     ghost use Rattle.annotated_trace.specs.Watched.{IsReportOf};

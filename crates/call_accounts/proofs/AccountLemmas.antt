@@ -10,9 +10,9 @@ use Rattle.std.specs.Ordering.{match_ordering}
 use Rattle.std.proofs.lemmas.Bool.Decides.{nat_tests}
 use Rattle.std.proofs.lemmas.Map.Lookups.{exact_bytes}
 use Rattle.std.proofs.lemmas.List.Sums.{sum_by-cons}
-use Rattle.line_model.specs.Records.{CallRecord}
+use Rattle.line_model.specs.basics.Records.{CallRecord}
 use Rattle.line_model.specs.declared.call.Account.{Account}
-use Rattle.line_model.specs.Accounts.{payer, payers, account, accounts_of, with_address, is_same_address}
+use Rattle.line_model.specs.observer.Accounts.{payer, payers, account, accounts_of, with_address, is_same_address}
 use Rattle.line_model.proofs.Rearranged.{Rearranged, rearranged-from_IsPermutation}
 use Rattle.line_model.proofs.Rising.{all_rearranged}
 use Rattle.call_accounts.proofs.AddressLemmas.{order, order_total, is_same-refl, apart_from-less, same_from-apart, less_from-greater, equal_from-same, greater_from-less, all_below, Placed, placed, Ascends, ascends, all_apart, all_from_with}

@@ -8,8 +8,8 @@ use Rattle.std.proofs.Common.{Less, Equal, Greater}
 use Rattle.std.specs.Ordering.{MatchOrdering, nat_cmp, ordering_then, ordering_reverse}
 use Rattle.std.proofs.lemmas.Bool.Decides.{nat_tests}
 use Rattle.std.proofs.lemmas.Map.Lookups.{exact_bytes}
-use Rattle.line_model.specs.Records.{CallRecord}
-use Rattle.line_model.specs.Accounts.{payer, payers, with_address, is_same_address, is_before}
+use Rattle.line_model.specs.basics.Records.{CallRecord}
+use Rattle.line_model.specs.observer.Accounts.{payer, payers, with_address, is_same_address, is_before}
 
 abbrev pub order : List ℕ → List ℕ → Ordering
 order a b = slice_cmp nat_cmp a b

@@ -12,8 +12,8 @@ use Rattle.line_model.specs.declared.event.Entry.TheVariants.{Unknown}
 use Rattle.line_model.specs.declared.event.What.TheVariants.{Data}
 use Rattle.line_model.specs.declared.event.Event.{Event}
 use Rattle.line_model.specs.declared.call.SettingRecord.{SettingRecord}
-use Rattle.line_model.specs.FlowControl.{is_side}
-use Rattle.line_model.specs.Calls.{is_up, lengths_from, all_lengths, segments_of, entry_said, entry_of, settings_of, is_known}
+use Rattle.line_model.specs.channels.FlowControl.{is_side}
+use Rattle.line_model.specs.observer.Calls.{is_up, lengths_from, all_lengths, segments_of, entry_said, entry_of, settings_of, is_known}
 use Rattle.line_model.proofs.EventWeights.{octets_weight, segments_weight, sides_weight, fewer_segments}
 use Rattle.call_accounts.specs.declared.pad_table.PadTable.{PadTable}
 use Rattle.call_accounts.specs.declared.counts.CallCounts.{CallCounts}

@@ -15,8 +15,8 @@ use Rattle.std.proofs.lemmas.List.Sums.{sum_by-cons}
 use Rattle.line_model.specs.declared.event.What.{What}
 use Rattle.line_model.specs.declared.event.What.TheVariants.{Found, Open, Up, End, Data, Setting, Initial}
 use Rattle.line_model.specs.declared.event.Event.{Event}
-use Rattle.line_model.specs.Records.{CallRecord}
-use Rattle.line_model.specs.Calls.{is_alongside, all_lengths, calls_of, record_of}
+use Rattle.line_model.specs.basics.Records.{CallRecord}
+use Rattle.line_model.specs.observer.Calls.{is_alongside, all_lengths, calls_of, record_of}
 use Rattle.call_accounts.specs.declared.so_far.CallsSoFar.{CallsSoFar}
 use Rattle.call_accounts.specs.declared.call.Places.{Places}
 use Rattle.call_accounts.specs.Counted.{IsCountable}

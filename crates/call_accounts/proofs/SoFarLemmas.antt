@@ -10,8 +10,8 @@ use Rattle.line_model.specs.declared.event.How.{How}
 use Rattle.line_model.specs.declared.event.What.{What}
 use Rattle.line_model.specs.declared.event.What.TheVariants.{Found, Open, Up, End, Data, Setting, Initial}
 use Rattle.line_model.specs.declared.event.Event.{Event}
-use Rattle.line_model.specs.Records.{CallRecord}
-use Rattle.line_model.specs.Calls.{is_up, is_end, is_opening, is_alongside, tells_end, lengths_from, all_lengths, segments_of, settings_of, record_of, calls_of}
+use Rattle.line_model.specs.basics.Records.{CallRecord}
+use Rattle.line_model.specs.observer.Calls.{is_up, is_end, is_opening, is_alongside, tells_end, lengths_from, all_lengths, segments_of, settings_of, record_of, calls_of}
 use Rattle.call_accounts.specs.Counted.{Counts, Adds, IsCountable}
 use Rattle.call_accounts.proofs.CountedLemmas.{counts_more, countable_part}
 use Rattle.call_accounts.specs.SoFar.{IsOf, IsWithin, AllEnded, opening_of, call_with, ended_by, EndFirst, IsOpenIn, IsClosedIn, HoldsFor}

@@ -4,10 +4,10 @@ use Rattle.std.proofs.lemmas.List.Sums.{sum_by-cons}
 use Rattle.std.proofs.lemmas.Bool.Decides.{nat_tests}
 use Rattle.std.specs.List.{filter_map, cons_option}
 use Rattle.std.specs.List.Sorted.{IsNonDecreasing}
-use Rattle.line_model.specs.Peak.{is_after}
-use Rattle.line_model.specs.Records.{CallRecord}
-use Rattle.line_model.specs.Peak.{IsPeakOfTimes, how_many, is_up_at}
-use Rattle.line_model.specs.Calls.{up_at, up_times}
+use Rattle.line_model.specs.observer.Peak.{is_after}
+use Rattle.line_model.specs.basics.Records.{CallRecord}
+use Rattle.line_model.specs.observer.Peak.{IsPeakOfTimes, how_many, is_up_at}
+use Rattle.line_model.specs.observer.Calls.{up_at, up_times}
 use Rattle.call_accounts.specs.Sweep.{up_to, height, is_call_up, IsHighest}
 
 pub up_to-yes : (n x : ℕ) (xs : List ℕ) → x ≤ n → up_to n (x ∷ xs) ≡ 1 + up_to n xs

@@ -6,7 +6,7 @@ use Rattle.line_model.specs.declared.event.Entry.{Entry}
 use Rattle.line_model.specs.declared.event.Entry.TheVariants.{Unknown}
 use Rattle.line_model.specs.declared.event.Event.{Event}
 use Rattle.line_model.specs.declared.call.SettingRecord.{SettingRecord}
-use Rattle.line_model.specs.Calls.{is_up, lengths_from, all_lengths, segments_of, entry_said, entry_of, is_known}
+use Rattle.line_model.specs.observer.Calls.{is_up, lengths_from, all_lengths, segments_of, entry_said, entry_of, is_known}
 use Rattle.call_accounts.specs.declared.pad_table.PadTable.{PadTable}
 use Rattle.call_accounts.specs.declared.counts.CallCounts.{CallCounts}
 

@@ -1,9 +1,9 @@
 -- Calls as entries that are sorted by the address that pays, and their sums.
 use Rattle.std.specs.Prelude.{◌≡◌, ℕ, zero, suc, ◌+◌, ◌*◌, ◌<◌, ◌≤◌, ◌==◌, true, false, List, [], ◌∷◌, length, nat_lt, slice_index_or}
 use Rattle.std.specs.List.{AllByRecursion}
-use Rattle.line_model.specs.Records.{CallRecord}
+use Rattle.line_model.specs.basics.Records.{CallRecord}
 use Rattle.line_model.specs.declared.call.Account.{Account}
-use Rattle.line_model.specs.Accounts.{payer}
+use Rattle.line_model.specs.observer.Accounts.{payer}
 use Rattle.call_accounts.specs.declared.account.Entry.{Entry}
 
 -- the digit of the octet at i, from 1 on, and 0 past the end

@@ -4,7 +4,7 @@ use Rattle.std.specs.BTreeMap.{get}
 use Rattle.std.specs.declared.cmp.Ordering.{Ordering}
 use Rattle.std.specs.Ordering.{ordering_then, nat_cmp}
 use Rattle.line_model.specs.declared.event.Event.{Event}
-use Rattle.line_model.specs.Records.{CallRecord}
+use Rattle.line_model.specs.basics.Records.{CallRecord}
 use Rattle.call_accounts.specs.SoFar.{StandsFor, Tells}
 use Rattle.call_accounts.specs.declared.so_far.CallsSoFar.{CallsSoFar}
 use Rattle.call_accounts.specs.declared.call.Places.{Places}

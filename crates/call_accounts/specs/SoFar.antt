@@ -5,8 +5,8 @@ use Rattle.line_model.specs.declared.state.Side.TheVariants.{T, N}
 use Rattle.line_model.specs.declared.event.How.{How}
 use Rattle.line_model.specs.declared.event.What.TheVariants.{Open}
 use Rattle.line_model.specs.declared.event.Event.{Event}
-use Rattle.line_model.specs.Records.{CallRecord}
-use Rattle.line_model.specs.Calls.{is_up, is_end, is_opening, lengths_from, all_lengths, segments_of, settings_of, calls_of}
+use Rattle.line_model.specs.basics.Records.{CallRecord}
+use Rattle.line_model.specs.observer.Calls.{is_up, is_end, is_opening, lengths_from, all_lengths, segments_of, settings_of, calls_of}
 use Rattle.call_accounts.specs.Counted.{Counts}
 use Rattle.call_accounts.specs.declared.so_far.OpenCall.{OpenCall}
 use Rattle.call_accounts.specs.declared.so_far.CallsSoFar.{CallsSoFar}

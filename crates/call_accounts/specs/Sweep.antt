@@ -1,7 +1,7 @@
 -- The height of a sweep over times that are sorted.
 use Rattle.std.specs.Prelude.{◌≡◌, ℕ, ◌<◌, ◌≤◌, ◌+◌, ◌-◌, Bool, false, ◌&&◌, nat_le, count_by, List, slice_index, Option, Some, None, MatchOption}
-use Rattle.line_model.specs.Peak.{is_after}
-use Rattle.line_model.specs.Records.{CallRecord}
+use Rattle.line_model.specs.observer.Peak.{is_after}
+use Rattle.line_model.specs.basics.Records.{CallRecord}
 
 -- whether a call is up at time n
 abbrev pub is_call_up : ℕ → CallRecord → Bool

@@ -3,7 +3,7 @@
 ghost use Rattle.std.specs.Prelude.{◌≡◌, ◌≤◌, ◌^◌, IfOk, IfErr, sum_by, map};
 ghost use Rattle.std.specs.List.{AllByRecursion};
 ghost use Rattle.std.specs.List.Sorted.{IsPermutation, IsNonDecreasingBy};
-ghost use Rattle.line_model.specs.Accounts.{accounts_of, payer};
+ghost use Rattle.line_model.specs.observer.Accounts.{accounts_of, payer};
 ghost use Rattle.call_accounts.specs.Entries.{digit_at, IsRank, IsRanked, account_of_call, account_of_entry, summed};
 
 use line_model::address::Address;

@@ -2,8 +2,8 @@
 
 ghost use Rattle.std.specs.Prelude.{◌≡◌, ℕ, ◌≤◌, ◌^◌, ◌==◌, ◌&&◌, List, [], ◌∷◌, ◌++◌, Some, false, map, OnOk, IfOk, IfErr, sum};
 ghost use Rattle.line_model.specs.declared.event.Event.{Event};
-ghost use Rattle.line_model.specs.Records as records;
-ghost use Rattle.line_model.specs.Calls.{calls_of, all_lengths};
+ghost use Rattle.line_model.specs.basics.Records as records;
+ghost use Rattle.line_model.specs.observer.Calls.{calls_of, all_lengths};
 ghost use Rattle.call_accounts.specs.Counted.{IsCountable};
 ghost use Rattle.call_accounts.specs.Places.{AreHeard, AreLeft, IsFound, calls_at, place_of};
 

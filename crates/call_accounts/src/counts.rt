@@ -3,7 +3,7 @@
 ghost use Rattle.std.specs.Prelude.{◌≡◌, ◌+◌, ◌/◌, List, [], IfOk, IfErr};
 ghost use Rattle.line_model.specs.declared.event.Event.{Event};
 ghost use Rattle.line_model.specs.declared.event.What.TheVariants.{Data, Setting, Initial};
-ghost use Rattle.line_model.specs.Calls.{settings_of};
+ghost use Rattle.line_model.specs.observer.Calls.{settings_of};
 ghost use Rattle.call_accounts.specs.Counted.{Counts, Adds};
 
 use crate::pad_table::PadTable;

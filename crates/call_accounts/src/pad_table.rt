@@ -3,7 +3,7 @@
 ghost use Rattle.std.specs.Prelude.{◌≡◌, ℕ, ◌≤◌, ◌==◌, ◌++◌, if◌then◌else◌, OnOk, IfErr};
 ghost use Rattle.std.specs.List.{range_with_len};
 ghost use Rattle.line_model.specs.declared.event.Entry.TheVariants.{Unknown};
-ghost use Rattle.line_model.specs.Calls.{is_known};
+ghost use Rattle.line_model.specs.observer.Calls.{is_known};
 ghost use Rattle.call_accounts.specs.Counted.{entry_at, settings_in};
 
 use line_model::call::SettingRecord;

@@ -2,8 +2,8 @@
 
 ghost use Rattle.std.specs.Prelude.{◌≡◌, ℕ, ◌<◌, ◌≤◌, ◌+◌, IfOk, IfErr, OnOk, cond, length, slice_index};
 ghost use Rattle.std.specs.List.Sorted.{IsNonDecreasing};
-ghost use Rattle.line_model.specs.Calls.{up_at};
-ghost use Rattle.line_model.specs.Peak.{IsPeakOfTimes};
+ghost use Rattle.line_model.specs.observer.Calls.{up_at};
+ghost use Rattle.line_model.specs.observer.Peak.{IsPeakOfTimes};
 ghost use Rattle.call_accounts.specs.Sweep.{up_to, is_call_up, IsHighest};
 
 use line_model::call::CallRecord;

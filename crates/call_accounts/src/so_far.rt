@@ -3,10 +3,10 @@
 ghost use Rattle.std.specs.Prelude.{◌≡◌, ℕ, List, [], ◌∷◌, ◌++◌, Option, Some, None, map, IfOk, IfErr, OnOk};
 ghost use Rattle.line_model.specs.declared.event.Event.{Event};
 ghost use Rattle.line_model.specs.declared.event.What.TheVariants.{Open, End};
-ghost use Rattle.line_model.specs.Calls.{calls_of};
+ghost use Rattle.line_model.specs.observer.Calls.{calls_of};
 ghost use Rattle.call_accounts.specs.Counted.{Counts, IsCountable};
 ghost use Rattle.call_accounts.specs.SoFar.{IsOf, StandsFor, Tells, call_with, opening_of, ended_by, EndFirst};
-ghost use Rattle.line_model.specs.Records as records;
+ghost use Rattle.line_model.specs.basics.Records as records;
 
 use crate::counts::CallCounts;
 use line_model::address::Address;

@@ -5,11 +5,11 @@ use Rattle.line_model.specs.declared.event.How.{How}
 use Rattle.line_model.specs.declared.event.Event.{Event}
 use Rattle.line_model.specs.declared.event.What.{What}
 use Rattle.line_model.specs.declared.event.What.TheVariants.{End}
-use Rattle.line_model.specs.ChannelStep.{Outcome, report_nothing, ending, ending_open, and_then, entering, after_error}
+use Rattle.line_model.specs.channels.ChannelStep.{Outcome, report_nothing, ending, ending_open, and_then, entering, after_error}
 use Rattle.line_model.specs.declared.state.StateName.{StateName}
 use Rattle.line_model.specs.declared.state.StateName.TheVariants.{Dash, R1, R2, R3, P1, P2, P3, P4, P5, P6, P7, D1, D2, D3}
 use Rattle.line_model.specs.declared.event.How as how
-use Rattle.line_model.specs.Channels.{Channel, Opening}
+use Rattle.line_model.specs.channels.Channels.{Channel, Opening}
 use Rattle.channel_machine.specs.declared.terms.Opened.{Opened}
 use Rattle.channel_machine.specs.declared.events.Stamp.{Stamp}
 use Rattle.channel_machine.specs.TermsStand.{opened_of}

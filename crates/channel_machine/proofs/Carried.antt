@@ -7,7 +7,7 @@ use Rattle.line_model.specs.declared.state.ChannelState.{ChannelState}
 use Rattle.line_model.specs.declared.table.Action.{Action}
 use Rattle.line_model.specs.declared.table.Action.TheVariants.{Move, Normal, Error, Discard, Pass, Ends, Below, ToChannel}
 use Rattle.line_model.specs.declared.verdict.Verdict.{Verdict}
-use Rattle.line_model.specs.ChannelStep.{judged, verdict, call_change}
+use Rattle.line_model.specs.channels.ChannelStep.{judged, verdict, call_change}
 use Rattle.channel_machine.specs.Reached.{is_from, IsFrom}
 use Rattle.line_model.proofs.Every.{every, flags, sides, states, classes, every_flag, every_side, every_state, every_class}
 use Rattle.channel_machine.specs.Decisions.{is_carried, IsCarried}

@@ -4,10 +4,10 @@ use Rattle.line_model.specs.declared.diagnostic.TheConstants.{UNAUTHORIZED_INTER
 use Rattle.line_model.specs.declared.interface.Interface.{Interface}
 use Rattle.line_model.specs.declared.state.Side.{Side}
 use Rattle.line_model.specs.declared.state.Side.TheVariants.{T, N}
-use Rattle.line_model.specs.Channels.{Channel, Heard, of_side, with_side, other}
-use Rattle.line_model.specs.FlowControl.{Counts, is_side, packets_of, sent, sent_by, is_send_valid, count_acknowledged, count_data, count_receive, count_interrupt, count_confirm}
-use Rattle.line_model.specs.ChannelStep.{counts_of}
-use Rattle.window_check.specs.Kept.{Kept, Stands, Answers}
+use Rattle.line_model.specs.channels.Channels.{Channel, AcceptedData, of_side, with_side, other}
+use Rattle.line_model.specs.channels.FlowControl.{Counts, is_side, packets_of, sent, sent_by, is_send_valid, count_acknowledged, count_data, count_receive, count_interrupt, count_confirm}
+use Rattle.line_model.specs.channels.ChannelStep.{counts_of}
+use Rattle.window_check.specs.FlowResidues.{FlowResidues, Stands, Answers}
 use Rattle.mbit_assembly.proofs.SequenceLemmas.{packets_of-same, packets_of-other}
 use Rattle.channel_machine.specs.Transfers.{Transfer, StandsFor, IsCounted}
 
@@ -56,16 +56,16 @@ pub data_counts : (m w : ℕ) (c v : Counts) (x : Side) (s n : ℕ) → count_da
 data_counts m w c v x s n e = data_by m c v x n (is_send_valid m w (of_side x c.sent) (of_side x c.acknowledged) s) e
 
 -- the counts of one packet more of a side
-length_more : (hs : List Heard) (h : Heard) → length (hs ++ h ∷ []) ≡ length hs + 1
+length_more : (hs : List AcceptedData) (h : AcceptedData) → length (hs ++ h ∷ []) ≡ length hs + 1
 length_more hs h = length-append hs (h ∷ [])
 
-sent_same : (x : Side) (hs : List Heard) (p : Heard) → is_side x p.side ≡ true → sent x (hs ++ p ∷ []) ≡ sent x hs + 1
+sent_same : (x : Side) (hs : List AcceptedData) (p : AcceptedData) → is_side x p.side ≡ true → sent x (hs ++ p ∷ []) ≡ sent x hs + 1
 sent_same x hs p own = ap (λ l. length l) (packets_of-same x hs p own) ∙ length_more (packets_of x hs) p
 
-sent_apart : (x : Side) (hs : List Heard) (p : Heard) → is_side x p.side ≡ false → sent x (hs ++ p ∷ []) ≡ sent x hs
+sent_apart : (x : Side) (hs : List AcceptedData) (p : AcceptedData) → is_side x p.side ≡ false → sent x (hs ++ p ∷ []) ≡ sent x hs
 sent_apart x hs p apart = ap (λ l. length l) (packets_of-other x hs p apart)
 
-pub sent_more : (x : Side) (hs : List Heard) (p : Heard) → p.side ≡ x → with_side x (of_side x (sent_by hs) + 1) (sent_by hs) ≡ sent_by (hs ++ p ∷ [])
+pub sent_more : (x : Side) (hs : List AcceptedData) (p : AcceptedData) → p.side ≡ x → with_side x (of_side x (sent_by hs) + 1) (sent_by hs) ≡ sent_by (hs ++ p ∷ [])
 sent_more T hs p is = λ j. record { of_t = sym (sent_same T hs p (ap (λ y. is_side T y) is)) j; of_n = sym (sent_apart N hs p (ap (λ y. is_side N y) is)) j }
 sent_more N hs p is = λ j. record { of_t = sym (sent_apart T hs p (ap (λ y. is_side T y) is)) j; of_n = sym (sent_same N hs p (ap (λ y. is_side N y) is)) j }
 

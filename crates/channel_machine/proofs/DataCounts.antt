@@ -21,20 +21,20 @@ use Rattle.line_model.specs.declared.event.What.TheVariants.{Data as DataHeard}
 use Rattle.line_model.specs.declared.finding.Xcode.{Xcode}
 use Rattle.line_model.specs.declared.finding.Xcode.TheVariants.{X3}
 use Rattle.line_model.specs.declared.event.Event.{Event}
-use Rattle.line_model.specs.Records.{Row, Item, Piece}
-use Rattle.line_model.specs.MachineEvents.{stamp}
-use Rattle.line_model.specs.Pieces.{piece_value}
-use Rattle.line_model.specs.Observer.{x25, event_of, restart_end_if}
-use Rattle.line_model.specs.Plans.{row_numbered, piece_events}
-use Rattle.line_model.specs.Calls.{all_lengths}
-use Rattle.line_model.specs.Octets.{bits}
-use Rattle.line_model.specs.Pad.{Pair, is_indication, is_set, indicated_by, indicated, asked, set_told, settings_told, settings_after, message_fault}
-use Rattle.line_model.specs.Channels.{Channel, fresh, is_open, Heard, Opening, Told, is_permanent, other}
-use Rattle.line_model.specs.FlowControl.{Counts, count_data}
-use Rattle.line_model.specs.Sequences.{begun, is_alike}
-use Rattle.line_model.specs.Formats.{packet_fault, size_in_force, window_in_force}
-use Rattle.line_model.specs.Classes.{class_of, data_header}
-use Rattle.line_model.specs.ChannelStep.{heard_of, completed_message, call_change, judged, verdict, ending_open, after_error, failing, changing, entering, telling, option_found, data_alike, data_counted, data_step, counting, transferring, verdict_step, channel_step, counts_of}
+use Rattle.line_model.specs.basics.Records.{Row, Item, Piece}
+use Rattle.line_model.specs.observer.MachineEvents.{stamp}
+use Rattle.line_model.specs.pieces.Pieces.{piece_value}
+use Rattle.line_model.specs.observer.Observer.{x25, event_of, restart_end_if}
+use Rattle.line_model.specs.pieces.Plans.{row_numbered, piece_events}
+use Rattle.line_model.specs.observer.Calls.{all_lengths}
+use Rattle.line_model.specs.basics.Octets.{bits}
+use Rattle.line_model.specs.channels.Pad.{Pair, is_indication, is_set, indicated_by, indicated, asked, set_told, settings_told, settings_after, message_fault}
+use Rattle.line_model.specs.channels.Channels.{Channel, fresh, is_open, AcceptedData, Opening, Told, is_permanent, other}
+use Rattle.line_model.specs.channels.FlowControl.{Counts, count_data}
+use Rattle.line_model.specs.channels.Sequences.{begun, is_alike}
+use Rattle.line_model.specs.packets.Formats.{packet_fault, size_in_force, window_in_force}
+use Rattle.line_model.specs.packets.Classes.{class_of, data_header}
+use Rattle.line_model.specs.channels.ChannelStep.{heard_of, completed_message, call_change, judged, verdict, ending_open, after_error, failing, changing, entering, telling, option_found, data_alike, data_counted, data_step, counting, transferring, verdict_step, channel_step, counts_of}
 use Rattle.line_model.proofs.EventWeights.{total, total-append, heard_by, weight}
 
 -- a data packet counts once
@@ -91,7 +91,7 @@ found_none : (x : Side) (f : Option Xcode) → packets_told (option_to_list (opt
 found_none x None = refl
 found_none x (Some f) = refl
 
-telling_data : (x : Side) (p : Heard) (told : List Told) (m : Option (List ℕ)) → packets_told (telling x p told m) ≡ 1
+telling_data : (x : Side) (p : AcceptedData) (told : List Told) (m : Option (List ℕ)) → packets_told (telling x p told m) ≡ 1
 telling_data x p told None = omega arith
 telling_data x p told (Some m) =
     let f = message_fault x told m in
@@ -101,11 +101,11 @@ telling_data x p told (Some m) =
     let behind = after_none f x m in
     omega arith
 
-alike_data : (i : Interface) (x : Side) (s : StateName) (p : Heard) (v : Counts) (b : Bool) (c : Channel) → packets_told (data_alike i x s p v b c).reported ≤ 1
+alike_data : (i : Interface) (x : Side) (s : StateName) (p : AcceptedData) (v : Counts) (b : Bool) (c : Channel) → packets_told (data_alike i x s p v b c).reported ≤ 1
 alike_data i x s p v false c = let none = failing_none x s INCONSISTENT_Q_BIT_SETTING c in omega arith
 alike_data i x s p v true c = let told_is = telling_data x p c.told (completed_message i x c p) in omega arith
 
-counted_data : (i : Interface) (x : Side) (s : StateName) (p : Heard) (r : Result Counts ℕ) (c : Channel) → packets_told (data_counted i x s p r c).reported ≤ 1
+counted_data : (i : Interface) (x : Side) (s : StateName) (p : AcceptedData) (r : Result Counts ℕ) (c : Channel) → packets_told (data_counted i x s p r c).reported ≤ 1
 counted_data i x s p (Err n) c = let none = failing_none x s n c in omega arith
 counted_data i x s p (Ok v) c = alike_data i x s p v (is_alike p (begun (size_in_force i c x) x c.heard)) c
 

@@ -6,9 +6,9 @@ use Rattle.line_model.specs.declared.state.Side.{Side}
 use Rattle.line_model.specs.declared.state.Side.TheVariants.{T, N}
 use Rattle.line_model.specs.declared.finding.Xcode.{Xcode}
 use Rattle.line_model.specs.declared.finding.Xcode.TheVariants.{X3, X4}
-use Rattle.line_model.specs.Channels.{Told}
-use Rattle.line_model.specs.Formats.{or_other}
-use Rattle.line_model.specs.Pad.{form_fault, was_asked, is_indication, is_set, message_fault, is_refusable, standard_pairs}
+use Rattle.line_model.specs.channels.Channels.{Told}
+use Rattle.line_model.specs.packets.Formats.{or_other}
+use Rattle.line_model.specs.channels.Pad.{form_fault, was_asked, is_indication, is_set, message_fault, is_refusable, standard_pairs}
 use Rattle.x29_messages.specs.Codes.{octets_of}
 use Rattle.x29_messages.specs.declared.message.MessageCode.{MessageCode}
 use Rattle.x29_messages.specs.declared.message.MessageCode.TheVariants.{Indication, InvitationToClear, Set, Break, Read, Error, SetAndRead, Reselection, ReselectionWithAddress}

@@ -6,12 +6,12 @@ use Rattle.line_model.specs.declared.interface.Interface.{Interface}
 use Rattle.line_model.specs.declared.state.Side.{Side}
 use Rattle.line_model.specs.declared.state.Side.TheVariants.{T, N}
 use Rattle.line_model.specs.declared.event.Event.{Event}
-use Rattle.line_model.specs.Channels.{Channel, Heard, of_side, with_side}
-use Rattle.line_model.specs.FlowControl.{Counts, sent_by, count_data}
-use Rattle.line_model.specs.Sequences.{is_alike, begun, is_category_a, sequence_octets}
-use Rattle.line_model.specs.Formats.{window_in_force, size_in_force, is_pad_call}
-use Rattle.line_model.specs.ChannelStep.{counts_of, data_counted, data_alike, hearing, completed_message, told_after}
-use Rattle.window_check.specs.Kept.{Kept, Stands, Answers}
+use Rattle.line_model.specs.channels.Channels.{Channel, AcceptedData, of_side, with_side}
+use Rattle.line_model.specs.channels.FlowControl.{Counts, sent_by, count_data}
+use Rattle.line_model.specs.channels.Sequences.{is_alike, begun, is_category_a, sequence_octets}
+use Rattle.line_model.specs.packets.Formats.{window_in_force, size_in_force, is_pad_call}
+use Rattle.line_model.specs.channels.ChannelStep.{counts_of, data_counted, data_alike, hearing, completed_message, told_after}
+use Rattle.window_check.specs.FlowResidues.{FlowResidues, Stands, Answers}
 use Rattle.mbit_assembly.specs.Assembler as assembly
 use Rattle.channel_machine.specs.declared.events.Stamp.{Stamp}
 use Rattle.channel_machine.specs.Events.{Reports}
@@ -35,13 +35,13 @@ in_force U r i t new c x s n stands answer =
     (subst (λ m. Answers r t.flow new (count_data m (of_side x t.flow.windows) (counts_of c) x s n)) stands.modulus answer)
 
 -- a fault of the numbers
-pub refused : (U : Type 0) (e : ℕ) (i : Interface) (s : Stamp) (t : Transfer) (new : Kept) (before : List Event) (x : Side) (p : Heard) (r : Result Counts ℕ) (c : Channel) →
+pub refused : (U : Type 0) (e : ℕ) (i : Interface) (s : Stamp) (t : Transfer) (new : Kept) (before : List Event) (x : Side) (p : AcceptedData) (r : Result Counts ℕ) (c : Channel) →
     Answers {A = U} (Err e) t.flow new r → IsHeard (Some e) i s t t before before x p r c
 refused U e i s t new before x p r c answer =
     ((λ q. ap (λ a. data_counted i x q p a c) (answered_err U e t.flow new r answer).0), refl, refl)
 
 -- another Q bit
-pub mixed : {U : Type 0} (u : U) (i : Interface) (s : Stamp) (t new : Transfer) (flow : Kept) (before after : List Event) (x : Side) (p : Heard) (r : Result Counts ℕ) (c : Channel) →
+pub mixed : {U : Type 0} (u : U) (i : Interface) (s : Stamp) (t new : Transfer) (flow : Kept) (before after : List Event) (x : Side) (p : AcceptedData) (r : Result Counts ℕ) (c : Channel) →
     StandsFor i t c → Answers (Ok u) t.flow flow r → is_alike p (assembly.begun_by t.assembler x c.heard) ≡ false → new ≡ t → after ≡ before →
     IsHeard (Some INCONSISTENT_Q_BIT_SETTING) i s t new before after x p r c
 mixed u i s t new flow before after x p r c stands answer other same none =
@@ -50,7 +50,7 @@ mixed u i s t new flow before after x p r c stands answer other same none =
     ((λ q. ap (λ a. data_counted i x q p a c) is ∙ ap (λ b. data_alike i x q p v b c) unlike), same, none)
 
 -- a channel after a packet without fault
-settled : (i : Interface) (t new : Transfer) (c : Channel) (x : Side) (p : Heard) (v : Counts) (m : Option (List ℕ)) → StandsFor i t c → p.side ≡ x →
+settled : (i : Interface) (t new : Transfer) (c : Channel) (x : Side) (p : AcceptedData) (v : Counts) (m : Option (List ℕ)) → StandsFor i t c → p.side ≡ x →
     v.sent ≡ with_side x (of_side x (sent_by c.heard) + 1) (sent_by c.heard) → v.unconfirmed ≡ c.unconfirmed → Stands new.flow v →
     new.flow.modulus ≡ t.flow.modulus → new.flow.windows ≡ t.flow.windows →
     assembly.StandsFor new.assembler (c.heard ++ p ∷ []) → assembly.sizes new.assembler ≡ assembly.sizes t.assembler →
@@ -84,17 +84,17 @@ told_message false b c l h e = cc
 told_message true false c l h e = cc
 told_message true true c l h e = ap (λ d. elim d [ true ↦ None | false ↦ Some l ]) e
 
-pub going_is : (i : Interface) (t : Transfer) (c : Channel) (x : Side) (p : Heard) → StandsFor i t c →
+pub going_is : (i : Interface) (t : Transfer) (c : Channel) (x : Side) (p : AcceptedData) → StandsFor i t c →
     is_category_a (of_side x (assembly.sizes t.assembler)) p ≡ true → completed_message i x c p ≡ None
 going_is i t c x p stands a =
     going_message (is_pad_call c) p.qualified (is_category_a (size_in_force i c x) p) (sequence_octets (begun (size_in_force i c x) x c.heard ++ p ∷ []))
     (subst (λ n. is_category_a n p ≡ true) (size_is i t c x stands) a)
 
-pub untold_is : (i : Interface) (c : Channel) (x : Side) (p : Heard) → (is_pad_call c && p.qualified) ≡ false → completed_message i x c p ≡ None
+pub untold_is : (i : Interface) (c : Channel) (x : Side) (p : AcceptedData) → (is_pad_call c && p.qualified) ≡ false → completed_message i x c p ≡ None
 untold_is i c x p h =
     untold_message (is_pad_call c) p.qualified (is_category_a (size_in_force i c x) p) (sequence_octets (begun (size_in_force i c x) x c.heard ++ p ∷ [])) h
 
-pub told_is : (i : Interface) (t : Transfer) (c : Channel) (x : Side) (p : Heard) → StandsFor i t c → (is_pad_call c && p.qualified) ≡ true →
+pub told_is : (i : Interface) (t : Transfer) (c : Channel) (x : Side) (p : AcceptedData) → StandsFor i t c → (is_pad_call c && p.qualified) ≡ true →
     is_category_a (of_side x (assembly.sizes t.assembler)) p ≡ false →
     completed_message i x c p ≡ Some (sequence_octets (assembly.begun_by t.assembler x c.heard ++ p ∷ []))
 told_is i t c x p stands h a =
@@ -103,7 +103,7 @@ told_is i t c x p stands h a =
     ∙ ap (λ n. Some (sequence_octets (begun n x c.heard ++ p ∷ []))) (sym (size_is i t c x stands))
 
 -- a packet without fault, which completes a message or not
-pub accepted : {U : Type 0} (u : U) (i : Interface) (s : Stamp) (t new : Transfer) (before after : List Event) (c : Channel) (x : Side) (sn rn : ℕ) (p : Heard) (m : Option (List ℕ)) →
+pub accepted : {U : Type 0} (u : U) (i : Interface) (s : Stamp) (t new : Transfer) (before after : List Event) (c : Channel) (x : Side) (sn rn : ℕ) (p : AcceptedData) (m : Option (List ℕ)) →
     StandsFor i t c → p.side ≡ x → Answers (Ok u) t.flow new.flow (counted_in_force i x sn rn c) →
     is_alike p (assembly.begun_by t.assembler x c.heard) ≡ true → completed_message i x c p ≡ m →
     new.flow.modulus ≡ t.flow.modulus → new.flow.windows ≡ t.flow.windows →

@@ -6,9 +6,9 @@ use Rattle.std.proofs.lemmas.Bool.{cases_lt}
 use Rattle.line_model.specs.declared.state.Side.{Side}
 use Rattle.line_model.specs.declared.finding.Xcode.{Xcode}
 use Rattle.line_model.specs.declared.finding.Xcode.TheVariants.{X1, X2, X3, X4, XL}
-use Rattle.line_model.specs.Octets.{bits}
-use Rattle.line_model.specs.Channels.{Told, other}
-use Rattle.line_model.specs.Pad.{form_fault, set_told, asked, is_unknown_message, is_too_long, is_badly_formed, settings_of, settings_after, message_fault, is_indication, is_set, was_asked, is_refusable, standard_pairs, is_parameter}
+use Rattle.line_model.specs.basics.Octets.{bits}
+use Rattle.line_model.specs.channels.Channels.{Told, other}
+use Rattle.line_model.specs.channels.Pad.{form_fault, set_told, asked, is_unknown_message, is_too_long, is_badly_formed, settings_of, settings_after, message_fault, is_indication, is_set, was_asked, is_refusable, standard_pairs, is_parameter}
 use Rattle.x29_messages.specs.Codes.{octets_of}
 use Rattle.x29_messages.specs.declared.message.MessageCode.{MessageCode}
 use Rattle.x29_messages.specs.declared.message.MessageCode.TheVariants.{Indication, Set, SetAndRead}

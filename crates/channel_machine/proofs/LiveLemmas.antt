@@ -15,16 +15,16 @@ use Rattle.line_model.specs.declared.event.What.{What}
 use Rattle.line_model.specs.declared.event.What.TheVariants.{Found, Data}
 use Rattle.line_model.specs.declared.event.Event.{Event}
 use Rattle.line_model.specs.declared.finding.Finding.{Finding}
-use Rattle.line_model.specs.Records.{Row, Item, Piece}
-use Rattle.line_model.specs.Bounds.{IsPiece, IsItem, all_octets}
-use Rattle.line_model.specs.Channels.{Channel, fresh, is_open}
-use Rattle.line_model.specs.ChannelStep.{channel_step}
-use Rattle.line_model.specs.MachineEvents.{stamp}
-use Rattle.line_model.specs.Pieces.{piece_value}
-use Rattle.line_model.specs.Observer.{x25, event_of}
-use Rattle.line_model.specs.Calls.{all_lengths, segments_of}
-use Rattle.line_model.specs.Report.{findings_of}
-use Rattle.line_model.specs.Plans.{row_numbered, piece_events}
+use Rattle.line_model.specs.basics.Records.{Row, Item, Piece}
+use Rattle.line_model.specs.basics.Bounds.{IsPiece, IsItem, all_octets}
+use Rattle.line_model.specs.channels.Channels.{Channel, fresh, is_open}
+use Rattle.line_model.specs.channels.ChannelStep.{channel_step}
+use Rattle.line_model.specs.observer.MachineEvents.{stamp}
+use Rattle.line_model.specs.pieces.Pieces.{piece_value}
+use Rattle.line_model.specs.observer.Observer.{x25, event_of}
+use Rattle.line_model.specs.observer.Calls.{all_lengths, segments_of}
+use Rattle.line_model.specs.observer.Report.{findings_of}
+use Rattle.line_model.specs.pieces.Plans.{row_numbered, piece_events}
 use Rattle.line_model.specs.declared.event.How.TheVariants.{Restart}
 use Rattle.line_model.specs.declared.event.What.TheVariants.{End}
 use Rattle.line_model.proofs.EventWeights.{octets_weight, segments_weight, fewer_segments}

@@ -4,12 +4,12 @@ use Rattle.std.specs.Prelude.{IfOk}
 use Rattle.line_model.specs.declared.event.Event.{Event}
 use Rattle.line_model.specs.declared.event.What.{What}
 use Rattle.line_model.specs.declared.fault.Fault.{Fault}
-use Rattle.line_model.specs.Records.{Row}
-use Rattle.line_model.specs.MachineEvents.{stamp}
-use Rattle.line_model.specs.Observer.{event_of}
+use Rattle.line_model.specs.basics.Records.{Row}
+use Rattle.line_model.specs.observer.MachineEvents.{stamp}
+use Rattle.line_model.specs.observer.Observer.{event_of}
 use Rattle.channel_machine.specs.declared.events.Stamp.{Stamp}
-use Rattle.line_model.specs.Channels.{Channel}
-use Rattle.line_model.specs.ChannelStep.{channel_step, Outcome}
+use Rattle.line_model.specs.channels.Channels.{Channel}
+use Rattle.line_model.specs.channels.ChannelStep.{channel_step, Outcome}
 use Rattle.line_model.specs.declared.interface.Interface.{Interface}
 use Rattle.channel_machine.specs.Events.{stamped}
 use Rattle.channel_machine.specs.Reached.{IsReached}

@@ -1,8 +1,8 @@
 -- The fields of a status in a word.
 use Rattle.std.proofs.Common.{◌≡◌, ◌<◌, ◌+◌, ◌-◌, ◌*◌, ◌/◌, ◌%◌, ◌^◌, ◌==◌, ℕ, Bool, true, false, refl, sym, ◌∙◌, ap, subst, arith, Option}
 use mir.Val.{bool_byte}
-use Rattle.line_model.specs.Channels.{Sides}
-use Rattle.window_check.specs.Kept.{Kept}
+use Rattle.line_model.specs.channels.Channels.{Sides}
+use Rattle.window_check.specs.FlowResidues.{FlowResidues}
 use Rattle.line_model.specs.declared.interface.Interface.{Interface}
 use Rattle.line_model.specs.declared.state.ChannelState.{ChannelState}
 use Rattle.window_check.specs.Packed.{Packed}

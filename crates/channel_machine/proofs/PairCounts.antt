@@ -2,7 +2,7 @@
 use Rattle.std.proofs.Common.{◌≡◌, ◌≤◌, ◌+◌, ℕ, Bool, true, false, cond, arith, ap, List, [], ◌∷◌, length}
 use Rattle.std.specs.Prelude.{not, take_while}
 use Rattle.std.proofs.lemmas.List.Sums.{take_while-cons}
-use Rattle.line_model.specs.Pad.{Pair, pairs_of, is_separator}
+use Rattle.line_model.specs.channels.Pad.{Pair, pairs_of, is_separator}
 use Rattle.x29_messages.specs.Pairs.{pairs_before}
 
 -- two octets a pair

@@ -16,17 +16,17 @@ use Rattle.line_model.specs.declared.verdict.CallChange.{CallChange}
 use Rattle.line_model.specs.declared.verdict.CallChange.TheVariants.{Opens, GoesUp, Ends, Keeps}
 use Rattle.line_model.specs.declared.verdict.Verdict.{Verdict}
 use Rattle.line_model.specs.declared.verdict.Verdict.TheVariants.{Fails, Moves, Transfers, EndsOwed, Nothing}
-use Rattle.line_model.specs.Records.{Row}
-use Rattle.line_model.specs.Channels.{Channel, Opening, Heard, fresh, fresh_state, is_joined, is_permanent, channel_in}
-use Rattle.line_model.specs.FlowControl.{Counts}
-use Rattle.line_model.specs.Classes.{class_of, data_header}
-use Rattle.line_model.specs.Formats.{packet_fault}
-use Rattle.line_model.specs.Sequences.{is_alike, begun}
-use Rattle.line_model.specs.Formats.{size_in_force, window_in_force}
-use Rattle.line_model.specs.FlowControl.{count_data, count_receive, count_interrupt, count_confirm}
-use Rattle.line_model.specs.ChannelStep.{judged, verdict, verdict_step, channel_step, moving, changing, entering, ending, ending_open, opening, failing, after_error, transferring, data_step, data_counted, data_alike, counting, counts_of, heard_of, call_change, state_named}
+use Rattle.line_model.specs.basics.Records.{Row}
+use Rattle.line_model.specs.channels.Channels.{Channel, Opening, AcceptedData, fresh, fresh_state, is_joined, is_permanent, channel_in}
+use Rattle.line_model.specs.channels.FlowControl.{Counts}
+use Rattle.line_model.specs.packets.Classes.{class_of, data_header}
+use Rattle.line_model.specs.packets.Formats.{packet_fault}
+use Rattle.line_model.specs.channels.Sequences.{is_alike, begun}
+use Rattle.line_model.specs.packets.Formats.{size_in_force, window_in_force}
+use Rattle.line_model.specs.channels.FlowControl.{count_data, count_receive, count_interrupt, count_confirm}
+use Rattle.line_model.specs.channels.ChannelStep.{judged, verdict, verdict_step, channel_step, moving, changing, entering, ending, ending_open, opening, failing, after_error, transferring, data_step, data_counted, data_alike, counting, counts_of, heard_of, call_change, state_named}
 use Rattle.channel_machine.specs.Reached.{IsReached, IsUnanswered, IsFrom, is_from, is_waiting}
-use Rattle.line_model.specs.Classes.{receive_number}
+use Rattle.line_model.specs.packets.Classes.{receive_number}
 use Rattle.channel_machine.proofs.Carried.{from_of}
 use Rattle.channel_machine.proofs.Calls.{bare_after}
 
@@ -120,11 +120,11 @@ counts_alone : (x : Side) (s : StateName) (a : Result Counts ℕ) (c : Channel) 
 counts_alone x s (Err n) c r = failed x s n c r
 counts_alone x s (Ok v) c r = same c (counting x s (Ok v) c).after refl refl refl r
 
-alike_by : (i : Interface) (x : Side) (s : StateName) (p : Heard) (v : Counts) (b : Bool) (c : Channel) → IsReached c → IsReached (data_alike i x s p v b c).after
+alike_by : (i : Interface) (x : Side) (s : StateName) (p : AcceptedData) (v : Counts) (b : Bool) (c : Channel) → IsReached c → IsReached (data_alike i x s p v b c).after
 alike_by i x s p v false c r = failed x s INCONSISTENT_Q_BIT_SETTING c r
 alike_by i x s p v true c r = same c (data_alike i x s p v true c).after refl refl refl r
 
-counted_by : (i : Interface) (x : Side) (s : StateName) (p : Heard) (a : Result Counts ℕ) (c : Channel) → IsReached c → IsReached (data_counted i x s p a c).after
+counted_by : (i : Interface) (x : Side) (s : StateName) (p : AcceptedData) (a : Result Counts ℕ) (c : Channel) → IsReached c → IsReached (data_counted i x s p a c).after
 counted_by i x s p (Err n) c r = failed x s n c r
 counted_by i x s p (Ok v) c r = alike_by i x s p v (is_alike p (begun (size_in_force i c x) x c.heard)) c r
 

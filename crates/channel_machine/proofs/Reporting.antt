@@ -3,7 +3,7 @@ use Rattle.std.proofs.Common.{◌≡◌, refl, sym, ◌∙◌, ap, subst, List, 
 use Rattle.std.specs.Prelude.{map, flat_map}
 use Rattle.line_model.specs.declared.event.Event.{Event}
 use Rattle.line_model.specs.declared.event.What.{What}
-use Rattle.line_model.specs.Pad.{Pair}
+use Rattle.line_model.specs.channels.Pad.{Pair}
 use Rattle.channel_machine.specs.declared.events.Stamp.{Stamp}
 use Rattle.channel_machine.specs.Events.{stamped, Reports}
 

@@ -2,8 +2,8 @@
 use Rattle.std.proofs.Common.{◌≡◌, ℕ, true, false, ◌∙◌, ap, List}
 use Rattle.std.specs.Prelude.{flat_map}
 use Rattle.line_model.specs.declared.state.Side.{Side}
-use Rattle.line_model.specs.Octets.{bits}
-use Rattle.line_model.specs.Pad.{Pair, is_parameter, indicated, asked}
+use Rattle.line_model.specs.basics.Octets.{bits}
+use Rattle.line_model.specs.channels.Pad.{Pair, is_parameter, indicated, asked}
 use Rattle.x29_messages.specs.Pairs.{pairs_before}
 use Rattle.x3_parameters.specs.Effects.{indicated_one, asked_one, all_indicated, all_asked}
 use Rattle.x3_parameters.proofs.Walked.{passed}

@@ -6,12 +6,12 @@ use Rattle.line_model.specs.declared.packet.Class.{Class}
 use Rattle.line_model.specs.declared.packet.Class.TheVariants.{Call, Accepted}
 use Rattle.line_model.specs.declared.state.Side.{Side}
 use Rattle.line_model.specs.declared.state.StateName.{StateName}
-use Rattle.line_model.specs.Facilities.{accepted_fault}
-use Rattle.line_model.specs.Formats.{format_fault, packet_fault, direction_fault, or_other, was_fast}
-use Rattle.line_model.specs.Records.{Row}
-use Rattle.line_model.specs.Classes.{class_of}
-use Rattle.line_model.specs.ChannelStep.{Judged, judged, verdict, verdict_step, channel_step}
-use Rattle.line_model.specs.Channels.{Channel, is_permanent}
+use Rattle.line_model.specs.packets.Facilities.{accepted_fault}
+use Rattle.line_model.specs.packets.Formats.{format_fault, packet_fault, direction_fault, or_other, was_fast}
+use Rattle.line_model.specs.basics.Records.{Row}
+use Rattle.line_model.specs.packets.Classes.{class_of}
+use Rattle.line_model.specs.channels.ChannelStep.{Judged, judged, verdict, verdict_step, channel_step}
+use Rattle.line_model.specs.channels.Channels.{Channel, is_permanent}
 use Rattle.packet_decode.specs.CallFaults.{fault_by_class}
 use Rattle.channel_machine.specs.Decisions.{IsDecided, IsUnfaulted}
 use Rattle.line_model.specs.declared.verdict.Verdict.{Verdict}

@@ -8,10 +8,10 @@ use Rattle.line_model.specs.declared.packet.DataHeader.{DataHeader}
 use Rattle.line_model.specs.declared.packet.Class.TheVariants.{Data}
 use Rattle.line_model.specs.declared.state.Side.{Side}
 use Rattle.line_model.specs.declared.state.StateName.{StateName}
-use Rattle.line_model.specs.Channels.{Channel}
-use Rattle.line_model.specs.Classes.{data_header}
-use Rattle.line_model.specs.FlowControl.{Counts}
-use Rattle.line_model.specs.ChannelStep.{Outcome, counting, data_step, heard_of, hearing, transferring}
+use Rattle.line_model.specs.channels.Channels.{Channel}
+use Rattle.line_model.specs.packets.Classes.{data_header}
+use Rattle.line_model.specs.channels.FlowControl.{Counts}
+use Rattle.line_model.specs.channels.ChannelStep.{Outcome, counting, data_step, heard_of, hearing, transferring}
 use Rattle.channel_machine.specs.declared.events.Stamp.{Stamp}
 use Rattle.channel_machine.specs.Transfers.{Transfer, StandsFor, IsHeard, counted_in_force, packet}
 use Rattle.channel_machine.specs.Channels.{Known, Stands, Does}

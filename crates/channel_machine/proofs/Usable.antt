@@ -3,7 +3,7 @@ use Rattle.std.proofs.Common.{◌≡◌, ◌≤◌, ◌<◌, ℕ, Bool, true, fa
 use Rattle.std.specs.Prelude.{IfSome, IsTrue, ◌&&◌, ◌==◌}
 use Rattle.std.specs.List.{list_any}
 use Rattle.line_model.specs.declared.interface.Interface.{Interface}
-use Rattle.line_model.specs.Limits.{is_numbering, is_channels, packet_sizes}
+use Rattle.line_model.specs.basics.Limits.{is_numbering, is_channels, packet_sizes}
 use Rattle.packet_decode.specs.Shown.{IsPacketSize}
 use Rattle.channel_machine.specs.declared.terms.Values.{Values}
 use Rattle.channel_machine.specs.Terms.{AreUsable, IsBelow}

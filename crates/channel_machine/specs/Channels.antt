@@ -7,9 +7,9 @@ use Rattle.line_model.specs.declared.packet.Class.{Class}
 use Rattle.line_model.specs.declared.packet.Class.TheVariants.{Call, Accepted}
 use Rattle.line_model.specs.declared.verdict.CallChange.{CallChange}
 use Rattle.line_model.specs.declared.verdict.CallChange.TheVariants.{Opens, GoesUp}
-use Rattle.line_model.specs.ChannelStep.{Outcome}
-use Rattle.line_model.specs.Channels.{Channel}
-use Rattle.mbit_assembly.specs.Kept.{Assembly}
+use Rattle.line_model.specs.channels.ChannelStep.{Outcome}
+use Rattle.line_model.specs.channels.Channels.{Channel}
+use Rattle.mbit_assembly.specs.Sequences.{Assembly}
 use Rattle.channel_machine.specs.declared.messages.BothSettings.{BothSettings}
 use Rattle.channel_machine.specs.declared.events.Stamp.{Stamp}
 use Rattle.channel_machine.specs.Events.{Reports}

@@ -1,10 +1,10 @@
 -- What is counted of a channel in an epoch.
 use Rattle.std.specs.Prelude.{◌≡◌, ℕ, List, sum}
 use Rattle.line_model.specs.declared.event.Event.{Event}
-use Rattle.line_model.specs.Records.{PieceReport}
-use Rattle.line_model.specs.Bounds.{IsPieceReport}
-use Rattle.line_model.specs.Calls.{calls_of, all_lengths, segments_of}
-use Rattle.line_model.specs.Report.{findings_of}
+use Rattle.line_model.specs.basics.Records.{PieceReport}
+use Rattle.line_model.specs.basics.Bounds.{IsPieceReport}
+use Rattle.line_model.specs.observer.Calls.{calls_of, all_lengths, segments_of}
+use Rattle.line_model.specs.observer.Report.{findings_of}
 use Rattle.call_accounts.specs.SoFar as so_far
 use Rattle.channel_machine.specs.declared.counted.Counted.{Counted}
 

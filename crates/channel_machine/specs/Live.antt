@@ -1,11 +1,11 @@
 -- A channel that takes its rows as they come.
 use Rattle.std.specs.Prelude.{◌≡◌, ℕ, ◌++◌, List, [], ◌∷◌, None}
 use Rattle.line_model.specs.declared.interface.Interface.{Interface}
-use Rattle.line_model.specs.Records.{Item, Piece}
-use Rattle.line_model.specs.Bounds.{IsPiece}
-use Rattle.line_model.specs.Channels.{Channel, fresh}
-use Rattle.line_model.specs.ChannelStep.{channel_step}
-use Rattle.line_model.specs.Plans.{piece_events}
+use Rattle.line_model.specs.basics.Records.{Item, Piece}
+use Rattle.line_model.specs.basics.Bounds.{IsPiece}
+use Rattle.line_model.specs.channels.Channels.{Channel, fresh}
+use Rattle.line_model.specs.channels.ChannelStep.{channel_step}
+use Rattle.line_model.specs.pieces.Plans.{piece_events}
 use Rattle.channel_machine.specs.Counted.{Counts}
 use Rattle.channel_machine.specs.declared.live.LiveChannel.{LiveChannel}
 

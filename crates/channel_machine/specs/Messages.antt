@@ -4,9 +4,9 @@ use Rattle.line_model.specs.declared.state.Side.{Side}
 use Rattle.line_model.specs.declared.state.Side.TheVariants.{T, N}
 use Rattle.line_model.specs.declared.event.What.{What}
 use Rattle.line_model.specs.declared.event.What.TheVariants.{Data}
-use Rattle.line_model.specs.ChannelStep.{option_found}
-use Rattle.line_model.specs.Pad.{message_fault, settings_after}
-use Rattle.line_model.specs.Channels.{Told}
+use Rattle.line_model.specs.channels.ChannelStep.{option_found}
+use Rattle.line_model.specs.channels.Pad.{message_fault, settings_after}
+use Rattle.line_model.specs.channels.Channels.{Told}
 use Rattle.x3_parameters.specs.Stands as settings
 use Rattle.channel_machine.specs.declared.messages.BothSettings.{BothSettings}
 

@@ -10,8 +10,8 @@ use Rattle.line_model.specs.declared.verdict.CallChange.{CallChange}
 use Rattle.line_model.specs.declared.verdict.CallChange.TheVariants.{Opens, GoesUp, Ends, Keeps}
 use Rattle.line_model.specs.declared.verdict.Verdict.{Verdict}
 use Rattle.line_model.specs.declared.verdict.Verdict.TheVariants.{Moves}
-use Rattle.line_model.specs.ChannelStep.{state_named, call_change}
-use Rattle.line_model.specs.Channels.{Channel}
+use Rattle.line_model.specs.channels.ChannelStep.{state_named, call_change}
+use Rattle.line_model.specs.channels.Channels.{Channel}
 
 -- the states in which a call was asked for and not answered yet
 abbrev pub is_waiting : ChannelState → Bool

@@ -2,12 +2,12 @@
 use Rattle.std.specs.Prelude.{ℕ, Bool, List, [], Option, Some, None, map}
 use Rattle.line_model.specs.declared.interface.Interface.{Interface}
 use Rattle.line_model.specs.declared.event.Event.{Event}
-use Rattle.line_model.specs.Records.{Row}
-use Rattle.line_model.specs.Channels.{Channel}
-use Rattle.line_model.specs.ChannelStep.{channel_step}
-use Rattle.line_model.specs.MachineEvents.{stamp}
-use Rattle.line_model.specs.Observer.{event_of, restart_end_if}
-use Rattle.line_model.specs.Plans.{row_numbered}
+use Rattle.line_model.specs.basics.Records.{Row}
+use Rattle.line_model.specs.channels.Channels.{Channel}
+use Rattle.line_model.specs.channels.ChannelStep.{channel_step}
+use Rattle.line_model.specs.observer.MachineEvents.{stamp}
+use Rattle.line_model.specs.observer.Observer.{event_of, restart_end_if}
+use Rattle.line_model.specs.pieces.Plans.{row_numbered}
 
 -- the events of a row on a channel in an epoch
 abbrev pub row_events : Interface → (epoch channel : ℕ) → Channel → Row → List Event

@@ -1,9 +1,9 @@
 -- What is known of a channel beside its sequences and its settings.
 use Rattle.std.specs.Prelude.{Bool, ◌≡◌, OnErr, Result, ℕ}
 use Rattle.line_model.specs.declared.state.ChannelState.{ChannelState}
-use Rattle.line_model.specs.Channels.{Sides}
-use Rattle.line_model.specs.FlowControl.{no_counts}
-use Rattle.window_check.specs.Kept.{Kept, Stands}
+use Rattle.line_model.specs.channels.Channels.{Sides}
+use Rattle.line_model.specs.channels.FlowControl.{no_counts}
+use Rattle.window_check.specs.FlowResidues.{FlowResidues, Stands}
 use Rattle.channel_machine.specs.TermsStand.{Agreed}
 
 -- the state, whether an indication is owed, what was agreed, and the windows and interrupts

@@ -4,10 +4,10 @@ use Rattle.std.specs.Option.{option_map_or}
 use Rattle.line_model.specs.declared.interface.Interface.{Interface}
 use Rattle.line_model.specs.declared.state.Side.{Side}
 use Rattle.line_model.specs.declared.state.Side.TheVariants.{T, N}
-use Rattle.line_model.specs.Octets.{octet}
-use Rattle.line_model.specs.Facilities.{fields_of}
-use Rattle.line_model.specs.Formats.{for_side, size_in_force, window_in_force}
-use Rattle.line_model.specs.Channels.{Channel, Opening}
+use Rattle.line_model.specs.basics.Octets.{octet}
+use Rattle.line_model.specs.packets.Facilities.{fields_of}
+use Rattle.line_model.specs.packets.Formats.{for_side, size_in_force, window_in_force}
+use Rattle.line_model.specs.channels.Channels.{Channel, Opening}
 use Rattle.channel_machine.specs.declared.terms.Opened.{Opened}
 use Rattle.channel_machine.specs.declared.terms.Values.{Values}
 

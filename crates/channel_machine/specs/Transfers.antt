@@ -6,12 +6,12 @@ use Rattle.line_model.specs.declared.state.StateName.{StateName}
 use Rattle.line_model.specs.declared.interface.Interface.{Interface}
 use Rattle.line_model.specs.declared.packet.DataHeader.{DataHeader}
 use Rattle.line_model.specs.declared.event.Event.{Event}
-use Rattle.line_model.specs.Channels.{Channel, Heard}
-use Rattle.line_model.specs.FlowControl.{Counts, count_data}
-use Rattle.line_model.specs.Formats.{window_in_force, size_in_force}
-use Rattle.line_model.specs.ChannelStep.{counts_of, data_counted, failing, hearing}
-use Rattle.window_check.specs.Kept.{Kept, Stands}
-use Rattle.mbit_assembly.specs.Kept.{Assembly}
+use Rattle.line_model.specs.channels.Channels.{Channel, AcceptedData}
+use Rattle.line_model.specs.channels.FlowControl.{Counts, count_data}
+use Rattle.line_model.specs.packets.Formats.{window_in_force, size_in_force}
+use Rattle.line_model.specs.channels.ChannelStep.{counts_of, data_counted, failing, hearing}
+use Rattle.window_check.specs.FlowResidues.{FlowResidues, Stands}
+use Rattle.mbit_assembly.specs.Sequences.{Assembly}
 use Rattle.mbit_assembly.specs.Assembler as assembly
 use Rattle.channel_machine.specs.declared.messages.BothSettings.{BothSettings}
 use Rattle.channel_machine.specs.Messages.{SettingsStand}
@@ -46,12 +46,12 @@ abbrev pub counted_in_force : Interface → Side → (send receive : ℕ) → Ch
 counted_in_force i x s n c = count_data i.modulus (window_in_force i c x) (counts_of c) x s n
 
 -- the data packet of a header
-abbrev pub packet : Side → DataHeader → List ℕ → Heard
+abbrev pub packet : Side → DataHeader → List ℕ → AcceptedData
 packet x h octets = record { side = x; qualified = h.qualified; more = h.more; delivery = h.delivery; octets = octets }
 
 -- what a data packet does, by the answer of its counts: a fault is told and changes nothing
 abbrev pub IsHeard : Option ℕ → Interface → Stamp → (old new : Transfer) → (before after : List Event) →
-    Side → Heard → Result Counts ℕ → Channel → Type 0
+    Side → AcceptedData → Result Counts ℕ → Channel → Type 0
 IsHeard (Some n) i s old new before after x p r c =
     ((t : StateName) → data_counted i x t p r c ≡ failing x t n c) × (new ≡ old) × (after ≡ before)
 IsHeard None i s old new before after x p r c =

@@ -2,10 +2,10 @@
 use Rattle.std.specs.Prelude.{◌≡◌, option_map}
 use Rattle.line_model.specs.declared.interface.Interface.{Interface}
 use Rattle.line_model.specs.declared.state.Side.TheVariants.{T, N}
-use Rattle.line_model.specs.Channels.{Channel}
-use Rattle.line_model.specs.ChannelStep.{counts_of}
-use Rattle.line_model.specs.Formats.{size_in_force}
-use Rattle.window_check.specs.Kept.{Stands}
+use Rattle.line_model.specs.channels.Channels.{Channel}
+use Rattle.line_model.specs.channels.ChannelStep.{counts_of}
+use Rattle.line_model.specs.packets.Formats.{size_in_force}
+use Rattle.window_check.specs.FlowResidues.{Stands}
 use Rattle.channel_machine.specs.TermsStand.{is_fast, is_pad, opened_of}
 use Rattle.channel_machine.specs.declared.run.View.{View}
 

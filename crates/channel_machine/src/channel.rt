@@ -2,8 +2,8 @@
 
 ghost use Rattle.std.specs.Prelude.{◌≡◌, ◌+◌, ◌<◌, ◌≤◌, vec_len, vec_capacity, IfOk, IfErr, OnErr};
 ghost use Rattle.line_model.specs.declared.fault.Fault.TheVariants.{Memory};
-ghost use Rattle.line_model.specs.Channels.{Channel};
-ghost use Rattle.line_model.specs.ChannelStep.{entering, ending, failing, after_error};
+ghost use Rattle.line_model.specs.channels.Channels.{Channel};
+ghost use Rattle.line_model.specs.channels.ChannelStep.{entering, ending, failing, after_error};
 ghost use Rattle.channel_machine.specs.Messages.{SettingsStand};
 ghost use Rattle.channel_machine.specs.Agreed.{agreed_of};
 ghost use Rattle.channel_machine.specs.TermsStand.{TermsStand};
@@ -65,19 +65,19 @@ impl<A: Allocator + Clone, S: StatusStore> StatusChannel<A, S> {
         how: How,
         to: StateName,
         owed: bool,
-        report: &mut Vec<Event, A>,
+        events: &mut Vec<Event, A>,
     )
-        requires room { vec_len report.old < vec_capacity report.old }
+        requires room { vec_len events.old < vec_capacity events.old }
         ensures interface { self.new.terms.interface ≡ self.old.terms.interface }
-        ensures capacity { vec_capacity report.new ≡ vec_capacity report.old }
-        ensures len { vec_len report.new ≤ vec_len report.old + 1 }
-        ensures does { (c : Channel) → Stands self.old c → Does stamp self.old self.new report.old.items report.new.items (ending how (entering to owed c)) }
+        ensures capacity { vec_capacity events.new ≡ vec_capacity events.old }
+        ensures len { vec_len events.new ≤ vec_len events.old + 1 }
+        ensures does { (c : Channel) → Stands self.old c → Does stamp self.old self.new events.old.items events.new.items (ending how (entering to owed c)) }
     {
         let terms = self.status.terms();
         match terms.call {
             None => self.enter(to, owed, &terms),
             Some(_) => {
-                report.push_reserved(stamp.event(What::End(how)));
+                events.push_reserved(stamp.event(What::End(how)));
                 self.settings = BothSettings::new();
                 self.enter(to, owed, &Terms::new(terms.interface));
             }
@@ -91,32 +91,32 @@ impl<A: Allocator + Clone, S: StatusStore> StatusChannel<A, S> {
         side: Side,
         state: StateName,
         code: u8,
-        report: &mut Vec<Event, A>,
+        events: &mut Vec<Event, A>,
     ) -> Result<(), Fault>
-        ensures does { (c : Channel) → Stands self.old c → IfOk result (λ _. Does stamp self.old self.new report.old.items report.new.items (failing side state code c)) }
-        ensures unchanged { OnErr result ((self.new ≡ self.old) × (report.new.items ≡ report.old.items)) }
+        ensures does { (c : Channel) → Stands self.old c → IfOk result (λ _. Does stamp self.old self.new events.old.items events.new.items (failing side state code c)) }
+        ensures unchanged { OnErr result ((self.new ≡ self.old) × (events.new.items ≡ events.old.items)) }
         ensures memory { IfErr result (λ fault. fault ≡ Memory) }
     {
-        report.reserve(2)?;
-        report.push_reserved(stamp.event(error(side, state, code)));
+        events.reserve(2)?;
+        events.push_reserved(stamp.event(error(side, state, code)));
         match side {
-            Side::T => self.give_up(stamp, state, report),
+            Side::T => self.give_up(stamp, state, events),
             Side::N => {}
         }
         Ok(())
     }
 
     /// Has the DCE clear or reset after an error of the DTE.
-    fn give_up(&mut self, stamp: Stamp, state: StateName, report: &mut Vec<Event, A>)
-        requires room { vec_len report.old < vec_capacity report.old }
-        ensures { (c : Channel) → Stands self.old c → Does stamp self.old self.new report.old.items report.new.items (after_error state c) }
+    fn give_up(&mut self, stamp: Stamp, state: StateName, events: &mut Vec<Event, A>)
+        requires room { vec_len events.old < vec_capacity events.old }
+        ensures { (c : Channel) → Stands self.old c → Does stamp self.old self.new events.old.items events.new.items (after_error state c) }
     {
         let terms = self.status.terms();
         match state {
             StateName::D1 => self.enter(StateName::D3, true, &terms),
             StateName::D2 => self.enter(StateName::D3, true, &terms),
             StateName::D3 => self.enter(StateName::D3, true, &terms),
-            _ => self.end(stamp, How::N, StateName::P7, true, report),
+            _ => self.end(stamp, How::N, StateName::P7, true, events),
         }
     }
 }

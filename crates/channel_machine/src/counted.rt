@@ -4,8 +4,8 @@ ghost use Rattle.std.specs.Prelude.{◌≡◌, ℕ, List, [], ◌∷◌, ◌++�
 ghost use Rattle.std.specs.List.{AllByRecursion};
 ghost use Rattle.line_model.specs.declared.event.Event.{Event};
 ghost use Rattle.line_model.specs.declared.fault.Fault.TheVariants.{Memory};
-ghost use Rattle.line_model.specs.Calls.{all_lengths, segments_of};
-ghost use Rattle.line_model.specs.Report.{findings_of};
+ghost use Rattle.line_model.specs.observer.Calls.{all_lengths, segments_of};
+ghost use Rattle.line_model.specs.observer.Report.{findings_of};
 ghost use Rattle.call_accounts.specs.Counted.{IsCountable};
 ghost use Rattle.call_accounts.specs.SoFar.{IsOf};
 ghost use Rattle.channel_machine.specs.Counted.{Counts, worth, IsWithin};

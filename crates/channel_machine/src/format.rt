@@ -1,11 +1,11 @@
 //! The header, the user data and the faults of the packets of a channel (X.25 clause 5).
 
 ghost use Rattle.std.specs.Prelude.{◌^◌, ◌≡◌, ◌+◌, ◌*◌, ◌<◌, ◌≤◌, [], ◌∷◌, nat_lt, length, drop, unwrap_or, Some, None};
-ghost use Rattle.line_model.specs.Channels.{Channel};
-ghost use Rattle.line_model.specs.Octets.{octet};
-ghost use Rattle.line_model.specs.Choice.{first_fault};
-ghost use Rattle.line_model.specs.Classes.{class_of, header_length};
-ghost use Rattle.line_model.specs.Formats.{format_fault, direction_fault, packet_fault};
+ghost use Rattle.line_model.specs.channels.Channels.{Channel};
+ghost use Rattle.line_model.specs.basics.Octets.{octet};
+ghost use Rattle.line_model.specs.basics.Choice.{first_fault};
+ghost use Rattle.line_model.specs.packets.Classes.{class_of, header_length};
+ghost use Rattle.line_model.specs.packets.Formats.{format_fault, direction_fault, packet_fault};
 ghost use Rattle.packet_decode.specs.CallFaults.{IsCallPacket, fault_by_class};
 ghost use Rattle.channel_machine.specs.Decisions.{header_in, receive_in};
 ghost use Rattle.channel_machine.specs.Channels.{Stands};

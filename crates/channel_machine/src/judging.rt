@@ -1,8 +1,8 @@
 //! What a packet comes to on its channel, by the state tables and its fault of format.
 
 ghost use Rattle.std.specs.Prelude.{◌≡◌};
-ghost use Rattle.line_model.specs.Tables.{action};
-ghost use Rattle.line_model.specs.ChannelStep.{judged, verdict, joining, is_reset, is_call_or_clear};
+ghost use Rattle.line_model.specs.channels.Tables.{action};
+ghost use Rattle.line_model.specs.channels.ChannelStep.{judged, verdict, joining, is_reset, is_call_or_clear};
 
 use line_model::packet::Class;
 use line_model::state::{ChannelState, Side, StateName};
@@ -79,7 +79,7 @@ fn is_call_or_clear(class: Class) -> bool
 }
 
 /// What a packet comes to, by the entry and the fault of its format.
-pub(crate) fn weigh(state: StateName, entry: Action, fault: Option<u8>) -> Verdict
+pub(crate) fn verdict_of(state: StateName, entry: Action, fault: Option<u8>) -> Verdict
     ensures { result ≡ verdict (record { state = state; entry = entry }) fault }
 {
     match entry {

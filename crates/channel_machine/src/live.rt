@@ -2,10 +2,10 @@
 
 ghost use Rattle.std.specs.Prelude.{◌≡◌, ℕ, List, [], ◌∷◌, ◌++◌, None, option_to_list, IfOk, IfErr, OnOk};
 ghost use Rattle.line_model.specs.declared.fault.Fault.TheVariants.{Memory};
-ghost use Rattle.line_model.specs.Records.{Piece};
-ghost use Rattle.line_model.specs.Bounds.{IsPiece};
-ghost use Rattle.line_model.specs.Plans.{piece_events, value};
-ghost use Rattle.line_model.specs.Report.{findings_of};
+ghost use Rattle.line_model.specs.basics.Records.{Piece};
+ghost use Rattle.line_model.specs.basics.Bounds.{IsPiece};
+ghost use Rattle.line_model.specs.pieces.Plans.{piece_events, value};
+ghost use Rattle.line_model.specs.observer.Report.{findings_of};
 ghost use Rattle.channel_machine.specs.Counted.{Counts};
 ghost use Rattle.channel_machine.specs.Live.{StandsFor, channel_so_far, so_far, with_item};
 ghost use Rattle.channel_machine.specs.Run.{row_events};

@@ -1,9 +1,9 @@
 //! PAD messages on a channel: their findings, and what they tell of the settings.
 
 ghost use Rattle.std.specs.Prelude.{◌≡◌, ◌+◌, ◌<◌, ◌≤◌, ◌++◌, ◌∷◌, [], List, ℕ, length, take, option_to_list, flat_map, vec_len, vec_capacity};
-ghost use Rattle.line_model.specs.Channels.{Told};
-ghost use Rattle.line_model.specs.Pad.{is_parameter, settings_of, settings_after, message_fault};
-ghost use Rattle.line_model.specs.ChannelStep.{option_found, telling};
+ghost use Rattle.line_model.specs.channels.Channels.{Told};
+ghost use Rattle.line_model.specs.channels.Pad.{is_parameter, settings_of, settings_after, message_fault};
+ghost use Rattle.line_model.specs.channels.ChannelStep.{option_found, telling};
 ghost use Rattle.x29_messages.specs.Codes.{octets_of};
 ghost use Rattle.x29_messages.specs.Pairs.{shown};
 ghost use Rattle.x3_parameters.specs.Effects.{indicated_one, asked_one};
@@ -50,18 +50,18 @@ impl BothSettings {
         from: Side,
         octets: &[u8],
         size: u32,
-        report: &mut Vec<Event, A>,
+        events: &mut Vec<Event, A>,
     )
-        requires room { vec_len report.old + 514 ≤ vec_capacity report.old }
-        ensures reports { (m : List ℕ) (ts : List Told) → octets.now ≡ take 1025 m → SettingsStand self.old ts → Reports stamp report.old.items report.new.items (told_reports from size ts m) }
+        requires room { vec_len events.old + 514 ≤ vec_capacity events.old }
+        ensures reports { (m : List ℕ) (ts : List Told) → octets.now ≡ take 1025 m → SettingsStand self.old ts → Reports stamp events.old.items events.new.items (told_reports from size ts m) }
         ensures stands { (m : List ℕ) (ts : List Told) → octets.now ≡ take 1025 m → SettingsStand self.old ts → SettingsStand self.new (ts ++ record { from = from; message = m } ∷ []) }
     {
         match read_message(octets) {
             Err(fault) => {
-                report_fault(stamp, from, Some(fault), report);
-                report.push_reserved(stamp.event(heard(from, size)));
+                report_fault(stamp, from, Some(fault), events);
+                events.push_reserved(stamp.event(heard(from, size)));
             }
-            Ok(message) => self.take(stamp, from, &message, size, report),
+            Ok(message) => self.take(stamp, from, &message, size, events),
         }
     }
 
@@ -72,17 +72,17 @@ impl BothSettings {
         from: Side,
         message: &Message<'_>,
         size: u32,
-        report: &mut Vec<Event, A>,
+        events: &mut Vec<Event, A>,
     )
-        requires room { vec_len report.old + 514 ≤ vec_capacity report.old }
+        requires room { vec_len events.old + 514 ≤ vec_capacity events.old }
         requires short { length message.now.pairs.now < 1024 }
-        ensures reports { (ts : List Told) → SettingsStand self.old ts → Reports stamp report.old.items report.new.items (told_reports from size ts (told from message.now).message) }
+        ensures reports { (ts : List Told) → SettingsStand self.old ts → Reports stamp events.old.items events.new.items (told_reports from size ts (told from message.now).message) }
         ensures stands { (ts : List Told) → SettingsStand self.old ts → SettingsStand self.new (ts ++ told from message.now ∷ []) }
     {
         let fault = self.read(from, message);
-        report_fault(stamp, from, fault, report);
-        report.push_reserved(stamp.event(heard(from, size)));
-        report_after(stamp, from, fault, message, report);
+        report_fault(stamp, from, fault, events);
+        events.push_reserved(stamp.event(heard(from, size)));
+        report_after(stamp, from, fault, message, events);
     }
 
     /// Hands a message to the settings of both PADs, and tells its fault.
@@ -112,15 +112,15 @@ fn report_fault<A: Allocator>(
     stamp: Stamp,
     from: Side,
     fault: Option<Xcode>,
-    report: &mut Vec<Event, A>,
+    events: &mut Vec<Event, A>,
 )
-    requires room { vec_len report.old < vec_capacity report.old }
-    ensures reports { Reports stamp report.old.items report.new.items (option_to_list (option_found from fault)) }
-    ensures capacity { vec_capacity report.new ≡ vec_capacity report.old }
-    ensures len { vec_len report.new ≤ vec_len report.old + 1 }
+    requires room { vec_len events.old < vec_capacity events.old }
+    ensures reports { Reports stamp events.old.items events.new.items (option_to_list (option_found from fault)) }
+    ensures capacity { vec_capacity events.new ≡ vec_capacity events.old }
+    ensures len { vec_len events.new ≤ vec_len events.old + 1 }
 {
     if let Some(fault) = fault {
-        report.push_reserved(stamp.event(found(from, fault)));
+        events.push_reserved(stamp.event(found(from, fault)));
     }
 }
 
@@ -141,15 +141,15 @@ fn report_after<A: Allocator>(
     from: Side,
     fault: Option<Xcode>,
     message: &Message<'_>,
-    report: &mut Vec<Event, A>,
+    events: &mut Vec<Event, A>,
 )
-    requires room { vec_len report.old + 512 ≤ vec_capacity report.old }
+    requires room { vec_len events.old + 512 ≤ vec_capacity events.old }
     requires short { length message.now.pairs.now < 1024 }
-    ensures { Reports stamp report.old.items report.new.items (settings_after fault from (octets_of message.now.code message.now.pairs.now)) }
+    ensures { Reports stamp events.old.items events.new.items (settings_after fault from (octets_of message.now.code message.now.pairs.now)) }
 {
     match fault {
-        None => report_settings(stamp, from, message, report),
-        Some(Xcode::X3) => report_settings(stamp, from, message, report),
+        None => report_settings(stamp, from, message, events),
+        Some(Xcode::X3) => report_settings(stamp, from, message, events),
         Some(_) => {}
     }
 }
@@ -159,32 +159,32 @@ fn report_settings<A: Allocator>(
     stamp: Stamp,
     from: Side,
     message: &Message<'_>,
-    report: &mut Vec<Event, A>,
+    events: &mut Vec<Event, A>,
 )
-    requires room { vec_len report.old + 512 ≤ vec_capacity report.old }
+    requires room { vec_len events.old + 512 ≤ vec_capacity events.old }
     requires short { length message.now.pairs.now < 1024 }
-    ensures { Reports stamp report.old.items report.new.items (settings_of from (octets_of message.now.code message.now.pairs.now)) }
+    ensures { Reports stamp events.old.items events.new.items (settings_of from (octets_of message.now.code message.now.pairs.now)) }
 {
     match message.code {
         MessageCode::Indication => {
-            report_indicated(stamp, from, Pairs::new(true, message.pairs), report);
+            report_indicated(stamp, from, Pairs::new(true, message.pairs), events);
         }
-        MessageCode::Set => report_set(stamp, from.other(), message.pairs, report),
-        MessageCode::SetAndRead => report_set(stamp, from.other(), message.pairs, report),
+        MessageCode::Set => report_set(stamp, from.other(), message.pairs, events),
+        MessageCode::SetAndRead => report_set(stamp, from.other(), message.pairs, events),
         _ => {}
     }
 }
 
 /// Reports a set of a PAD, whose octets after the code are these.
-fn report_set<A: Allocator>(stamp: Stamp, pad: Side, octets: &[u8], report: &mut Vec<Event, A>)
-    requires room { vec_len report.old + 512 ≤ vec_capacity report.old }
+fn report_set<A: Allocator>(stamp: Stamp, pad: Side, octets: &[u8], events: &mut Vec<Event, A>)
+    requires room { vec_len events.old + 512 ≤ vec_capacity events.old }
     requires short { length octets.now < 1024 }
-    ensures { Reports stamp report.old.items report.new.items (set_events pad octets.now) }
+    ensures { Reports stamp events.old.items events.new.items (set_events pad octets.now) }
 {
     if octets.is_empty() {
-        report.push_reserved(stamp.event(What::Initial { pad }));
+        events.push_reserved(stamp.event(What::Initial { pad }));
     } else {
-        report_asked(stamp, pad, Pairs::new(false, octets), report);
+        report_asked(stamp, pad, Pairs::new(false, octets), events);
     }
 }
 
@@ -193,13 +193,13 @@ fn report_indicated<A: Allocator>(
     stamp: Stamp,
     pad: Side,
     pairs: Pairs<'_>,
-    report: &mut Vec<Event, A>,
+    events: &mut Vec<Event, A>,
 )
-    requires room { vec_len report.old + length pairs ≤ vec_capacity report.old }
-    ensures { Reports stamp report.old.items report.new.items (flat_map (indicated_one pad) pairs.entry) }
+    requires room { vec_len events.old + length pairs ≤ vec_capacity events.old }
+    ensures { Reports stamp events.old.items events.new.items (flat_map (indicated_one pad) pairs.entry) }
 {
     for pair in pairs {
-        report_indicated_one(stamp, pad, pair, report);
+        report_indicated_one(stamp, pad, pair, events);
     }
 }
 
@@ -208,12 +208,12 @@ fn report_indicated_one<A: Allocator>(
     stamp: Stamp,
     pad: Side,
     pair: Pair,
-    report: &mut Vec<Event, A>,
+    events: &mut Vec<Event, A>,
 )
-    requires room { vec_len report.old < vec_capacity report.old }
-    ensures reports { Reports stamp report.old.items report.new.items (indicated_one pad (shown pair)) }
-    ensures capacity { vec_capacity report.new ≡ vec_capacity report.old }
-    ensures len { vec_len report.new ≤ vec_len report.old + 1 }
+    requires room { vec_len events.old < vec_capacity events.old }
+    ensures reports { Reports stamp events.old.items events.new.items (indicated_one pad (shown pair)) }
+    ensures capacity { vec_capacity events.new ≡ vec_capacity events.old }
+    ensures len { vec_len events.new ≤ vec_len events.old + 1 }
 {
     let parameter = pair.reference % 128;
     if is_parameter(parameter) {
@@ -222,7 +222,7 @@ fn report_indicated_one<A: Allocator>(
         } else {
             Entry::Said(pair.value)
         };
-        report.push_reserved(stamp.event(What::Setting {
+        events.push_reserved(stamp.event(What::Setting {
             pad,
             parameter,
             entry,
@@ -231,24 +231,24 @@ fn report_indicated_one<A: Allocator>(
 }
 
 /// Reports what the pairs of a set ask.
-fn report_asked<A: Allocator>(stamp: Stamp, pad: Side, pairs: Pairs<'_>, report: &mut Vec<Event, A>)
-    requires room { vec_len report.old + length pairs ≤ vec_capacity report.old }
-    ensures { Reports stamp report.old.items report.new.items (flat_map (asked_one pad) pairs.entry) }
+fn report_asked<A: Allocator>(stamp: Stamp, pad: Side, pairs: Pairs<'_>, events: &mut Vec<Event, A>)
+    requires room { vec_len events.old + length pairs ≤ vec_capacity events.old }
+    ensures { Reports stamp events.old.items events.new.items (flat_map (asked_one pad) pairs.entry) }
 {
     for pair in pairs {
-        report_asked_one(stamp, pad, pair, report);
+        report_asked_one(stamp, pad, pair, events);
     }
 }
 
 /// Reports what a pair of a set asks, if anything.
-fn report_asked_one<A: Allocator>(stamp: Stamp, pad: Side, pair: Pair, report: &mut Vec<Event, A>)
-    requires room { vec_len report.old < vec_capacity report.old }
-    ensures reports { Reports stamp report.old.items report.new.items (asked_one pad (shown pair)) }
-    ensures capacity { vec_capacity report.new ≡ vec_capacity report.old }
-    ensures len { vec_len report.new ≤ vec_len report.old + 1 }
+fn report_asked_one<A: Allocator>(stamp: Stamp, pad: Side, pair: Pair, events: &mut Vec<Event, A>)
+    requires room { vec_len events.old < vec_capacity events.old }
+    ensures reports { Reports stamp events.old.items events.new.items (asked_one pad (shown pair)) }
+    ensures capacity { vec_capacity events.new ≡ vec_capacity events.old }
+    ensures len { vec_len events.new ≤ vec_len events.old + 1 }
 {
     if is_parameter(pair.reference) {
-        report.push_reserved(stamp.event(What::Setting {
+        events.push_reserved(stamp.event(What::Setting {
             pad,
             parameter: pair.reference,
             entry: Entry::Asked(pair.value),

@@ -2,9 +2,9 @@
 
 ghost use Rattle.std.specs.Prelude.{◌≡◌, ◌+◌, ◌<◌, List, ℕ, None, IfOk, IfNone, false, true, IfErr, OnErr};
 ghost use Rattle.line_model.specs.declared.fault.Fault.TheVariants.{Memory};
-ghost use Rattle.line_model.specs.Channels.{Channel};
-ghost use Rattle.line_model.specs.Facilities.{fields_of};
-ghost use Rattle.line_model.specs.ChannelStep.{entering, opening, changing, call_change};
+ghost use Rattle.line_model.specs.channels.Channels.{Channel};
+ghost use Rattle.line_model.specs.packets.Facilities.{fields_of};
+ghost use Rattle.line_model.specs.channels.ChannelStep.{entering, opening, changing, call_change};
 ghost use Rattle.packet_decode.specs.Shown.{shown, IsUsable};
 ghost use Rattle.channel_machine.specs.Reached.{IsUnanswered};
 ghost use Rattle.channel_machine.specs.Channels.{Stands, Does, IsChange};
@@ -57,16 +57,16 @@ impl<A: Allocator + Clone, S: StatusStore> StatusChannel<A, S> {
         out: bool,
         fields: &CallFields<'_>,
         to: StateName,
-        report: &mut Vec<Event, A>,
+        events: &mut Vec<Event, A>,
     ) -> Result<(), Fault>
         requires usable { IsUsable self.old.terms.interface fields.now }
-        ensures does { (c : Channel) (xs : List ℕ) → shown fields.now ≡ fields_of xs → IfNone c.opening (c.accepting ≡ None) → Stands self.old c → IfOk result (λ _. Does stamp self.old self.new report.old.items report.new.items (changing xs (CallChange.Opens out) (entering to false c))) }
-        ensures unchanged { OnErr result ((self.new ≡ self.old) × (report.new.items ≡ report.old.items)) }
+        ensures does { (c : Channel) (xs : List ℕ) → shown fields.now ≡ fields_of xs → IfNone c.opening (c.accepting ≡ None) → Stands self.old c → IfOk result (λ _. Does stamp self.old self.new events.old.items events.new.items (changing xs (CallChange.Opens out) (entering to false c))) }
+        ensures unchanged { OnErr result ((self.new ≡ self.old) × (events.new.items ≡ events.old.items)) }
         ensures memory { IfErr result (λ fault. fault ≡ Memory) }
     {
-        report.reserve(2)?;
-        self.end(stamp, How::Collision, to, false, report);
-        report.push_reserved(stamp.event(What::Open {
+        events.reserve(2)?;
+        self.end(stamp, How::Collision, to, false, events);
+        events.push_reserved(stamp.event(What::Open {
             out,
             called: fields.called.copied(),
             calling: fields.calling.copied(),
@@ -83,15 +83,15 @@ impl<A: Allocator + Clone, S: StatusStore> StatusChannel<A, S> {
         stamp: Stamp,
         fields: &CallFields<'_>,
         to: StateName,
-        report: &mut Vec<Event, A>,
+        events: &mut Vec<Event, A>,
     ) -> Result<(), Fault>
         requires usable { IsUsable self.old.terms.interface fields.now }
-        ensures does { (c : Channel) (xs : List ℕ) → shown fields.now ≡ fields_of xs → IsUnanswered c → Stands self.old c → IfOk result (λ _. Does stamp self.old self.new report.old.items report.new.items (changing xs CallChange.GoesUp (entering to false c))) }
-        ensures unchanged { OnErr result ((self.new ≡ self.old) × (report.new.items ≡ report.old.items)) }
+        ensures does { (c : Channel) (xs : List ℕ) → shown fields.now ≡ fields_of xs → IsUnanswered c → Stands self.old c → IfOk result (λ _. Does stamp self.old self.new events.old.items events.new.items (changing xs CallChange.GoesUp (entering to false c))) }
+        ensures unchanged { OnErr result ((self.new ≡ self.old) × (events.new.items ≡ events.old.items)) }
         ensures memory { IfErr result (λ fault. fault ≡ Memory) }
     {
-        report.reserve(1)?;
-        report.push_reserved(stamp.event(What::Up));
+        events.reserve(1)?;
+        events.push_reserved(stamp.event(What::Up));
         let terms = self.status.terms().accepted(fields);
         self.enter(to, false, &terms);
         Ok(())

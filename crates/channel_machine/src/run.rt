@@ -2,11 +2,11 @@
 
 ghost use Rattle.std.specs.Prelude.{◌≡◌, ◌≤◌, ◌^◌, ◌++◌, ℕ, length, IfOk, IfErr, OnErr};
 ghost use Rattle.line_model.specs.declared.fault.Fault.TheVariants.{Memory};
-ghost use Rattle.line_model.specs.Channels as channels;
-ghost use Rattle.line_model.specs.Channels.{fresh, is_open};
-ghost use Rattle.line_model.specs.ChannelStep.{channel_step};
-ghost use Rattle.line_model.specs.Bounds.{IsItem};
-ghost use Rattle.line_model.specs.Plans as plans;
+ghost use Rattle.line_model.specs.channels.Channels as channels;
+ghost use Rattle.line_model.specs.channels.Channels.{fresh, is_open};
+ghost use Rattle.line_model.specs.channels.ChannelStep.{channel_step};
+ghost use Rattle.line_model.specs.basics.Bounds.{IsItem};
+ghost use Rattle.line_model.specs.pieces.Plans as plans;
 ghost use Rattle.channel_machine.specs.Run.{row_events};
 ghost use Rattle.channel_machine.specs.Views.{IsViewOf};
 

@@ -1,9 +1,9 @@
 //! What is known of a channel beside its sequences and its settings, and how it may be kept.
 
 ghost use Rattle.std.specs.Prelude.{◌≡◌, OnErr, false};
-ghost use Rattle.line_model.specs.Channels.{of_side};
-ghost use Rattle.line_model.specs.FlowControl.{Counts, count_interrupt, count_receive, count_confirm, count_data};
-ghost use Rattle.window_check.specs.Kept as windows;
+ghost use Rattle.line_model.specs.channels.Channels.{of_side};
+ghost use Rattle.line_model.specs.channels.FlowControl.{Counts, count_interrupt, count_receive, count_confirm, count_data};
+ghost use Rattle.window_check.specs.FlowResidues as windows;
 ghost use Rattle.channel_machine.specs.Status.{Status, IsEntered, CountsAlone};
 ghost use Rattle.channel_machine.specs.Agreed.{agreed_of};
 ghost use Rattle.channel_machine.specs.TermsStand.{size_of};

@@ -3,9 +3,9 @@
 ghost use Rattle.std.specs.Prelude.{◌≡◌, ◌==◌, false, Some, None, ℕ, List};
 ghost use Rattle.std.specs.Option.{option_map_or};
 ghost use Rattle.line_model.specs.declared.state.Side.TheVariants.{T, N};
-ghost use Rattle.line_model.specs.Facilities.{fields_of};
-ghost use Rattle.line_model.specs.Formats.{for_side};
-ghost use Rattle.line_model.specs.Octets.{octet};
+ghost use Rattle.line_model.specs.packets.Facilities.{fields_of};
+ghost use Rattle.line_model.specs.packets.Formats.{for_side};
+ghost use Rattle.line_model.specs.basics.Octets.{octet};
 ghost use Rattle.packet_decode.specs.Shown.{shown, IsUsable};
 ghost use Rattle.channel_machine.specs.Terms.{AreUsable};
 ghost use Rattle.channel_machine.specs.TermsStand.{is_fast, is_out_of, is_pad, opened_of, values_of, with_asked};

@@ -1,8 +1,8 @@
 //! The rows of one channel of recorded interfaces: their findings and calls are those of reports that were made elsewhere.
 
 ghost use Rattle.std.specs.Prelude.{◌≡◌, ◌+◌, ◌≤◌, ◌*◌, length, All, IfOk, IfSome, OnOk};
-ghost use Rattle.line_model.specs.Octets.{channel_of};
-ghost use Rattle.line_model.specs.Bounds.{IsItem, all_octets};
+ghost use Rattle.line_model.specs.basics.Octets.{channel_of};
+ghost use Rattle.line_model.specs.basics.Bounds.{IsItem, all_octets};
 
 use crate::channel::PlainChannel;
 use crate::run::{Channel, run_piece};

@@ -2,7 +2,7 @@
 
 ghost use Rattle.std.specs.Prelude.{◌^◌, ◌≡◌, ◌≤◌, ◌&&◌, length, IfOk, IfErr, OnErr, OnSome};
 ghost use Rattle.line_model.specs.declared.interface.Interface.{Interface};
-ghost use Rattle.line_model.specs.Channels.{Channel};
+ghost use Rattle.line_model.specs.channels.Channels.{Channel};
 ghost use Rattle.line_model.specs.declared.fault.Fault.TheVariants.{Memory};
 ghost use Rattle.channel_machine.specs.Transfers.{IsHeard, counted_in_force, packet};
 ghost use Rattle.channel_machine.specs.Channels.{Stands};
@@ -28,13 +28,13 @@ impl<A: Allocator + Clone, S: StatusStore> StatusChannel<A, S> {
         side: Side,
         header: &DataHeader,
         user_data: &[u8],
-        report: &mut Vec<Event, A>,
+        events: &mut Vec<Event, A>,
     ) -> Result<Option<u8>, Fault>
         requires short { length user_data.now ≤ 2 ^ 31 }
         ensures rest { self.new ≡ record self.old { transfer = self.new.transfer } }
-        ensures heard { (c : Channel) → Stands self.old c → IfOk result (λ o. IsHeard o self.old.terms.interface stamp self.old.transfer self.new.transfer report.old.items report.new.items side (packet side header.now user_data.now) (counted_in_force self.old.terms.interface side header.now.send header.now.receive c) c) }
-        ensures faulted { IfOk result (λ o. OnSome o ((self.new ≡ self.old) × (report.new.items ≡ report.old.items))) }
-        ensures unchanged { OnErr result ((self.new ≡ self.old) × (report.new.items ≡ report.old.items)) }
+        ensures heard { (c : Channel) → Stands self.old c → IfOk result (λ o. IsHeard o self.old.terms.interface stamp self.old.transfer self.new.transfer events.old.items events.new.items side (packet side header.now user_data.now) (counted_in_force self.old.terms.interface side header.now.send header.now.receive c) c) }
+        ensures faulted { IfOk result (λ o. OnSome o ((self.new ≡ self.old) × (events.new.items ≡ events.old.items))) }
+        ensures unchanged { OnErr result ((self.new ≡ self.old) × (events.new.items ≡ events.old.items)) }
         ensures memory { IfErr result (λ fault. fault ≡ Memory) }
     {
         let mut status = self.status;
@@ -42,7 +42,7 @@ impl<A: Allocator + Clone, S: StatusStore> StatusChannel<A, S> {
             return Ok(Some(code));
         }
         let is_told = is_message(is_pad_call(self.status.call()), header.qualified);
-        report.reserve(if is_told { ROOM } else { 1 })?;
+        events.reserve(if is_told { ROOM } else { 1 })?;
         let field = DataField {
             qualified: header.qualified,
             more: header.more,
@@ -54,7 +54,7 @@ impl<A: Allocator + Clone, S: StatusStore> StatusChannel<A, S> {
         match put {
             Put::Mixed => Ok(Some(INCONSISTENT_Q_BIT_SETTING)),
             Put::Going => {
-                report.push_reserved(stamp.event(heard(side, length)));
+                events.push_reserved(stamp.event(heard(side, length)));
                 self.status = status;
                 Ok(None)
             }
@@ -62,10 +62,10 @@ impl<A: Allocator + Clone, S: StatusStore> StatusChannel<A, S> {
                 self.status = status;
                 if is_told {
                     self.settings
-                        .tell(stamp, side, sequence.octets.as_slice(), length, report);
+                        .tell(stamp, side, sequence.octets.as_slice(), length, events);
                     return Ok(None);
                 }
-                report.push_reserved(stamp.event(heard(side, length)));
+                events.push_reserved(stamp.event(heard(side, length)));
                 Ok(None)
             }
         }

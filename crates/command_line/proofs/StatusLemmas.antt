@@ -1,7 +1,7 @@
 -- The exit status of a scan.
 use Rattle.std.proofs.Common.{◌≡◌, ◌∙◌, sym, ap, refl, ℕ, zero, suc, ◌<◌, List, [], Option, Some, None, arith, take, append-nil, cond, ◌==◌}
 use Rattle.std.proofs.lemmas.Bool.Decides.{nat_tests}
-use Rattle.line_model.specs.Device.{with_more}
+use Rattle.line_model.specs.basics.Device.{with_more}
 use Rattle.line_model.specs.declared.totals.Summary.{Summary}
 use Rattle.line_model.specs.declared.fault.Fault.{Fault}
 use Rattle.line_model.specs.declared.fault.Fault.TheVariants.{Memory, Trace, Read, Write, Start, Double, Stranger, Missing}
@@ -9,7 +9,7 @@ use Rattle.command_line.specs.Program.{IsFollowStatus, IsStatus, fault_status, s
 use Rattle.piece_feed.specs.Readings.{IsRefusal, IsRefusedBy}
 use Rattle.live_report.specs.Reports.{IsReported, IsTaken}
 use Rattle.trace_scan.specs.Follow.{IsFollowRefusal, IsToldOf}
-use Rattle.line_model.specs.Traces.{trace_report, trace_summary}
+use Rattle.line_model.specs.traces.Traces.{trace_report, trace_summary}
 
 with_more-nothing : (o : Option (List ℕ)) → o ≡ with_more o []
 with_more-nothing None = refl

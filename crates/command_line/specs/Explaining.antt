@@ -1,6 +1,6 @@
 -- What the program answers to a question for the meaning of a word (profile).
 use Rattle.std.specs.Prelude.{◌≡◌, ℕ, ◌⊎◌, List, [], ◌∷◌, Option, Some, None, map, take}
-use Rattle.line_model.specs.Device.{with_more}
+use Rattle.line_model.specs.basics.Device.{with_more}
 use Rattle.explanations.specs.declared.explanation.Explanation.{Explanation}
 use Rattle.explanations.specs.Table.{explanations_of, key, table_keys}
 use Rattle.explanations.specs.Texts.{explanations_text, headings_text}

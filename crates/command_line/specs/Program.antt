@@ -3,7 +3,7 @@ use Rattle.std.specs.Prelude.{◌≡◌, ℕ, Bool, true, false, ◌<◌, ◌++�
 use Rattle.clap.specs.Words.{IsAmong, Kinds}
 use Rattle.clap.specs.declared.error.kind.ErrorKind.{ErrorKind}
 use Rattle.clap.specs.declared.error.kind.ErrorKind.TheVariants.{DisplayHelp, DisplayVersion, OutOfMemory}
-use Rattle.line_model.specs.Device.{with_more}
+use Rattle.line_model.specs.basics.Device.{with_more}
 use Rattle.line_model.specs.declared.fault.Kind.{Kind}
 use Rattle.line_model.specs.declared.fault.Fault.{Fault}
 use Rattle.line_model.specs.declared.fault.Fault.TheVariants.{Trace}
@@ -12,7 +12,7 @@ use Rattle.piece_feed.specs.Readings.{IsRefusal, IsRefusedBy}
 use Rattle.live_report.specs.Reports.{IsReported}
 use Rattle.trace_scan.specs.Follow.{IsFollowRefusal, IsToldOf}
 use Rattle.json_lines.specs.Json.{json_text}
-use Rattle.line_model.specs.Traces.{trace_report, trace_summary}
+use Rattle.line_model.specs.traces.Traces.{trace_report, trace_summary}
 
 -- 0 without findings, else 1
 abbrev pub summary_status : Summary → ℕ

@@ -1,7 +1,7 @@
 //! The answer to a question for the meaning of a word.
 
 ghost use Rattle.std.specs.Prelude.{◌≡◌, ℕ, ◌⊎◌, IfOk, map, option_map, string_bytes, take};
-ghost use Rattle.line_model.specs.Device.{with_more};
+ghost use Rattle.line_model.specs.basics.Device.{with_more};
 ghost use Rattle.command_line.specs.Explaining.{IsAnswer, IsAnswered, answer_by};
 
 use crate::program::{USAGE, refuse};

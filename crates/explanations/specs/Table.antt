@@ -12,8 +12,8 @@ use Rattle.line_model.specs.declared.event.How as how
 use Rattle.line_model.specs.declared.fault.Kind.TheVariants.{HeaderMissing, HeaderForm, HeaderRange, LineForm, Number, Side, Hex, LineLong, TextLarge}
 use Rattle.line_model.specs.declared.fault.Fault.{Fault}
 use Rattle.line_model.specs.declared.fault.Fault.TheVariants.{Memory, Trace, Read, Write, Start, Double, Stranger, Missing}
-use Rattle.line_model.specs.Faults.{kind_number}
-use Rattle.line_model.specs.Report.{side_word, state_word, pad_word, how_word, direction_word, dash}
+use Rattle.line_model.specs.basics.Faults.{kind_number}
+use Rattle.line_model.specs.observer.Report.{side_word, state_word, pad_word, how_word, direction_word, dash}
 use Rattle.explanations.specs.declared.explanation.Explanation.{Explanation}
 use Rattle.explanations.specs.declared.explanation.Topic.{Topic}
 use Rattle.explanations.specs.declared.explanation.Topic as topic

@@ -138,13 +138,13 @@ fn an_explanation_is_printed(rt: HostRuntime) -> Result<(), Fail> {
          The DCE sent its clear indication and then another packet on the channel, in place of waiting for the DTE.\n  \
          When: On side N alone, once its indication has come. It changes nothing.\n  \
          Clause: X.25 4.1.8, Annex B; profile\n  \
-         Definition: crates/line_model/specs/Tables.antt\n  \
+         Definition: crates/line_model/specs/channels/Tables.antt\n  \
          Example: F 3 N p7 26 in tests/traces/worked/dce-faults.trace\n\
          26 (kind of faulty line): Side\n  \
          The side is neither T nor N.\n  \
          When: On a row, behind 28, 24 and 25. The trace is refused with status 2 and nothing is reported; with --follow what was found before stands.\n  \
          Clause: profile\n  \
-         Definition: crates/line_model/specs/RowLine.antt\n  \
+         Definition: crates/line_model/specs/text/RowLine.antt\n  \
          Example: x25scan: line 2: kind 26 in tests/traces/worked/refused-side.trace\n"
     );
     Ok(())

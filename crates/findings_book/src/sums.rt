@@ -1,6 +1,6 @@
 //! The four sums of a book.
 ghost use Rattle.std.specs.Prelude.{◌≡◌, ◌+◌, ◌<◌, ◌^◌};
-ghost use Rattle.line_model.specs.Book.{IsWithin};
+ghost use Rattle.line_model.specs.work.Book.{IsWithin};
 ghost use Rattle.findings_book.specs.Sums.{plus};
 
 use crate::ledgers::{Blanks, Ledgers, OfFindings, OfOctets, OfPosts, OfSegments};

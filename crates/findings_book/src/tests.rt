@@ -8,7 +8,7 @@ ghost use Rattle.std.specs.Prelude.{◌≡◌, ◌≤◌, ◌^◌, ◌+◌, IfOk
 
 use crate::tests::in_turn::{has_one, has_three_epochs, posted_twice, three_epochs};
 use crate::tests::side_by_side::{has_both, has_twelve, post_and_look, twelve_pieces};
-use crate::{Blanks, Book, Desk, Ledgers, Share};
+use crate::{Blanks, Book, Ledgers, LockedPosts, Share};
 use line_model::fault::Fault;
 use line_model::finding::{Code, Finding};
 use line_model::piece::PieceReport;
@@ -74,14 +74,14 @@ fn report<A: Allocator + Copy>(
 /// Posts a report, and looks. No number that is seen is below that of the share.
 fn post_one<R: Wait + Abort, L: Ledgers>(
     rt: &R,
-    desk: &Desk<Brand, L>,
+    locked_posts: &LockedPosts<Brand, L>,
     share: &mut Share<L>,
     report: PieceReport,
 ) -> Result<(), Fault> {
-    if let Err((_, fault)) = desk.post(rt, report, share) {
+    if let Err((_, fault)) = locked_posts.post(rt, report, share) {
         return Err(fault);
     }
-    let seen = desk.look(rt, share);
+    let seen = locked_posts.look(rt, share);
     assert!(rt; share.totals().posts <= seen.posts);
     assert!(rt; share.totals().findings <= seen.findings);
     Ok(())
@@ -90,12 +90,12 @@ fn post_one<R: Wait + Abort, L: Ledgers>(
 /// A report of an id that was posted comes back.
 fn comes_back<R: Wait + Abort, L: Ledgers>(
     rt: &R,
-    desk: &Desk<Brand, L>,
+    locked_posts: &LockedPosts<Brand, L>,
     report: PieceReport,
     share: &mut Share<L>,
 ) {
     let (id, octets) = (report.id, report.octets);
-    let refused = desk.post(rt, report, share);
+    let refused = locked_posts.post(rt, report, share);
     assert!(rt; refused.is_err());
     if let Err((back, fault)) = refused {
         assert_eq!(rt; fault, Fault::Double(id));
@@ -107,12 +107,12 @@ fn comes_back<R: Wait + Abort, L: Ledgers>(
 fn post_all<R: Wait + Abort, L: Ledgers>(
     rt: &R,
     alloc: Global,
-    desk: &Desk<Brand, L>,
+    locked_posts: &LockedPosts<Brand, L>,
     share: &mut Share<L>,
     ids: &[u32],
 ) -> Result<(), Fault> {
     for id in ids {
-        post_one(rt, desk, share, report(alloc, *id, 0, 0)?)?;
+        post_one(rt, locked_posts, share, report(alloc, *id, 0, 0)?)?;
     }
     Ok(())
 }
@@ -139,17 +139,17 @@ fn play_in_two<R: Threads + Wait + Abort + Sync, L: Ledgers + Sync>(
     rt: &R,
     alloc: Global,
     scenario: Scenario,
-    desk: &Desk<Brand, L>,
+    locked_posts: &LockedPosts<Brand, L>,
     shares: &mut [Share<L>],
 ) -> Result<(), Fail> {
     let [first, second] = shares else {
         return Err("there are not two shares")?;
     };
     match scenario {
-        Scenario::ThreeEpochs => three_epochs(rt, alloc, desk, first, second),
-        Scenario::PostedTwice => posted_twice(rt, alloc, desk, first),
-        Scenario::TwelvePieces => twelve_pieces(rt, alloc, desk, first, second),
-        Scenario::PostAndLook => post_and_look(rt, alloc, desk, first, second),
+        Scenario::ThreeEpochs => three_epochs(rt, alloc, locked_posts, first, second),
+        Scenario::PostedTwice => posted_twice(rt, alloc, locked_posts, first),
+        Scenario::TwelvePieces => twelve_pieces(rt, alloc, locked_posts, first, second),
+        Scenario::PostAndLook => post_and_look(rt, alloc, locked_posts, first, second),
     }
 }
 
@@ -173,7 +173,7 @@ fn play_with<R: Threads + Wait + Abort + Sync, L: Ledgers + Sync>(
     requires fresh { book ≡ 0 }
 {
     let mut shares = two_shares(alloc, &mut book)?;
-    let played = play_in_two(rt, alloc, scenario, book.desk(), &mut shares);
+    let played = play_in_two(rt, alloc, scenario, book.locked_posts(), &mut shares);
     let (totals, reports) = book.gather(shares);
     end(rt, scenario, totals, &reports);
     played

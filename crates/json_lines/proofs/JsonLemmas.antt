@@ -6,8 +6,8 @@ use Rattle.std.proofs.lemmas.Bool.{eqb-true}
 use Rattle.std.proofs.lemmas.Bool.Decides.{nat_tests}
 use Rattle.std.specs.Prelude.{nat_le}
 use Rattle.std.specs.List.{flat_map}
-use Rattle.line_model.specs.Text.{begun_line, ended_lines, is_lf}
-use Rattle.line_model.specs.Header.{words_of}
+use Rattle.line_model.specs.text.Text.{begun_line, ended_lines, is_lf}
+use Rattle.line_model.specs.text.Header.{words_of}
 use Rattle.line_model.proofs.TextLemmas.{ended-lf, ended-more}
 use Rattle.json_lines.specs.Json.{json_line, json_text, line_room, object_of}
 

@@ -4,9 +4,9 @@ use Rattle.std.proofs.lemmas.Grind.{flat_map-append}
 use Rattle.std.proofs.lemmas.Bool.Decides.{nat_tests}
 use Rattle.std.specs.Prelude.{nat_le, ◌==◌}
 use Rattle.std.specs.List.{AllByRecursion, flat_map, list_any}
-use Rattle.line_model.specs.Header.{words_of}
-use Rattle.line_model.specs.Report.{line}
-use Rattle.line_model.specs.Text.{Line, begun_line, ended_lines, is_lf, onto_first_line}
+use Rattle.line_model.specs.text.Header.{words_of}
+use Rattle.line_model.specs.observer.Report.{line}
+use Rattle.line_model.specs.text.Text.{Line, begun_line, ended_lines, is_lf, onto_first_line}
 use Rattle.line_model.proofs.TextLemmas.{begun-more, ended-lf, ended-more}
 use Rattle.json_lines.specs.Cuts.{IsLine, IsPlain, Lacks}
 use Rattle.json_lines.specs.Json.{json_line, json_text, line_room, object_of}

@@ -3,8 +3,8 @@ use Rattle.std.proofs.Common.{◌≡◌, ℕ, ◌<◌, Bool, true, false, List, 
 use Rattle.std.proofs.lemmas.Grind.{common_steps}
 use Rattle.std.proofs.lemmas.List.{take-append-drop}
 use Rattle.std.specs.List.{flat_map, list_any}
-use Rattle.line_model.specs.Device.{with_more}
-use Rattle.line_model.specs.Text.{begun_line, is_lf}
+use Rattle.line_model.specs.basics.Device.{with_more}
+use Rattle.line_model.specs.text.Text.{begun_line, is_lf}
 use Rattle.line_model.proofs.TextLemmas.{begun-lf, ended-more, begun-more}
 use Rattle.json_lines.specs.Json.{json_line, json_text, line_room}
 use Rattle.json_lines.specs.Standing.{Goes, IsFirstPart, Stands, since}

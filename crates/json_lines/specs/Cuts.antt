@@ -1,7 +1,7 @@
 -- Bytes that a list lacks, and lines that are known by their words.
 use Rattle.std.specs.Prelude.{◌≡◌, ◌≤◌, ℕ, List, [], ◌∷◌, false, ◌==◌, length}
 use Rattle.std.specs.List.{AllByRecursion, list_any}
-use Rattle.line_model.specs.Report.{line}
+use Rattle.line_model.specs.observer.Report.{line}
 use Rattle.json_lines.specs.Json.{line_room}
 
 -- the byte isn't there

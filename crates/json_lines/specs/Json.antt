@@ -1,9 +1,9 @@
 -- The report as JSON lines: one object for each line, in the report's order (profile).
 use Rattle.std.specs.Prelude.{ℕ, List, [], ◌∷◌, ◌++◌, flat_map, drop, length, nat_le, codes, if◌then◌else◌}
 use Rattle.std.specs.Str.{bytes_eq}
-use Rattle.line_model.specs.Text.{ended_lines}
-use Rattle.line_model.specs.Header.{words_of}
-use Rattle.line_model.specs.Report.{dash}
+use Rattle.line_model.specs.text.Text.{ended_lines}
+use Rattle.line_model.specs.text.Header.{words_of}
+use Rattle.line_model.specs.observer.Report.{dash}
 use Rattle.json_lines.specs.declared.fields.Kind.{Kind}
 use Rattle.json_lines.specs.declared.fields.Kind.TheVariants.{Number, Text}
 use Rattle.json_lines.specs.Forms.{Field, form_of}

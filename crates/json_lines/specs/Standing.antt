@@ -1,7 +1,7 @@
 -- What the sink behind stands at, by what was taken before it.
 use Rattle.std.specs.Prelude.{◌≡◌, ℕ, ◌<◌, ◌≤◌, true, false, List, [], length, take, drop, Option, None, Some}
-use Rattle.line_model.specs.Device.{with_more}
-use Rattle.line_model.specs.Text.{begun_line}
+use Rattle.line_model.specs.basics.Device.{with_more}
+use Rattle.line_model.specs.text.Text.{begun_line}
 use Rattle.json_lines.specs.Json.{json_text, line_room}
 use Rattle.json_lines.specs.Written.{Writes}
 use Rattle.json_lines.specs.declared.lines.JsonLines.{JsonLines}

@@ -1,6 +1,6 @@
 -- What of a text a sink has taken, and what is still held.
 use Rattle.std.specs.Prelude.{◌≡◌, ℕ, ◌≤◌, ◌<◌, true, false, List, ◌++◌, Option}
-use Rattle.line_model.specs.Device.{with_more}
+use Rattle.line_model.specs.basics.Device.{with_more}
 use Rattle.json_lines.specs.declared.chunk.Chunk.{Chunk}
 
 -- the bytes and the failures of a sink: it took a first part of the text; what it did not take is held, unless it failed

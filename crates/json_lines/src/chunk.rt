@@ -1,7 +1,7 @@
 //! Bytes on their way to a sink.
 
 ghost use Rattle.std.specs.Prelude.{◌≡◌, ℕ, List, [], ◌++◌, ◌<◌, ◌≤◌, Option, OnOk, OnErr, false};
-ghost use Rattle.line_model.specs.Device.{with_more};
+ghost use Rattle.line_model.specs.basics.Device.{with_more};
 ghost use Rattle.json_lines.specs.Written.{Writes, Puts};
 
 use arrayvec::ArrayVec;

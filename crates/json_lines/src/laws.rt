@@ -2,7 +2,7 @@
 
 ghost use Rattle.std.specs.Prelude.{◌≡◌, [], ◌∷◌, ◌++◌, ℕ, List, flat_map};
 ghost use Rattle.std.specs.List.{AllByRecursion};
-ghost use Rattle.line_model.specs.Report.{line};
+ghost use Rattle.line_model.specs.observer.Report.{line};
 ghost use Rattle.json_lines.specs.Cuts.{IsLine};
 ghost use Rattle.json_lines.specs.Json.{json_text, object_of};
 

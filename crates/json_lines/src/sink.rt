@@ -58,7 +58,7 @@ pub struct JsonSink<'a, K: Sink, B: Origin> {
 
 impl<'a, K: Sink, B: Origin> JsonSink<'a, K, B> {
     ghost use Rattle.std.specs.Prelude.{◌++◌, ◌<◌, OnOk, IfErr, Some, Err};
-    ghost use Rattle.line_model.specs.Device.{with_more};
+    ghost use Rattle.line_model.specs.basics.Device.{with_more};
     ghost use Rattle.json_lines.specs.Json.{json_text};
 
     /// Nothing was taken yet. The sink is the one of the origin, as it was lent.

@@ -1,7 +1,7 @@
 //! A whole text of a report as JSON lines.
 
 ghost use Rattle.std.specs.Prelude.{◌≡◌, ◌<◌, ◌++◌, ℕ, List, IfErr, OnErr, OnOk};
-ghost use Rattle.line_model.specs.Device.{with_more};
+ghost use Rattle.line_model.specs.basics.Device.{with_more};
 ghost use Rattle.json_lines.specs.Json.{json_text};
 
 use crate::sink::{JsonSink, Lent, Origin, Returned};

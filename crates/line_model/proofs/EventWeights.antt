@@ -6,11 +6,11 @@ use Rattle.line_model.specs.declared.state.Side.TheVariants.{T, N}
 use Rattle.line_model.specs.declared.event.What.{What}
 use Rattle.line_model.specs.declared.event.What.TheVariants.{Found, Data}
 use Rattle.line_model.specs.declared.event.Event.{Event}
-use Rattle.line_model.specs.Records.{Row}
-use Rattle.line_model.specs.MachineEvents.{RowEvent}
-use Rattle.line_model.specs.Observer.{event_of}
-use Rattle.line_model.specs.Calls.{lengths_from, all_lengths, segments_of}
-use Rattle.line_model.specs.Report.{findings_of, is_finding}
+use Rattle.line_model.specs.basics.Records.{Row}
+use Rattle.line_model.specs.observer.MachineEvents.{RowEvent}
+use Rattle.line_model.specs.observer.Observer.{event_of}
+use Rattle.line_model.specs.observer.Calls.{lengths_from, all_lengths, segments_of}
+use Rattle.line_model.specs.observer.Report.{findings_of, is_finding}
 
 abbrev pub total : {X : Type 0} → (X → ℕ) → List X → ℕ
 total f [] = 0

@@ -2,7 +2,7 @@
 use Rattle.std.proofs.Common.{◌≡◌, ◌∙◌, sym, ap, subst, ℕ, ◌+◌, ◌≤◌, Bool, true, false, List, [], ◌∷◌, ◌++◌, length, Option, Some, None, refl, arith, append_assoc, append-nil, length-append, ◌⊎◌, inl, inr}
 use Rattle.std.specs.Option.{option_or, option_map}
 use Rattle.std.proofs.lemmas.Bool.{eqb-true}
-use Rattle.line_model.specs.Text.{Line, is_lf, begun_kind, begun_line, contents_kind, early, end_kind, ended_lines, fault, first_fault, has_header, last_number, line_kind, size_kind, size_of}
+use Rattle.line_model.specs.text.Text.{Line, is_lf, begun_kind, begun_line, contents_kind, early, end_kind, ended_lines, fault, first_fault, has_header, last_number, line_kind, size_kind, size_of}
 use Rattle.line_model.specs.declared.fault.Kind.{Kind}
 use Rattle.line_model.proofs.LineLemmas.{size_kind-grows, size_kind-zero}
 use Rattle.line_model.proofs.TextLemmas.{HasNoLf, begun-more, ended-lf, ended-more, first_fault-append, size_kind-none, size_of-append}

@@ -12,16 +12,16 @@ use Rattle.line_model.specs.declared.finding.Code.TheVariants.{Number}
 use Rattle.line_model.specs.declared.event.What.{What}
 use Rattle.line_model.specs.declared.event.What.TheVariants.{Found}
 use Rattle.line_model.specs.declared.event.Event.{Event}
-use Rattle.line_model.specs.Records.{Row}
-use Rattle.line_model.specs.MachineEvents.{RowEvent, stamp, walk_events}
-use Rattle.line_model.specs.Pieces.{Placed, placed, piece_rows, piece_end, piece_value, value_of}
-use Rattle.line_model.specs.Merge.{is_line, drawn, drawn_apart}
-use Rattle.line_model.specs.Plan.{plan_of}
-use Rattle.line_model.specs.Channels.{Channel, fresh}
-use Rattle.line_model.specs.ChannelStep.{channel_step}
-use Rattle.line_model.specs.Observer.{x25, start, event_of, events, restart_end}
-use Rattle.line_model.specs.Report.{findings_of}
-use Rattle.line_model.specs.Plans.{item_of, piece_of, plan, row_numbered, value, line_findings}
+use Rattle.line_model.specs.basics.Records.{Row}
+use Rattle.line_model.specs.observer.MachineEvents.{RowEvent, stamp, walk_events}
+use Rattle.line_model.specs.pieces.Pieces.{Placed, placed, piece_rows, piece_end, piece_value, value_of}
+use Rattle.line_model.specs.pieces.Merge.{is_line, drawn, drawn_apart}
+use Rattle.line_model.specs.pieces.Plan.{plan_of}
+use Rattle.line_model.specs.channels.Channels.{Channel, fresh}
+use Rattle.line_model.specs.channels.ChannelStep.{channel_step}
+use Rattle.line_model.specs.observer.Observer.{x25, start, event_of, events, restart_end}
+use Rattle.line_model.specs.observer.Report.{findings_of}
+use Rattle.line_model.specs.pieces.Plans.{item_of, piece_of, plan, row_numbered, value, line_findings}
 use Rattle.line_model.proofs.Merged.{merge_law}
 use Rattle.line_model.proofs.Planned.{plan_law}
 use Rattle.line_model.proofs.Handed.{has_channels}

@@ -3,15 +3,15 @@ use Rattle.std.proofs.Common.{◌≡◌, ◌∷◌, ◌++◌, [], ap, ℕ, zero,
 use Rattle.std.specs.List.{filter, flat_map}
 use Rattle.std.specs.List.Sorted.{IsPermutation, IsStrictlyIncreasing}
 use Rattle.std.proofs.lemmas.List.Sorted.{IsPermutation-sym}
-use Rattle.line_model.specs.MachineEvents.{walk_events}
-use Rattle.line_model.specs.Merge.{drawn, drawn_apart}
-use Rattle.line_model.specs.Plan.{plan_of}
-use Rattle.line_model.specs.Pieces.{placed}
-use Rattle.line_model.specs.Merge.{is_line}
-use Rattle.line_model.specs.Plans.{plan, value, line_findings}
-use Rattle.line_model.specs.Report.{findings_of}
-use Rattle.line_model.specs.Calls.{calls_of}
-use Rattle.line_model.specs.Observer.{x25, start, events}
+use Rattle.line_model.specs.observer.MachineEvents.{walk_events}
+use Rattle.line_model.specs.pieces.Merge.{drawn, drawn_apart}
+use Rattle.line_model.specs.pieces.Plan.{plan_of}
+use Rattle.line_model.specs.pieces.Pieces.{placed}
+use Rattle.line_model.specs.pieces.Merge.{is_line}
+use Rattle.line_model.specs.pieces.Plans.{plan, value, line_findings}
+use Rattle.line_model.specs.observer.Report.{findings_of}
+use Rattle.line_model.specs.observer.Calls.{calls_of}
+use Rattle.line_model.specs.observer.Observer.{x25, start, events}
 use Rattle.line_model.specs.Laws.{CallsOrderLaw, FindingsOrderLaw}
 use Rattle.line_model.proofs.OneFinding.{tells_finding, one_finding}
 use Rattle.line_model.proofs.Findings.{make, packet_is, findings_are, plan_findings}

@@ -3,8 +3,8 @@ use Rattle.std.proofs.Common.{◌≡◌, ◌∙◌, ap, ap₂, refl, ℕ, suc, �
 use Rattle.std.proofs.Math.Seq.{take-length}
 use Rattle.std.proofs.lemmas.List.{take-append-le, drop-append-le}
 use Rattle.std.proofs.lemmas.List.Sums.{sum_by-append, sum_by-cons}
-use Rattle.line_model.specs.Records.{Item}
-use Rattle.line_model.specs.Items.{items_of, octets_of}
+use Rattle.line_model.specs.basics.Records.{Item}
+use Rattle.line_model.specs.basics.Items.{items_of, octets_of}
 use Rattle.line_model.specs.declared.items.Head.{Head}
 
 -- the row of a head with these octets

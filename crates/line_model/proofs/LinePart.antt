@@ -2,10 +2,10 @@
 use Rattle.std.proofs.Common.{◌≡◌, ◌∷◌, [], ◌++◌, ℕ, Bool, true, false, Option, Some, None, List, refl, ◌∙◌, ap}
 use Rattle.std.proofs.lemmas.List.{append-nil}
 use Rattle.std.specs.List.{filter, flat_map}
-use Rattle.line_model.specs.Machine.{Machine, Observer, routed, after}
-use Rattle.line_model.specs.MachineEvents.{stamp, closed_events, row_events, row_events_routed, walk_events}
-use Rattle.line_model.specs.Merge.{is_line}
-use Rattle.line_model.specs.Peak.{how_many}
+use Rattle.line_model.specs.observer.Machine.{Machine, Observer, routed, after}
+use Rattle.line_model.specs.observer.MachineEvents.{stamp, closed_events, row_events, row_events_routed, walk_events}
+use Rattle.line_model.specs.pieces.Merge.{is_line}
+use Rattle.line_model.specs.observer.Peak.{how_many}
 use Rattle.line_model.proofs.Rising.{filter_append}
 use Rattle.line_model.proofs.OncePerRow.{kept_none}
 

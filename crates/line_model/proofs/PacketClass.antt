@@ -4,7 +4,7 @@ use Rattle.line_model.specs.declared.interface.Interface.{Interface}
 use Rattle.line_model.specs.declared.packet.Packet.{Packet}
 use Rattle.line_model.specs.declared.packet.Class.{Class}
 use Rattle.line_model.specs.declared.packet.Class.TheVariants.{Short, WrongFormat, Unassigned, Restart, RestartConfirm, Diagnostic, Registration, TwoOctets, RestartHere, Call, Accepted, Clear, ClearConfirm, Interrupt, InterruptConfirm, Reset, ResetConfirm, Data, Rr, Rnr, Rej, Undefined}
-use Rattle.line_model.specs.Classes.{class_of, packet_of, packet_with, packet_class}
+use Rattle.line_model.specs.packets.Classes.{class_of, packet_of, packet_with, packet_class}
 
 class_kept : (i : Interface) (xs : List ℕ) (k : Class) → packet_class (packet_with i xs k) ≡ k
 class_kept i xs Short = refl

@@ -4,7 +4,7 @@ use Rattle.std.specs.Prelude.{All, sum_by}
 use Rattle.std.specs.List.Sorted.{IsStrictlyIncreasing}
 use Rattle.std.proofs.lemmas.List.Elements.{All-nil, All-push}
 use Rattle.std.proofs.lemmas.List.Sums.{sum_by_push}
-use Rattle.line_model.specs.Records.{Row}
+use Rattle.line_model.specs.basics.Records.{Row}
 use Rattle.line_model.proofs.Rising.{RisesFrom}
 use Rattle.line_model.proofs.InOrder.{index-from_rises}
 

@@ -8,15 +8,15 @@ use Rattle.line_model.specs.declared.interface.Interface.{Interface}
 use Rattle.line_model.specs.declared.event.What.{What}
 use Rattle.line_model.specs.declared.event.What.TheVariants.{Open, End, Data}
 use Rattle.line_model.specs.declared.event.Event.{Event}
-use Rattle.line_model.specs.Records.{Row, Item, Piece, CallRecord}
-use Rattle.line_model.specs.Channels.{Channel, fresh, is_open}
-use Rattle.line_model.specs.ChannelStep.{channel_step}
-use Rattle.line_model.specs.MachineEvents.{stamp}
-use Rattle.line_model.specs.Pieces.{piece_value}
-use Rattle.line_model.specs.Observer.{x25, event_of, restart_end_if}
-use Rattle.line_model.specs.Calls.{is_end, is_opening, members, record_of, calls_of}
-use Rattle.line_model.specs.Plans.{row_numbered, piece_events, value}
-use Rattle.line_model.specs.Bounds.{IsPiece, IsPieceReport}
+use Rattle.line_model.specs.basics.Records.{Row, Item, Piece, CallRecord}
+use Rattle.line_model.specs.channels.Channels.{Channel, fresh, is_open}
+use Rattle.line_model.specs.channels.ChannelStep.{channel_step}
+use Rattle.line_model.specs.observer.MachineEvents.{stamp}
+use Rattle.line_model.specs.pieces.Pieces.{piece_value}
+use Rattle.line_model.specs.observer.Observer.{x25, event_of, restart_end_if}
+use Rattle.line_model.specs.observer.Calls.{is_end, is_opening, members, record_of, calls_of}
+use Rattle.line_model.specs.pieces.Plans.{row_numbered, piece_events, value}
+use Rattle.line_model.specs.basics.Bounds.{IsPiece, IsPieceReport}
 use Rattle.line_model.proofs.EventWeights.{total, total-append, total-sum_by, found_by, heard_by, octets_by, segments_by, weight, findings_weight, octets_weight, segments_weight, sides_weight, fewer_segments}
 use Rattle.line_model.proofs.CallRecords.{XEvent}
 use Rattle.line_model.proofs.PieceCalls.{IsOf, piece_of_one, alongside_all}

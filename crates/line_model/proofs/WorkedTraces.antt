@@ -4,13 +4,13 @@ use Rattle.std.proofs.Common.{◌≡◌, refl, length, Some}
 use Rattle.std.specs.Fmt.{digits}
 use Rattle.hex.specs.Hex.{decode_pairs}
 use Rattle.line_model.specs.declared.fault.Kind.TheVariants.{HeaderMissing, HeaderForm, HeaderRange, LineForm, Number, Side, Hex, LineLong}
-use Rattle.line_model.specs.Header.{header_numbers, interface_with, interface_of}
-use Rattle.line_model.specs.RowLine.{row_words, octets_of, row_kind, row_of}
-use Rattle.line_model.specs.Text.{fault, head, rows, head_of, rows_in, last_number, size_kind, header_kind, contents_kind, has_header}
-use Rattle.line_model.specs.Traces.{IsReported, trace_plan}
-use Rattle.line_model.specs.WorkedTexts.{addresses_reverse_charging-text, call_faults_in_order-text, call_formats-text, classes_in_order-text, collision_dce_first-text, collision_dte_first-text, comment_of_8500_bytes-text, cut_packets_modulo_128-text, data_faults_in_order-text, dce_faults-text, empty_trace-text, error_clears_channel-text, full_window-text, incoming_call_short_clear-text, invalid_receive_number-text, join_in_the_middle-text, join_unknown_channels-text, message_faults_in_order-text, mixed_qualifier-text, modulo_128_cut_header-text, negotiated_size_and_window-text, one_piece-text, one_way_channels-text, pad_message_1023-text, pad_message_1024-text, pad_message_1025-text, pad_message_faults-text, pad_pairs_cut-text, pad_read_only_parameter_asked-text, pad_return_to_initial-text, pad_setting_asked-text, pad_setting_said-text, permanent_circuit_interrupts-text, permanent_circuit-text, refused_empty_line-text, refused_form_before_number-text, refused_header_form_before_range-text, refused_header_form-text, refused_incoming_below_permanent-text, refused_join_first_form-text, refused_leading_zero-text, refused_long_comment-text, refused_modulus-text, refused_no_header-text, refused_number_before_side-text, refused_number_order-text, refused_odd_hex-text, refused_side_before_hex-text, refused_side-text, refused_too_many_octets-text, refused_word_behind_join-text, reset_drops_begun_message-text, restart_confirmations-text, restart_ends_call-text, restart_formats-text, restart_machine_by_channel_packet-text, sequence_wrap-text, short_data_ends_sequence-text, short_packet-text, three_epochs-text, two_calls_at_once-text, unassigned_channel-text, wrong_format-text}
-use Rattle.line_model.specs.WorkedReports.{addresses_reverse_charging-report, call_faults_in_order-report, call_formats-report, classes_in_order-report, collision_dce_first-report, collision_dte_first-report, comment_of_8500_bytes-report, cut_packets_modulo_128-report, data_faults_in_order-report, dce_faults-report, empty_trace-report, error_clears_channel-report, full_window-report, incoming_call_short_clear-report, invalid_receive_number-report, join_in_the_middle-report, join_unknown_channels-report, message_faults_in_order-report, mixed_qualifier-report, modulo_128_cut_header-report, negotiated_size_and_window-report, one_piece-report, one_way_channels-report, pad_message_1023-report, pad_message_1024-report, pad_message_1025-report, pad_message_faults-report, pad_pairs_cut-report, pad_read_only_parameter_asked-report, pad_return_to_initial-report, pad_setting_asked-report, pad_setting_said-report, permanent_circuit_interrupts-report, permanent_circuit-report, reset_drops_begun_message-report, restart_confirmations-report, restart_ends_call-report, restart_formats-report, restart_machine_by_channel_packet-report, sequence_wrap-report, short_data_ends_sequence-report, short_packet-report, three_epochs-report, two_calls_at_once-report, unassigned_channel-report, wrong_format-report}
-use Rattle.line_model.specs.WorkedTraces.{WorkedTraces}
+use Rattle.line_model.specs.text.Header.{header_numbers, interface_with, interface_of}
+use Rattle.line_model.specs.text.RowLine.{row_words, octets_of, row_kind, row_of}
+use Rattle.line_model.specs.text.Text.{fault, head, rows, head_of, rows_in, last_number, size_kind, header_kind, contents_kind, has_header}
+use Rattle.line_model.specs.traces.Traces.{IsReported, trace_plan}
+use Rattle.line_model.specs.traces.WorkedTexts.{addresses_reverse_charging-text, call_faults_in_order-text, call_formats-text, classes_in_order-text, collision_dce_first-text, collision_dte_first-text, comment_of_8500_bytes-text, cut_packets_modulo_128-text, data_faults_in_order-text, dce_faults-text, empty_trace-text, error_clears_channel-text, full_window-text, incoming_call_short_clear-text, invalid_receive_number-text, join_in_the_middle-text, join_unknown_channels-text, message_faults_in_order-text, mixed_qualifier-text, modulo_128_cut_header-text, negotiated_size_and_window-text, one_piece-text, one_way_channels-text, pad_message_1023-text, pad_message_1024-text, pad_message_1025-text, pad_message_faults-text, pad_pairs_cut-text, pad_read_only_parameter_asked-text, pad_return_to_initial-text, pad_setting_asked-text, pad_setting_said-text, permanent_circuit_interrupts-text, permanent_circuit-text, refused_empty_line-text, refused_form_before_number-text, refused_header_form_before_range-text, refused_header_form-text, refused_incoming_below_permanent-text, refused_join_first_form-text, refused_leading_zero-text, refused_long_comment-text, refused_modulus-text, refused_no_header-text, refused_number_before_side-text, refused_number_order-text, refused_odd_hex-text, refused_side_before_hex-text, refused_side-text, refused_too_many_octets-text, refused_word_behind_join-text, reset_drops_begun_message-text, restart_confirmations-text, restart_ends_call-text, restart_formats-text, restart_machine_by_channel_packet-text, sequence_wrap-text, short_data_ends_sequence-text, short_packet-text, three_epochs-text, two_calls_at_once-text, unassigned_channel-text, wrong_format-text}
+use Rattle.line_model.specs.traces.WorkedReports.{addresses_reverse_charging-report, call_faults_in_order-report, call_formats-report, classes_in_order-report, collision_dce_first-report, collision_dte_first-report, comment_of_8500_bytes-report, cut_packets_modulo_128-report, data_faults_in_order-report, dce_faults-report, empty_trace-report, error_clears_channel-report, full_window-report, incoming_call_short_clear-report, invalid_receive_number-report, join_in_the_middle-report, join_unknown_channels-report, message_faults_in_order-report, mixed_qualifier-report, modulo_128_cut_header-report, negotiated_size_and_window-report, one_piece-report, one_way_channels-report, pad_message_1023-report, pad_message_1024-report, pad_message_1025-report, pad_message_faults-report, pad_pairs_cut-report, pad_read_only_parameter_asked-report, pad_return_to_initial-report, pad_setting_asked-report, pad_setting_said-report, permanent_circuit_interrupts-report, permanent_circuit-report, reset_drops_begun_message-report, restart_confirmations-report, restart_ends_call-report, restart_formats-report, restart_machine_by_channel_packet-report, sequence_wrap-report, short_data_ends_sequence-report, short_packet-report, three_epochs-report, two_calls_at_once-report, unassigned_channel-report, wrong_format-report}
+use Rattle.line_model.specs.traces.WorkedTraces.{WorkedTraces}
 
 addresses_reverse_charging-holds : IsReported addresses_reverse_charging-text addresses_reverse_charging-report
 unfolding digits decode_pairs fault head rows head_of rows_in last_number size_kind header_kind contents_kind has_header header_numbers interface_with interface_of row_words octets_of row_kind row_of

@@ -4,18 +4,18 @@ use Rattle.std.specs.List.{flat_map}
 use Rattle.std.specs.List.Sorted.{IsPermutation, IsStrictlyIncreasing}
 use Rattle.line_model.specs.declared.interface.Interface.{Interface}
 use Rattle.line_model.specs.declared.finding.Finding.{Finding}
-use Rattle.line_model.specs.Records.{Row, CallRecord}
-use Rattle.line_model.specs.MachineEvents.{walk_events}
-use Rattle.line_model.specs.Shuffle.{IsShuffle, SameWalks}
-use Rattle.line_model.specs.Pieces.{is_of, placed, value_of}
-use Rattle.line_model.specs.Merge.{IsPlan, drawn}
-use Rattle.line_model.specs.Peak.{IsPeakOfTimes, how_many, is_up_at, times_of}
-use Rattle.line_model.specs.Calls.{tells_up, tells_end, calls_of, up_at}
-use Rattle.line_model.specs.Plan.{plan_of}
-use Rattle.line_model.specs.Observer.{x25, start, events, peak}
-use Rattle.line_model.specs.Report.{findings_of}
-use Rattle.line_model.specs.Plans.{plan, value, line_findings, channel_totals}
-use Rattle.line_model.specs.Book.{totals_of, IsNumbered}
+use Rattle.line_model.specs.basics.Records.{Row, CallRecord}
+use Rattle.line_model.specs.observer.MachineEvents.{walk_events}
+use Rattle.line_model.specs.pieces.Shuffle.{IsShuffle, SameWalks}
+use Rattle.line_model.specs.pieces.Pieces.{is_of, placed, value_of}
+use Rattle.line_model.specs.pieces.Merge.{IsPlan, drawn}
+use Rattle.line_model.specs.observer.Peak.{IsPeakOfTimes, how_many, is_up_at, times_of}
+use Rattle.line_model.specs.observer.Calls.{tells_up, tells_end, calls_of, up_at}
+use Rattle.line_model.specs.pieces.Plan.{plan_of}
+use Rattle.line_model.specs.observer.Observer.{x25, start, events, peak}
+use Rattle.line_model.specs.observer.Report.{findings_of}
+use Rattle.line_model.specs.pieces.Plans.{plan, value, line_findings, channel_totals}
+use Rattle.line_model.specs.work.Book.{totals_of, IsNumbered}
 
 -- rows of different channels may be walked in any order: each row has the same events, and the observer is the same at the end
 abbrev pub ShuffleLaw : Type 0

@@ -2,7 +2,7 @@
 
 ghost use Rattle.std.specs.Prelude.{◌≡◌, ℕ, List, Option, Some, IfOk, IfErr, OnOk, OnErr, IfSome, ◌+◌, ◌++◌, ◌≤◌, ◌<◌, length, take, drop, if◌then◌else◌, IsErr};
 ghost use Rattle.std.specs.Result.{is_err};
-ghost use Rattle.line_model.specs.Device.{Gives, with_more};
+ghost use Rattle.line_model.specs.basics.Device.{Gives, with_more};
 
 use crate::count::Count;
 use std::alloc::Allocator;

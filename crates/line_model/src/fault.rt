@@ -28,7 +28,7 @@ pub enum Kind {
 
 impl Kind {
     ghost use Rattle.std.specs.Prelude.{◌≡◌};
-    ghost use Rattle.line_model.specs.Faults.{kind_number};
+    ghost use Rattle.line_model.specs.basics.Faults.{kind_number};
 
     /// The number of the rule, 21 to 29.
     pub fn number(self) -> u8
@@ -69,7 +69,7 @@ pub enum Fault {
 
 impl Fault {
     ghost use Rattle.std.specs.Prelude.{◌≡◌};
-    ghost use Rattle.line_model.specs.Faults.{fault_number};
+    ghost use Rattle.line_model.specs.basics.Faults.{fault_number};
 
     /// The number of the fault, 1 to 8.
     pub fn number(&self) -> u8

@@ -1,6 +1,6 @@
 //! The parameters of an interface.
 
-ghost use Rattle.line_model.specs.Limits.{IsInterface};
+ghost use Rattle.line_model.specs.basics.Limits.{IsInterface};
 
 use crate::state::{ChannelState, DState, PState, Side};
 
@@ -28,7 +28,7 @@ pub struct Interface {
 
 impl Interface {
     ghost use Rattle.std.specs.Prelude.{◌≡◌};
-    ghost use Rattle.line_model.specs.Channels.{is_permanent, is_against, is_joined, fresh_state};
+    ghost use Rattle.line_model.specs.channels.Channels.{is_permanent, is_against, is_joined, fresh_state};
 
     /// Whether a logical channel is a permanent virtual circuit.
     pub fn is_permanent(&self, channel: u16) -> bool

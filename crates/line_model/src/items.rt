@@ -34,8 +34,8 @@ pub struct Items<A: Allocator = Global> {
 
 impl<A: Allocator> Model for Items<A> {
     ghost use Rattle.std.specs.Prelude.{◌≡◌, List, length};
-    ghost use Rattle.line_model.specs.Records as records;
-    ghost use Rattle.line_model.specs.Items.{items_of, octets_of};
+    ghost use Rattle.line_model.specs.basics.Records as records;
+    ghost use Rattle.line_model.specs.basics.Items.{items_of, octets_of};
 
     ghost Value = { List records.Item };
 
@@ -58,7 +58,7 @@ pub struct ItemRef<'a> {
 }
 
 impl<'a> Model for ItemRef<'a> {
-    ghost use Rattle.line_model.specs.Records as records;
+    ghost use Rattle.line_model.specs.basics.Records as records;
 
     ghost Value = { records.Item };
 
@@ -86,8 +86,8 @@ pub struct Iter<'a> {
 
 impl<'a> Model for Iter<'a> {
     ghost use Rattle.std.specs.Prelude.{◌≡◌, List, length};
-    ghost use Rattle.line_model.specs.Records as records;
-    ghost use Rattle.line_model.specs.Items.{items_of, octets_of};
+    ghost use Rattle.line_model.specs.basics.Records as records;
+    ghost use Rattle.line_model.specs.basics.Items.{items_of, octets_of};
 
     ghost Value = { List records.Item };
 

@@ -1,9 +1,9 @@
 //! What holds of the definitions alone.
 
 ghost use Rattle.std.specs.Prelude.{◌≡◌, ℕ, List, ◌++◌, Some};
-ghost use Rattle.line_model.specs.WorkedTraces.{WorkedTraces};
+ghost use Rattle.line_model.specs.traces.WorkedTraces.{WorkedTraces};
 ghost use Rattle.line_model.specs.Laws.{ShuffleLaw, PiecesLaw, PlanLaw, FindingsLaw, FindingsOrderLaw, TotalsLaw, NumbersLaw, PeakLaw, CallsLaw, CallsOrderLaw, CallsPeakLaw};
-ghost use Rattle.line_model.specs.Text.{early, fault};
+ghost use Rattle.line_model.specs.text.Text.{early, fault};
 ghost use Rattle.line_model.specs.declared.fault.Kind.{Kind};
 
 /// Rows of different channels may be walked in any order.

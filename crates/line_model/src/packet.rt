@@ -123,7 +123,7 @@ pub enum Packet {
 }
 
 impl Class {
-    ghost use Rattle.line_model.specs.RestartMachine.{is_outside};
+    ghost use Rattle.line_model.specs.channels.RestartMachine.{is_outside};
 
     /// Whether a packet of the class is judged outside the machines.
     pub fn is_outside(self) -> bool
@@ -141,7 +141,7 @@ impl Class {
 }
 
 impl Packet {
-    ghost use Rattle.line_model.specs.Classes.{packet_class};
+    ghost use Rattle.line_model.specs.packets.Classes.{packet_class};
 
     /// The class of a packet.
     pub fn class(&self) -> Class
@@ -161,7 +161,7 @@ impl Packet {
 }
 
 impl Kind {
-    ghost use Rattle.line_model.specs.Classes.{kind_class};
+    ghost use Rattle.line_model.specs.packets.Classes.{kind_class};
 
     /// The class of what stands on a channel.
     fn class(&self) -> Class

@@ -31,7 +31,7 @@ pub struct Report<A: Allocator = Global> {
 }
 
 impl<A: Allocator> Model for Report<A> {
-    ghost use Rattle.line_model.specs.Records as records;
+    ghost use Rattle.line_model.specs.basics.Records as records;
 
     ghost Value = { records.Report };
 

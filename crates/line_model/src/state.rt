@@ -12,7 +12,7 @@ pub enum Side {
 }
 
 impl Side {
-    ghost use Rattle.line_model.specs.Channels.{other};
+    ghost use Rattle.line_model.specs.channels.Channels.{other};
 
     /// The side at the other end of the interface.
     pub fn other(self) -> Side
@@ -98,7 +98,7 @@ pub enum StateName {
 }
 
 impl RState {
-    ghost use Rattle.line_model.specs.RestartMachine.{restart_name};
+    ghost use Rattle.line_model.specs.channels.RestartMachine.{restart_name};
 
     /// The name of the state.
     pub fn name(self) -> StateName
@@ -113,7 +113,7 @@ impl RState {
 }
 
 impl PState {
-    ghost use Rattle.line_model.specs.ChannelStep.{setup_name};
+    ghost use Rattle.line_model.specs.channels.ChannelStep.{setup_name};
 
     /// The name of the state.
     pub fn name(self) -> StateName
@@ -132,7 +132,7 @@ impl PState {
 }
 
 impl DState {
-    ghost use Rattle.line_model.specs.ChannelStep.{transfer_name};
+    ghost use Rattle.line_model.specs.channels.ChannelStep.{transfer_name};
 
     /// The name of the state.
     pub fn name(self) -> StateName
@@ -147,7 +147,7 @@ impl DState {
 }
 
 impl StateName {
-    ghost use Rattle.line_model.specs.ChannelStep.{state_named};
+    ghost use Rattle.line_model.specs.channels.ChannelStep.{state_named};
 
     /// The state of a channel that enters this one; entering p4 enters d1.
     pub fn entered(self) -> ChannelState

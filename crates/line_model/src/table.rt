@@ -2,7 +2,7 @@
 //! numbers here, as in the tables of the definitions; `crate::diagnostic` has their names.
 
 ghost use Rattle.std.specs.Prelude.{◌≡◌, if◌then◌else◌};
-ghost use Rattle.line_model.specs.Tables.{action_t, action_n, code_of};
+ghost use Rattle.line_model.specs.channels.Tables.{action_t, action_n, code_of};
 
 use crate::packet::Class;
 use crate::state::StateName;

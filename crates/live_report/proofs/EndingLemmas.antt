@@ -3,10 +3,10 @@ use Rattle.std.proofs.Common.{◌≡◌, ◌≢◌, ◌∙◌, sym, ap, subst, r
 use Rattle.std.specs.List.{AllByRecursion}
 use Rattle.std.proofs.lemmas.Bool.{eqb-true, eqb-false}
 use Rattle.line_model.specs.declared.interface.Interface.{Interface}
-use Rattle.line_model.specs.Records.{Item, Piece, PieceReport}
-use Rattle.line_model.specs.Channels.{Channel}
-use Rattle.line_model.specs.Plan.{has_some}
-use Rattle.line_model.specs.Plans.{value}
+use Rattle.line_model.specs.basics.Records.{Item, Piece, PieceReport}
+use Rattle.line_model.specs.channels.Channels.{Channel}
+use Rattle.line_model.specs.pieces.Plan.{has_some}
+use Rattle.line_model.specs.pieces.Plans.{value}
 use Rattle.restart_epochs.specs.OpenRows.{OpenRows, rows_of, IsListing}
 use Rattle.restart_epochs.specs.OpenLanes.{OpenLanes, value_at, HasPopped, IsEmpty}
 use Rattle.restart_epochs.specs.Cutting.{pieces_out}

@@ -9,17 +9,17 @@ use Rattle.line_model.specs.declared.fault.Fault.{Fault}
 use Rattle.line_model.specs.declared.finding.Finding.{Finding}
 use Rattle.line_model.specs.declared.packet.Packet.{Packet}
 use Rattle.line_model.specs.declared.event.What.{What}
-use Rattle.line_model.specs.Records.{Row}
-use Rattle.line_model.specs.RestartMachine.{LineState, Routing}
-use Rattle.line_model.specs.Channels.{Channel, fresh, is_open}
-use Rattle.line_model.specs.ChannelStep.{channel_step}
-use Rattle.line_model.specs.Octets.{channel_of}
-use Rattle.line_model.specs.Machine.{Observer}
-use Rattle.line_model.specs.MachineEvents.{RowEvent, stamp, closed_events, row_events as all_row_events, row_events_routed, walk_events}
-use Rattle.line_model.specs.Observer.{x25, start, routing, is_ready, route_found, restart_end_if, restart_end, event_of, events}
-use Rattle.line_model.specs.Plans.{item_of}
-use Rattle.line_model.specs.Pieces.{piece_rows}
-use Rattle.line_model.specs.Report.{findings_of, report_of}
+use Rattle.line_model.specs.basics.Records.{Row}
+use Rattle.line_model.specs.channels.RestartMachine.{LineState, Routing}
+use Rattle.line_model.specs.channels.Channels.{Channel, fresh, is_open}
+use Rattle.line_model.specs.channels.ChannelStep.{channel_step}
+use Rattle.line_model.specs.basics.Octets.{channel_of}
+use Rattle.line_model.specs.observer.Machine.{Observer}
+use Rattle.line_model.specs.observer.MachineEvents.{RowEvent, stamp, closed_events, row_events as all_row_events, row_events_routed, walk_events}
+use Rattle.line_model.specs.observer.Observer.{x25, start, routing, is_ready, route_found, restart_end_if, restart_end, event_of, events}
+use Rattle.line_model.specs.pieces.Plans.{item_of}
+use Rattle.line_model.specs.pieces.Pieces.{piece_rows}
+use Rattle.line_model.specs.observer.Report.{findings_of, report_of}
 use Rattle.restart_epochs.specs.OpenRows.{rows_of}
 use Rattle.restart_epochs.specs.Cutting.{Cutting, StandsFor as IsCutterOf, observer, places, rows_if, route_finding}
 use Rattle.restart_epochs.proofs.LineFindings.{events_append, found_here}

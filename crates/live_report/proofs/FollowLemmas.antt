@@ -1,11 +1,11 @@
 -- What a follower told.
 use Rattle.std.proofs.Common.{◌≡◌, ◌∙◌, sym, ap, ℕ, ◌+◌, ◌≤◌, ◌<◌, List, [], ◌++◌, length, drop, Option, None, Result, Ok, Err, OnOk, OnErr, arith, append-nil, append_assoc, length-append}
 use Rattle.std.proofs.Math.Seq.{drop-append_seam}
-use Rattle.line_model.specs.Device.{with_more}
-use Rattle.line_model.specs.Text.{begun_line, early, ended_lines, head, rows, size_of}
-use Rattle.line_model.specs.Traces.{trace_report}
-use Rattle.line_model.specs.Records.{Report}
-use Rattle.line_model.specs.Report.{report_of}
+use Rattle.line_model.specs.basics.Device.{with_more}
+use Rattle.line_model.specs.text.Text.{begun_line, early, ended_lines, head, rows, size_of}
+use Rattle.line_model.specs.traces.Traces.{trace_report}
+use Rattle.line_model.specs.basics.Records.{Report}
+use Rattle.line_model.specs.observer.Report.{report_of}
 use Rattle.line_model.specs.declared.fault.Kind.{Kind}
 use Rattle.line_model.specs.declared.fault.Fault.{Fault}
 use Rattle.line_model.specs.declared.fault.Fault.TheVariants.{Memory, Trace}

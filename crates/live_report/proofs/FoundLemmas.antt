@@ -5,12 +5,12 @@ use Rattle.line_model.specs.declared.interface.Interface.{Interface}
 use Rattle.line_model.specs.declared.finding.Finding.{Finding}
 use Rattle.line_model.specs.declared.fault.Fault.{Fault}
 use Rattle.line_model.specs.declared.fault.Fault.TheVariants.{Memory, Trace, Read, Write, Start, Double, Stranger, Missing}
-use Rattle.line_model.specs.Machine.{walk}
-use Rattle.line_model.specs.MachineEvents.{walk_events}
-use Rattle.line_model.specs.Observer.{event_of, start, x25}
-use Rattle.line_model.specs.Records.{Row}
-use Rattle.line_model.specs.Report.{findings_of, report_of}
-use Rattle.line_model.specs.Text.{early_head, early_rows}
+use Rattle.line_model.specs.observer.Machine.{walk}
+use Rattle.line_model.specs.observer.MachineEvents.{walk_events}
+use Rattle.line_model.specs.observer.Observer.{event_of, start, x25}
+use Rattle.line_model.specs.basics.Records.{Row}
+use Rattle.line_model.specs.observer.Report.{findings_of, report_of}
+use Rattle.line_model.specs.text.Text.{early_head, early_rows}
 use Rattle.restart_epochs.proofs.LineFindings.{events_append}
 use Rattle.trace_text.specs.StandsFor.{AreKnown}
 use Rattle.live_report.specs.Found.{HasFound, IsFoundUpTo, found, found_at}

@@ -4,9 +4,9 @@ use Rattle.std.specs.BTreeSet.{insert_key}
 use Rattle.std.specs.Ordering.{nat_cmp}
 use Rattle.std.proofs.lemmas.Bool.{eqb-true, eqb-false}
 use Rattle.line_model.specs.declared.interface.Interface.{Interface}
-use Rattle.line_model.specs.Records.{Item, Piece}
-use Rattle.line_model.specs.Channels.{Channel}
-use Rattle.line_model.specs.Plan.{has_some}
+use Rattle.line_model.specs.basics.Records.{Item, Piece}
+use Rattle.line_model.specs.channels.Channels.{Channel}
+use Rattle.line_model.specs.pieces.Plan.{has_some}
 use Rattle.restart_epochs.specs.OpenRows.{OpenRows, rows_of, with_channel, HasMore}
 use Rattle.restart_epochs.specs.OpenLanes.{OpenLanes, value_at, HasTaken, HasListed, HasPut}
 use Rattle.channel_machine.specs.declared.live.LiveChannel.{LiveChannel}

@@ -6,10 +6,10 @@ use Rattle.std.proofs.lemmas.List.{take-append-le}
 use Rattle.line_model.specs.declared.fault.Kind.{Kind}
 use Rattle.line_model.specs.declared.finding.Finding.{Finding}
 use Rattle.line_model.specs.declared.interface.Interface.{Interface}
-use Rattle.line_model.specs.Records.{Report}
-use Rattle.line_model.specs.Report.{finding_line, report, report_of}
-use Rattle.line_model.specs.Text.{Line, begun_kind, begun_line, early, early_head, early_rows, end_kind, ended_lines, fault, first_fault, good_lines, head, head_of, line_kind, rows, rows_in, size_kind, size_of}
-use Rattle.line_model.specs.Traces.{trace_report}
+use Rattle.line_model.specs.basics.Records.{Report}
+use Rattle.line_model.specs.observer.Report.{finding_line, report, report_of}
+use Rattle.line_model.specs.text.Text.{Line, begun_kind, begun_line, early, early_head, early_rows, end_kind, ended_lines, fault, first_fault, good_lines, head, head_of, line_kind, rows, rows_in, size_kind, size_of}
+use Rattle.line_model.specs.traces.Traces.{trace_report}
 use Rattle.line_model.proofs.LineLemmas.{size_kind-zero}
 use Rattle.line_model.proofs.TextLemmas.{size_kind-none, size_of-append}
 use Rattle.report_merge.specs.Parts.{findings_text, rest_text}

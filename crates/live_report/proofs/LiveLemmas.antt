@@ -1,13 +1,13 @@
 -- A trace that is fed: its first row begins the observer.
 use Rattle.std.proofs.Common.{◌≡◌, ◌∙◌, sym, ap, subst, ℕ, List, [], ◌∷◌, ◌++◌, Some, None, Result, append_assoc}
 use Rattle.line_model.specs.declared.interface.Interface.{Interface}
-use Rattle.line_model.specs.Channels.{Channel}
-use Rattle.line_model.specs.Records.{Row}
-use Rattle.line_model.specs.Report.{report_of}
+use Rattle.line_model.specs.channels.Channels.{Channel}
+use Rattle.line_model.specs.basics.Records.{Row}
+use Rattle.line_model.specs.observer.Report.{report_of}
 use Rattle.line_model.specs.declared.fault.Fault.{Fault}
 use Rattle.line_model.specs.declared.fault.Fault.TheVariants.{Memory}
 use Rattle.line_model.specs.declared.finding.Finding.{Finding}
-use Rattle.line_model.specs.Text.{early_rows}
+use Rattle.line_model.specs.text.Text.{early_rows}
 use Rattle.trace_text.specs.Progress.{Progress}
 use Rattle.trace_text.specs.StandsFor.{StandsFor as IsReaderOf, TakesRow, ReadsChunk}
 use Rattle.trace_text.proofs.Grows.{early_head_stays}

@@ -1,11 +1,11 @@
 -- The report of a text, from the observer of its rows.
 use Rattle.std.proofs.Common.{◌≡◌, ◌∙◌, sym, ap, subst, ℕ, List, [], ◌++◌, length, take, Option, Some, None, Result, Ok, Err, IfOk, IfErr, append-nil}
 use Rattle.std.proofs.Math.Seq.{take-append_seam}
-use Rattle.line_model.specs.Device.{with_more}
-use Rattle.line_model.specs.Records.{Report, Row}
-use Rattle.line_model.specs.Report.{no_summary, report, report_of, text_of}
-use Rattle.line_model.specs.Text.{fault, head, rows}
-use Rattle.line_model.specs.Traces.{trace_report, trace_summary}
+use Rattle.line_model.specs.basics.Device.{with_more}
+use Rattle.line_model.specs.basics.Records.{Report, Row}
+use Rattle.line_model.specs.observer.Report.{no_summary, report, report_of, text_of}
+use Rattle.line_model.specs.text.Text.{fault, head, rows}
+use Rattle.line_model.specs.traces.Traces.{trace_report, trace_summary}
 use Rattle.line_model.specs.declared.interface.Interface.{Interface}
 use Rattle.line_model.specs.declared.fault.Fault.{Fault}
 use Rattle.line_model.specs.declared.fault.Fault.TheVariants.{Memory, Write}

@@ -4,11 +4,11 @@ use Rattle.std.specs.Prelude.{All, sum_by}
 use Rattle.std.proofs.lemmas.List.{map-append}
 use Rattle.std.proofs.lemmas.List.Sums.{sum_by_push}
 use Rattle.line_model.specs.declared.interface.Interface.{Interface}
-use Rattle.line_model.specs.Records.{Row, Item, Piece}
-use Rattle.line_model.specs.Channels.{Channel}
-use Rattle.line_model.specs.Plan.{has_some}
-use Rattle.line_model.specs.Plans.{value}
-use Rattle.line_model.specs.Text.{last_or}
+use Rattle.line_model.specs.basics.Records.{Row, Item, Piece}
+use Rattle.line_model.specs.channels.Channels.{Channel}
+use Rattle.line_model.specs.pieces.Plan.{has_some}
+use Rattle.line_model.specs.pieces.Plans.{value}
+use Rattle.line_model.specs.text.Text.{last_or}
 use Rattle.line_model.proofs.Rising.{RisesFrom, rises-from_index}
 use Rattle.restart_epochs.specs.OpenRows.{OpenRows, no_rows, rows_of, IsSame}
 use Rattle.restart_epochs.specs.OpenLanes.{OpenLanes, value_at, IsEmpty}

@@ -5,13 +5,13 @@ use Rattle.line_model.specs.declared.finding.Finding.{Finding}
 use Rattle.line_model.specs.declared.packet.Packet.{Packet}
 use Rattle.line_model.specs.declared.state.Side.{Side}
 use Rattle.line_model.specs.declared.verdict.Route.TheVariants.{Leave, Enter}
-use Rattle.line_model.specs.Records.{Row, Item, Piece}
-use Rattle.line_model.specs.Channels.{Channel}
-use Rattle.line_model.specs.Classes.{packet_of, packet_class}
-use Rattle.line_model.specs.Octets.{channel_of}
-use Rattle.line_model.specs.RestartMachine.{LineState, Routing, line_step}
-use Rattle.line_model.specs.Bounds.{IsPiece}
-use Rattle.line_model.specs.Plans.{value}
+use Rattle.line_model.specs.basics.Records.{Row, Item, Piece}
+use Rattle.line_model.specs.channels.Channels.{Channel}
+use Rattle.line_model.specs.packets.Classes.{packet_of, packet_class}
+use Rattle.line_model.specs.basics.Octets.{channel_of}
+use Rattle.line_model.specs.channels.RestartMachine.{LineState, Routing, line_step}
+use Rattle.line_model.specs.basics.Bounds.{IsPiece}
+use Rattle.line_model.specs.pieces.Plans.{value}
 use Rattle.restart_epochs.specs.OpenRows.{no_rows, rows_of}
 use Rattle.restart_epochs.specs.Cutting.{Cutting, IsCutting, IsKeptOn, IsStepped, IsLeft, given_of, pieces_out, route_finding}
 use Rattle.restart_epochs.proofs.Bounds.{kept_bounds, stepped_bounds, left_bounds, lane_piece}

@@ -2,10 +2,10 @@
 use Rattle.std.proofs.Common.{◌≡◌, ◌∙◌, sym, ap, subst, ℕ, true, true≢false, List, [], ◌∷◌, ◌++◌, map, length, Some, None, append_assoc, append-nil, length-append}
 use Rattle.std.specs.List.{AllByRecursion}
 use Rattle.line_model.specs.declared.interface.Interface.{Interface}
-use Rattle.line_model.specs.Records.{PieceReport}
-use Rattle.line_model.specs.Channels.{Channel}
-use Rattle.line_model.specs.Plan.{has_some}
-use Rattle.line_model.specs.Plans.{value}
+use Rattle.line_model.specs.basics.Records.{PieceReport}
+use Rattle.line_model.specs.channels.Channels.{Channel}
+use Rattle.line_model.specs.pieces.Plan.{has_some}
+use Rattle.line_model.specs.pieces.Plans.{value}
 use Rattle.restart_epochs.specs.OpenRows.{OpenRows, rows_of, IsListing}
 use Rattle.restart_epochs.specs.OpenLanes.{OpenLanes, value_at}
 use Rattle.restart_epochs.specs.Cutting.{pieces_out}

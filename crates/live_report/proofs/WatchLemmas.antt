@@ -3,11 +3,11 @@ use Rattle.std.proofs.Common.{◌≡◌, ◌∙◌, sym, ap, subst, refl, ℕ, L
 use Rattle.line_model.specs.declared.fault.Fault.{Fault}
 use Rattle.line_model.specs.declared.fault.Fault.TheVariants.{Memory}
 use Rattle.line_model.specs.declared.finding.Finding.{Finding}
-use Rattle.line_model.specs.Report.{report_of}
+use Rattle.line_model.specs.observer.Report.{report_of}
 use Rattle.line_model.specs.declared.interface.Interface.{Interface}
-use Rattle.line_model.specs.Channels.{Channel}
-use Rattle.line_model.specs.Records.{Row}
-use Rattle.line_model.specs.Text.{early, early_head, early_rows}
+use Rattle.line_model.specs.channels.Channels.{Channel}
+use Rattle.line_model.specs.basics.Records.{Row}
+use Rattle.line_model.specs.text.Text.{early, early_head, early_rows}
 use Rattle.trace_text.specs.Progress.{Progress}
 use Rattle.trace_text.specs.StandsFor.{AreKnown, StandsFor as IsReaderOf, TakesRow, ReadsChunk}
 use Rattle.trace_text.proofs.Grows.{early_head_stays}

@@ -5,9 +5,9 @@ use Rattle.std.proofs.lemmas.List.{map-append}
 use Rattle.std.proofs.lemmas.List.Sorted.{IsPermutation-refl}
 use Rattle.line_model.specs.declared.interface.Interface.{Interface}
 use Rattle.line_model.specs.declared.finding.Finding.{Finding}
-use Rattle.line_model.specs.Records.{Row, PieceReport}
-use Rattle.line_model.specs.Channels.{Channel}
-use Rattle.line_model.specs.Plans.{plan, value}
+use Rattle.line_model.specs.basics.Records.{Row, PieceReport}
+use Rattle.line_model.specs.channels.Channels.{Channel}
+use Rattle.line_model.specs.pieces.Plans.{plan, value}
 use Rattle.restart_epochs.specs.OpenRows.{rows_of}
 use Rattle.restart_epochs.specs.Cutting.{given_of, pieces_out}
 use Rattle.restart_epochs.proofs.Pushes.{rest_open}

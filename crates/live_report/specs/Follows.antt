@@ -1,7 +1,7 @@
 -- A follower: a trace that is fed, and how many of its findings were told.
 use Rattle.std.specs.Prelude.{◌≡◌, ℕ, ◌≤◌, List, Option, Some, None, IfSome, length, take}
-use Rattle.line_model.specs.Channels.{Channel}
-use Rattle.line_model.specs.Device.{with_more}
+use Rattle.line_model.specs.channels.Channels.{Channel}
+use Rattle.line_model.specs.basics.Device.{with_more}
 use Rattle.line_model.specs.declared.fault.Kind.{Kind}
 use Rattle.line_model.specs.declared.fault.Fault.{Fault}
 use Rattle.line_model.specs.declared.fault.Fault.TheVariants.{Memory, Trace, Write}

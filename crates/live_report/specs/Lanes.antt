@@ -1,9 +1,9 @@
 -- The live channels of the open epoch, and the rows that they stand for.
 use Rattle.std.specs.Prelude.{◌≡◌, ◌≢◌, ℕ, true, List, [], Option, Some, None}
 use Rattle.line_model.specs.declared.interface.Interface.{Interface}
-use Rattle.line_model.specs.Records.{Item, Piece}
-use Rattle.line_model.specs.Channels.{Channel}
-use Rattle.line_model.specs.Plan.{has_some}
+use Rattle.line_model.specs.basics.Records.{Item, Piece}
+use Rattle.line_model.specs.channels.Channels.{Channel}
+use Rattle.line_model.specs.pieces.Plan.{has_some}
 use Rattle.restart_epochs.specs.OpenRows.{OpenRows, rows_of, with_channel}
 use Rattle.restart_epochs.specs.OpenLanes.{OpenLanes, value_at}
 use Rattle.channel_machine.specs.declared.live.LiveChannel.{LiveChannel}

@@ -1,7 +1,7 @@
 -- What is told of a text stays as the text goes on.
 use Rattle.std.specs.Prelude.{◌≡◌, ℕ, List, ◌++◌, None}
-use Rattle.line_model.specs.Text.{fault}
-use Rattle.line_model.specs.Traces.{trace_report}
+use Rattle.line_model.specs.text.Text.{fault}
+use Rattle.line_model.specs.traces.Traces.{trace_report}
 use Rattle.live_report.specs.Found.{found_text}
 
 -- the findings of a text stand first among those of each text that goes on from it

@@ -1,7 +1,7 @@
 -- A trace that is fed in chunks: what was read of it, and the observer of its rows.
 use Rattle.std.specs.Prelude.{◌≡◌, ℕ, List, [], Option, Some, None, IfSome}
-use Rattle.line_model.specs.Channels.{Channel}
-use Rattle.line_model.specs.Text.{early_rows}
+use Rattle.line_model.specs.channels.Channels.{Channel}
+use Rattle.line_model.specs.text.Text.{early_rows}
 use Rattle.line_model.specs.declared.interface.Interface.{Interface}
 use Rattle.trace_text.specs.Progress.{Progress}
 use Rattle.trace_text.specs.StandsFor.{StandsFor as IsReaderOf, IsTextFault}

@@ -1,10 +1,10 @@
 -- What a report says of a text, and what a sink took of it.
 use Rattle.std.specs.Prelude.{◌≡◌, ℕ, List, Option, Some, None, take}
-use Rattle.line_model.specs.Device.{with_more}
-use Rattle.line_model.specs.Records.{Report}
-use Rattle.line_model.specs.Report.{report_of}
-use Rattle.line_model.specs.Text.{fault, head, rows}
-use Rattle.line_model.specs.Traces.{trace_report, trace_summary}
+use Rattle.line_model.specs.basics.Device.{with_more}
+use Rattle.line_model.specs.basics.Records.{Report}
+use Rattle.line_model.specs.observer.Report.{report_of}
+use Rattle.line_model.specs.text.Text.{fault, head, rows}
+use Rattle.line_model.specs.traces.Traces.{trace_report, trace_summary}
 use Rattle.line_model.specs.declared.interface.Interface.{Interface}
 use Rattle.line_model.specs.declared.fault.Kind.TheVariants.{HeaderMissing}
 use Rattle.line_model.specs.declared.fault.Fault.{Fault}

@@ -1,8 +1,8 @@
 //! The live channels of an epoch that has ended.
 
 ghost use Rattle.std.specs.Prelude.{◌≡◌, ℕ, ◌<◌, ◌+◌, ◌^◌, ◌++◌, List, IfErr, OnOk, length, map};
-ghost use Rattle.line_model.specs.Plans.{value};
-ghost use Rattle.line_model.specs.Records as records;
+ghost use Rattle.line_model.specs.pieces.Plans.{value};
+ghost use Rattle.line_model.specs.basics.Records as records;
 ghost use Rattle.line_model.specs.declared.interface.Interface.{Interface as AnyInterface};
 ghost use Rattle.line_model.specs.declared.fault.Fault.TheVariants.{Memory};
 ghost use Rattle.restart_epochs.specs.OpenRows.{OpenRows, rows_of, IsListing};

@@ -1,8 +1,8 @@
 //! A trace whose findings are written as it grows.
 
 ghost use Rattle.std.specs.Prelude.{◌≡◌, ◌≢◌, ℕ, ◌+◌, ◌<◌, ◌≤◌, ◌^◌, ◌++◌, [], List, Option, Some, Err, length, IfErr, IfOk, OnOk};
-ghost use Rattle.line_model.specs.Text.{early};
-ghost use Rattle.line_model.specs.Traces.{trace_report};
+ghost use Rattle.line_model.specs.text.Text.{early};
+ghost use Rattle.line_model.specs.traces.Traces.{trace_report};
 ghost use Rattle.trace_text.specs.Progress.{bytes_fed};
 ghost use Rattle.live_report.specs.Found.{found_text};
 ghost use Rattle.live_report.specs.Follows.{HasFindings, HasFindingsAtLine, HasFirst, IsFed, IsRefusalOf, StandsFor};

@@ -1,8 +1,8 @@
 //! The live channels of the epoch that has not ended.
 
 ghost use Rattle.std.specs.Prelude.{option_to_list, ◌≡◌, ◌<◌, ◌++◌, ◌∷◌, [], IfErr, IfOk, OnOk, length};
-ghost use Rattle.line_model.specs.Bounds.{IsPiece};
-ghost use Rattle.line_model.specs.Report.{findings_of};
+ghost use Rattle.line_model.specs.basics.Bounds.{IsPiece};
+ghost use Rattle.line_model.specs.observer.Report.{findings_of};
 ghost use Rattle.line_model.specs.declared.fault.Fault.TheVariants.{Memory};
 ghost use Rattle.channel_machine.specs.Run.{row_events};
 ghost use Rattle.channel_machine.specs.Live.{channel_so_far};

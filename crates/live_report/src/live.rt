@@ -2,8 +2,8 @@
 
 ghost use Rattle.std.specs.Prelude.{◌≡◌, ◌≢◌, ℕ, ◌+◌, ◌<◌, ◌≤◌, ◌^◌, ◌++◌, [], List, Some, None, Err, length, IfErr, IfOk, OnOk};
 ghost use Rattle.std.specs.Option.{option_map};
-ghost use Rattle.line_model.specs.Text.{early, ended_lines, fault};
-ghost use Rattle.line_model.specs.Traces.{trace_report};
+ghost use Rattle.line_model.specs.text.Text.{early, ended_lines, fault};
+ghost use Rattle.line_model.specs.traces.Traces.{trace_report};
 ghost use Rattle.trace_text.specs.Progress.{bytes_fed};
 ghost use Rattle.trace_text.specs.StandsFor.{IsFaultOf, IsTextFault};
 ghost use Rattle.trace_text.specs.EndedPart.{ended_part};

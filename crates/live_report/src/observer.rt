@@ -1,12 +1,12 @@
 //! The observer that runs: it walks a trace row by row, and keeps what it found, not what it read.
 
 ghost use Rattle.std.specs.Prelude.{option_to_list, ◌≡◌, ℕ, ◌<◌, ◌≤◌, ◌+◌, ◌^◌, ◌++◌, ◌∷◌, [], List, length, map, Some, IfErr, IfOk, IfSome, OnOk};
-ghost use Rattle.line_model.specs.Bounds.{IsPiece};
-ghost use Rattle.line_model.specs.Classes.{packet_of};
-ghost use Rattle.line_model.specs.Octets.{channel_of};
-ghost use Rattle.line_model.specs.Plans.{value};
-ghost use Rattle.line_model.specs.Records as records;
-ghost use Rattle.line_model.specs.Report.{findings_of, report_of};
+ghost use Rattle.line_model.specs.basics.Bounds.{IsPiece};
+ghost use Rattle.line_model.specs.packets.Classes.{packet_of};
+ghost use Rattle.line_model.specs.basics.Octets.{channel_of};
+ghost use Rattle.line_model.specs.pieces.Plans.{value};
+ghost use Rattle.line_model.specs.basics.Records as records;
+ghost use Rattle.line_model.specs.observer.Report.{findings_of, report_of};
 ghost use Rattle.line_model.specs.declared.interface.Interface.{Interface as AnyInterface};
 ghost use Rattle.line_model.specs.declared.fault.Fault.TheVariants.{Memory};
 ghost use Rattle.restart_epochs.specs.OpenRows.{rows_of, no_rows, IsListing};

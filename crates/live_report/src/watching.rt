@@ -1,12 +1,12 @@
 //! A chunk of a trace, row by row.
 
 ghost use Rattle.std.specs.Prelude.{◌≡◌, ℕ, ◌+◌, ◌≤◌, ◌^◌, ◌++◌, ◌∷◌, [], List, length, IfErr, IfOk, OnOk};
-ghost use Rattle.line_model.specs.Records as records;
-ghost use Rattle.line_model.specs.Report.{report_of};
+ghost use Rattle.line_model.specs.basics.Records as records;
+ghost use Rattle.line_model.specs.observer.Report.{report_of};
 ghost use Rattle.line_model.specs.declared.fault.Fault.TheVariants.{Memory};
 ghost use Rattle.trace_text.specs.StandsFor.{last_row};
 ghost use Rattle.live_report.specs.Observing.{AreRows, StandsFor};
-ghost use Rattle.line_model.specs.Text.{early};
+ghost use Rattle.line_model.specs.text.Text.{early};
 ghost use Rattle.line_model.specs.declared.interface.Interface.{Interface as AnyInterface};
 ghost use Rattle.trace_text.specs.Progress.{bytes_fed};
 ghost use Rattle.trace_text.specs.StandsFor.{IsFaultOf, IsTextFault};

@@ -2,31 +2,31 @@
 use Rattle.std.proofs.Common.{◌≡◌, ℕ, true, false, sym, ap, subst, List, [], ◌∷◌, ◌++◌}
 use Rattle.line_model.specs.declared.state.Side.{Side}
 use Rattle.line_model.specs.declared.state.Side.TheVariants.{T, N}
-use Rattle.line_model.specs.Channels.{Heard}
-use Rattle.line_model.specs.FlowControl.{is_side}
-use Rattle.line_model.specs.Sequences.{begun, is_category_a}
+use Rattle.line_model.specs.channels.Channels.{AcceptedData}
+use Rattle.line_model.specs.channels.FlowControl.{is_side}
+use Rattle.line_model.specs.channels.Sequences.{begun, is_category_a}
 use Rattle.mbit_assembly.proofs.SequenceLemmas.{begun-other, begun-more, begun-done}
-use Rattle.mbit_assembly.specs.Kept.{Kept, Assembly}
+use Rattle.mbit_assembly.specs.Sequences.{SequenceView, Assembly}
 use Rattle.mbit_assembly.specs.Assembly.{Holds, IsPutOn}
 use Rattle.mbit_assembly.specs.Assembler.{StandsFor, IsPut}
 use Rattle.mbit_assembly.specs.declared.sequence.Put.{Put}
 use Rattle.mbit_assembly.specs.declared.sequence.Put.TheVariants.{Going, Complete, Mixed}
 
 -- the side itself, with a packet more that goes on, or that ends its sequence
-going : (b : Kept) (size : ℕ) (x : Side) (hs : List Heard) (h : Heard) → is_side x h.side ≡ true → is_category_a size h ≡ true →
+going : (b : SequenceView) (size : ℕ) (x : Side) (hs : List AcceptedData) (h : AcceptedData) → is_side x h.side ≡ true → is_category_a size h ≡ true →
     Holds b (begun size x hs ++ h ∷ []) → Holds b (begun size x (hs ++ h ∷ []))
 going b size x hs h own a holds = subst (Holds b) (sym (begun-more size x hs h own a)) holds
 
-done : (b : Kept) (size : ℕ) (x : Side) (hs : List Heard) (h : Heard) → is_side x h.side ≡ true → is_category_a size h ≡ false →
+done : (b : SequenceView) (size : ℕ) (x : Side) (hs : List AcceptedData) (h : AcceptedData) → is_side x h.side ≡ true → is_category_a size h ≡ false →
     Holds b [] → Holds b (begun size x (hs ++ h ∷ []))
 done b size x hs h own a holds = subst (Holds b) (sym (begun-done size x hs h own a)) holds
 
 -- the other side
-apart : (b : Kept) (size : ℕ) (x : Side) (hs : List Heard) (h : Heard) → is_side x h.side ≡ false →
+apart : (b : SequenceView) (size : ℕ) (x : Side) (hs : List AcceptedData) (h : AcceptedData) → is_side x h.side ≡ false →
     Holds b (begun size x hs) → Holds b (begun size x (hs ++ h ∷ []))
 apart b size x hs h not_own holds = subst (Holds b) (sym (begun-other size x hs h not_own)) holds
 
-pub put_t : {A : Type 0} (p : Put A) (old : Assembly) (new : Kept) (hs : List Heard) (h : Heard) → h.side ≡ T → new.size ≡ old.of_t.size →
+pub put_t : {A : Type 0} (p : Put A) (old : Assembly) (new : SequenceView) (hs : List AcceptedData) (h : AcceptedData) → h.side ≡ T → new.size ≡ old.of_t.size →
     StandsFor old hs → IsPutOn p old.of_t new T h (begun old.of_t.size T hs) → IsPut p old (record old { of_t = new }) T h hs
 put_t Going old new hs h x_is size_is stands put = (
   put.0,
@@ -49,7 +49,7 @@ put_t (Complete s) old new hs h x_is size_is stands put = (
 )
 put_t Mixed old new hs h x_is size_is stands put = (put.0, ap (λ b. record old { of_t = b }) put.1)
 
-pub put_n : {A : Type 0} (p : Put A) (old : Assembly) (new : Kept) (hs : List Heard) (h : Heard) → h.side ≡ N → new.size ≡ old.of_n.size →
+pub put_n : {A : Type 0} (p : Put A) (old : Assembly) (new : SequenceView) (hs : List AcceptedData) (h : AcceptedData) → h.side ≡ N → new.size ≡ old.of_n.size →
     StandsFor old hs → IsPutOn p old.of_n new N h (begun old.of_n.size N hs) → IsPut p old (record old { of_n = new }) N h hs
 put_n Going old new hs h x_is size_is stands put = (
   put.0,

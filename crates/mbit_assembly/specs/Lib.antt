@@ -1,4 +1,4 @@
-pub mod Kept
+pub mod Sequences
 pub mod Joined
 pub mod UserOctets
 pub mod Assembly

@@ -1,7 +1,7 @@
 //! The sequences of both sides of a channel.
 
 ghost use Rattle.std.specs.Prelude.{◌≡◌, List, [], IfOk, IfErr, OnErr};
-ghost use Rattle.line_model.specs.Channels.{Heard};
+ghost use Rattle.line_model.specs.channels.Channels.{AcceptedData};
 ghost use Rattle.line_model.specs.declared.fault.Fault.TheVariants.{Memory};
 ghost use Rattle.mbit_assembly.specs.Assembly.{heard, OnMixed};
 ghost use Rattle.mbit_assembly.specs.Assembler.{StandsFor, IsPut, sizes};
@@ -23,7 +23,7 @@ pub struct Assembler<A: Allocator = Global> {
 }
 
 impl<A: Allocator> Model for Assembler<A> {
-    ghost use Rattle.mbit_assembly.specs.Kept.{Assembly};
+    ghost use Rattle.mbit_assembly.specs.Sequences.{Assembly};
 
     ghost Value = { Assembly };
 
@@ -47,7 +47,7 @@ impl<A: Allocator + Clone> Assembler<A> {
     /// refusal for memory, change nothing.
     #[tactic(auto, using(crate::proofs::Sides::put_t, crate::proofs::Sides::put_n))]
     pub fn put<'a>(&mut self, side: Side, field: &DataField<'a>) -> Result<Put<'a, A>, Fault>
-        ensures put { (hs : List Heard) → StandsFor self.old hs → IfOk result (λ p. IsPut p self.old self.new side (heard side field.now) hs) }
+        ensures put { (hs : List AcceptedData) → StandsFor self.old hs → IfOk result (λ p. IsPut p self.old self.new side (heard side field.now) hs) }
         ensures sizes { sizes self.new ≡ sizes self.old }
         ensures mixed { IfOk result (λ p. OnMixed p (self.new ≡ self.old)) }
         ensures unchanged { OnErr result (self.new ≡ self.old) }

@@ -1,7 +1,7 @@
 //! The sequence that one side has begun.
 
 ghost use Rattle.std.specs.Prelude.{◌≡◌, ◌≤◌, List, [], IfOk, IfErr, OnOk, OnErr, true, Some, vec_len};
-ghost use Rattle.line_model.specs.Channels.{Heard};
+ghost use Rattle.line_model.specs.channels.Channels.{AcceptedData};
 ghost use Rattle.line_model.specs.declared.fault.Fault.TheVariants.{Memory};
 
 use crate::sequence::{DataField, KEPT, Put, Sequence, UserData};
@@ -26,10 +26,10 @@ pub(crate) struct Begun<A: Allocator> {
 }
 
 impl<A: Allocator> Model for Begun<A> {
-    ghost use Rattle.mbit_assembly.specs.Kept.{Kept};
+    ghost use Rattle.mbit_assembly.specs.Sequences.{SequenceView};
     ghost use Rattle.mbit_assembly.specs.Joined.{joined_qualified, joined_octets};
 
-    ghost Value = { Kept };
+    ghost Value = { SequenceView };
 
     ghost view = { λ b. record { size = b.size; qualified = joined_qualified b.joined; octets = joined_octets b.joined } };
 }
@@ -78,7 +78,7 @@ impl<A: Allocator + Clone> Begun<A> {
         side: Side,
         field: &DataField<'a>,
     ) -> Result<Put<'a, A>, Fault>
-        ensures put { (gs : List Heard) → Holds self.old gs → IfOk result (λ p. IsPutOn p self.old self.new side (heard side field.now) gs) }
+        ensures put { (gs : List AcceptedData) → Holds self.old gs → IfOk result (λ p. IsPutOn p self.old self.new side (heard side field.now) gs) }
         ensures size { self.new.size ≡ self.old.size }
         ensures mixed { IfOk result (λ p. OnMixed p (self.new ≡ self.old)) }
         ensures unchanged { OnErr result (self.new ≡ self.old) }

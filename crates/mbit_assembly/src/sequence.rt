@@ -22,7 +22,7 @@ pub struct DataField<'a> {
 }
 
 impl DataField<'_> {
-    ghost use Rattle.line_model.specs.Sequences.{is_category_a};
+    ghost use Rattle.line_model.specs.channels.Sequences.{is_category_a};
     ghost use Rattle.line_model.specs.declared.state.Side.{Side};
     ghost use Rattle.mbit_assembly.specs.Assembly.{heard};
 

@@ -8,8 +8,8 @@ use Rattle.std.proofs.lemmas.List.Sums.{take_while-cons}
 use Rattle.std.proofs.lemmas.List.Folds.{find-append}
 use Rattle.std.proofs.lemmas.Bool.Decides.{eqb_tells}
 use Rattle.line_model.specs.declared.interface.Interface.{Interface}
-use Rattle.line_model.specs.Facilities.{Facility, facilities_of, parameters_from, octets_after, last_parameters, is_out_of_range, asks_fast, asks_reverse, asked_sizes, asked_windows}
-use Rattle.line_model.specs.Octets.{octet, bits}
+use Rattle.line_model.specs.packets.Facilities.{Facility, facilities_of, parameters_from, octets_after, last_parameters, is_out_of_range, asks_fast, asks_reverse, asked_sizes, asked_windows}
+use Rattle.line_model.specs.basics.Octets.{octet, bits}
 use Rattle.packet_decode.specs.Reading.{ReadsAs, read_of, charges_fast, charges_reverse, powers}
 use Rattle.packet_decode.proofs.FacilityLemmas.{facilities_of-bound}
 use Rattle.packet_decode.specs.declared.facility.Asked.{Asked}

@@ -4,9 +4,9 @@ use Rattle.std.specs.Prelude.{◌==◌, Option, Some, unwrap_or, if◌then◌els
 use Rattle.line_model.specs.declared.interface.Interface.{Interface}
 use Rattle.line_model.specs.declared.packet.Class.{Class}
 use Rattle.line_model.specs.declared.packet.Class.TheVariants.{Call, Accepted, Short, WrongFormat, Unassigned, TwoOctets, RestartHere, Clear, ClearConfirm, Interrupt, InterruptConfirm, Reset, ResetConfirm, Data, Rr, Rnr, Rej, Undefined, Restart, RestartConfirm, Diagnostic, Registration}
-use Rattle.line_model.specs.Octets.{octet, bits, channel_of}
-use Rattle.line_model.specs.Choice.{value_at, first_that}
-use Rattle.line_model.specs.Classes.{class_of, line_class, line_type, channel_class, type_class, channel_type, flow_type, supervisory, format_of}
+use Rattle.line_model.specs.basics.Octets.{octet, bits, channel_of}
+use Rattle.line_model.specs.basics.Choice.{value_at, first_that}
+use Rattle.line_model.specs.packets.Classes.{class_of, line_class, line_type, channel_class, type_class, channel_type, flow_type, supervisory, format_of}
 use Rattle.packet_decode.specs.CallFaults.{IsCallPacket}
 
 -- a call packet has three octets, and its type says which it is

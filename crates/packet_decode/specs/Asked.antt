@@ -2,8 +2,8 @@
 use Rattle.std.specs.Prelude.{ℕ, Bool, true, false, not, ◌==◌, ◌||◌, nat_lt, nat_le, ◌≡◌, ◌≤◌, ◌<◌, List, length, take_while, Option, Some, None, option_map, IfSome}
 use Rattle.std.specs.List.{list_any}
 use Rattle.line_model.specs.declared.interface.Interface.{Interface}
-use Rattle.line_model.specs.Octets.{octet}
-use Rattle.line_model.specs.Facilities.{Facility, facilities_of, last_parameters, is_out_of_range}
+use Rattle.line_model.specs.basics.Octets.{octet}
+use Rattle.line_model.specs.packets.Facilities.{Facility, facilities_of, last_parameters, is_out_of_range}
 use Rattle.packet_decode.specs.declared.facility.Asked.{Asked}
 
 -- no facility asks anything

@@ -2,8 +2,8 @@
 use Rattle.std.specs.Prelude.{ℕ, ◌≡◌, ◌+◌, nat_lt, List, [], ◌∷◌, length, Option}
 use Rattle.std.specs.List.{list_any}
 use Rattle.line_model.specs.declared.diagnostic.TheConstants.{PACKET_TOO_SHORT, INVALID_CALLED_DTE_ADDRESS, INVALID_CALLING_DTE_ADDRESS}
-use Rattle.line_model.specs.Choice.{first_fault}
-use Rattle.line_model.specs.Facilities.{address_octets, called_digits, calling_digits, after_addresses, ascii_digits}
+use Rattle.line_model.specs.basics.Choice.{first_fault}
+use Rattle.line_model.specs.packets.Facilities.{address_octets, called_digits, calling_digits, after_addresses, ascii_digits}
 use Rattle.packet_decode.specs.declared.fields.Addresses.{Addresses}
 
 -- the faults of the addresses

@@ -5,10 +5,10 @@ use Rattle.line_model.specs.declared.diagnostic.TheConstants.{PACKET_TOO_LONG, F
 use Rattle.line_model.specs.declared.interface.Interface.{Interface}
 use Rattle.line_model.specs.declared.packet.Class.{Class}
 use Rattle.line_model.specs.declared.packet.Class.TheVariants.{Call, Accepted}
-use Rattle.line_model.specs.Choice.{first_fault}
-use Rattle.line_model.specs.Octets.{octet}
-use Rattle.line_model.specs.Facilities.{facilities_of, is_out_of_range, asks_fast, user_data_limit, call_fault, accepted_fault}
-use Rattle.line_model.specs.Classes.{class_of}
+use Rattle.line_model.specs.basics.Choice.{first_fault}
+use Rattle.line_model.specs.basics.Octets.{octet}
+use Rattle.line_model.specs.packets.Facilities.{facilities_of, is_out_of_range, asks_fast, user_data_limit, call_fault, accepted_fault}
+use Rattle.line_model.specs.packets.Classes.{class_of}
 use Rattle.packet_decode.specs.Reading.{read_of}
 
 -- the facilities in what follows the addresses (X.25 clause 5.2.1)

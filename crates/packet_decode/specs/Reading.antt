@@ -3,8 +3,8 @@ use Rattle.std.specs.Prelude.{ℕ, Bool, false, ◌==◌, ◌≡◌, ◌^◌, Li
 use Rattle.std.specs.Option.{option_map_or}
 use Rattle.std.specs.List.{list_any}
 use Rattle.line_model.specs.declared.interface.Interface.{Interface}
-use Rattle.line_model.specs.Octets.{bits}
-use Rattle.line_model.specs.Facilities.{Facility, facilities_of, is_out_of_range, asks_fast, asks_reverse, asked_sizes, asked_windows}
+use Rattle.line_model.specs.basics.Octets.{bits}
+use Rattle.line_model.specs.packets.Facilities.{Facility, facilities_of, is_out_of_range, asks_fast, asks_reverse, asked_sizes, asked_windows}
 use Rattle.packet_decode.specs.declared.facility.Asked.{Asked}
 use Rattle.packet_decode.specs.Asked.{before_marker}
 

@@ -2,8 +2,8 @@
 use Rattle.std.specs.Prelude.{ℕ, ◌≤◌, ◌<◌, ◌==◌, IfSome, IsTrue}
 use Rattle.std.specs.List.{list_any}
 use Rattle.line_model.specs.declared.interface.Interface.{Interface}
-use Rattle.line_model.specs.Facilities as model
-use Rattle.line_model.specs.Limits.{packet_sizes}
+use Rattle.line_model.specs.packets.Facilities as model
+use Rattle.line_model.specs.basics.Limits.{packet_sizes}
 use Rattle.packet_decode.specs.declared.fields.CallFields.{CallFields}
 
 abbrev pub shown : CallFields → model.CallFields

@@ -2,8 +2,8 @@
 
 ghost use Rattle.std.specs.Prelude.{◌≡◌, ◌≤◌, ◌+◌, ◌*◌, length, nat_lt, true, false, IfSome, IfNone};
 ghost use Rattle.std.specs.List.{list_any};
-ghost use Rattle.line_model.specs.Octets.{half_octet, half_octets};
-ghost use Rattle.line_model.specs.Facilities.{ascii_digits};
+ghost use Rattle.line_model.specs.basics.Octets.{half_octet, half_octets};
+ghost use Rattle.line_model.specs.packets.Facilities.{ascii_digits};
 
 use line_model::address::Address;
 

@@ -1,7 +1,7 @@
 //! The facilities of a call packet (X.25 clauses 6, 7.1 and 7.2).
 
 ghost use Rattle.std.specs.Prelude.{◌≡◌, ◌≤◌, length, IfSome, MatchOption, is_none, true};
-ghost use Rattle.line_model.specs.Facilities.{octets_after, facilities_of};
+ghost use Rattle.line_model.specs.packets.Facilities.{octets_after, facilities_of};
 ghost use Rattle.packet_decode.specs.Reading.{ReadsAs};
 ghost use Rattle.packet_decode.specs.Asked.{asked_in, with_facility, nothing_asked, IsInRange, is_bad_size, is_bad_window};
 ghost use Rattle.line_model.specs.declared.interface.Interface.{Interface};

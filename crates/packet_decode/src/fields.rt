@@ -1,9 +1,9 @@
 //! The fields of call packets (X.25 clauses 5.2.1 and 5.2.2).
 
 ghost use Rattle.std.specs.Prelude.{◌≡◌, ◌≤◌, ◌<◌, ◌^◌, ◌/◌, ◌%◌, ◌∷◌, length, MatchResult, MatchOption, option_map, IfSome, OnOk, IfOk, IfErr, None, Some, true, false, drop, ◌+◌};
-ghost use Rattle.line_model.specs.Classes.{class_of};
-ghost use Rattle.line_model.specs.Octets.{octet};
-ghost use Rattle.line_model.specs.Facilities.{fields_of, no_fields, call_fault, accepted_fault, block_fault, has_a_bit, user_data_limit};
+ghost use Rattle.line_model.specs.packets.Classes.{class_of};
+ghost use Rattle.line_model.specs.basics.Octets.{octet};
+ghost use Rattle.line_model.specs.packets.Facilities.{fields_of, no_fields, call_fault, accepted_fault, block_fault, has_a_bit, user_data_limit};
 ghost use Rattle.packet_decode.specs.CallFaults.{tail_fault, is_field_cut, call_packet_fault, IsCallPacket, facility_field};
 ghost use Rattle.packet_decode.specs.Shown.{shown, IsPacketSize, IsUsable};
 ghost use Rattle.packet_decode.specs.Reading.{ReadsAs, powers};

@@ -2,10 +2,10 @@
 use Rattle.std.proofs.Common.{◌≡◌, ◌∙◌, sym, ap, subst, refl, ℕ, ◌<◌, List, [], ◌++◌, Option, Some, None, Result, Ok, Err, append_assoc, append-nil, inl, inr}
 use Rattle.std.specs.Prelude.{IfOk, IfErr, IfSome}
 use Rattle.std.specs.Option.{option_map}
-use Rattle.line_model.specs.Book.{KnownPlan}
-use Rattle.line_model.specs.Device.{Gives}
-use Rattle.line_model.specs.Text.{early, early_head, fault, head_of, size_kind}
-use Rattle.line_model.specs.Traces.{trace_plan}
+use Rattle.line_model.specs.work.Book.{KnownPlan}
+use Rattle.line_model.specs.basics.Device.{Gives}
+use Rattle.line_model.specs.text.Text.{early, early_head, fault, head_of, size_kind}
+use Rattle.line_model.specs.traces.Traces.{trace_plan}
 use Rattle.line_model.specs.declared.fault.Fault.{Fault}
 use Rattle.line_model.specs.declared.fault.Fault.TheVariants.{Memory, Trace, Read as ReadFailed}
 use Rattle.line_model.proofs.TextLemmas.{early_rows-nothing}

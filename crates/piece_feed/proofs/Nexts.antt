@@ -2,9 +2,9 @@
 use Rattle.std.proofs.Common.{◌≡◌, ◌∙◌, sym, ap, subst, ℕ, zero, suc, ◌+◌, List, [], ◌∷◌, ◌++◌, length, Some, None, arith, append-nil}
 use Rattle.std.specs.Prelude.{IfSome, slice_get}
 use Rattle.line_model.specs.declared.interface.Interface.{Interface}
-use Rattle.line_model.specs.Records.{Row, Piece}
-use Rattle.line_model.specs.Book.{KnownPlan, IsPlanned}
-use Rattle.line_model.specs.Plans.{plan}
+use Rattle.line_model.specs.basics.Records.{Row, Piece}
+use Rattle.line_model.specs.work.Book.{KnownPlan, IsPlanned}
+use Rattle.line_model.specs.pieces.Plans.{plan}
 use Rattle.line_model.proofs.BookTotals.{numbers_law}
 use Rattle.restart_epochs.specs.Cutting.{given_of}
 use Rattle.restart_epochs.proofs.Heads.{given_first}

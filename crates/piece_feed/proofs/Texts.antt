@@ -5,11 +5,11 @@ use Rattle.line_model.specs.declared.interface.Interface.{Interface}
 use Rattle.line_model.specs.declared.fault.Kind.{Kind}
 use Rattle.line_model.specs.declared.fault.Fault.{Fault}
 use Rattle.line_model.specs.declared.fault.Fault.TheVariants.{Memory}
-use Rattle.line_model.specs.Book.{KnownPlan}
-use Rattle.line_model.specs.Plans.{plan, line_findings}
-use Rattle.line_model.specs.Records.{Row, Piece}
-use Rattle.line_model.specs.Text.{early, early_head, early_rows, fault, head, rows}
-use Rattle.line_model.specs.Traces.{trace_plan}
+use Rattle.line_model.specs.work.Book.{KnownPlan}
+use Rattle.line_model.specs.pieces.Plans.{plan, line_findings}
+use Rattle.line_model.specs.basics.Records.{Row, Piece}
+use Rattle.line_model.specs.text.Text.{early, early_head, early_rows, fault, head, rows}
+use Rattle.line_model.specs.traces.Traces.{trace_plan}
 use Rattle.restart_epochs.specs.Cutting.{given_of}
 use Rattle.restart_epochs.proofs.Heads.{given_first}
 use Rattle.trace_text.specs.Progress.{Progress}

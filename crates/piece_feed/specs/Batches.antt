@@ -1,7 +1,7 @@
 -- Rows with their packets.
 use Rattle.std.specs.Prelude.{◌≡◌, List, map}
-use Rattle.line_model.specs.Classes.{packet_of}
-use Rattle.line_model.specs.Records.{Row, Item}
+use Rattle.line_model.specs.packets.Classes.{packet_of}
+use Rattle.line_model.specs.basics.Records.{Row, Item}
 use Rattle.line_model.specs.declared.interface.Interface.{Interface}
 
 -- the rows of some items

@@ -2,10 +2,10 @@
 use Rattle.std.specs.Prelude.{◌≡◌, ℕ, ◌+◌, ◌≤◌, ◌^◌, List, [], ◌∷◌, ◌++◌, length, map, sum_by, All, Option, Some, None, IfSome, MatchOption}
 use Rattle.std.specs.List.Sorted.{IsStrictlyIncreasing}
 use Rattle.line_model.specs.declared.interface.Interface.{Interface}
-use Rattle.line_model.specs.Book.{KnownPlan}
-use Rattle.line_model.specs.Records.{Row, Piece}
-use Rattle.line_model.specs.Text.{early_head, early_rows, last_or}
-use Rattle.line_model.specs.Traces.{trace_plan}
+use Rattle.line_model.specs.work.Book.{KnownPlan}
+use Rattle.line_model.specs.basics.Records.{Row, Piece}
+use Rattle.line_model.specs.text.Text.{early_head, early_rows, last_or}
+use Rattle.line_model.specs.traces.Traces.{trace_plan}
 use Rattle.restart_epochs.specs.Cutting.{Cutting, StandsFor as IsCutterOf, given_of}
 use Rattle.trace_text.specs.Progress.{Progress}
 use Rattle.trace_text.specs.StandsFor.{StandsFor}

@@ -1,9 +1,9 @@
 -- What was read of a source.
 use Rattle.std.specs.Prelude.{◌≡◌, ℕ, ◌⊎◌, List, [], ◌++◌, length, Option, Some, None, Result, Err, IfOk, IfErr, MatchOption}
-use Rattle.line_model.specs.Records.{Row}
+use Rattle.line_model.specs.basics.Records.{Row}
 use Rattle.line_model.specs.declared.interface.Interface.{Interface}
-use Rattle.line_model.specs.Text.{early, fault, head, rows}
-use Rattle.line_model.specs.Plans.{plan, line_findings}
+use Rattle.line_model.specs.text.Text.{early, fault, head, rows}
+use Rattle.line_model.specs.pieces.Plans.{plan, line_findings}
 use Rattle.line_model.specs.declared.fault.Fault.{Fault}
 use Rattle.line_model.specs.declared.fault.Fault.TheVariants.{Memory, Trace, Read as ReadFailed, Write, Start}
 use Rattle.piece_feed.specs.declared.reading.Read.{Read}

@@ -1,7 +1,7 @@
 //! The rows of a part of the text, with their packets.
 
 ghost use Rattle.std.specs.Prelude.{◌≡◌, ℕ, ◌++◌, ◌∷◌, ◌≤◌, ◌+◌, ◌^◌, [], List, None, Some, All, IfErr, IfOk, OnOk, length};
-ghost use Rattle.line_model.specs.Text.{early, early_head, early_rows, fault, head, rows};
+ghost use Rattle.line_model.specs.text.Text.{early, early_head, early_rows, fault, head, rows};
 ghost use Rattle.line_model.specs.declared.interface.Interface.{Interface as AnyInterface};
 ghost use Rattle.trace_text.specs.Progress.{bytes_fed};
 ghost use Rattle.trace_text.specs.StandsFor.{StandsFor, IsFaultOf, IsTextFault};

@@ -3,11 +3,11 @@
 ghost use Rattle.std.specs.Prelude.{◌≡◌, ℕ, ◌+◌, ◌<◌, ◌≤◌, ◌^◌, List, IfErr, IfOk, IfSome};
 ghost use Rattle.std.specs.Option.{option_map};
 ghost use Rattle.std.specs.Thread.{IsSync};
-ghost use Rattle.line_model.specs.Text.{fault};
-ghost use Rattle.line_model.specs.Traces.{trace_plan};
+ghost use Rattle.line_model.specs.text.Text.{fault};
+ghost use Rattle.line_model.specs.traces.Traces.{trace_plan};
 ghost use Rattle.line_model.specs.declared.fault.Fault.TheVariants.{Memory};
-ghost use Rattle.line_model.specs.Plans.{plan};
-ghost use Rattle.line_model.specs.Records as records;
+ghost use Rattle.line_model.specs.pieces.Plans.{plan};
+ghost use Rattle.line_model.specs.basics.Records as records;
 ghost use Rattle.trace_text.specs.StandsFor.{StandsFor, IsFaultOf, IsTextFault};
 ghost use Rattle.workers.specs.Workers.{HasFed};
 ghost use Rattle.piece_feed.specs.Fronts.{HasCut, IsFedTo, IsEndReady};
@@ -30,7 +30,7 @@ use trace_text::lines::Lines;
 use workers::{Feed, feed_pieces};
 
 /// The bytes that are asked for at once.
-const PIECE: usize = 1 << 16;
+const CHUNK: usize = 1 << 16;
 
 /// What was read: the header of the trace, the findings of the restart machine, and how many rows and pieces there are.
 #[derive(Drop)]
@@ -123,7 +123,7 @@ fn read_all<P: Plan, A: Allocator + Copy, S: Source, R: Wait + Clock>(
     ensures read { HasRead (S.left source.old) (S.left source.new) (S.failures source.old < S.failures source.new) pass.new.record_of.fed result }
     ensures asked { S.calls source.new ≤ S.calls source.old + (2 ^ 30 + 1) }
 {
-    let mut buffer = [0; PIECE];
+    let mut buffer = [0; CHUNK];
     let mut lines = Lines::new(alloc);
     let mut batch = Batch::new(alloc);
     let mut front = None;

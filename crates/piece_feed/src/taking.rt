@@ -1,8 +1,8 @@
 //! Rows that go through the cutter into the queue.
 
 ghost use Rattle.std.specs.Prelude.{◌≡◌, ℕ, ◌++◌, ◌+◌, ◌≤◌, ◌^◌, [], List, Option, Some, None, All, IfErr, IfOk, IfSome, MatchOption, OnOk, length, map};
-ghost use Rattle.line_model.specs.Text.{early, early_head};
-ghost use Rattle.line_model.specs.Records as records;
+ghost use Rattle.line_model.specs.text.Text.{early, early_head};
+ghost use Rattle.line_model.specs.basics.Records as records;
 ghost use Rattle.line_model.specs.declared.interface.Interface.{Interface as AnyInterface};
 ghost use Rattle.line_model.specs.declared.fault.Fault.TheVariants.{Memory};
 ghost use Rattle.trace_text.specs.Progress.{bytes_fed};

@@ -1,7 +1,7 @@
 //! Worked traces that are read in steps of any size while workers take their pieces.
 
 ghost use Rattle.std.specs.Prelude.{◌≡◌, ◌<◌, Some};
-ghost use Rattle.line_model.specs.Traces.{trace_plan};
+ghost use Rattle.line_model.specs.traces.Traces.{trace_plan};
 
 use crate::batch::Batch;
 use crate::{Read, Reading};

@@ -2,9 +2,9 @@
 use Rattle.std.specs.Prelude.{◌≡◌, ℕ, ◌+◌, ◌-◌, ◌<◌, ◌≤◌, List, [], ◌∷◌, ◌++◌, Bool, true, false, if◌then◌else◌, sum_by, count_by}
 use mathlib.Core.Option.{some}
 use lib.ListN.{get_elem?}
-use Rattle.line_model.specs.Book.{KnownPlan, IsPlanned, times, once_below}
-use Rattle.line_model.specs.Work.{Entry, IsLine}
-use Rattle.line_model.specs.Work.Entry.{job, finish}
+use Rattle.line_model.specs.work.Book.{KnownPlan, IsPlanned, times, once_below}
+use Rattle.line_model.specs.work.Work.{Entry, IsLine}
+use Rattle.line_model.specs.work.Work.Entry.{job, finish}
 use Rattle.piece_queue.specs.declared.rule.Record.{Record}
 
 -- a record of the feeder's pass

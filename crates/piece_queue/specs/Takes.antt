@@ -1,8 +1,8 @@
 -- What a call of `take` says.
 use Rattle.std.specs.Prelude.{◌≡◌, ℕ, ◌<◌, [], ◌∷◌, ◌++◌, true, false}
 use Rattle.crossbeam_queue.specs.Fifo.{Held}
-use Rattle.line_model.specs.Book.{KnownPlan, IsPlanned}
-use Rattle.line_model.specs.Work.{Entry}
+use Rattle.line_model.specs.work.Book.{KnownPlan, IsPlanned}
+use Rattle.line_model.specs.work.Work.{Entry}
 use Rattle.piece_queue.specs.declared.rule.Record.{Record}
 use Rattle.piece_queue.specs.declared.work.Taken.{Taken}
 use Rattle.piece_queue.specs.declared.work.Taken.TheVariants.{Got, Finish, Empty}

@@ -2,10 +2,10 @@
 
 ghost use Rattle.std.specs.Prelude.{◌≡◌, ℕ, List, length, map};
 ghost use Rattle.line_model.specs.declared.interface.Interface.{Interface};
-ghost use Rattle.line_model.specs.Records.{Row};
-ghost use Rattle.line_model.specs.Plans.{plan, value, channel_totals};
-ghost use Rattle.line_model.specs.Book.{totals_of};
-ghost use Rattle.line_model.specs.Work.{Move, WorkState, at_start, Leads, Always, IsPrefixOf, StandsOnce, IsSettled, AllPosted};
+ghost use Rattle.line_model.specs.basics.Records.{Row};
+ghost use Rattle.line_model.specs.pieces.Plans.{plan, value, channel_totals};
+ghost use Rattle.line_model.specs.work.Book.{totals_of};
+ghost use Rattle.line_model.specs.work.Work.{Move, WorkState, at_start, Leads, Always, IsPrefixOf, StandsOnce, IsSettled, AllPosted};
 
 /// However the steps of all threads fall, the pieces fed are the first ones of the plan, and each of them is in the
 /// queue, or held by one worker, or posted, and stands there once. Where all workers have their end and hold nothing,

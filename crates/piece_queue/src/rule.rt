@@ -29,11 +29,11 @@ pub struct Record {
 }
 
 /// The rule: the queue holds the plan's pieces that were fed and not taken, in order, and then ends.
-pub struct Turns<P> {
+pub struct PlanOrder<P> {
     plan: PhantomData<P>,
 }
 
-impl<P: Plan, A: Allocator> Protocol<Entry<A>, Record> for Turns<P> {
+impl<P: Plan, A: Allocator> Protocol<Entry<A>, Record> for PlanOrder<P> {
     ghost use Rattle.piece_queue.specs.Rule.{IsKept, feeder};
     ghost use Rattle.std.specs.Prelude.{[]};
 

@@ -1,11 +1,11 @@
 //! The queue with its passes.
 ghost use Rattle.std.specs.Prelude.{◌≡◌, ◌+◌, ◌<◌, ◌≤◌, [], ◌++◌, ◌∷◌, true, false, IfOk, OnOk, IfErr, OnErr};
 ghost use Rattle.crossbeam_queue.specs.Fifo.{Held};
-ghost use Rattle.line_model.specs.Book.{IsPlanned};
+ghost use Rattle.line_model.specs.work.Book.{IsPlanned};
 ghost use Rattle.piece_queue.specs.Rule.{feeder, worker, after_split, after_join, IsInQueue, IsAccounted, IsTold};
 
 use crate::entry::Entry;
-use crate::rule::{Account, FeedsEnd, FeedsPiece, Record, Takes, Turns, Worker};
+use crate::rule::{Account, FeedsEnd, FeedsPiece, PlanOrder, Record, Takes, Worker};
 use crossbeam_queue::{ArrayQueue, Pass, RuledArrayQueue};
 use line_model::fault::Fault;
 use line_model::piece::{Piece, Plan};
@@ -19,15 +19,15 @@ const MOST_FREED: usize = 4096;
 /// A queue of pieces, and the way back of those that were run. Contracts see which queue it is and how much it holds.
 #[derive(Drop)]
 pub struct Work<P: Plan, A: Allocator = Global> {
-    queue: RuledArrayQueue<Entry<A>, Record, Turns<P>, A>,
+    queue: RuledArrayQueue<Entry<A>, Record, PlanOrder<P>, A>,
     used: ArrayQueue<Piece<A>, A>,
 }
 
 impl<P: Plan, A: Allocator> Model for Work<P, A> {
-    ghost use Rattle.piece_queue.specs.Passes.{Place};
+    ghost use Rattle.piece_queue.specs.Passes.{QueueView};
     ghost use Rattle.crossbeam_queue.specs.Passes.{ruled_capacity};
 
-    ghost Value = { Place };
+    ghost Value = { QueueView };
 
     ghost view = { λ s. record { queue = s.queue.table.shared.table_id; capacity = ruled_capacity s.queue } };
 }
@@ -40,10 +40,10 @@ pub struct FeederPass<A: Allocator = Global> {
 
 impl<A: Allocator> Model for FeederPass<A> {
     ghost use Rattle.std.specs.Prelude.{◌≡◌, [], true};
-    ghost use Rattle.piece_queue.specs.Passes.{Known};
+    ghost use Rattle.piece_queue.specs.Passes.{PassView};
     ghost use Rattle.crossbeam_queue.specs.Passes.{view as seen};
 
-    ghost Value = { Known };
+    ghost Value = { PassView };
 
     ghost view = { λ s. record { queue = s.pass.table_id; record_of = seen s.pass } };
 
@@ -58,10 +58,10 @@ pub struct WorkerPass<A: Allocator = Global> {
 
 impl<A: Allocator> Model for WorkerPass<A> {
     ghost use Rattle.std.specs.Prelude.{◌≡◌, [], true};
-    ghost use Rattle.piece_queue.specs.Passes.{Known};
+    ghost use Rattle.piece_queue.specs.Passes.{PassView};
     ghost use Rattle.crossbeam_queue.specs.Passes.{view as seen};
 
-    ghost Value = { Known };
+    ghost Value = { PassView };
 
     ghost view = { λ s. record { queue = s.pass.table_id; record_of = seen s.pass } };
 

@@ -10,9 +10,9 @@ use Rattle.line_model.specs.declared.fault.Fault.{Fault}
 use Rattle.line_model.specs.declared.fault.Fault.TheVariants.{Memory, Trace, Read, Write, Start, Double, Stranger, Missing}
 use Rattle.line_model.specs.declared.interface.Interface.{Interface}
 use Rattle.line_model.specs.declared.finding.Finding.{Finding}
-use Rattle.line_model.specs.Records.{Row, Piece, PieceReport}
-use Rattle.line_model.specs.Plans.{plan, value}
-use Rattle.line_model.specs.Book.{times, ids_of}
+use Rattle.line_model.specs.basics.Records.{Row, Piece, PieceReport}
+use Rattle.line_model.specs.pieces.Plans.{plan, value}
+use Rattle.line_model.specs.work.Book.{times, ids_of}
 use Rattle.line_model.proofs.Counting.{bit, times-cons, times-append}
 use Rattle.line_model.proofs.BookTotals.{numbers_law}
 use Rattle.report_merge.specs.Refusal.{stranger, IsFirstDouble, IsRefusal}

@@ -5,7 +5,7 @@ use native.Mathlib.Decide.{ℕ_discrete}
 use mathlib.Core.Logic.{dite}
 use Rattle.line_model.specs.declared.fault.Fault.{Fault}
 use Rattle.line_model.specs.declared.fault.Fault.TheVariants.{Memory, Trace, Read, Write, Start, Double, Stranger, Missing}
-use Rattle.line_model.specs.Book.{times}
+use Rattle.line_model.specs.work.Book.{times}
 use Rattle.line_model.proofs.Counting.{bit, times-cons, times-append}
 use Rattle.report_merge.specs.Seen.{is_among, double_with, double, IsRefused}
 use Rattle.report_merge.specs.Refusal.{stranger, IsDistinct, IsFirstDouble, IsRefusal, IsWhole}

@@ -2,7 +2,7 @@
 use Rattle.std.proofs.Common.{◌≡◌, sym, ◌+◌, List, [], ◌∷◌, ◌++◌, length, sum_by, arith, length-append}
 use Rattle.std.proofs.lemmas.List.{flat_map_more}
 use Rattle.std.proofs.lemmas.List.Sums.{sum_by-append, sum_by-cons}
-use Rattle.line_model.specs.Records.{PieceReport}
+use Rattle.line_model.specs.basics.Records.{PieceReport}
 use Rattle.report_merge.specs.Gathered.{Gathered, gathered}
 
 -- what a report adds

@@ -10,15 +10,15 @@ use Rattle.line_model.specs.declared.verdict.Route.TheVariants.{Found as ErrorFo
 use Rattle.line_model.specs.declared.event.What.{What}
 use Rattle.line_model.specs.declared.event.What.TheVariants.{Data}
 use Rattle.line_model.specs.declared.finding.Finding.{Finding}
-use Rattle.line_model.specs.Records.{Row, CallRecord, PieceReport, Report}
-use Rattle.line_model.specs.MachineEvents.{RowEvent, walk_events}
-use Rattle.line_model.specs.Merge.{is_line}
-use Rattle.line_model.specs.Peak.{how_many, IsPeakOfTimes}
-use Rattle.line_model.specs.Observer.{x25, start, event_of, events, peak, routing, route_found}
-use Rattle.line_model.specs.Calls.{all_lengths, segments_of, calls_of, up_at}
-use Rattle.line_model.specs.Accounts.{accounts_of}
-use Rattle.line_model.specs.Report.{findings_of, report_of}
-use Rattle.line_model.specs.Plans.{plan, value, line_findings, channel_events_of}
+use Rattle.line_model.specs.basics.Records.{Row, CallRecord, PieceReport, Report}
+use Rattle.line_model.specs.observer.MachineEvents.{RowEvent, walk_events}
+use Rattle.line_model.specs.pieces.Merge.{is_line}
+use Rattle.line_model.specs.observer.Peak.{how_many, IsPeakOfTimes}
+use Rattle.line_model.specs.observer.Observer.{x25, start, event_of, events, peak, routing, route_found}
+use Rattle.line_model.specs.observer.Calls.{all_lengths, segments_of, calls_of, up_at}
+use Rattle.line_model.specs.observer.Accounts.{accounts_of}
+use Rattle.line_model.specs.observer.Report.{findings_of, report_of}
+use Rattle.line_model.specs.pieces.Plans.{plan, value, line_findings, channel_events_of}
 use Rattle.line_model.proofs.Rising.{rises-from_index}
 use Rattle.line_model.proofs.LinePart.{line_none}
 use Rattle.line_model.proofs.BookTotals.{totals_law}

@@ -2,7 +2,7 @@
 use Rattle.std.proofs.Common.{◌≡◌, ◌≢◌, ℕ, ◌<◌, Option, Some, None, refl, ap, arith}
 use native.Mathlib.Decide.{ℕ_discrete, dec_le}
 use mathlib.Core.Logic.{dite}
-use Rattle.line_model.specs.Peak.{IsPeakOfTimes}
+use Rattle.line_model.specs.observer.Peak.{IsPeakOfTimes}
 
 pub peak_unique : (count : ℕ → ℕ) (p q : ℕ) (a b : Option ℕ) → IsPeakOfTimes count p a → IsPeakOfTimes count q b → (p ≡ q) × (a ≡ b)
 peak_unique count p q None None h k = (omega (arith, h.first, k.first), refl)

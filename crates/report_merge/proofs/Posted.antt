@@ -7,9 +7,9 @@ use Rattle.std.proofs.lemmas.List.Sorted.{IsPermutation-refl, IsPermutation-cons
 use Rattle.std.proofs.lemmas.List.{length-map}
 use native.Mathlib.Decide.{ℕ_discrete}
 use mathlib.Core.Logic.{dite}
-use Rattle.line_model.specs.Records.{Piece, PieceReport}
-use Rattle.line_model.specs.Plans.{value}
-use Rattle.line_model.specs.Book.{times, ids_of, AreOf}
+use Rattle.line_model.specs.basics.Records.{Piece, PieceReport}
+use Rattle.line_model.specs.pieces.Plans.{value}
+use Rattle.line_model.specs.work.Book.{times, ids_of, AreOf}
 use Rattle.line_model.proofs.Counting.{bit, times-cons, times-append, each_once}
 
 -- the report stands among the values, which are numbered from n on

@@ -2,8 +2,8 @@
 use Rattle.std.proofs.Common.{◌≡◌, ℕ, zero, suc, ◌+◌, ◌<◌, ◌==◌, ◌||◌, not, nat_lt, Bool, true, false, cond, List, [], ◌∷◌, length, get_or, set, drop, count_by, refl, sym, ap, ◌∙◌, subst, arith, Option, Some, None, if◌then◌else◌}
 use Rattle.std.proofs.lemmas.Bool.Decides.{nat_tests}
 use Rattle.std.proofs.lemmas.List.Sums.{sum_by-cons}
-use Rattle.line_model.specs.Records.{PieceReport}
-use Rattle.line_model.specs.Book.{ids_of}
+use Rattle.line_model.specs.basics.Records.{PieceReport}
+use Rattle.line_model.specs.work.Book.{ids_of}
 use Rattle.report_merge.specs.Seen.{double_with, is_among}
 use Rattle.report_merge.specs.Refusal.{stranger}
 

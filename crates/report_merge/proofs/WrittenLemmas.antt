@@ -3,10 +3,10 @@ use Rattle.std.proofs.Common.{◌≡◌, ℕ, ◌-◌, true, false, zero, suc, �
 use Rattle.std.proofs.lemmas.List.{append-nil, take-append-drop}
 use Rattle.std.proofs.lemmas.Grind.{common_steps}
 use Rattle.std.specs.List.{flat_map, enumerate_from}
-use Rattle.line_model.specs.Device.{with_more}
+use Rattle.line_model.specs.basics.Device.{with_more}
 use Rattle.report_merge.specs.declared.chunk.Chunk.{Chunk}
-use Rattle.line_model.specs.Records.{Report}
-use Rattle.line_model.specs.Report.{account_line, call_line, finding_line, line, peak_line, setting_lines, summary_line, text_of}
+use Rattle.line_model.specs.basics.Records.{Report}
+use Rattle.line_model.specs.observer.Report.{account_line, call_line, finding_line, line, peak_line, setting_lines, summary_line, text_of}
 use Rattle.report_merge.specs.Parts.{findings_text, rest_text}
 use Rattle.report_merge.specs.Written.{Writes}
 

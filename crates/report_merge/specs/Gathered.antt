@@ -2,7 +2,7 @@
 use Rattle.std.specs.Prelude.{ℕ, ◌≤◌, ◌*◌, ◌^◌, List, length, sum_by}
 use Rattle.std.specs.List.{flat_map}
 use Rattle.line_model.specs.declared.finding.Finding.{Finding}
-use Rattle.line_model.specs.Records.{CallRecord, PieceReport}
+use Rattle.line_model.specs.basics.Records.{CallRecord, PieceReport}
 
 -- the findings of the pieces
 abbrev pub piece_findings : List PieceReport → List Finding

@@ -3,11 +3,11 @@ use Rattle.std.specs.Prelude.{◌≡◌, ℕ, ◌++◌, ◌∷◌, List, length,
 use Rattle.std.specs.List.Sorted.{IsPermutation, IsNonDecreasingBy, IsStrictlyIncreasing}
 use Rattle.line_model.specs.declared.interface.Interface.{Interface}
 use Rattle.line_model.specs.declared.finding.Finding.{Finding}
-use Rattle.line_model.specs.Records.{Row, CallRecord, PieceReport, Report}
-use Rattle.line_model.specs.Accounts.{accounts_of}
-use Rattle.line_model.specs.Calls.{up_at}
-use Rattle.line_model.specs.Peak.{IsPeakOfTimes}
-use Rattle.line_model.specs.Plans.{plan, value, line_findings}
+use Rattle.line_model.specs.basics.Records.{Row, CallRecord, PieceReport, Report}
+use Rattle.line_model.specs.observer.Accounts.{accounts_of}
+use Rattle.line_model.specs.observer.Calls.{up_at}
+use Rattle.line_model.specs.observer.Peak.{IsPeakOfTimes}
+use Rattle.line_model.specs.pieces.Plans.{plan, value, line_findings}
 use Rattle.report_merge.specs.Gathered.{all_calls, piece_findings}
 
 -- the findings of the line and of the pieces

@@ -1,8 +1,8 @@
 -- The text of a report in two parts.
 use Rattle.std.specs.Prelude.{ℕ, List, ◌++◌}
 use Rattle.std.specs.List.{flat_map, enumerate_from}
-use Rattle.line_model.specs.Records.{Report}
-use Rattle.line_model.specs.Report.{account_line, call_line, finding_line, peak_line, setting_lines, summary_line}
+use Rattle.line_model.specs.basics.Records.{Report}
+use Rattle.line_model.specs.observer.Report.{account_line, call_line, finding_line, peak_line, setting_lines, summary_line}
 use Rattle.line_model.specs.declared.finding.Finding.{Finding}
 
 -- the lines of findings

@@ -2,7 +2,7 @@
 use Rattle.std.specs.Prelude.{◌≡◌, ℕ, ◌<◌, ◌≤◌, not, nat_lt, List, ◌∷◌, ◌++◌, find, Option, Some, None}
 use Rattle.line_model.specs.declared.fault.Fault.{Fault}
 use Rattle.line_model.specs.declared.fault.Fault.TheVariants.{Memory, Double, Stranger, Missing}
-use Rattle.line_model.specs.Book.{times}
+use Rattle.line_model.specs.work.Book.{times}
 
 -- the first id that is not below the number of pieces
 abbrev pub stranger : (pieces : ℕ) → List ℕ → Option ℕ

@@ -1,7 +1,7 @@
 //! Bytes on their way to a sink.
 
 ghost use Rattle.std.specs.Prelude.{◌≡◌, ℕ, List, [], ◌∷◌, ◌++◌, ◌<◌, ◌≤◌, Option, OnOk, OnErr, IfErr, false, decimal};
-ghost use Rattle.line_model.specs.Device.{with_more};
+ghost use Rattle.line_model.specs.basics.Device.{with_more};
 ghost use Rattle.report_merge.specs.Written.{Writes, Puts};
 
 use arrayvec::ArrayVec;

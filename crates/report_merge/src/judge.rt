@@ -3,7 +3,7 @@
 ghost use Rattle.std.specs.Prelude.{◌≡◌, ℕ, ◌<◌, ◌≤◌, length, IfOk, IfErr, OnOk, Option, Some, None, MatchOption, slice_index_or, true, false, vec_len};
 ghost use Rattle.report_merge.specs.Seen.{double, is_among, IsRefused};
 ghost use Rattle.report_merge.specs.Refusal.{stranger, IsRefusal, IsWhole};
-ghost use Rattle.line_model.specs.Book.{ids_of};
+ghost use Rattle.line_model.specs.work.Book.{ids_of};
 
 use line_model::fault::Fault;
 use line_model::piece::PieceReport;

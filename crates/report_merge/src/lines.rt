@@ -1,7 +1,7 @@
 //! The lines of a report.
 
 ghost use Rattle.std.specs.Prelude.{[], ◌∷◌, ◌++◌, Option, decimal};
-ghost use Rattle.line_model.specs.Report.{number_word, address_word, finding_line, call_line, setting_line, account_line, peak_line, summary_line, line};
+ghost use Rattle.line_model.specs.observer.Report.{number_word, address_word, finding_line, call_line, setting_line, account_line, peak_line, summary_line, line};
 ghost use Rattle.report_merge.specs.Written.{Puts};
 
 use crate::chunk::Chunk;

@@ -1,13 +1,13 @@
 //! The report of a trace, from the reports of its pieces.
 
 ghost use Rattle.std.specs.Prelude.{◌≡◌, ◌<◌, ◌^◌, IfOk, IfErr, List, length};
-ghost use Rattle.line_model.specs.Book.{ids_of};
+ghost use Rattle.line_model.specs.work.Book.{ids_of};
 ghost use Rattle.report_merge.specs.Refusal.{IsRefusal, IsWhole};
 ghost use Rattle.report_merge.specs.Gathered.{gathered};
 ghost use Rattle.report_merge.specs.Merged.{IsMerged, IsOfWalk};
 ghost use Rattle.line_model.specs.declared.interface.Interface.{Interface};
-ghost use Rattle.line_model.specs.Records as records;
-ghost use Rattle.line_model.specs.Report.{report_of};
+ghost use Rattle.line_model.specs.basics.Records as records;
+ghost use Rattle.line_model.specs.observer.Report.{report_of};
 
 use crate::judge::judge;
 use crate::parts::Parts;

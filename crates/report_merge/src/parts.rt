@@ -2,9 +2,9 @@
 
 ghost use Rattle.std.specs.Prelude.{◌≡◌, ◌+◌, ◌<◌, ◌^◌, ◌++◌, ◌∷◌, [], List, length, IfOk, IfErr, OnOk};
 ghost use Rattle.std.specs.List.Sorted.{IsNonDecreasingBy, IsPermutation};
-ghost use Rattle.line_model.specs.Records as records;
+ghost use Rattle.line_model.specs.basics.Records as records;
 ghost use Rattle.line_model.specs.declared.interface.Interface.{Interface};
-ghost use Rattle.line_model.specs.Report.{report_of};
+ghost use Rattle.line_model.specs.observer.Report.{report_of};
 ghost use Rattle.report_merge.specs.Gathered.{gathered};
 ghost use Rattle.report_merge.specs.Merged.{IsMerged, IsOfWalk};
 

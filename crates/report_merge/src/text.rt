@@ -2,8 +2,8 @@
 
 ghost use Rattle.std.specs.Prelude.{◌≡◌, ℕ, List, ◌++◌, ◌<◌, ◌≤◌, ◌+◌, OnOk, OnErr, IfErr};
 ghost use Rattle.std.specs.List.{flat_map, enumerate_from};
-ghost use Rattle.line_model.specs.Device.{with_more};
-ghost use Rattle.line_model.specs.Report.{text_of, call_line, setting_line, setting_lines, account_line};
+ghost use Rattle.line_model.specs.basics.Device.{with_more};
+ghost use Rattle.line_model.specs.observer.Report.{text_of, call_line, setting_line, setting_lines, account_line};
 ghost use Rattle.report_merge.specs.Parts.{findings_text, rest_text};
 ghost use Rattle.report_merge.specs.Written.{Writes, Puts};
 

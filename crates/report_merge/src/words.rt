@@ -1,7 +1,7 @@
 //! The words of a report.
 
 ghost use Rattle.std.specs.Prelude.{◌≡◌};
-ghost use Rattle.line_model.specs.Report.{side_word, state_word, pad_word, direction_word, how_word};
+ghost use Rattle.line_model.specs.observer.Report.{side_word, state_word, pad_word, direction_word, how_word};
 
 use line_model::event::How;
 use line_model::finding::Xcode;

@@ -9,10 +9,10 @@ use Rattle.std.proofs.lemmas.Bool.{eqb-true, eqb-false}
 use Rattle.std.proofs.lemmas.List.Sums.{sum_by_push}
 use Rattle.std.proofs.lemmas.List.Elements.{All-append}
 use Rattle.line_model.specs.declared.interface.Interface.{Interface}
-use Rattle.line_model.specs.Records.{Row, Item}
+use Rattle.line_model.specs.basics.Records.{Row, Item}
 use Rattle.line_model.specs.declared.finding.Finding.{Finding}
-use Rattle.line_model.specs.RestartMachine.{LineState}
-use Rattle.line_model.specs.Bounds.{IsItem, IsPiece}
+use Rattle.line_model.specs.channels.RestartMachine.{LineState}
+use Rattle.line_model.specs.basics.Bounds.{IsItem, IsPiece}
 use Rattle.restart_epochs.specs.OpenRows.{rows_of, with_channel}
 use Rattle.restart_epochs.specs.Cutting.{Cutting, IsCutting, IsLane, IsCounted, IsKeptOn, IsStepped, IsLeft}
 

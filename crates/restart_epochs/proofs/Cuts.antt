@@ -5,11 +5,11 @@ use Rattle.std.specs.List.{filter, flat_map, range_with_len, enumerate_from}
 use Rattle.std.proofs.lemmas.List.{map-append, length-map}
 use Rattle.std.proofs.lemmas.List.FromFn.{length-enumerate_from}
 use Rattle.line_model.specs.declared.interface.Interface.{Interface}
-use Rattle.line_model.specs.Records.{Row, Piece}
-use Rattle.line_model.specs.Pieces.{Placed, piece_rows, piece_end}
-use Rattle.line_model.specs.Plan.{has_some, plan_of}
-use Rattle.line_model.specs.Plans.{item_of, piece_of, plan}
-use Rattle.line_model.specs.Observer.{x25, start}
+use Rattle.line_model.specs.basics.Records.{Row, Piece}
+use Rattle.line_model.specs.pieces.Pieces.{Placed, piece_rows, piece_end}
+use Rattle.line_model.specs.pieces.Plan.{has_some, plan_of}
+use Rattle.line_model.specs.pieces.Plans.{item_of, piece_of, plan}
+use Rattle.line_model.specs.observer.Observer.{x25, start}
 use Rattle.line_model.proofs.Rising.{filter_append}
 use Rattle.restart_epochs.specs.Cutting.{observer, places, channels_in}
 

@@ -4,11 +4,11 @@ use Rattle.std.specs.Prelude.{is_some}
 use Rattle.std.specs.List.{filter}
 use Rattle.std.proofs.lemmas.List.{map-append}
 use Rattle.line_model.specs.declared.interface.Interface.{Interface}
-use Rattle.line_model.specs.Records.{Row}
-use Rattle.line_model.specs.Machine.{Machine, Observer, routed, after, walk}
-use Rattle.line_model.specs.Shuffle.{is_channel}
-use Rattle.line_model.specs.Pieces.{Placed, placed, leaves_routed, piece_rows, piece_end}
-use Rattle.line_model.specs.Observer.{x25, start}
+use Rattle.line_model.specs.basics.Records.{Row}
+use Rattle.line_model.specs.observer.Machine.{Machine, Observer, routed, after, walk}
+use Rattle.line_model.specs.pieces.Shuffle.{is_channel}
+use Rattle.line_model.specs.pieces.Pieces.{Placed, placed, leaves_routed, piece_rows, piece_end}
+use Rattle.line_model.specs.observer.Observer.{x25, start}
 use Rattle.line_model.proofs.Rising.{filter_append}
 use Rattle.line_model.proofs.Walks.{walk_append}
 use Rattle.restart_epochs.specs.Cutting.{observer, places}

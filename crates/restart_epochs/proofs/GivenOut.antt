@@ -3,7 +3,7 @@ use Rattle.std.proofs.Common.{◌≡◌, ◌≢◌, ◌∙◌, sym, ap, subst, r
 use Rattle.std.specs.List.{AllByRecursion}
 use Rattle.std.proofs.lemmas.Bool.{eqb-true, eqb-false}
 use Rattle.line_model.specs.declared.interface.Interface.{Interface}
-use Rattle.line_model.specs.Records.{Item, Piece}
+use Rattle.line_model.specs.basics.Records.{Item, Piece}
 use Rattle.line_model.proofs.Rising.{all_append}
 use Rattle.restart_epochs.specs.OpenRows.{OpenRows, rows_of, IsTakenOut}
 use Rattle.restart_epochs.specs.Cutting.{pieces_out, IsEmptied}

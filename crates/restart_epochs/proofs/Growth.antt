@@ -4,9 +4,9 @@ use Rattle.std.specs.Prelude.{is_some}
 use Rattle.std.specs.List.{filter}
 use Rattle.std.proofs.lemmas.Bool.{ne_eqb, and_right, eq-eqb, eqb-true, eqb-false}
 use Rattle.line_model.specs.declared.interface.Interface.{Interface}
-use Rattle.line_model.specs.Records.{Row, Piece}
-use Rattle.line_model.specs.Shuffle.{is_channel}
-use Rattle.line_model.specs.Pieces.{Placed, piece_end}
+use Rattle.line_model.specs.basics.Records.{Row, Piece}
+use Rattle.line_model.specs.pieces.Shuffle.{is_channel}
+use Rattle.line_model.specs.pieces.Pieces.{Placed, piece_end}
 use Rattle.restart_epochs.specs.Cutting.{observer, places, given_of, EndsOf}
 use Rattle.restart_epochs.proofs.Epochs.{rows_same, end_same, end_stays, end_new}
 use Rattle.restart_epochs.proofs.Cuts.{SameEpoch, pieces_to, pieces_in, pieces_more, pieces_to_same, keys_to, pieces-length, plan_is, all_given, others_given}

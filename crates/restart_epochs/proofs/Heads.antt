@@ -2,13 +2,13 @@
 use Rattle.std.proofs.Common.{◌≡◌, ◌∙◌, sym, ap, subst, refl, ℕ, zero, suc, ◌+◌, ◌-◌, ◌<◌, ◌≤◌, ◌⊎◌, inl, inr, Bool, true, false, true≢false, ◌&&◌, cond, eqb, not, List, [], ◌∷◌, ◌++◌, length, arith, append-nil, append_assoc}
 use Rattle.std.proofs.lemmas.Bool.{eqb-true, eqb-false}
 use Rattle.line_model.specs.declared.interface.Interface.{Interface}
-use Rattle.line_model.specs.Records.{Row, Piece}
-use Rattle.line_model.specs.RestartMachine.{LineState}
-use Rattle.line_model.specs.Channels.{Channel}
-use Rattle.line_model.specs.Machine.{Observer, line_moved}
-use Rattle.line_model.specs.Pieces.{Placed}
-use Rattle.line_model.specs.Plans.{plan}
-use Rattle.line_model.specs.Observer.{x25, routing, is_ready}
+use Rattle.line_model.specs.basics.Records.{Row, Piece}
+use Rattle.line_model.specs.channels.RestartMachine.{LineState}
+use Rattle.line_model.specs.channels.Channels.{Channel}
+use Rattle.line_model.specs.observer.Machine.{Observer, line_moved}
+use Rattle.line_model.specs.pieces.Pieces.{Placed}
+use Rattle.line_model.specs.pieces.Plans.{plan}
+use Rattle.line_model.specs.observer.Observer.{x25, routing, is_ready}
 use Rattle.restart_epochs.specs.Cutting.{observer, places, given_of, EndsOf}
 use Rattle.restart_epochs.proofs.Routes.{is_to_channel}
 use Rattle.restart_epochs.proofs.Epochs.{place_of, places_more}

@@ -8,17 +8,17 @@ use Rattle.line_model.specs.declared.finding.Finding.{Finding}
 use Rattle.line_model.specs.declared.verdict.Route.{Route}
 use Rattle.line_model.specs.declared.verdict.Route.TheVariants.{Pass, Found, Leave, Enter, ToChannel}
 use Rattle.line_model.specs.declared.event.What.{What}
-use Rattle.line_model.specs.Records.{Row}
-use Rattle.line_model.specs.RestartMachine.{LineState}
-use Rattle.line_model.specs.Channels.{Channel}
-use Rattle.line_model.specs.ChannelStep.{channel_step}
-use Rattle.line_model.specs.Octets.{channel_of}
-use Rattle.line_model.specs.Machine.{Machine, Observer, after, walk}
-use Rattle.line_model.specs.MachineEvents.{RowEvent, stamp, closed_events, row_events, row_events_routed, walk_events}
-use Rattle.line_model.specs.Merge.{is_line}
-use Rattle.line_model.specs.Observer.{x25, start, routing, is_ready, route_found, event_of}
-use Rattle.line_model.specs.Report.{findings_of}
-use Rattle.line_model.specs.Plans.{line_findings}
+use Rattle.line_model.specs.basics.Records.{Row}
+use Rattle.line_model.specs.channels.RestartMachine.{LineState}
+use Rattle.line_model.specs.channels.Channels.{Channel}
+use Rattle.line_model.specs.channels.ChannelStep.{channel_step}
+use Rattle.line_model.specs.basics.Octets.{channel_of}
+use Rattle.line_model.specs.observer.Machine.{Machine, Observer, after, walk}
+use Rattle.line_model.specs.observer.MachineEvents.{RowEvent, stamp, closed_events, row_events, row_events_routed, walk_events}
+use Rattle.line_model.specs.pieces.Merge.{is_line}
+use Rattle.line_model.specs.observer.Observer.{x25, start, routing, is_ready, route_found, event_of}
+use Rattle.line_model.specs.observer.Report.{findings_of}
+use Rattle.line_model.specs.pieces.Plans.{line_findings}
 use Rattle.line_model.proofs.Rising.{filter_append}
 use Rattle.line_model.proofs.LinePart.{channel_dropped, line_kept, closed_dropped}
 use Rattle.restart_epochs.specs.Cutting.{observer, route_finding}

@@ -2,11 +2,11 @@
 use Rattle.std.proofs.Common.{◌≡◌, ◌≢◌, ◌∙◌, sym, ap, subst, refl, ℕ, zero, suc, Bool, true, false, cond, List, [], ◌∷◌, ◌++◌, map, arith}
 use Rattle.std.specs.List.{filter, range_with_len, AllByRecursion}
 use Rattle.line_model.specs.declared.interface.Interface.{Interface}
-use Rattle.line_model.specs.Records.{Row, Item}
-use Rattle.line_model.specs.Plan.{has_some}
-use Rattle.line_model.specs.Plans.{item_of}
-use Rattle.line_model.specs.Pieces.{piece_rows}
-use Rattle.line_model.specs.Observer.{is_ready}
+use Rattle.line_model.specs.basics.Records.{Row, Item}
+use Rattle.line_model.specs.pieces.Plan.{has_some}
+use Rattle.line_model.specs.pieces.Plans.{item_of}
+use Rattle.line_model.specs.pieces.Pieces.{piece_rows}
+use Rattle.line_model.specs.observer.Observer.{is_ready}
 use Rattle.restart_epochs.specs.OpenRows.{OpenRows, rows_of, lane_at, no_rows, with_channel, HasMore, IsListing}
 use Rattle.restart_epochs.specs.Cutting.{Cutting, StandsFor, IsCutting, observer, places, rows_if, channels_if, no_cutting}
 use Rattle.restart_epochs.proofs.Pushes.{no_rows_of, stands_nothing}

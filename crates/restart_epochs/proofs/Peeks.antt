@@ -3,8 +3,8 @@ use Rattle.std.proofs.Common.{◌≡◌, ◌∙◌, ap, List, ◌++◌, Result, 
 use Rattle.std.specs.Prelude.{IfOk}
 use Rattle.line_model.specs.declared.interface.Interface.{Interface}
 use Rattle.line_model.specs.declared.fault.Fault.{Fault}
-use Rattle.line_model.specs.Records.{Row, Piece}
-use Rattle.line_model.specs.Plans.{plan}
+use Rattle.line_model.specs.basics.Records.{Row, Piece}
+use Rattle.line_model.specs.pieces.Plans.{plan}
 use Rattle.restart_epochs.specs.OpenRows.{rows_of}
 use Rattle.restart_epochs.specs.Cutting.{Cutting, StandsFor, given_of, pieces_out}
 use Rattle.restart_epochs.proofs.Pushes.{rest_open}

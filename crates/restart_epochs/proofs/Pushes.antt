@@ -8,18 +8,18 @@ use Rattle.std.proofs.lemmas.List.{map-append}
 use Rattle.std.proofs.lemmas.Bool.{ne_eqb, eq-eqb, eqb-true, eqb-false}
 use Rattle.line_model.specs.declared.interface.Interface.{Interface}
 use Rattle.line_model.specs.declared.finding.Finding.{Finding}
-use Rattle.line_model.specs.Records.{Row, Item, Piece}
-use Rattle.line_model.specs.Octets.{channel_of}
-use Rattle.line_model.specs.RestartMachine.{LineState}
-use Rattle.line_model.specs.Shuffle.{is_channel}
-use Rattle.line_model.specs.Machine.{Observer, line_moved}
-use Rattle.line_model.specs.Channels.{Channel}
-use Rattle.line_model.specs.Pieces.{Placed, piece_rows, piece_end, StandsOnce}
-use Rattle.line_model.specs.Plan.{has_some}
-use Rattle.line_model.specs.Plans.{item_of, piece_of, plan, line_findings}
+use Rattle.line_model.specs.basics.Records.{Row, Item, Piece}
+use Rattle.line_model.specs.basics.Octets.{channel_of}
+use Rattle.line_model.specs.channels.RestartMachine.{LineState}
+use Rattle.line_model.specs.pieces.Shuffle.{is_channel}
+use Rattle.line_model.specs.observer.Machine.{Observer, line_moved}
+use Rattle.line_model.specs.channels.Channels.{Channel}
+use Rattle.line_model.specs.pieces.Pieces.{Placed, piece_rows, piece_end, StandsOnce}
+use Rattle.line_model.specs.pieces.Plan.{has_some}
+use Rattle.line_model.specs.pieces.Plans.{item_of, piece_of, plan, line_findings}
 use Rattle.line_model.proofs.Handed.{handed_in_range, has_channels}
 use Rattle.line_model.proofs.Merged.{piece_once}
-use Rattle.line_model.specs.Observer.{x25, start, routing, is_ready, line_in_r1, channel_in_r1}
+use Rattle.line_model.specs.observer.Observer.{x25, start, routing, is_ready, line_in_r1, channel_in_r1}
 use Rattle.restart_epochs.specs.OpenRows.{OpenRows, rows_of, with_channel, HasMore}
 use Rattle.restart_epochs.specs.Cutting.{Cutting, observer, places, given_of, EndsOf, channels_in, rows_if, channels_if, route_finding, StandsFor, pieces_out, IsKeptOn, IsStepped, IsLeft}
 use Rattle.restart_epochs.proofs.Routes.{is_to_channel}

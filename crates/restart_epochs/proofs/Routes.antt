@@ -8,10 +8,10 @@ use Rattle.line_model.specs.declared.table.Action.{Action}
 use Rattle.line_model.specs.declared.table.Action.TheVariants.{Move, Normal, Error, Discard, Pass as PassEntry, Ends, Below, ToChannel as ChannelEntry}
 use Rattle.line_model.specs.declared.verdict.Route.{Route}
 use Rattle.line_model.specs.declared.verdict.Route.TheVariants.{Pass, Found, Leave, Enter, ToChannel}
-use Rattle.line_model.specs.Sequences.{eq_bool}
-use Rattle.line_model.specs.Tables.{action}
-use Rattle.line_model.specs.RestartMachine.{LineState, Routing, is_outside, restart_name, outside_step, restart_moving, restart_error, restart_fault, restart_step, passes_joining, inside_step, line_step}
-use Rattle.line_model.specs.Observer.{is_ready, line_in_r1, handed}
+use Rattle.line_model.specs.channels.Sequences.{eq_bool}
+use Rattle.line_model.specs.channels.Tables.{action}
+use Rattle.line_model.specs.channels.RestartMachine.{LineState, Routing, is_outside, restart_name, outside_step, restart_moving, restart_error, restart_fault, restart_step, passes_joining, inside_step, line_step}
+use Rattle.line_model.specs.observer.Observer.{is_ready, line_in_r1, handed}
 use Rattle.line_model.proofs.Every.{every, flags, sides, classes, every_flag, every_side, every_class}
 
 -- an entry of the restart table, for a packet with this fault of format

@@ -2,15 +2,15 @@
 use Rattle.std.proofs.Common.{◌≡◌, ◌≢◌, ◌∙◌, sym, ap, refl, subst, ℕ, ◌+◌, Bool, true, false, true≢false, ◌&&◌, cond, eqb, List, [], ◌∷◌, ◌++◌, map, Some, None, arith, append-nil, append_assoc}
 use Rattle.std.proofs.lemmas.Bool.{ne_eqb, eq-eqb, eqb-true, eqb-false}
 use Rattle.line_model.specs.declared.interface.Interface.{Interface}
-use Rattle.line_model.specs.Records.{Row}
-use Rattle.line_model.specs.RestartMachine.{LineState}
-use Rattle.line_model.specs.Channels.{Channel, fresh}
-use Rattle.line_model.specs.ChannelStep.{channel_step}
-use Rattle.line_model.specs.Octets.{channel_of}
-use Rattle.line_model.specs.Machine.{Observer, after, after_routed, line_moved}
-use Rattle.line_model.specs.Shuffle.{is_channel}
-use Rattle.line_model.specs.Pieces.{Placed, piece_rows}
-use Rattle.line_model.specs.Observer.{x25, start, routing, is_ready}
+use Rattle.line_model.specs.basics.Records.{Row}
+use Rattle.line_model.specs.channels.RestartMachine.{LineState}
+use Rattle.line_model.specs.channels.Channels.{Channel, fresh}
+use Rattle.line_model.specs.channels.ChannelStep.{channel_step}
+use Rattle.line_model.specs.basics.Octets.{channel_of}
+use Rattle.line_model.specs.observer.Machine.{Observer, after, after_routed, line_moved}
+use Rattle.line_model.specs.pieces.Shuffle.{is_channel}
+use Rattle.line_model.specs.pieces.Pieces.{Placed, piece_rows}
+use Rattle.line_model.specs.observer.Observer.{x25, start, routing, is_ready}
 use Rattle.restart_epochs.specs.Cutting.{observer, places, EndsOf}
 use Rattle.restart_epochs.proofs.Routes.{is_to_channel}
 use Rattle.restart_epochs.proofs.Epochs.{place_of, places_more, observer_more, rows_same, rows_on_more}

@@ -8,14 +8,14 @@ use Rattle.line_model.specs.declared.state.RState.{RState}
 use Rattle.line_model.specs.declared.state.RState.TheVariants.{R1, R2, R3}
 use Rattle.line_model.specs.declared.verdict.Route.{Route}
 use Rattle.line_model.specs.declared.verdict.Route.TheVariants.{Pass, Found, Leave, Enter, ToChannel}
-use Rattle.line_model.specs.Records.{Row}
-use Rattle.line_model.specs.Octets.{channel_of}
-use Rattle.line_model.specs.Classes.{class_of}
-use Rattle.line_model.specs.RestartMachine.{LineState, line_step}
-use Rattle.line_model.specs.Channels.{Channel}
-use Rattle.line_model.specs.Machine.{Observer, routed, after_routed, line_moved}
-use Rattle.line_model.specs.Pieces.{leaves_routed}
-use Rattle.line_model.specs.Observer.{x25, routing, is_ready, line_in_r1, channel_in_r1}
+use Rattle.line_model.specs.basics.Records.{Row}
+use Rattle.line_model.specs.basics.Octets.{channel_of}
+use Rattle.line_model.specs.packets.Classes.{class_of}
+use Rattle.line_model.specs.channels.RestartMachine.{LineState, line_step}
+use Rattle.line_model.specs.channels.Channels.{Channel}
+use Rattle.line_model.specs.observer.Machine.{Observer, routed, after_routed, line_moved}
+use Rattle.line_model.specs.pieces.Pieces.{leaves_routed}
+use Rattle.line_model.specs.observer.Observer.{x25, routing, is_ready, line_in_r1, channel_in_r1}
 use Rattle.restart_epochs.specs.Cutting.{observer}
 use Rattle.restart_epochs.proofs.Routes.{is_to_channel, line_of, fits_route, fits, alike_in_r1, handed_to, handed_none}
 use Rattle.restart_epochs.proofs.Epochs.{place_of, observer_more}

@@ -4,12 +4,12 @@ use Rattle.line_model.specs.declared.interface.Interface.{Interface}
 use Rattle.line_model.specs.declared.finding.Finding.{Finding}
 use Rattle.line_model.specs.declared.packet.Packet.{Packet}
 use Rattle.line_model.specs.declared.verdict.Route.TheVariants.{Leave, Enter}
-use Rattle.line_model.specs.Records.{Row, Item, Piece}
-use Rattle.line_model.specs.Octets.{channel_of}
-use Rattle.line_model.specs.Classes.{class_of, packet_of, packet_class}
-use Rattle.line_model.specs.RestartMachine.{LineState, Routing, line_step}
-use Rattle.line_model.specs.Plans.{item_of}
-use Rattle.line_model.specs.Observer.{routing, is_ready}
+use Rattle.line_model.specs.basics.Records.{Row, Item, Piece}
+use Rattle.line_model.specs.basics.Octets.{channel_of}
+use Rattle.line_model.specs.packets.Classes.{class_of, packet_of, packet_class}
+use Rattle.line_model.specs.channels.RestartMachine.{LineState, Routing, line_step}
+use Rattle.line_model.specs.pieces.Plans.{item_of}
+use Rattle.line_model.specs.observer.Observer.{routing, is_ready}
 use Rattle.line_model.proofs.PacketClass.{class_is}
 use Rattle.restart_epochs.specs.OpenRows.{rows_of}
 use Rattle.restart_epochs.specs.Cutting.{Cutting, StandsFor, route_finding, pieces_out, IsKeptOn, IsStepped, IsLeft, IsTaken, IsCounted, given_of}

@@ -6,16 +6,16 @@ use Rattle.line_model.specs.declared.finding.Code.TheVariants.{Number}
 use Rattle.line_model.specs.declared.state.StateName.TheVariants.{R1}
 use Rattle.line_model.specs.declared.verdict.Route.{Route}
 use Rattle.line_model.specs.declared.verdict.Route.TheVariants.{Found, Leave}
-use Rattle.line_model.specs.Records.{Row, Item, Piece}
-use Rattle.line_model.specs.RestartMachine.{LineState}
-use Rattle.line_model.specs.Channels.{Channel}
-use Rattle.line_model.specs.Machine.{Observer, walk}
-use Rattle.line_model.specs.Pieces.{Placed, placed, piece_rows, piece_end}
-use Rattle.line_model.specs.Plan.{has_some}
+use Rattle.line_model.specs.basics.Records.{Row, Item, Piece}
+use Rattle.line_model.specs.channels.RestartMachine.{LineState}
+use Rattle.line_model.specs.channels.Channels.{Channel}
+use Rattle.line_model.specs.observer.Machine.{Observer, walk}
+use Rattle.line_model.specs.pieces.Pieces.{Placed, placed, piece_rows, piece_end}
+use Rattle.line_model.specs.pieces.Plan.{has_some}
 use Rattle.std.specs.List.{range_with_len, AllByRecursion}
-use Rattle.line_model.specs.Observer.{x25, start, is_ready, line_in_r1}
-use Rattle.line_model.specs.Plans.{plan, item_of, line_findings}
-use Rattle.line_model.specs.Bounds.{IsItem, all_octets}
+use Rattle.line_model.specs.observer.Observer.{x25, start, is_ready, line_in_r1}
+use Rattle.line_model.specs.pieces.Plans.{plan, item_of, line_findings}
+use Rattle.line_model.specs.basics.Bounds.{IsItem, all_octets}
 use Rattle.restart_epochs.specs.OpenRows.{OpenRows, no_rows, rows_of, IsSame, HasMore}
 
 -- the observer of an interface after some rows

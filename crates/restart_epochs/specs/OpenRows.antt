@@ -3,8 +3,8 @@ use Rattle.std.specs.Prelude.{◌≡◌, ◌≢◌, ℕ, zero, suc, List, [], �
 use Rattle.std.specs.BTreeSet.{insert_key}
 use Rattle.std.specs.Ordering.{nat_cmp}
 use Rattle.std.specs.List.{AllByRecursion}
-use Rattle.line_model.specs.Records.{Item}
-use Rattle.line_model.specs.Plan.{has_some}
+use Rattle.line_model.specs.basics.Records.{Item}
+use Rattle.line_model.specs.pieces.Plan.{has_some}
 
 -- the rows of a channel; none of one that has no lane
 abbrev pub lane_at : List (List Item) → ℕ → List Item

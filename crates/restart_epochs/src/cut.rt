@@ -2,7 +2,7 @@
 
 ghost use Rattle.std.specs.Prelude.{◌≡◌, ◌≤◌, ◌∷◌, ◌^◌, All, IfErr, IfOk, length, map, sum_by};
 ghost use Rattle.std.specs.List.Sorted.{IsStrictlyIncreasing};
-ghost use Rattle.line_model.specs.Plans.{plan, line_findings};
+ghost use Rattle.line_model.specs.pieces.Plans.{plan, line_findings};
 ghost use Rattle.line_model.specs.declared.fault.Fault.TheVariants.{Memory};
 
 use crate::cutter::{Cut, Cutter};

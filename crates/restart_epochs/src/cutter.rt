@@ -1,14 +1,14 @@
 //! The cutter: a trace falls into pieces by epoch and logical channel, row by row.
 
 ghost use Rattle.std.specs.Prelude.{option_to_list, ◌≡◌, ℕ, ◌<◌, ◌≤◌, ◌+◌, ◌^◌, ◌++◌, ◌∷◌, [], List, length, Some, None, IfErr, IfOk, OnOk, OnErr};
-ghost use Rattle.line_model.specs.Classes.{packet_of, packet_class};
+ghost use Rattle.line_model.specs.packets.Classes.{packet_of, packet_class};
 ghost use Rattle.std.specs.Vec.{vec_len, vec_capacity};
-ghost use Rattle.line_model.specs.Octets.{channel_of};
-ghost use Rattle.line_model.specs.RestartMachine.{line_step};
+ghost use Rattle.line_model.specs.basics.Octets.{channel_of};
+ghost use Rattle.line_model.specs.channels.RestartMachine.{line_step};
 ghost use Rattle.restart_epochs.specs.OpenRows.{rows_of};
 ghost use Rattle.restart_epochs.specs.Cutting.{pieces_out, IsUnchanged};
 
-use crate::giving::give_out;
+use crate::ended_epoch::give_out;
 use crate::open_epoch::OpenEpoch;
 use crate::restart::{Restart, Route};
 use crate::routing::{finding_of, first_machine, logical_channel, note};
@@ -76,8 +76,8 @@ pub struct Cut<A: Allocator = Global> {
 }
 
 impl<A: Allocator + Copy> Cutter<A> {
-    ghost use Rattle.line_model.specs.Plans.{plan, line_findings};
-    ghost use Rattle.line_model.specs.Records as records;
+    ghost use Rattle.line_model.specs.pieces.Plans.{plan, line_findings};
+    ghost use Rattle.line_model.specs.basics.Records as records;
     ghost use Rattle.line_model.specs.declared.interface.Interface.{Interface as AnyInterface};
     ghost use Rattle.line_model.specs.declared.fault.Fault.TheVariants.{Memory};
     ghost use Rattle.restart_epochs.specs.Cutting.{StandsFor, IsCounted, IsKeptOn, IsStepped, IsLeft, IsTaken, HasAppended, given_of};

@@ -3,7 +3,7 @@
 
 pub mod cut;
 pub mod cutter;
-pub mod giving;
+pub mod ended_epoch;
 pub mod open_epoch;
 pub mod open_lanes;
 pub mod restart;

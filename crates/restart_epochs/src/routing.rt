@@ -1,8 +1,8 @@
 //! Where a row goes: what the cutter and a running observer do alike.
 
 ghost use Rattle.std.specs.Prelude.{option_to_list, ◌≡◌, ℕ, List, ◌++◌, OnOk, OnErr};
-ghost use Rattle.line_model.specs.Octets.{channel_of};
-ghost use Rattle.line_model.specs.Observer.{line_in_r1};
+ghost use Rattle.line_model.specs.basics.Octets.{channel_of};
+ghost use Rattle.line_model.specs.observer.Observer.{line_in_r1};
 ghost use Rattle.restart_epochs.specs.Cutting.{route_finding};
 
 use crate::restart::{Restart, Route};

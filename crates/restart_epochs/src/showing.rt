@@ -1,7 +1,7 @@
 //! The pieces of an epoch that has not ended, by copies.
 
 ghost use Rattle.std.specs.Prelude.{◌≡◌, ℕ, ◌<◌, ◌+◌, ◌^◌, None, IfErr, IfOk, length};
-ghost use Rattle.line_model.specs.Bounds.{IsPiece};
+ghost use Rattle.line_model.specs.basics.Bounds.{IsPiece};
 ghost use Rattle.line_model.specs.declared.fault.Fault.TheVariants.{Memory};
 ghost use Rattle.restart_epochs.specs.OpenRows.{rows_of};
 ghost use Rattle.restart_epochs.specs.Cutting.{pieces_out};

@@ -1,2 +1,2 @@
 pub mod WritingLemmas
-pub mod HeardLemmas
+pub mod LastBytesLemmas

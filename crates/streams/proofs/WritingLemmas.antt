@@ -3,7 +3,7 @@ use Rattle.std.proofs.Common.{◌≡◌, ◌∙◌, sym, ap, refl, ℕ, List, �
 use Rattle.std.proofs.lemmas.List.{take-append-drop}
 use Rattle.std.proofs.lemmas.Grind.{common_steps}
 use Rattle.std.proofs.Math.Seq.{take-append_seam}
-use Rattle.line_model.specs.Device.{with_more}
+use Rattle.line_model.specs.basics.Device.{with_more}
 
 pub front_of : (front rest text : List ℕ) → text ≡ front ++ rest → front ≡ take (length front) text
 front_of front rest text e = rw e (sym (take-append_seam front rest))

@@ -2,7 +2,7 @@
 
 ghost use Rattle.std.specs.Prelude.{◌≡◌, ℕ, List, Option, OnOk, OnErr};
 
-use crate::heard::Heard;
+use crate::last_bytes::LastBytes;
 use crate::progress::Telling;
 use line_model::device::Source;
 use thiserror::Error;
@@ -37,7 +37,7 @@ pub trait Input: Source {
         ensures refused { OnErr result (self.new ≡ self.old) };
 
     /// The last bytes that it gave.
-    fn heard(&self) -> &Heard;
+    fn heard(&self) -> &LastBytes;
 
     /// Chooses when it tells how far the reading is.
     fn tell_progress(&mut self, telling: Telling)

@@ -2,8 +2,8 @@
 
 ghost use Rattle.std.specs.Prelude.{◌≡◌, ◌≤◌, IfOk, length};
 
-use crate::heard::Heard;
 use crate::input::{Input, OpenFault};
+use crate::last_bytes::LastBytes;
 use crate::progress::{Progress, Telling};
 use line_model::count::Count;
 use line_model::device::{Sink, Source};
@@ -24,7 +24,7 @@ pub struct FileInput<'a, R: Files + Clock, I: Read + Drop, W: Write + Drop, L: L
     // That standard input is a terminal is still to be told.
     is_terminal: bool,
     file: Option<R::File>,
-    heard: Heard,
+    heard: LastBytes,
     progress: Progress<W>,
     calls: Count<L>,
     failures: Count<M>,
@@ -57,7 +57,7 @@ impl<'a, R: Files + Clock, I: Read + Drop, W: Write + Drop, L: Ledger, M: Ledger
             standard,
             is_terminal,
             file: None,
-            heard: Heard::new(alloc),
+            heard: LastBytes::new(alloc),
             progress,
             calls,
             failures,
@@ -147,7 +147,7 @@ impl<R: Files + Clock, I: Read + Drop, W: Write + Drop, L: Ledger, M: Ledger> In
         Ok(())
     }
 
-    fn heard(&self) -> &Heard {
+    fn heard(&self) -> &LastBytes {
         &self.heard
     }
 

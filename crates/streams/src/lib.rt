@@ -2,8 +2,8 @@
 //! whole texts to a sink.
 #![tactic(auto)]
 
-pub mod heard;
 pub mod input;
 pub mod io;
+pub mod last_bytes;
 pub mod progress;
 pub mod writing;

@@ -1,7 +1,7 @@
 //! Bytes that a sink takes.
 
 ghost use Rattle.std.specs.Prelude.{◌≡◌, ℕ, ◌<◌, OnOk, OnErr, IfErr, take};
-ghost use Rattle.line_model.specs.Device.{with_more};
+ghost use Rattle.line_model.specs.basics.Device.{with_more};
 
 use line_model::device::Sink;
 use line_model::fault::Fault;

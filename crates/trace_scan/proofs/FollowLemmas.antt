@@ -1,10 +1,10 @@
 -- What a follower was fed of a source, and what its sink took.
 use Rattle.std.proofs.Common.{◌≡◌, ◌≢◌, ◌∙◌, sym, ap, subst, refl, ℕ, ◌<◌, ◌≤◌, List, [], ◌++◌, length, Option, Some, None, Result, Ok, Err, IfOk, IfErr, append-nil, append_assoc, arith, inl, inr}
 use Rattle.std.proofs.Math.Seq.{take-length}
-use Rattle.line_model.specs.Channels.{Channel}
-use Rattle.line_model.specs.Device.{Gives, with_more}
-use Rattle.line_model.specs.Text.{early}
-use Rattle.line_model.specs.Traces.{trace_report}
+use Rattle.line_model.specs.channels.Channels.{Channel}
+use Rattle.line_model.specs.basics.Device.{Gives, with_more}
+use Rattle.line_model.specs.text.Text.{early}
+use Rattle.line_model.specs.traces.Traces.{trace_report}
 use Rattle.line_model.specs.declared.interface.Interface.{Interface}
 use Rattle.line_model.specs.declared.totals.Summary.{Summary}
 use Rattle.line_model.specs.declared.fault.Fault.{Fault}

@@ -1,7 +1,7 @@
 -- How far a source was read.
 use Rattle.std.proofs.Common.{◌≡◌, ◌∙◌, sym, ap, subst, ℕ, ◌<◌, List, [], ◌++◌, Option, Some, append-nil}
-use Rattle.line_model.specs.Device.{Gives}
-use Rattle.line_model.specs.Text.{early}
+use Rattle.line_model.specs.basics.Device.{Gives}
+use Rattle.line_model.specs.text.Text.{early}
 use Rattle.line_model.specs.declared.fault.Fault.{Fault}
 use Rattle.line_model.specs.declared.fault.Fault.TheVariants.{Memory, Trace}
 use Rattle.trace_text.specs.StandsFor.{IsFaultOf, IsTextFault}

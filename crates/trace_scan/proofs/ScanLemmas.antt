@@ -1,10 +1,10 @@
 -- What a refusal says of the bytes that were given, and the report of a text that was read.
 use Rattle.std.proofs.Common.{◌≡◌, sym, refl, subst, ℕ, List, [], Some, None, Option, Result, Ok, Err, IfOk, IfErr, take, append-nil, inl, inr}
-use Rattle.line_model.specs.Device.{with_more}
-use Rattle.line_model.specs.Text.{fault, head, rows}
-use Rattle.line_model.specs.Traces.{trace_report}
-use Rattle.line_model.specs.Records.{Report}
-use Rattle.line_model.specs.Report.{report_of}
+use Rattle.line_model.specs.basics.Device.{with_more}
+use Rattle.line_model.specs.text.Text.{fault, head, rows}
+use Rattle.line_model.specs.traces.Traces.{trace_report}
+use Rattle.line_model.specs.basics.Records.{Report}
+use Rattle.line_model.specs.observer.Report.{report_of}
 use Rattle.line_model.specs.declared.interface.Interface.{Interface}
 use Rattle.line_model.specs.declared.totals.Summary.{Summary}
 use Rattle.line_model.specs.declared.fault.Fault.{Fault}

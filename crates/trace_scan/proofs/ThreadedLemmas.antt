@@ -10,17 +10,17 @@ use Rattle.trace_scan.specs.Threaded.{IsStopFault, IsStopped, IsWorkedFault}
 use Rattle.std.specs.Option.{option_map}
 use Rattle.line_model.specs.declared.interface.Interface.{Interface}
 use Rattle.line_model.specs.declared.totals.Totals.{Totals}
-use Rattle.line_model.specs.Records.{Piece}
-use Rattle.line_model.specs.Text.{head, rows}
-use Rattle.line_model.specs.Traces.{trace_plan}
-use Rattle.line_model.specs.Plans.{plan, channel_totals}
-use Rattle.line_model.specs.Book.{KnownPlan, AreOf}
+use Rattle.line_model.specs.basics.Records.{Piece}
+use Rattle.line_model.specs.text.Text.{head, rows}
+use Rattle.line_model.specs.traces.Traces.{trace_plan}
+use Rattle.line_model.specs.pieces.Plans.{plan, channel_totals}
+use Rattle.line_model.specs.work.Book.{KnownPlan, AreOf}
 use Rattle.line_model.proofs.Posts.{whole}
 use Rattle.line_model.proofs.BookTotals.{totals_law}
 use Rattle.trace_text.proofs.RowsOfText.{text_rises}
 use Rattle.report_merge.specs.Merged.{IsOfWalk}
 use Rattle.report_merge.specs.Refusal.{IsFirstDouble, IsRefusal as IsMergeRefusal}
-use Rattle.line_model.specs.Book.{times}
+use Rattle.line_model.specs.work.Book.{times}
 use Rattle.line_model.proofs.Counting.{bit, times-append, times-cons}
 use Rattle.report_merge.proofs.Posted.{permuted_posts}
 use Rattle.workers.specs.declared.gathering.Gathered.{Gathered}

@@ -1,8 +1,8 @@
 -- What a scan that follows a trace answers, and what its sink took.
 use Rattle.std.specs.Prelude.{◌≡◌, ◌⊎◌, ℕ, List, [], ◌++◌, Option, Some, None}
-use Rattle.line_model.specs.Channels.{Channel}
-use Rattle.line_model.specs.Text.{early, fault}
-use Rattle.line_model.specs.Traces.{trace_report}
+use Rattle.line_model.specs.channels.Channels.{Channel}
+use Rattle.line_model.specs.text.Text.{early, fault}
+use Rattle.line_model.specs.traces.Traces.{trace_report}
 use Rattle.line_model.specs.declared.fault.Fault.{Fault}
 use Rattle.line_model.specs.declared.fault.Fault.TheVariants.{Memory, Trace, Read, Write}
 use Rattle.line_model.specs.declared.interface.Interface.{Interface}

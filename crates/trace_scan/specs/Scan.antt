@@ -1,8 +1,8 @@
 -- What a scan of one thread answers.
 use Rattle.std.specs.Prelude.{◌≡◌, List, ℕ, Option, Some, None, take}
-use Rattle.line_model.specs.Device.{with_more}
-use Rattle.line_model.specs.Text.{early, fault}
-use Rattle.line_model.specs.Traces.{trace_report}
+use Rattle.line_model.specs.basics.Device.{with_more}
+use Rattle.line_model.specs.text.Text.{early, fault}
+use Rattle.line_model.specs.traces.Traces.{trace_report}
 use Rattle.line_model.specs.declared.fault.Fault.{Fault}
 use Rattle.line_model.specs.declared.fault.Fault.TheVariants.{Memory, Trace, Read, Write}
 

@@ -2,21 +2,21 @@
 use Rattle.std.specs.Prelude.{◌≡◌, ℕ, List, [], Option, Some, None}
 use Rattle.line_model.specs.declared.fault.Fault.{Fault}
 use Rattle.line_model.specs.declared.fault.Fault.TheVariants.{Memory, Trace, Read, Write, Start, Stranger, Missing}
-use Rattle.line_model.specs.Book.{KnownPlan}
-use Rattle.line_model.specs.Plans.{channel_totals}
-use Rattle.line_model.specs.Text.{head, rows}
+use Rattle.line_model.specs.work.Book.{KnownPlan}
+use Rattle.line_model.specs.pieces.Plans.{channel_totals}
+use Rattle.line_model.specs.text.Text.{head, rows}
 use Rattle.line_model.specs.declared.totals.Totals.{Totals}
 use Rattle.workers.specs.Gathers.{IsWhole}
 use Rattle.piece_feed.specs.Readings.{IsRefusal, IsRefusedBy}
 use Rattle.piece_feed.specs.Readings.{IsReadOf}
-use Rattle.trace_scan.specs.declared.threaded.Together.{Together}
+use Rattle.trace_scan.specs.declared.threaded.ScanParts.{ScanParts}
 
 -- the totals over the channels of a text, those of nothing where it has no header
 abbrev pub trace_totals : List ℕ → Totals
 trace_totals x = elim (head x) [ None ↦ record { posts = 0; findings = 0; octets = 0; segments = 0 } | Some i ↦ channel_totals i (rows x) ]
 
 -- a text was read, the one that the source tells if it does, and each of its pieces was run and posted once
-pub record IsTogether {A : Type 0} (plan : KnownPlan) (workers : ℕ) (before after : Option (List ℕ)) (t : Together A) : Type 0 where
+pub record AreScanParts {A : Type 0} (plan : KnownPlan) (workers : ℕ) (before after : Option (List ℕ)) (t : ScanParts A) : Type 0 where
   pub whole : IsWhole plan workers t.read.pieces t.gathered
   pub told : (text : List ℕ) → before ≡ Some text → IsReadOf text t.read.pieces t.read × (after ≡ Some [])
   pub of_text : (text : List ℕ) × IsReadOf text t.read.pieces t.read

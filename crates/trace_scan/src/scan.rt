@@ -4,7 +4,7 @@ ghost use Rattle.std.specs.Prelude.{◌≡◌, ◌≢◌, ℕ, ◌+◌, ◌<◌,
 ghost use Rattle.piece_feed.specs.Readings.{IsRefusal, IsRefusedBy};
 ghost use Rattle.live_report.specs.Reports.{IsReported, IsTaken};
 ghost use Rattle.trace_scan.specs.Scan.{IsPartTaken, IsScanFault};
-ghost use Rattle.line_model.specs.Traces.{trace_report};
+ghost use Rattle.line_model.specs.traces.Traces.{trace_report};
 
 use crate::reading::feed_all;
 use channel_machine::channel::PackedChannel;

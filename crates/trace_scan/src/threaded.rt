@@ -2,11 +2,11 @@
 
 ghost use Rattle.std.specs.Prelude.{◌≡◌, ◌≢◌, ℕ, ◌+◌, ◌<◌, ◌≤◌, ◌⊎◌, ◌^◌, List, Some, Ok, Err, IfOk, IfErr, IfSome, is_some, is_ok, true, vec_len};
 ghost use Rattle.std.specs.Option.{option_map};
-ghost use Rattle.line_model.specs.Traces.{trace_plan, trace_report};
-ghost use Rattle.line_model.specs.Book.{sum_of};
+ghost use Rattle.line_model.specs.traces.Traces.{trace_plan, trace_report};
+ghost use Rattle.line_model.specs.work.Book.{sum_of};
 ghost use Rattle.live_report.specs.Reports.{IsReported, IsTaken};
 ghost use Rattle.piece_feed.specs.Readings.{IsRefusal, IsRefusedBy};
-ghost use Rattle.trace_scan.specs.Threaded.{IsTogether, IsStopped, IsWorkedFault, trace_totals};
+ghost use Rattle.trace_scan.specs.Threaded.{AreScanParts, IsStopped, IsWorkedFault, trace_totals};
 
 use line_model::device::{Sink, Source};
 use line_model::fault::Fault;
@@ -24,7 +24,7 @@ use workers::{Gate, Gathered, Worked, work_through};
 
 /// What the reading thread read, and what the workers made of its pieces.
 #[derive(Drop)]
-struct Together<A: Allocator = Global> {
+struct ScanParts<A: Allocator = Global> {
     read: Read<A>,
     gathered: Gathered<A>,
 }
@@ -35,17 +35,17 @@ fn take_back<S>(_source: &mut S)
 {}
 
 /// The reading thread's fault stands before that of a worker.
-fn both<A: Allocator>(
+fn first_fault<A: Allocator>(
     outcome: Option<Result<Read<A>, Fault>>,
     gathered: Result<Gathered<A>, Fault>,
-) -> Result<Together<A>, Fault>
+) -> Result<ScanParts<A>, Fault>
     requires some { is_some outcome ≡ true }
     ensures both { IfOk result (λ t. (outcome ≡ Some (Ok t.read)) × (gathered ≡ Ok t.gathered)) }
     ensures first { IfErr result (λ f. (outcome ≡ Some (Err f)) ⊎ (IfSome outcome (λ o. is_ok o ≡ true) × (gathered ≡ Err f))) }
 {
     match outcome {
         Some(Ok(read)) => match gathered {
-            Ok(gathered) => Ok(Together { read, gathered }),
+            Ok(gathered) => Ok(ScanParts { read, gathered }),
             Err(fault) => Err(fault),
         },
         Some(Err(fault)) => Err(fault),
@@ -67,11 +67,11 @@ fn work_on_trace<
     workers: usize,
     capacity: usize,
     gate: &G,
-) -> Result<Together<A>, Fault>
+) -> Result<ScanParts<A>, Fault>
     requires plan { P.pieces ≡ option_map trace_plan (S.left source.old) }
     requires workers { (0 < workers) × (workers ≤ 64) }
     requires capacity { (0 < capacity) × (capacity ≤ 4096) }
-    ensures together { IfOk result (IsTogether P.pieces workers (S.left source.old) (S.left source.new)) }
+    ensures parts { IfOk result (AreScanParts P.pieces workers (S.left source.old) (S.left source.new)) }
     ensures stopped { IfErr result (IsStopped (S.left source.old) (S.left source.new)) }
     ensures read_failed { result ≡ Err Fault.Read → S.failures source.old < S.failures source.new }
     ensures start { result ≡ Err Fault.Start → source.new ≡ source.old }
@@ -94,7 +94,7 @@ fn work_on_trace<
                 ..
             } = task;
             take_back(source);
-            both(outcome, gathered)
+            first_fault(outcome, gathered)
         }
         Err((reading, fault)) => {
             let Reading {
@@ -159,13 +159,11 @@ fn scan_in<
     ensures kinds { IfErr result (IsWorkedFault (S.left source.old)) }
     ensures asked { S.calls source.new ≤ S.calls source.old + (2 ^ 30 + 1) }
 {
-    let together = match work_on_trace::<P, A, S, G, R>(
-        rt, alloc, source, workers, capacity, gate,
-    ) {
-        Ok(together) => together,
+    let parts = match work_on_trace::<P, A, S, G, R>(rt, alloc, source, workers, capacity, gate) {
+        Ok(parts) => parts,
         Err(fault) => return Err(fault),
     };
-    let Together { read, gathered } = together;
+    let ScanParts { read, gathered } = parts;
     let Gathered {
         totals,
         shares,

@@ -1,11 +1,11 @@
 -- What a reader of lines stands for as it takes a chunk.
 use Rattle.std.proofs.Common.{◌≡◌, ◌∙◌, sym, ap, refl, subst, ◌+◌, ◌<◌, ◌++◌, [], ◌∷◌, length, ℕ, arith, List, Option, Some, None, Err, append_assoc, append-nil, true, false, length-append}
 use Rattle.std.specs.Prelude.{is_some}
-use Rattle.line_model.specs.Text.{early, early_head, early_rows, size_kind}
+use Rattle.line_model.specs.text.Text.{early, early_head, early_rows, size_kind}
 use Rattle.line_model.specs.declared.fault.Fault.{Fault}
 use Rattle.line_model.specs.declared.fault.Fault.TheVariants.{Memory}
 use Rattle.line_model.specs.declared.interface.Interface.{Interface}
-use Rattle.line_model.specs.Records.{Row}
+use Rattle.line_model.specs.basics.Records.{Row}
 use Rattle.line_model.proofs.TextLemmas.{HasNoLf}
 use Rattle.trace_text.specs.Progress.{Progress, bytes_fed}
 use Rattle.trace_text.specs.StandsFor.{StandsFor, AreKnown, HasAppended, IsAppended, IsAtLine, IsFaultOf, IsHeadKept, ReadsChunk, TakesRow}

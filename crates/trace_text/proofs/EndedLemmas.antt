@@ -3,7 +3,7 @@ use Rattle.std.proofs.Common.{◌≡◌, ◌∙◌, sym, ap, subst, refl, ℕ, �
 use Rattle.std.proofs.Math.Seq.{take-length}
 use Rattle.std.proofs.lemmas.Bool.{eqb-true}
 use Rattle.std.proofs.lemmas.List.{take-append-le}
-use Rattle.line_model.specs.Text.{Line, begun_line, early_rows, ended_lines, fault, first_fault, has_header, head, head_of, is_lf, last_number, rows, rows_in, size_of, size_kind}
+use Rattle.line_model.specs.text.Text.{Line, begun_line, early_rows, ended_lines, fault, first_fault, has_header, head, head_of, is_lf, last_number, rows, rows_in, size_of, size_kind}
 use Rattle.line_model.specs.declared.fault.Kind.TheVariants.{HeaderMissing}
 use Rattle.line_model.specs.declared.fault.Fault.TheVariants.{Trace}
 use Rattle.line_model.specs.declared.interface.Interface.{Interface}

@@ -4,12 +4,12 @@ use Rattle.std.specs.Prelude.{is_some, not}
 use Rattle.std.specs.List.{filter_map}
 use Rattle.std.specs.Option.{option_map}
 use Rattle.std.proofs.Math.Seq.{take-append-add}
-use Rattle.line_model.specs.Records.{Row}
+use Rattle.line_model.specs.basics.Records.{Row}
 use Rattle.line_model.specs.declared.interface.Interface.{Interface}
 use Rattle.line_model.specs.declared.fault.Kind.{Kind}
 use Rattle.line_model.specs.declared.fault.Kind.TheVariants.{HeaderMissing}
-use Rattle.line_model.specs.RowLine.{row_of}
-use Rattle.line_model.specs.Text.{Line, is_comment, content_of, begun_kind, begun_line, early, early_head, early_rows, end_kind, ended_lines, fault, first_fault, good_lines, head, head_in, head_of, line_kind, line_or_none, lines_of, rows, rows_in}
+use Rattle.line_model.specs.text.RowLine.{row_of}
+use Rattle.line_model.specs.text.Text.{Line, is_comment, content_of, begun_kind, begun_line, early, early_head, early_rows, end_kind, ended_lines, fault, first_fault, good_lines, head, head_in, head_of, line_kind, line_or_none, lines_of, rows, rows_in}
 use Rattle.line_model.proofs.LineLemmas.{no_content}
 use Rattle.line_model.proofs.Rising.{filter_append}
 use Rattle.line_model.proofs.TextLemmas.{first_fault-append}

@@ -6,7 +6,7 @@ use Rattle.std.proofs.lemmas.Grind.{common_steps}
 use Rattle.std.proofs.lemmas.List.{length-drop, take-append-drop}
 use Rattle.std.proofs.lemmas.List.Folds.{list_any_none}
 use Rattle.memchr.specs.Find.{is_byte, NoneAfter, Nowhere, Passes}
-use Rattle.line_model.specs.Text.{begun_line, ended_lines, size_of}
+use Rattle.line_model.specs.text.Text.{begun_line, ended_lines, size_of}
 use Rattle.line_model.proofs.TextLemmas.{HasNoLf, begun-lf, begun-more, ended-more}
 use Rattle.trace_text.specs.Cuts.{Lacks}
 use Rattle.trace_text.specs.LineEnds.{end_of_line, first_size}

@@ -6,10 +6,10 @@ use Rattle.std.specs.List.{filter_map}
 use Rattle.std.proofs.lemmas.Bool.{eqb-true}
 use Rattle.std.proofs.lemmas.List.Elements.{filter_map-append}
 use Rattle.std.proofs.Math.Seq.{take-append_seam, take-append-add}
-use Rattle.line_model.specs.Records.{Row}
+use Rattle.line_model.specs.basics.Records.{Row}
 use Rattle.line_model.specs.declared.interface.Interface.{Interface}
-use Rattle.line_model.specs.RowLine.{row_of}
-use Rattle.line_model.specs.Text.{Line, is_lf, is_comment, content_of, early, early_head, early_rows, head_in, head_of, ended_lines, begun_line, first_fault, good_lines, line_kind, rows_in}
+use Rattle.line_model.specs.text.RowLine.{row_of}
+use Rattle.line_model.specs.text.Text.{Line, is_lf, is_comment, content_of, early, early_head, early_rows, head_in, head_of, ended_lines, begun_line, first_fault, good_lines, line_kind, rows_in}
 use Rattle.line_model.specs.declared.fault.Kind.{Kind}
 use Rattle.line_model.specs.declared.fault.Fault.{Fault}
 use Rattle.line_model.specs.declared.fault.Fault.TheVariants.{Memory, Trace, Read, Write, Start, Double, Stranger, Missing}

@@ -7,9 +7,9 @@ use Rattle.std.proofs.lemmas.Bool.{eqb-true, le-leb, leb-true, lt-ltb, ltb-true}
 use Rattle.std.proofs.lemmas.Bool.Decides.{nat_tests}
 use Rattle.std.proofs.lemmas.List.{nil_from_length}
 use Rattle.std.proofs.lemmas.List.Elements.{filter_map-append}
-use Rattle.line_model.specs.Header.{number_of}
-use Rattle.line_model.specs.RowLine.{RowWords, octets_of, rising_number, row_kind, row_of, row_words, side_of, words_kind}
-use Rattle.line_model.specs.Text.{Line, begun_line, content_of, contents_kind, early, early_rows, ended_lines, first_fault, form_kind, has_header, head_in, head_of, is_comment, is_some_line, last_number, last_or, line_kind, row_number, rows_in, size_kind, size_of, text_limit}
+use Rattle.line_model.specs.text.Header.{number_of}
+use Rattle.line_model.specs.text.RowLine.{RowWords, octets_of, rising_number, row_kind, row_of, row_words, side_of, words_kind}
+use Rattle.line_model.specs.text.Text.{Line, begun_line, content_of, contents_kind, early, early_rows, ended_lines, first_fault, form_kind, has_header, head_in, head_of, is_comment, is_some_line, last_number, last_or, line_kind, row_number, rows_in, size_kind, size_of, text_limit}
 use Rattle.line_model.specs.declared.fault.Kind.{Kind}
 use Rattle.line_model.specs.declared.fault.Kind.TheVariants.{LineForm}
 use Rattle.line_model.proofs.LineLemmas.{has_header-comment, has_header-line, last_number-comment, last_number-later, row_number-row_of, size_kind-zero}

@@ -3,9 +3,9 @@ use Rattle.std.proofs.Common.{◌≡◌, ◌≢◌, ◌∙◌, sym, ap, subst, r
 use Rattle.std.specs.Option.{option_or}
 use Rattle.std.specs.List.{filter_map}
 use Rattle.std.proofs.lemmas.List.Elements.{filter_map-append}
-use Rattle.line_model.specs.Text.{Line, begun_line, content_of, ended_lines, first_fault, has_header, is_comment, last_number, last_or, line_kind, row_number, rows_in, size_of}
-use Rattle.line_model.specs.RowLine.{row_of}
-use Rattle.line_model.specs.Records.{Row}
+use Rattle.line_model.specs.text.Text.{Line, begun_line, content_of, ended_lines, first_fault, has_header, is_comment, last_number, last_or, line_kind, row_number, rows_in, size_of}
+use Rattle.line_model.specs.text.RowLine.{row_of}
+use Rattle.line_model.specs.basics.Records.{Row}
 use Rattle.line_model.specs.declared.fault.Kind.{Kind}
 use Rattle.line_model.proofs.LineLemmas.{content-comment, content-line, rows_in-comment, rows_in-later, row_number-row_of}
 use Rattle.line_model.proofs.TextLemmas.{HasNoLf, begun-lf, begun-more, first_fault-append, size_kind-none}

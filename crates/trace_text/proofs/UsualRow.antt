@@ -8,8 +8,8 @@ use Rattle.std.proofs.lemmas.List.Elements.{All-get_or}
 use Rattle.std.proofs.lemmas.List.Folds.{list_any_none}
 use Rattle.hex.specs.Hex.{decode_of, is_hex_digit}
 use Rattle.hex.proofs.HexLemmas.{decode_of-ok}
-use Rattle.line_model.specs.Header.{number_of, is_number, words_of}
-use Rattle.line_model.specs.RowLine.{RowWords, octets_of, rising_number, row_kind, row_of, row_words, side_of, words_kind}
+use Rattle.line_model.specs.text.Header.{number_of, is_number, words_of}
+use Rattle.line_model.specs.text.RowLine.{RowWords, octets_of, rising_number, row_kind, row_of, row_words, side_of, words_kind}
 use Rattle.line_model.specs.declared.fault.Kind.{Kind}
 use Rattle.line_model.specs.declared.fault.Kind.TheVariants.{LineForm, Number, Side as SideKind, Hex}
 use Rattle.line_model.specs.declared.state.Side.{Side}

@@ -1,6 +1,6 @@
 -- Bytes behind whole lines.
 use Rattle.std.proofs.Common.{◌≡◌, ◌∙◌, sym, ap, refl, ℕ, Bool, true, false, List, [], ◌∷◌, ◌++◌, length, cond, arith, append_assoc}
-use Rattle.line_model.specs.Text.{Line, begun_line, ended_lines, is_lf, onto_begun, onto_first_line, size_of}
+use Rattle.line_model.specs.text.Text.{Line, begun_line, ended_lines, is_lf, onto_begun, onto_first_line, size_of}
 use Rattle.line_model.proofs.TextLemmas.{HasNoLf, begun-lf, begun-more, ended-lf, ended-more, size_of-ended}
 
 -- the lines and the line begun of more bytes

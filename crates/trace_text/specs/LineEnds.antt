@@ -1,6 +1,6 @@
 -- Where a line ends.
 use Rattle.std.specs.Prelude.{ℕ, ◌+◌, List, [], ◌∷◌, drop, length}
-use Rattle.line_model.specs.Text.{Line, ended_lines}
+use Rattle.line_model.specs.text.Text.{Line, ended_lines}
 
 -- the bytes of the first of some lines, and its LF; or so many
 abbrev pub first_size : List Line → ℕ → ℕ

@@ -1,10 +1,10 @@
 -- What one line says.
 use Rattle.std.specs.Prelude.{◌≡◌, ℕ, Bool, true, false, List, [], ◌∷◌, ◌++◌, Option, Some}
-use Rattle.line_model.specs.Header.{interface_of}
-use Rattle.line_model.specs.RowLine.{rising_number, row_of, side_of}
-use Rattle.line_model.specs.Text.{is_comment}
+use Rattle.line_model.specs.text.Header.{interface_of}
+use Rattle.line_model.specs.text.RowLine.{rising_number, row_of, side_of}
+use Rattle.line_model.specs.text.Text.{is_comment}
 use Rattle.line_model.specs.declared.fault.Kind.{Kind}
-use Rattle.line_model.specs.Records.{Row}
+use Rattle.line_model.specs.basics.Records.{Row}
 use Rattle.line_model.specs.declared.state.Side.{Side}
 use Rattle.trace_text.specs.Cuts.{Lacks}
 use Rattle.trace_text.specs.declared.content.Content.{Content}

@@ -1,9 +1,9 @@
 -- What a share does with a line.
 use Rattle.std.specs.Prelude.{◌≡◌, ◌≢◌, ℕ, ◌+◌, Bool, true, List, [], ◌∷◌, ◌++◌, length, Option, None, Some}
 use Rattle.std.specs.Option.{option_or}
-use Rattle.line_model.specs.Text.{size_kind, contents_kind}
+use Rattle.line_model.specs.text.Text.{size_kind, contents_kind}
 use Rattle.line_model.specs.declared.fault.Kind.{Kind}
-use Rattle.line_model.specs.Records.{Row}
+use Rattle.line_model.specs.basics.Records.{Row}
 use Rattle.trace_text.specs.Shares.{Extent, IsShare, share_rows}
 use Rattle.trace_text.specs.StandsFor.{last_row}
 use Rattle.trace_text.specs.declared.content.Content.{Content}

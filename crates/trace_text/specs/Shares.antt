@@ -1,8 +1,8 @@
 -- A share of a text: whole lines behind the header, read by themselves; and whether they may stand behind what was read.
 use Rattle.std.specs.Prelude.{◌≡◌, ℕ, ◌+◌, Bool, true, ◌==◌, ◌&&◌, nat_le, nat_lt, List, [], ◌∷◌, ◌++◌, length, Option, None, Some, is_none, is_some}
 use Rattle.std.specs.List.{filter_map}
-use Rattle.line_model.specs.Text.{Line, begun_line, content_of, ended_lines, first_fault, last_or, row_number, rows_in, text_limit}
-use Rattle.line_model.specs.Records.{Row}
+use Rattle.line_model.specs.text.Text.{Line, begun_line, content_of, ended_lines, first_fault, last_or, row_number, rows_in, text_limit}
+use Rattle.line_model.specs.basics.Records.{Row}
 use Rattle.trace_text.specs.Progress.{Progress}
 use Rattle.trace_text.specs.declared.shares.ShareFault.{ShareFault}
 use Rattle.trace_text.specs.declared.shares.ShareFault.TheVariants.{Memory, Broken}

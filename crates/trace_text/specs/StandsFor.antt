@@ -1,10 +1,10 @@
 -- Which texts a reader of lines may have been fed.
 use Rattle.std.specs.Prelude.{◌≡◌, ◌⊎◌, ℕ, Bool, true, false, List, [], ◌∷◌, Option, None, Some, Result, Err, length, is_some, take, ◌++◌}
-use Rattle.line_model.specs.Text.{ended_lines, begun_line, size_of, head_of, has_header, last_number, early, early_rows, lines_of, begun_kind}
+use Rattle.line_model.specs.text.Text.{ended_lines, begun_line, size_of, head_of, has_header, last_number, early, early_rows, lines_of, begun_kind}
 use Rattle.line_model.specs.declared.fault.Kind.{Kind}
 use Rattle.line_model.specs.declared.fault.Fault.{Fault}
 use Rattle.line_model.specs.declared.fault.Fault.TheVariants.{Memory, Trace}
-use Rattle.line_model.specs.Records.{Row}
+use Rattle.line_model.specs.basics.Records.{Row}
 use Rattle.line_model.specs.declared.interface.Interface.{Interface}
 use Rattle.trace_text.specs.Progress.{Progress}
 

@@ -1,11 +1,11 @@
 -- What a reader of lines does with bytes that end no line, and with an LF.
 use Rattle.std.specs.Prelude.{◌≡◌, ℕ, ◌+◌, Bool, true, false, List, [], ◌∷◌, ◌++◌, length, Option, None, Some, is_some}
 use Rattle.std.specs.Option.{option_or}
-use Rattle.line_model.specs.Text.{size_kind, contents_kind}
+use Rattle.line_model.specs.text.Text.{size_kind, contents_kind}
 use Rattle.line_model.specs.declared.fault.Kind.{Kind}
 use Rattle.line_model.specs.declared.fault.Fault.{Fault}
 use Rattle.line_model.specs.declared.fault.Fault.TheVariants.{Memory, Trace}
-use Rattle.line_model.specs.Records.{Row}
+use Rattle.line_model.specs.basics.Records.{Row}
 use Rattle.trace_text.specs.Progress.{Progress}
 use Rattle.trace_text.specs.Reads.{ReadsAs}
 use Rattle.trace_text.specs.declared.content.Content.{Content}

@@ -1,9 +1,9 @@
 //! The header line: `X25 1 MOD m WIN w SIZE s PVC p SVC q`, or `X25 2 .. IN i TWO t OUT o` with ` JOIN` after it or not.
 
 ghost use Rattle.std.specs.Prelude.{◌≡◌, ◌==◌, ◌<◌, ◌^◌, None, Some, MatchResult, MatchOption};
-ghost use Rattle.line_model.specs.Header.{HeaderNumbers, named, defaults_in, join_in, first_form, second_form, header_numbers, interface_of, interface_with};
-ghost use Rattle.line_model.specs.Text.{header_kind};
-ghost use Rattle.line_model.specs.Limits.{is_channels, is_interface, is_numbering, packet_sizes};
+ghost use Rattle.line_model.specs.text.Header.{HeaderNumbers, named, defaults_in, join_in, first_form, second_form, header_numbers, interface_of, interface_with};
+ghost use Rattle.line_model.specs.text.Text.{header_kind};
+ghost use Rattle.line_model.specs.basics.Limits.{is_channels, is_interface, is_numbering, packet_sizes};
 ghost use Rattle.std.specs.List.{list_any};
 
 use crate::number::read_number;
@@ -26,7 +26,7 @@ struct Numbers {
 }
 
 impl Model for Numbers {
-    ghost use Rattle.line_model.specs.Header.{HeaderNumbers};
+    ghost use Rattle.line_model.specs.text.Header.{HeaderNumbers};
 
     ghost Value = { HeaderNumbers };
 
@@ -43,7 +43,7 @@ struct Defaults {
 }
 
 impl Model for Defaults {
-    ghost use Rattle.line_model.specs.Header as header;
+    ghost use Rattle.line_model.specs.text.Header as header;
 
     ghost Value = { header.Defaults };
 
@@ -143,7 +143,7 @@ fn read_second(words: &mut Words<'_>) -> Option<Numbers>
     })
 }
 
-#[tactic(auto, unfolding(line_model::specs::Header::header_numbers))]
+#[tactic(auto, unfolding(line_model::specs::text::Header::header_numbers))]
 fn read_numbers(line: &[u8]) -> Option<Numbers>
     ensures { result ≡ header_numbers line.now }
 {
@@ -212,7 +212,7 @@ fn interface_with_numbers(numbers: Numbers) -> Option<Interface>
 }
 
 /// The interface that a header line sets up, or the rule that it breaks.
-#[tactic(auto, unfolding(line_model::specs::Text::header_kind, line_model::specs::Header::interface_of))]
+#[tactic(auto, unfolding(line_model::specs::text::Text::header_kind, line_model::specs::text::Header::interface_of))]
 pub fn read_header(line: &[u8]) -> Result<Interface, Kind>
     ensures { MatchResult result (λ interface. (header_kind line.now ≡ None) × (interface_of line.now ≡ Some interface)) (λ kind. header_kind line.now ≡ Some kind) }
 {

@@ -1,7 +1,7 @@
 //! Where lines end: where a text may be cut into shares.
 
 ghost use Rattle.std.specs.Prelude.{◌≡◌, ◌⊎◌, ◌<◌, ◌≤◌, [], drop, length, take};
-ghost use Rattle.line_model.specs.Text.{begun_line, ended_lines, size_of};
+ghost use Rattle.line_model.specs.text.Text.{begun_line, ended_lines, size_of};
 ghost use Rattle.trace_text.specs.LineEnds.{end_of_line};
 
 use crate::cuts::split_at_byte;

@@ -1,7 +1,7 @@
 //! The reader of trace texts: it is fed chunks of any size, keeps the line that has not ended, and tells rows.
 
 ghost use Rattle.std.specs.Prelude.{◌≡◌, ◌+◌, ◌≤◌, ◌<◌, ◌^◌};
-ghost use Rattle.line_model.specs.Text.{size_kind};
+ghost use Rattle.line_model.specs.text.Text.{size_kind};
 
 use crate::content::{Content, LineFault};
 use crate::cuts::split_at_byte;
@@ -73,7 +73,7 @@ fn blank_row<A: Allocator + Clone>(alloc: &A) -> Result<Row<A>, AllocError> {
 }
 
 /// The rule on sizes that a line of so many bytes breaks, after `start` bytes; `lf` is 1 where an LF ends it.
-#[tactic(auto, unfolding(line_model::specs::Text::size_kind))]
+#[tactic(auto, unfolding(line_model::specs::text::Text::size_kind))]
 pub(crate) fn size_fault(start: u32, lf: usize, len: usize) -> Option<Kind>
     requires start { start ≤ 2 ^ 30 }
     requires lf { lf ≤ 1 }
@@ -91,7 +91,7 @@ pub(crate) fn size_fault(start: u32, lf: usize, len: usize) -> Option<Kind>
 
 impl<A: Allocator> Lines<A> {
     ghost use Rattle.std.specs.Prelude.{◌≡◌, ℕ, Bool, true, ◌+◌, ◌<◌, ◌^◌, ◌++◌, ◌∷◌, [], List, Option, Some, None, Err, OnOk, OnErr, IfErr, IfOk, IfSome, MatchOption, length, is_some, ◌≤◌};
-    ghost use Rattle.line_model.specs.Text.{early, early_head, early_rows, ended_lines as lines_ended, fault, head, lines_of, rows as rows_of_text, rows_in};
+    ghost use Rattle.line_model.specs.text.Text.{early, early_head, early_rows, ended_lines as lines_ended, fault, head, lines_of, rows as rows_of_text, rows_in};
     ghost use Rattle.trace_text.specs.Progress.{Progress, bytes_fed};
     ghost use Rattle.trace_text.specs.StandsFor.{StandsFor, IsFaultOf, IsHeadKept, IsAtLine, IsTextFault, EndsText, AreKnown, ReadsChunk, TakesRow, last_row};
     ghost use Rattle.trace_text.specs.Cuts.{Lacks};
@@ -348,8 +348,8 @@ impl<A: Allocator> Lines<A> {
 
 impl<A: Allocator + Clone> Lines<A> {
     ghost use Rattle.std.specs.Prelude.{◌≡◌, ℕ, ◌+◌, ◌^◌, ◌++◌, List, Some, None, Err, OnOk, IfErr, IfOk, length, ◌≤◌};
-    ghost use Rattle.line_model.specs.Text.{early, early_head, early_rows, fault, head, rows as rows_of_text};
-    ghost use Rattle.line_model.specs.Records as records;
+    ghost use Rattle.line_model.specs.text.Text.{early, early_head, early_rows, fault, head, rows as rows_of_text};
+    ghost use Rattle.line_model.specs.basics.Records as records;
     ghost use Rattle.trace_text.specs.Progress.{bytes_fed};
     ghost use Rattle.trace_text.specs.StandsFor.{StandsFor, IsFaultOf, IsTold, IsAppended, IsHeadKept, IsTextFault};
     ghost use Rattle.line_model.specs.declared.fault.Fault.{Fault};

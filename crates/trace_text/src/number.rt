@@ -1,8 +1,8 @@
 //! Numbers of 1 to 9 digits.
 
 ghost use Rattle.std.specs.Prelude.{◌≡◌, ◌<◌, ◌^◌, IfSome};
-ghost use Rattle.line_model.specs.Header.{is_number as is_number_word};
-ghost use Rattle.line_model.specs.Header.{number_of};
+ghost use Rattle.line_model.specs.text.Header.{is_number as is_number_word};
+ghost use Rattle.line_model.specs.text.Header.{number_of};
 ghost use Rattle.std.specs.List.{list_all};
 ghost use Rattle.std.specs.Char.{is_ascii_digit};
 

@@ -1,9 +1,9 @@
 //! What one line says after those before it: a comment, the header, or a row.
 
 ghost use Rattle.std.specs.Prelude.{◌≡◌, ◌<◌, ◌^◌, ℕ, None, Some, MatchResult, IfOk, IfErr};
-ghost use Rattle.line_model.specs.Header.{interface_of};
-ghost use Rattle.line_model.specs.RowLine.{row_kind, row_of};
-ghost use Rattle.line_model.specs.Text.{header_kind, contents_kind, is_comment};
+ghost use Rattle.line_model.specs.text.Header.{interface_of};
+ghost use Rattle.line_model.specs.text.RowLine.{row_kind, row_of};
+ghost use Rattle.line_model.specs.text.Text.{header_kind, contents_kind, is_comment};
 ghost use Rattle.trace_text.specs.Reads.{ReadsAs, Breaks};
 
 use crate::content::{Content, LineFault};
@@ -23,7 +23,7 @@ fn is_comment_line(line: &[u8]) -> bool
 
 /// What a line says that stands before the header, or after it and after a row of the number `last`. A row is put in the
 /// place of another.
-#[tactic(auto, unfolding(line_model::specs::Text::contents_kind))]
+#[tactic(auto, unfolding(line_model::specs::text::Text::contents_kind))]
 pub fn read_line<A: Allocator>(
     after_header: bool,
     last: u32,

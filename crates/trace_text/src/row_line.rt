@@ -4,7 +4,7 @@ ghost use Rattle.std.specs.Prelude.{◌≡◌, ◌<◌, ◌^◌, None, Some, IfS
 ghost use Rattle.std.specs.Bool.{OnTrue};
 ghost use Rattle.line_model.specs.declared.fault.Kind.TheVariants.{Hex};
 ghost use Rattle.trace_text.specs.declared.content.LineFault.TheVariants.{Memory, Broken};
-ghost use Rattle.line_model.specs.RowLine.{RowWords, octets_of, row_kind, row_of, row_words, side_of, rising_number};
+ghost use Rattle.line_model.specs.text.RowLine.{RowWords, octets_of, row_kind, row_of, row_words, side_of, rising_number};
 ghost use Rattle.trace_text.specs.Reads.{BeginsRow, Breaks};
 
 use crate::content::LineFault;
@@ -30,14 +30,14 @@ struct Fields<'a> {
 }
 
 impl<'a> Model for Fields<'a> {
-    ghost use Rattle.line_model.specs.RowLine.{RowWords};
+    ghost use Rattle.line_model.specs.text.RowLine.{RowWords};
 
     ghost Value = { RowWords };
 
     ghost view = { λ f. record { number = f.number.now; side = f.side.now; hex = f.hex.now } };
 }
 
-#[tactic(auto, unfolding(line_model::specs::RowLine::row_words))]
+#[tactic(auto, unfolding(line_model::specs::text::RowLine::row_words))]
 fn split_fields(line: &[u8]) -> Option<Fields<'_>>
     ensures { result ≡ row_words line.now }
 {
@@ -76,7 +76,7 @@ fn read_side(word: &[u8]) -> Option<Side>
 }
 
 /// Puts the octets that hex digits write, or `-` for none, in the place of what was in a list.
-#[tactic(auto, unfolding(line_model::specs::RowLine::octets_of))]
+#[tactic(auto, unfolding(line_model::specs::text::RowLine::octets_of))]
 fn read_octets<A: Allocator>(word: &[u8], octets: &mut Vec<u8, A>) -> Result<(), LineFault>
     ensures { MatchResult result (λ _. octets_of word.now ≡ Some octets.new.items) (λ fault. (fault ≡ Memory) ⊎ ((fault ≡ Broken Hex) × (octets_of word.now ≡ None))) }
 {
@@ -132,7 +132,7 @@ fn read_usual<A: Allocator>(last: u32, line: &[u8], row: &mut Row<A>) -> Result<
 }
 
 /// Puts the row of any line in the place of another, or tells the rule that the line breaks.
-#[tactic(auto, unfolding(line_model::specs::RowLine::row_kind, line_model::specs::RowLine::row_of))]
+#[tactic(auto, unfolding(line_model::specs::text::RowLine::row_kind, line_model::specs::text::RowLine::row_of))]
 fn read_any<A: Allocator>(last: u32, line: &[u8], row: &mut Row<A>) -> Result<(), LineFault>
     ensures { MatchResult result (λ _. (row_kind last line.now ≡ None) × (row_of line.now ≡ Some row.new)) (Breaks (row_kind last line.now)) }
 {

@@ -2,7 +2,7 @@
 
 ghost use Rattle.std.specs.Prelude.{◌≡◌, ◌∷◌, [], length, MatchOption};
 ghost use Rattle.trace_text.specs.WordsLeft.{words_left};
-ghost use Rattle.line_model.specs.Header.{words_of, number_of, is_number, is_space};
+ghost use Rattle.line_model.specs.text.Header.{words_of, number_of, is_number, is_space};
 
 use crate::cuts::split_at_byte;
 use std::marker::Model;

@@ -3,9 +3,9 @@ use Rattle.std.proofs.Common.{◌≡◌, ◌⊎◌, ◌<◌, ◌-◌, ◌%◌, �
 use Rattle.line_model.specs.declared.diagnostic.TheConstants.{INVALID_P_R}
 use Rattle.line_model.specs.declared.state.Side.{Side}
 use Rattle.line_model.specs.declared.state.Side.TheVariants.{T, N}
-use Rattle.line_model.specs.Channels.{of_side, with_side, other}
-use Rattle.line_model.specs.FlowControl.{Counts, is_send_valid, count_receive, count_data}
-use Rattle.window_check.specs.Kept.{Kept, IsDirection, Residues, DirectionStands, Stands, Answers}
+use Rattle.line_model.specs.channels.Channels.{of_side, with_side, other}
+use Rattle.line_model.specs.channels.FlowControl.{Counts, is_send_valid, count_receive, count_data}
+use Rattle.window_check.specs.FlowResidues.{FlowResidues, IsDirection, Residues, DirectionStands, Stands, Answers}
 use Rattle.window_check.specs.declared.direction.Direction.{Direction}
 use Rattle.window_check.specs.Directions.{direction_of, with_direction}
 
@@ -20,7 +20,7 @@ sent_one m w s a sent acknowledged e h l = record {
 }
 
 -- the same receive number after one packet more of its own side
-received : {A : Type 0} (x : Side) (u : A) (old mid : Kept) (c : Counts) (o : Option ℕ) →
+received : {A : Type 0} (x : Side) (u : A) (old mid : FlowResidues) (c : Counts) (o : Option ℕ) →
     (old.modulus ≡ 8) ⊎ (old.modulus ≡ 128) → Stands old c →
     of_side x c.sent - of_side x c.acknowledged < of_side x old.windows →
     mid.modulus ≡ old.modulus → mid.windows ≡ old.windows →
@@ -40,7 +40,7 @@ received N u old mid c (Some k) e h l m w r = record {
 }
 
 -- the counts of one direction and their residues
-residues_of : (x : Side) (k : Kept) (c : Counts) → Stands k c → of_side x k.windows < k.modulus →
+residues_of : (x : Side) (k : FlowResidues) (c : Counts) → Stands k c → of_side x k.windows < k.modulus →
     Residues k.modulus (of_side x c.sent) (of_side x c.acknowledged) (of_side x k.sent) (of_side x k.acknowledged)
 residues_of T k c h b = record { sent_is = h.of_t.sent_is; acknowledged_is = h.of_t.acknowledged_is; ordered = h.of_t.ordered; below = omega (arith, h.of_t.within, b) }
 residues_of N k c h b = record { sent_is = h.of_n.sent_is; acknowledged_is = h.of_n.acknowledged_is; ordered = h.of_n.ordered; below = omega (arith, h.of_n.within, b) }
@@ -50,7 +50,7 @@ room : (m w s a n : ℕ) → is_send_valid m w s a n ≡ true → s - a < w
 room m w s a n v = grind (arith, v)
 
 -- by the side
-counted_receive : {A : Type 0} (x : Side) (u : A) (old mid : Kept) (c : Counts) (receive : ℕ) →
+counted_receive : {A : Type 0} (x : Side) (u : A) (old mid : FlowResidues) (c : Counts) (receive : ℕ) →
     (old.modulus ≡ 8) ⊎ (old.modulus ≡ 128) → Stands old c →
     of_side x c.sent - of_side x c.acknowledged < of_side x old.windows →
     mid.modulus ≡ old.modulus → mid.windows ≡ old.windows →
@@ -61,7 +61,7 @@ counted_receive T u old mid c receive e h l m w r = received T u old mid c _ e h
 counted_receive N u old mid c receive e h l m w r = received N u old mid c _ e h l m w r
 
 -- a data packet whose numbers are valid
-pub counted : {A : Type 0} (x : Side) (u : A) (old mid : Kept) (c : Counts) (send receive : ℕ) →
+pub counted : {A : Type 0} (x : Side) (u : A) (old mid : FlowResidues) (c : Counts) (send receive : ℕ) →
     (old.modulus ≡ 8) ⊎ (old.modulus ≡ 128) → of_side x old.windows < old.modulus → Stands old c →
     ((s a : ℕ) → Residues old.modulus s a (of_side x old.sent) (of_side x old.acknowledged) → true ≡ is_send_valid old.modulus (of_side x old.windows) s a send) →
     mid.modulus ≡ old.modulus → mid.windows ≡ old.windows →
@@ -74,7 +74,7 @@ counted x u old mid c send receive e b h v m w r =
     rw (valid, Answers) (counted_receive x u old mid c receive e h (room _ _ _ _ _ valid) m w r)
 
 -- the same in the words of the code: the numbers of the side are read, and written back with one more
-pub counted_by : {A : Type 0} (x : Side) (u : A) (old mid new : Kept) (d : Direction) (m n : ℕ) (c : Counts) (send receive : ℕ) →
+pub counted_by : {A : Type 0} (x : Side) (u : A) (old mid new : FlowResidues) (d : Direction) (m n : ℕ) (c : Counts) (send receive : ℕ) →
     m ≡ old.modulus → d ≡ direction_of x old → n ≡ (d.sent + 1) % m → new ≡ with_direction x (record d { sent = n }) mid →
     IsDirection old.modulus d.window d.sent d.acknowledged → (m ≡ 8) ⊎ (m ≡ 128) →
     ((s a : ℕ) → Residues m s a d.sent d.acknowledged → true ≡ is_send_valid m d.window s a send) →

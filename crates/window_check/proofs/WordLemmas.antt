@@ -3,11 +3,11 @@ use Rattle.std.proofs.Common.{◌≡◌, ◌⊎◌, inl, inr, ◌<◌, ◌≤◌
 use Rattle.std.specs.Prelude.{cond}
 use Rattle.std.proofs.lemmas.Nat.{pow-add, pow_pos, shr_split, shr_high, shr_below, mod_low, mod_below, mul-add-lt, shl_whole, one_shl}
 use Rattle.std.proofs.Math.Nat.{mul-le-mul_right, mod-eq_of_lt}
-use Rattle.window_check.specs.Kept.{Kept, IsKept, IsDirection, DirectionStands, Stands, bit, word_of}
+use Rattle.window_check.specs.FlowResidues.{FlowResidues, AreFlowResidues, IsDirection, DirectionStands, Stands, bit, word_of}
 use Rattle.line_model.specs.declared.state.Side.{Side}
 use Rattle.line_model.specs.declared.state.Side.TheVariants.{T, N}
-use Rattle.line_model.specs.Channels.{of_side}
-use Rattle.line_model.specs.FlowControl.{no_counts}
+use Rattle.line_model.specs.channels.Channels.{of_side}
+use Rattle.line_model.specs.channels.FlowControl.{no_counts}
 use Rattle.window_check.specs.declared.direction.Direction.{Direction}
 use Rattle.window_check.specs.Directions.{direction_of, with_direction}
 use Rattle.window_check.specs.declared.flow.Flow.TheInside.{Inside}
@@ -87,7 +87,7 @@ below_128 m n (inl e) l = omega (arith, e, l)
 below_128 m n (inr e) l = omega (arith, e, l)
 
 -- what is kept, by its fields
-kept_by : (k : Kept) (w : ℕ) → cond (bit_at w 0) 128 8 ≡ k.modulus →
+kept_by : (k : FlowResidues) (w : ℕ) → cond (bit_at w 0) 128 8 ≡ k.modulus →
     number_at w 29 ≡ k.windows.of_t → number_at w 36 ≡ k.windows.of_n →
     number_at w 1 ≡ k.sent.of_t → number_at w 15 ≡ k.sent.of_n →
     number_at w 8 ≡ k.acknowledged.of_t → number_at w 22 ≡ k.acknowledged.of_n →
@@ -158,7 +158,7 @@ read w m st at sn an wt wn it is a h =
     }
 
 -- the numbers of a word of what can be kept
-word_of_kept : (w : ℕ) (p : Packed) → IsKept p.flow → w ≡ packed_word p →
+word_of_kept : (w : ℕ) (p : Packed) → AreFlowResidues p.flow → w ≡ packed_word p →
     IsWord w (bit (p.flow.modulus == 128)) p.flow.sent.of_t p.flow.acknowledged.of_t p.flow.sent.of_n p.flow.acknowledged.of_n
     p.flow.windows.of_t p.flow.windows.of_n (bit p.flow.unconfirmed.of_t) (bit p.flow.unconfirmed.of_n) p.above
 word_of_kept w p h e =
@@ -177,7 +177,7 @@ word_of_kept w p h e =
     }
 
 -- the word of what can be kept, and of any number above it, keeps them
-packed_in-packed_word : (w : ℕ) (p : Packed) → IsKept p.flow → w ≡ packed_word p → packed_in w ≡ p
+packed_in-packed_word : (w : ℕ) (p : Packed) → AreFlowResidues p.flow → w ≡ packed_word p → packed_in w ≡ p
 packed_in-packed_word w p h e =
     let r = read _ _ _ _ _ _ _ _ _ _ _ (word_of_kept w p h e) in
     let modulus : cond (bit_at w 0) 128 8 ≡ p.flow.modulus = ap (λ b. cond b 128 8) (bit_back _ _ r.modulus) ∙ modulus_back _ h.eight in
@@ -193,26 +193,26 @@ direction_read T w = refl
 direction_read N w = refl
 
 -- what is kept stays in range with other numbers of a side
-is_kept : (x : Side) (k : Kept) (d : Direction) → IsKept k → IsDirection k.modulus d.window d.sent d.acknowledged → IsKept (with_direction x d k)
+is_kept : (x : Side) (k : FlowResidues) (d : Direction) → AreFlowResidues k → IsDirection k.modulus d.window d.sent d.acknowledged → AreFlowResidues (with_direction x d k)
 is_kept T k d h r = record { eight = h.eight; of_t = r; of_n = h.of_n }
 is_kept N k d h r = record { eight = h.eight; of_t = h.of_t; of_n = r }
 
 -- a word that keeps these, in range
 pub record Keeps (w : ℕ) (p : Packed) : Type 0 where
   pub parts : packed_in w ≡ p
-  pub in_range : IsKept (kept_in w)
+  pub in_range : AreFlowResidues (kept_in w)
 
-pub keeps : (w : ℕ) (p : Packed) → IsKept p.flow → w ≡ packed_word p → Keeps w p
+pub keeps : (w : ℕ) (p : Packed) → AreFlowResidues p.flow → w ≡ packed_word p → Keeps w p
 keeps w p h e =
     let is : packed_in w ≡ p = packed_in-packed_word w p h e in
-    record { parts = is; in_range = subst (λ q. IsKept q.flow) (sym is) h }
+    record { parts = is; in_range = subst (λ q. AreFlowResidues q.flow) (sym is) h }
 
 -- what is kept, with other numbers of a side
 abbrev pub other_numbers : Side → Direction → Packed → Packed
 other_numbers x d p = record p { flow = with_direction x d p.flow }
 
 -- a word that keeps what another keeps, with other numbers of a side
-pub replaced : (f : Direction → Direction) (x : Side) (w u : ℕ) (old : Packed) → packed_in w ≡ old → IsKept (kept_in w) →
+pub replaced : (f : Direction → Direction) (x : Side) (w u : ℕ) (old : Packed) → packed_in w ≡ old → AreFlowResidues (kept_in w) →
     IsDirection old.flow.modulus (f (direction_of x old.flow)).window (f (direction_of x old.flow)).sent (f (direction_of x old.flow)).acknowledged →
     u ≡ packed_word (other_numbers x (f (direction_of x (kept_in w))) (packed_in w)) →
     Keeps u (other_numbers x (f (direction_of x old.flow)) old)
@@ -240,19 +240,19 @@ unconfirmed_word T w u b e = omega (arith, e, packed_word-packed_in w, bit_read 
 unconfirmed_word N w u b e = omega (arith, e, packed_word-packed_in w, bit_read (w / 2 ^ 44 % 2) (mod_below _ 2 (omega arith)))
 
 -- the numbers of a side are in range
-pub range_of : (x : Side) (k : Kept) → IsKept k → IsDirection k.modulus (of_side x k.windows) (of_side x k.sent) (of_side x k.acknowledged)
+pub range_of : (x : Side) (k : FlowResidues) → AreFlowResidues k → IsDirection k.modulus (of_side x k.windows) (of_side x k.sent) (of_side x k.acknowledged)
 range_of T k h = h.of_t
 range_of N k h = h.of_n
 
 -- a word that keeps what another keeps, with another number of the owner
-pub above_replaced : (w u v : ℕ) (old : Packed) → packed_in w ≡ old → IsKept (kept_in w) → w < 2 ^ 64 →
+pub above_replaced : (w u v : ℕ) (old : Packed) → packed_in w ≡ old → AreFlowResidues (kept_in w) → w < 2 ^ 64 →
     u + w / 2 ^ 45 % 2 ^ 19 * 2 ^ 45 ≡ w + v * 2 ^ 45 → Keeps u (record old { above = v })
 above_replaced w u v old is h l e =
     let whole : w / 2 ^ 45 % 2 ^ 19 ≡ w / 2 ^ 45 = mod-eq_of_lt (shr_below w 19 45 l) in
     subst (λ p. Keeps u (record p { above = v })) is (keeps u _ h (omega (arith, e, whole, packed_word-packed_in w)))
 
 -- what is kept when nothing was sent
-abbrev pub nothing_sent : Kept → Kept
+abbrev pub nothing_sent : FlowResidues → FlowResidues
 nothing_sent k = record k {
   sent = record { of_t = 0; of_n = 0 };
   acknowledged = record { of_t = 0; of_n = 0 };
@@ -288,11 +288,11 @@ none_sent m w s a e h = record {
 }
 
 -- a word that keeps what another keeps, where nothing was sent
-pub cleared : (w u t : ℕ) (old : Packed) → packed_in w ≡ old → IsKept (kept_in w) →
+pub cleared : (w u t : ℕ) (old : Packed) → packed_in w ≡ old → AreFlowResidues (kept_in w) →
     u + w / 2 ^ 43 % 2 ^ 2 * 2 ^ 43 ≡ w + 0 * 2 ^ 43 → t + u / 2 ^ 1 % 2 ^ 28 * 2 ^ 1 ≡ u + 0 * 2 ^ 1 →
     Keeps t (record old { flow = nothing_sent old.flow })
 cleared w u t old is h e f =
-    let in_range : IsKept (nothing_sent (kept_in w)) = record {
+    let in_range : AreFlowResidues (nothing_sent (kept_in w)) = record {
       eight = h.eight;
       of_t = none_sent _ _ _ _ h.eight h.of_t;
       of_n = none_sent _ _ _ _ h.eight h.of_n;
@@ -303,11 +303,11 @@ cleared w u t old is h e f =
 none_stand : (m w : ℕ) → DirectionStands m w 0 0 0 0
 none_stand m w = record { sent_is = omega arith; acknowledged_is = omega arith; ordered = omega arith; within = omega arith }
 
-pub nothing_stands : (k : Kept) → Stands (nothing_sent k) no_counts
+pub nothing_stands : (k : FlowResidues) → Stands (nothing_sent k) no_counts
 nothing_stands k = record { of_t = none_stand _ _; of_n = none_stand _ _; unconfirmed = refl }
 
 -- the word of what can be kept has nothing above, and keeps it
-pub word_of-keeps : (w : ℕ) (k : Kept) → IsKept k → word_of k ≡ w → packed_in w ≡ record { flow = k; above = 0 }
+pub word_of-keeps : (w : ℕ) (k : FlowResidues) → AreFlowResidues k → word_of k ≡ w → packed_in w ≡ record { flow = k; above = 0 }
 word_of-keeps w k h e = packed_in-packed_word w _ h (omega (arith, e))
 
 -- a word with nothing above is that of what it keeps
@@ -320,8 +320,8 @@ pub parts_of : (w m : ℕ) (t n : Direction) → m ≡ (kept_in w).modulus → t
 parts_of w m t n e f g = ap (λ (p : Inside). kept p) (λ i. record { modulus = e i; of_t = f i; of_n = g i })
 
 -- what is read of a side is in range where the word is that of what can be kept
-pub range_read : (x : Side) (w m : ℕ) (d : Direction) (k : Kept) → m ≡ (kept_in w).modulus → d ≡ direction_of x (kept_in w) →
-    IsKept k → word_of k ≡ w → IsDirection m d.window d.sent d.acknowledged
+pub range_read : (x : Side) (w m : ℕ) (d : Direction) (k : FlowResidues) → m ≡ (kept_in w).modulus → d ≡ direction_of x (kept_in w) →
+    AreFlowResidues k → word_of k ≡ w → IsDirection m d.window d.sent d.acknowledged
 range_read x w m d k e f h is =
-    let in_range : IsKept (kept_in w) = subst (λ p. IsKept p.flow) (sym (word_of-keeps w k h is)) h in
+    let in_range : AreFlowResidues (kept_in w) = subst (λ p. AreFlowResidues p.flow) (sym (word_of-keeps w k h is)) h in
     rw (e, f) (range_of x (kept_in w) in_range)

@@ -1,9 +1,9 @@
 -- The fields of what is kept of the counts.
 use Rattle.window_check.specs.declared.flow.Flow.TheInside.{Inside}
-use Rattle.window_check.specs.Kept.{Kept, IsKept}
+use Rattle.window_check.specs.FlowResidues.{FlowResidues, AreFlowResidues}
 
 -- what is kept, from the fields
-abbrev pub kept : Inside → Kept
+abbrev pub kept : Inside → FlowResidues
 kept f = record {
   modulus = f.modulus;
   windows = record { of_t = f.of_t.window; of_n = f.of_n.window };
@@ -13,7 +13,7 @@ kept f = record {
 }
 
 -- the fields, from what is kept
-abbrev pub unkept : Kept → Inside
+abbrev pub unkept : FlowResidues → Inside
 unkept k = record {
   modulus = k.modulus;
   of_t = record { window = k.windows.of_t; sent = k.sent.of_t; acknowledged = k.acknowledged.of_t; unconfirmed = k.unconfirmed.of_t };
@@ -22,4 +22,4 @@ unkept k = record {
 
 -- fields of what a channel can keep
 abbrev pub IsFlow : Inside → Type 0
-IsFlow f = IsKept (kept f)
+IsFlow f = AreFlowResidues (kept f)

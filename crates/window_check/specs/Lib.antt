@@ -1,4 +1,4 @@
-pub mod Kept
+pub mod FlowResidues
 pub mod Directions
 pub mod FlowFields
 pub mod Packed

@@ -2,7 +2,7 @@
 use Rattle.std.specs.Prelude.{ℕ, Bool, ◌+◌, ◌*◌, ◌/◌, ◌%◌, ◌^◌, ◌==◌, cond}
 use Rattle.line_model.specs.declared.state.Side.{Side}
 use Rattle.line_model.specs.declared.state.Side.TheVariants.{T, N}
-use Rattle.window_check.specs.Kept.{Kept, word_of}
+use Rattle.window_check.specs.FlowResidues.{FlowResidues, word_of}
 
 -- seven bits of a word, from bit k up
 abbrev pub number_at : (w k : ℕ) → ℕ
@@ -30,7 +30,7 @@ unconfirmed_at T = 43
 unconfirmed_at N = 44
 
 -- what a word keeps of a channel, at the places that `word_of` gives it
-abbrev pub kept_in : ℕ → Kept
+abbrev pub kept_in : ℕ → FlowResidues
 kept_in w = record {
   modulus = cond (bit_at w 0) 128 8;
   windows = record { of_t = number_at w 29; of_n = number_at w 36 };
@@ -41,7 +41,7 @@ kept_in w = record {
 
 -- a channel's part of a word, and a number in the bits from 45 up, which are the owner's (profile)
 pub record Packed : Type 0 where
-  pub flow : Kept
+  pub flow : FlowResidues
   pub above : ℕ
 
 -- both parts of a word

@@ -1,6 +1,6 @@
 -- The fields of a word that keeps a channel's windows and interrupts.
 use Rattle.window_check.specs.declared.packed.FlowWord.TheInside.{Inside}
-use Rattle.window_check.specs.Kept.{IsKept}
+use Rattle.window_check.specs.FlowResidues.{AreFlowResidues}
 use Rattle.window_check.specs.Packed.{Packed, packed_in, packed_word}
 
 -- both parts, from the fields
@@ -13,4 +13,4 @@ unpacked p = record { word = packed_word p }
 
 -- a word whose part below is one that a channel can keep
 abbrev pub IsPacked : Inside → Type 0
-IsPacked f = IsKept (packed f).flow
+IsPacked f = AreFlowResidues (packed f).flow

@@ -2,7 +2,7 @@
 use Rattle.std.proofs.Common.{◌≡◌, ◌<◌, ◌/◌, ◌%◌, ◌^◌, ◌*◌, ◌+◌, ◌∙◌, ◌==◌, ℕ, Bool, true, false, refl, sym, ap, arith}
 use Rattle.std.specs.Prelude.{cond}
 use Rattle.std.proofs.lemmas.Nat.{shr-shr, shr_split, mod_below}
-use Rattle.window_check.specs.Kept.{bit}
+use Rattle.window_check.specs.FlowResidues.{bit}
 use Rattle.window_check.specs.Packed.{bit_at, packed_in, packed_word}
 
 -- the bits from bit k up are n bits and those above them

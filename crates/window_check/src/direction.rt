@@ -1,8 +1,8 @@
 //! The sequence numbers of one direction of transfer, by their residues.
 
 ghost use Rattle.std.specs.Prelude.{◌≡◌, ◌⊎◌, ◌<◌, ◌≤◌, ℕ, ◌+◌, ◌%◌, false, IsTrue};
-ghost use Rattle.line_model.specs.FlowControl.{is_send_valid};
-ghost use Rattle.window_check.specs.Kept.{outstanding, IsDirection, Residues, IsAcknowledged};
+ghost use Rattle.line_model.specs.channels.FlowControl.{is_send_valid};
+ghost use Rattle.window_check.specs.FlowResidues.{outstanding, IsDirection, Residues, IsAcknowledged};
 
 /// What is kept of one direction: its window, the residues of the numbers of packets sent and acknowledged, and
 /// whether an interrupt is unconfirmed.

@@ -1,9 +1,9 @@
 //! The windows and interrupts of a logical channel in data transfer.
 
 ghost use Rattle.std.specs.Prelude.{◌≡◌, ◌⊎◌, ◌<◌, ◌≤◌, OnErr};
-ghost use Rattle.line_model.specs.FlowControl.{Counts, count_interrupt, count_receive, count_confirm, count_data, no_counts};
-ghost use Rattle.line_model.specs.Channels.{of_side};
-ghost use Rattle.window_check.specs.Kept.{IsDirection, Stands, Answers};
+ghost use Rattle.line_model.specs.channels.FlowControl.{Counts, count_interrupt, count_receive, count_confirm, count_data, no_counts};
+ghost use Rattle.line_model.specs.channels.Channels.{of_side};
+ghost use Rattle.window_check.specs.FlowResidues.{IsDirection, Stands, Answers};
 ghost use Rattle.window_check.specs.Directions.{direction_of, with_direction};
 
 use crate::direction::{Direction, residue};
@@ -24,9 +24,9 @@ pub struct Flow {
 }
 
 impl Model for Flow {
-    ghost use Rattle.window_check.specs.Kept.{Kept};
+    ghost use Rattle.window_check.specs.FlowResidues.{FlowResidues};
 
-    ghost Value = { Kept };
+    ghost Value = { FlowResidues };
 
     ghost use Rattle.window_check.specs.FlowFields.{kept, unkept, IsFlow};
 

@@ -1,9 +1,9 @@
 //! The windows and interrupts of a logical channel, kept in a word that has room for its owner.
 
 ghost use Rattle.std.specs.Prelude.{◌≡◌, ◌⊎◌, ◌<◌, ◌≤◌, ◌+◌, ◌*◌, ◌^◌, OnErr};
-ghost use Rattle.line_model.specs.FlowControl.{Counts, count_interrupt, count_receive, count_confirm, count_data, no_counts};
-ghost use Rattle.line_model.specs.Channels.{of_side, other};
-ghost use Rattle.window_check.specs.Kept.{IsDirection, Stands, Answers, word_of};
+ghost use Rattle.line_model.specs.channels.FlowControl.{Counts, count_interrupt, count_receive, count_confirm, count_data, no_counts};
+ghost use Rattle.line_model.specs.channels.Channels.{of_side, other};
+ghost use Rattle.window_check.specs.FlowResidues.{IsDirection, Stands, Answers, word_of};
 ghost use Rattle.window_check.specs.Directions.{direction_of, with_direction};
 
 use crate::direction::{Direction, residue};

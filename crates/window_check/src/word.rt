@@ -1,7 +1,7 @@
 //! The windows and interrupts of a channel in one word of 64 bits.
 
 ghost use Rattle.std.specs.Prelude.{◌≡◌, ◌⊎◌, ◌==◌, ◌<◌, ◌≤◌, ◌+◌, ◌*◌, ◌/◌, ◌%◌, ◌^◌, IfSome, IfNone, Some};
-ghost use Rattle.window_check.specs.Kept.{Kept, IsKept, word_of};
+ghost use Rattle.window_check.specs.FlowResidues.{FlowResidues, AreFlowResidues, word_of};
 ghost use Rattle.window_check.specs.Packed.{kept_in, number_at, bit_at, sent_at, acknowledged_at, window_at, unconfirmed_at};
 ghost use Rattle.window_check.specs.Directions.{direction_of};
 
@@ -107,7 +107,7 @@ impl Flow {
     /// that of N; 43 and 44 an unconfirmed interrupt of T and of N. All higher bits are 0.
     pub fn pack(&self) -> u64
         ensures word { result ≡ word_of self.now }
-        ensures in_range { IsKept self.now }
+        ensures in_range { AreFlowResidues self.now }
     {
         u64::from(self.modulus == 128)
             + (u64::from(self.of_t.sent) << 1)
@@ -124,8 +124,8 @@ impl Flow {
     /// window is not below the modulus, a window is 0, more is unacknowledged than the window, or a higher bit is set.
     pub fn unpack(word: u64) -> Option<Flow>
         ensures packs { IfSome result (λ f. word_of f ≡ word) }
-        ensures none { IfNone result ((f : Kept) → IsKept f → ¬ (word_of f ≡ word)) }
-        ensures back { (f : Kept) → IsKept f → word_of f ≡ word → result ≡ Some f }
+        ensures none { IfNone result ((f : FlowResidues) → AreFlowResidues f → ¬ (word_of f ≡ word)) }
+        ensures back { (f : FlowResidues) → AreFlowResidues f → word_of f ≡ word → result ≡ Some f }
     {
         let modulus = modulus(word);
         let of_t = direction(word, Side::T);

@@ -1,8 +1,8 @@
 -- The plan's next piece, and those behind it.
 use Rattle.std.proofs.Common.{◌≡◌, ℕ, suc, ◌+◌, List, ◌∷◌, ap, ◌∙◌, subst, arith}
 use Rattle.std.specs.Prelude.{slice_get}
-use Rattle.line_model.specs.Records.{Piece}
-use Rattle.line_model.specs.Book.{KnownPlan, IsPlanned}
+use Rattle.line_model.specs.basics.Records.{Piece}
+use Rattle.line_model.specs.work.Book.{KnownPlan, IsPlanned}
 use Rattle.workers.specs.Workers.{ArePlanned}
 
 pub planned-next : (plan : KnownPlan) (n : ℕ) (all rest : List Piece) (p : Piece) → all ≡ p ∷ rest → ArePlanned plan n all → IsPlanned plan n p

@@ -1,4 +1,4 @@
--- What contracts see of the seats of all workers.
+-- What contracts see of the worker_starts of all workers.
 use Rattle.std.specs.Prelude.{ℕ}
 use Rattle.piece_queue.specs.Passes.{QueueId}
 

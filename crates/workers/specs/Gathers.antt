@@ -1,7 +1,7 @@
 -- What is known of the whole once all workers were joined.
 use Rattle.std.specs.Prelude.{◌≡◌, ℕ, length, vec_len, MatchResult}
 use Rattle.line_model.specs.declared.fault.Fault.TheVariants.{Memory}
-use Rattle.line_model.specs.Book.{KnownPlan, AreOf, totals_of, sum_of}
+use Rattle.line_model.specs.work.Book.{KnownPlan, AreOf, totals_of, sum_of}
 use Rattle.workers.specs.declared.gathering.Gathered.{Gathered}
 use Rattle.workers.specs.declared.whole.Worked.{Worked}
 

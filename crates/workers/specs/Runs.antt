@@ -5,7 +5,7 @@ use Rattle.piece_queue.specs.Passes.{QueueId}
 use Rattle.piece_queue.specs.Rule.{IsAccounted}
 use Rattle.piece_queue.specs.declared.rule.Record.{Record}
 use Rattle.workers.specs.declared.joining.Joined.{Joined}
-use Rattle.workers.specs.declared.run.Ran.{Ran}
+use Rattle.workers.specs.declared.run.RunOutcome.{RunOutcome}
 
 -- so many passes were joined to the feeder's. Without a fault the shares have as many posts as its record has takes
 pub record IsJoined {H A : Type 0} (posts : H → ℕ) (id : QueueId) (count : ℕ) (v : Record) (j : Joined H A) : Type 0 where
@@ -18,5 +18,5 @@ pub record IsJoined {H A : Type 0} (posts : H → ℕ) (id : QueueId) (count : �
   pub all : 0 < count → IsAccounted j.pass.record_of
 
 -- so many pieces were fed, by which the task became this. Without a fault there are so many shares, with a post for each piece; else memory ran out
-abbrev pub HasRan : {T H A : Type 0} → (H → ℕ) → (ℕ → T → Type 0) → ℕ → Ran T H A → Type 0
-HasRan posts gives count r = (fed : ℕ) × gives fed r.task × MatchOption r.fault ((vec_len r.shares ≡ count) × (sum_by posts r.shares.items ≡ fed)) (λ f. f ≡ Memory)
+abbrev pub IsRunOutcome : {T H A : Type 0} → (H → ℕ) → (ℕ → T → Type 0) → ℕ → RunOutcome T H A → Type 0
+IsRunOutcome posts gives count r = (fed : ℕ) × gives fed r.task × MatchOption r.fault ((vec_len r.shares ≡ count) × (sum_by posts r.shares.items ≡ fed)) (λ f. f ≡ Memory)

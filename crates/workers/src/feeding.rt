@@ -1,11 +1,11 @@
 //! What the reading thread feeds.
 
 ghost use Rattle.std.specs.Prelude.{◌≡◌, ◌+◌, ℕ, vec_len};
-ghost use Rattle.line_model.specs.Book.{IsPlanned};
+ghost use Rattle.line_model.specs.work.Book.{IsPlanned};
 ghost use Rattle.piece_queue.specs.Rule.{feeder};
 ghost use Rattle.workers.specs.Workers.{ArePlanned, HasFed};
 
-use crate::waiting::Nap;
+use crate::waiting::Backoff;
 use line_model::piece::{Piece, Plan};
 use piece_queue::{FeederPass, Work};
 use std::alloc::Allocator;
@@ -51,14 +51,14 @@ pub fn feed_piece<P: Plan, A: Allocator, R: Wait + Clock>(
     ensures fed { pass.new.record_of ≡ feeder (pass.old.record_of.fed + 1) pass.old.record_of.ends pass.old.record_of.pending pass.old.record_of.done pass.old.record_of.taken }
 {
     let mut piece = piece;
-    let mut nap = Nap::new();
+    let mut backoff = Backoff::new();
     for _ in rt.forever() {
         work.free_used(rt);
         match work.feed(rt, piece, pass) {
             Ok(()) => return,
             Err(back) => piece = back,
         }
-        nap.take(rt);
+        backoff.take(rt);
     }
     unreachable!()
 }
@@ -92,13 +92,13 @@ fn feed_end<P: Plan, A: Allocator, R: Wait + Clock>(
     ensures queue { pass.new.queue ≡ pass.old.queue }
     ensures fed { pass.new.record_of ≡ feeder pass.old.record_of.fed (pass.old.record_of.ends + 1) pass.old.record_of.pending pass.old.record_of.done pass.old.record_of.taken }
 {
-    let mut nap = Nap::new();
+    let mut backoff = Backoff::new();
     for _ in rt.forever() {
         work.free_used(rt);
         if work.feed_end(rt, pass).is_ok() {
             return;
         }
-        nap.take(rt);
+        backoff.take(rt);
     }
     unreachable!()
 }

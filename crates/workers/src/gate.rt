@@ -1,7 +1,7 @@
 //! How a worker runs a piece.
 
 ghost use Rattle.std.specs.Prelude.{◌≡◌, MatchResult};
-ghost use Rattle.line_model.specs.Plans.{value};
+ghost use Rattle.line_model.specs.pieces.Plans.{value};
 ghost use Rattle.line_model.specs.declared.fault.Fault.TheVariants.{Memory};
 
 use line_model::fault::Fault;

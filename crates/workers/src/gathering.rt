@@ -1,7 +1,7 @@
 //! What all workers made, gathered from the book and their shares.
 
 ghost use Rattle.std.specs.Prelude.{◌≡◌, IfOk, IfErr, vec_len};
-ghost use Rattle.line_model.specs.Book.{AreOf, totals_of, sum_of};
+ghost use Rattle.line_model.specs.work.Book.{AreOf, totals_of, sum_of};
 
 use findings_book::{Book, Ledgers, Share};
 use line_model::fault::Fault;

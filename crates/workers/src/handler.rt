@@ -1,10 +1,10 @@
 //! What a worker does with a piece.
 
 ghost use Rattle.std.specs.Prelude.{◌≡◌, ◌+◌, ℕ, OnOk, IfErr};
-ghost use Rattle.line_model.specs.Book.{IsPlanned};
+ghost use Rattle.line_model.specs.work.Book.{IsPlanned};
 
 use crate::gate::Gate;
-use findings_book::{Desk, Ledgers, Share};
+use findings_book::{Ledgers, LockedPosts, Share};
 use line_model::fault::Fault;
 use line_model::piece::{Piece, Plan};
 use std::alloc::{Allocator, Global};
@@ -35,10 +35,10 @@ pub trait Handler<P: Plan, A: Allocator, H: Posted> {
         ensures refused { IfErr result (λ fault. fault ≡ Fault.Memory) };
 }
 
-/// Runs pieces by a gate, and posts their reports at the desk of a book.
+/// Runs pieces by a gate, and posts their reports at the locked_posts of a book.
 #[derive(Drop)]
 pub struct Posting<'a, P: Plan, L: Ledgers, A: Allocator, G> {
-    pub desk: &'a Desk<P, L, A>,
+    pub locked_posts: &'a LockedPosts<P, L, A>,
     pub gate: &'a G,
 }
 
@@ -54,7 +54,7 @@ impl<'a, P: Plan, L: Ledgers, A: Allocator + Copy, G: Gate> Handler<P, A, Share<
         let mut report = self.gate.run(alloc, piece)?;
         for _ in rt.forever() {
             // A report that is answered as posted twice is posted again.
-            match self.desk.post(rt, report, share) {
+            match self.locked_posts.post(rt, report, share) {
                 Ok(()) => return Ok(()),
                 Err((_, Fault::Memory)) => return Err(Fault::Memory),
                 Err((back, _)) => report = back,

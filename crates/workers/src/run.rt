@@ -1,7 +1,7 @@
 //! Reading and working side by side.
 
 ghost use Rattle.std.specs.Prelude.{◌≡◌, ◌<◌, ◌⊎◌, IfOk, IfErr};
-ghost use Rattle.workers.specs.Runs.{HasRan};
+ghost use Rattle.workers.specs.Runs.{IsRunOutcome};
 
 use crate::feeding::{Feed, feed_ends};
 use crate::handler::{Handler, Posted};
@@ -18,7 +18,7 @@ use std::time::Clock;
 
 /// What became of the task, the shares of all workers, and the first of the workers' faults.
 #[derive(Drop)]
-pub struct Ran<T, H, A: Allocator = Global> {
+pub struct RunOutcome<T, H, A: Allocator = Global> {
     pub task: T,
     pub shares: Vec<H, A>,
     pub fault: Option<Fault>,
@@ -43,22 +43,25 @@ fn run<
     handler: &'s W,
     crew: Crew<H, A>,
     task: T,
-) -> Result<Ran<T, H, A>, (T, Fault)>
+) -> Result<RunOutcome<T, H, A>, (T, Fault)>
     requires queue { crew.queue ≡ work.now.queue }
     requires some { 0 < crew.count }
     requires able { T.can_feed task }
-    ensures ran { IfOk result (HasRan H.posts (T.feed_gives task) crew.count) }
+    ensures ran { IfOk result (IsRunOutcome H.posts (T.feed_gives task) crew.count) }
     ensures refused { IfErr result (λ e. T.unfed task e.0 × ((e.1 ≡ Fault.Memory) ⊎ (e.1 ≡ Fault.Start))) }
 {
-    let Crew { mut pass, seats } = crew;
-    let count = seats.len();
+    let Crew {
+        mut pass,
+        worker_starts,
+    } = crew;
+    let count = worker_starts.len();
     let Ok(mut running) = Vec::with_capacity(alloc, count) else {
         return Err((task.back(), Fault::Memory));
     };
     let Ok(shares) = Vec::with_capacity(alloc, count) else {
         return Err((task.back(), Fault::Memory));
     };
-    if !start_all(scope, rt, alloc, work, handler, seats, &mut running) {
+    if !start_all(scope, rt, alloc, work, handler, worker_starts, &mut running) {
         feed_ends(rt, work, running.len(), &mut pass);
         join_all(rt, work, pass, running, shares);
         return Err((task.back(), Fault::Start));
@@ -66,7 +69,7 @@ fn run<
     let task = task.feed(rt, work, &mut pass);
     feed_ends(rt, work, running.len(), &mut pass);
     let joined = join_all(rt, work, pass, running, shares);
-    Ok(Ran {
+    Ok(RunOutcome {
         task,
         shares: joined.shares,
         fault: joined.fault,
@@ -88,19 +91,19 @@ pub fn run_scoped<
     handler: &W,
     crew: Crew<H, A>,
     task: T,
-) -> Result<Ran<T, H, A>, (T, Fault)>
+) -> Result<RunOutcome<T, H, A>, (T, Fault)>
     requires queue { crew.queue ≡ work.now.queue }
     requires some { 0 < crew.count }
     requires able { T.can_feed task }
-    ensures ran { IfOk result (HasRan H.posts (T.feed_gives task) crew.count) }
+    ensures ran { IfOk result (IsRunOutcome H.posts (T.feed_gives task) crew.count) }
     ensures refused { IfErr result (λ e. T.unfed task e.0 × ((e.1 ≡ Fault.Memory) ⊎ (e.1 ≡ Fault.Start))) }
 {
     thread::scope(
         thread::scope_env(),
         rt,
-        move |scope| -> Result<Ran<T, H, A>, (T, Fault)>
+        move |scope| -> Result<RunOutcome<T, H, A>, (T, Fault)>
             requires { (crew.queue ≡ work.now.queue) × (0 < crew.count) × T.can_feed task }
-            ensures { IfOk result (HasRan H.posts (T.feed_gives task) crew.count) × IfErr result (λ e. T.unfed task e.0 × ((e.1 ≡ Fault.Memory) ⊎ (e.1 ≡ Fault.Start))) }
+            ensures { IfOk result (IsRunOutcome H.posts (T.feed_gives task) crew.count) × IfErr result (λ e. T.unfed task e.0 × ((e.1 ≡ Fault.Memory) ⊎ (e.1 ≡ Fault.Start))) }
         { run(scope, rt, alloc, work, handler, crew, task) },
     )
 }

@@ -2,10 +2,10 @@
 
 ghost use Rattle.std.specs.Prelude.{◌≡◌, ◌≤◌, [], false, All, IsTrue, IfOk, IfErr, IfSome, vec_len, vec_capacity};
 ghost use Rattle.piece_queue.specs.Rule.{feeder, worker};
-ghost use Rattle.workers.specs.Workers.{IsDone, IsSeat};
+ghost use Rattle.workers.specs.Workers.{IsWorkerOutcome, IsWorkerStart};
 
 use crate::handler::{Handler, Posted};
-use crate::worker::{Done, Finishes, work_on};
+use crate::worker::{Finishes, WorkerOutcome, work_on};
 use findings_book::{Book, Ledgers, Share};
 use line_model::fault::Fault;
 use line_model::piece::Plan;
@@ -18,35 +18,35 @@ use std::time::Clock;
 
 /// What a worker starts with.
 #[derive(Drop)]
-pub struct Seat<H, A: Allocator = Global> {
+pub struct WorkerStart<H, A: Allocator = Global> {
     pub pass: WorkerPass<A>,
     pub share: H,
 }
 
 /// A worker that runs.
-pub type Running<'w, P, H, A> = PromisedHandle<Done<H, A>, Finishes<'w, P, A>>;
+pub type Running<'w, P, H, A> = PromisedHandle<WorkerOutcome<H, A>, Finishes<'w, P, A>>;
 
-/// The pass of the feeder, and a seat for each worker. Contracts see of which queue it is, and how many seats it has.
+/// The pass of the feeder, and a worker_start for each worker. Contracts see of which queue it is, and how many worker_starts it has.
 #[derive(Drop)]
 pub struct Crew<H: Posted, A: Allocator = Global> {
     pub(crate) pass: FeederPass<A>,
-    pub(crate) seats: Vec<Seat<H, A>, A>,
+    pub(crate) worker_starts: Vec<WorkerStart<H, A>, A>,
 }
 
 impl<H: Posted, A: Allocator> Model for Crew<H, A> {
     ghost use Rattle.std.specs.Prelude.{◌≡◌, [], All, vec_len};
     ghost use Rattle.piece_queue.specs.Rule.{feeder};
-    ghost use Rattle.workers.specs.Workers.{IsSeat};
+    ghost use Rattle.workers.specs.Workers.{IsWorkerStart};
     ghost use Rattle.workers.specs.Crews as crews;
 
     ghost Value = { crews.Crew };
 
-    ghost view = { λ c. record { queue = c.pass.queue; count = vec_len c.seats } };
+    ghost view = { λ c. record { queue = c.pass.queue; count = vec_len c.worker_starts } };
 
-    ghost invariant = { λ c. (c.pass.record_of ≡ feeder 0 0 (vec_len c.seats) 0 []) × All (IsSeat H.posts c.pass.queue) c.seats.items };
+    ghost invariant = { λ c. (c.pass.record_of ≡ feeder 0 0 (vec_len c.worker_starts) 0 []) × All (IsWorkerStart H.posts c.pass.queue) c.worker_starts.items };
 }
 
-/// A seat for each of so many workers, or want of memory.
+/// A worker_start for each of so many workers, or want of memory.
 pub fn crew_for<P: Plan, L: Ledgers, A: Allocator + Copy>(
     alloc: A,
     work: &Work<P, A>,
@@ -64,15 +64,18 @@ pub fn crew_for<P: Plan, L: Ledgers, A: Allocator + Copy>(
     ensures refused { IfErr result (λ fault. fault ≡ Fault.Memory) }
 {
     let mut pass = pass;
-    let mut seats = Vec::new(alloc);
+    let mut worker_starts = Vec::new(alloc);
     for _worker in 0..workers {
-        seats.reserve(1)?;
-        seats.push_reserved(Seat {
+        worker_starts.reserve(1)?;
+        worker_starts.push_reserved(WorkerStart {
             pass: work.split(&mut pass),
             share: book.share(),
         });
     }
-    Ok(Crew { pass, seats })
+    Ok(Crew {
+        pass,
+        worker_starts,
+    })
 }
 
 /// Starts a worker, where a thread can be made.
@@ -90,17 +93,17 @@ fn start<
     alloc: A,
     work: &'s Work<P, A>,
     handler: &'s W,
-    seat: Seat<H, A>,
+    worker_start: WorkerStart<H, A>,
 ) -> Option<Running<'s, P, H, A>>
-    requires seat { IsSeat H.posts work.now.queue seat }
+    requires worker_start { IsWorkerStart H.posts work.now.queue worker_start }
     ensures promise { IfSome result (λ h. h.promise.work.now.queue ≡ work.now.queue) }
 {
-    let Seat { pass, share } = seat;
+    let WorkerStart { pass, share } = worker_start;
     let started = scope.spawn_with(
         Finishes { work },
-        move || -> Done<H, A>
+        move || -> WorkerOutcome<H, A>
             requires { (pass.queue ≡ work.now.queue) × (pass.record_of ≡ worker [] false 0) × (H.posts share ≡ 0) }
-            ensures { IsDone H.posts work.entry.now.queue result }
+            ensures { IsWorkerOutcome H.posts work.entry.now.queue result }
         { work_on(rt, alloc, work, handler, pass, share) },
     );
     started.ok()
@@ -121,18 +124,18 @@ pub fn start_all<
     alloc: A,
     work: &'s Work<P, A>,
     handler: &'s W,
-    seats: Vec<Seat<H, A>, A>,
+    worker_starts: Vec<WorkerStart<H, A>, A>,
     running: &mut Vec<Running<'s, P, H, A>, A>,
 ) -> bool
-    requires seats { All (IsSeat H.posts work.now.queue) seats.items }
+    requires worker_starts { All (IsWorkerStart H.posts work.now.queue) worker_starts.items }
     requires none { vec_len running.old ≡ 0 }
-    requires room { vec_len seats ≤ vec_capacity running.old }
-    ensures all { IsTrue result → vec_len running.new ≡ vec_len seats }
-    ensures most { vec_len running.new ≤ vec_len seats }
+    requires room { vec_len worker_starts ≤ vec_capacity running.old }
+    ensures all { IsTrue result → vec_len running.new ≡ vec_len worker_starts }
+    ensures most { vec_len running.new ≤ vec_len worker_starts }
     ensures promised { All (λ h. h.promise.work.now.queue ≡ work.now.queue) running.new.items }
 {
-    for seat in seats {
-        match start(scope, rt, alloc, work, handler, seat) {
+    for worker_start in worker_starts {
+        match start(scope, rt, alloc, work, handler, worker_start) {
             Some(one) => running.push_reserved(one),
             None => return false,
         }

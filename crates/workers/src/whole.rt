@@ -8,7 +8,7 @@ use crate::feeding::Feed;
 use crate::gate::Gate;
 use crate::gathering::{Gathered, gather};
 use crate::handler::Posting;
-use crate::run::{Ran, run_scoped};
+use crate::run::{RunOutcome, run_scoped};
 use crate::starting::crew_for;
 use findings_book::{Blanks, Book, Ledgers, Share};
 use line_model::fault::Fault;
@@ -31,14 +31,14 @@ pub struct Worked<T, A: Allocator = Global> {
 fn gather_ran<P: Plan, L: Ledgers, A: Allocator + Copy, T: Drop>(
     alloc: A,
     book: Book<P, L, A>,
-    ran: Ran<T, Share<L>, A>,
+    ran: RunOutcome<T, Share<L>, A>,
 ) -> Worked<T, A>
     requires all { MatchOption ran.fault (vec_len ran.shares ≡ book) (λ fault. fault ≡ Fault.Memory) }
     ensures task { result.task ≡ ran.task }
     ensures whole { IfOk result.gathered (λ g. (ran.fault ≡ None) × IsWhole P.pieces (vec_len ran.shares) (sum_by (λ s. s.posts) ran.shares.items) g) }
     ensures refused { IfErr result.gathered (λ fault. fault ≡ Fault.Memory) }
 {
-    let Ran {
+    let RunOutcome {
         task,
         shares,
         fault,
@@ -79,7 +79,7 @@ fn work_with<
         return Err((task.back(), Fault::Memory));
     };
     let posting = Posting {
-        desk: book.desk(),
+        locked_posts: book.locked_posts(),
         gate,
     };
     let ran = run_scoped(rt, alloc, work, &posting, crew, task)?;

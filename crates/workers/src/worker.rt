@@ -1,12 +1,12 @@
 //! What one worker does.
 
 ghost use Rattle.std.specs.Prelude.{◌≡◌, ◌+◌, [], false, None, IfSome, IfNone};
-ghost use Rattle.line_model.specs.Book.{IsPlanned};
+ghost use Rattle.line_model.specs.work.Book.{IsPlanned};
 ghost use Rattle.piece_queue.specs.Rule.{worker};
-ghost use Rattle.workers.specs.Workers.{IsDone};
+ghost use Rattle.workers.specs.Workers.{IsWorkerOutcome};
 
 use crate::handler::{Handler, Posted};
-use crate::waiting::Nap;
+use crate::waiting::Backoff;
 use line_model::fault::Fault;
 use line_model::piece::{Piece, Plan};
 use piece_queue::{Taken, Work, WorkerPass};
@@ -17,7 +17,7 @@ use std::time::Clock;
 
 /// What a worker hands back: its pass, which has its end, its share, and its fault where memory ran out.
 #[derive(Drop)]
-pub struct Done<H, A: Allocator = Global> {
+pub struct WorkerOutcome<H, A: Allocator = Global> {
     pub pass: WorkerPass<A>,
     pub share: H,
     pub fault: Option<Fault>,
@@ -29,8 +29,8 @@ pub struct Finishes<'a, P: Plan, A: Allocator> {
     pub work: &'a Work<P, A>,
 }
 
-impl<'a, P: Plan, H: Posted, A: Allocator> Promise<Done<H, A>> for Finishes<'a, P, A> {
-    ghost kept_by = { λ p r. IsDone H.posts p.work.now.queue r };
+impl<'a, P: Plan, H: Posted, A: Allocator> Promise<WorkerOutcome<H, A>> for Finishes<'a, P, A> {
+    ghost kept_by = { λ p r. IsWorkerOutcome H.posts p.work.now.queue r };
 }
 
 /// Handles a piece, unless memory ran out before.
@@ -68,22 +68,22 @@ pub fn work_on<
     handler: &W,
     mut pass: WorkerPass<A>,
     mut share: H,
-) -> Done<H, A>
+) -> WorkerOutcome<H, A>
     requires pass { (pass.queue ≡ work.now.queue) × (pass.record_of ≡ worker [] false 0) }
     requires share { H.posts share ≡ 0 }
-    ensures done { IsDone H.posts work.now.queue result }
+    ensures done { IsWorkerOutcome H.posts work.now.queue result }
 {
     let mut fault = None;
-    let mut nap = Nap::new();
+    let mut backoff = Backoff::new();
     for _ in rt.forever() {
         match work.take(rt, &mut pass) {
             Taken::Got(piece) => {
-                nap = Nap::new();
+                backoff = Backoff::new();
                 fault = handle_unless(rt, alloc, handler, &piece, &mut share, fault);
                 work.give_back(rt, piece);
             }
-            Taken::Finish => return Done { pass, share, fault },
-            Taken::Empty => nap.take(rt),
+            Taken::Finish => return WorkerOutcome { pass, share, fault },
+            Taken::Empty => backoff.take(rt),
         }
     }
     unreachable!()

@@ -2,7 +2,7 @@
 use Rattle.std.proofs.Common.{◌≡◌, ◌≤◌, ℕ, Bool, false, cond, arith, sym, ◌∙◌, ap, List, [], ◌∷◌, length, drop, take}
 use Rattle.std.specs.Prelude.{◌-◌, not, slice_index}
 use Rattle.std.proofs.lemmas.List.Sums.{take_while-cons}
-use Rattle.line_model.specs.Pad as pad
+use Rattle.line_model.specs.channels.Pad as pad
 use Rattle.std.proofs.lemmas.List.{length-drop, take_all}
 use Rattle.x29_messages.specs.Pairs.{pairs_before}
 

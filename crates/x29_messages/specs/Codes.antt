@@ -1,6 +1,6 @@
 -- The codes of PAD messages (X.29 Table 3).
 use Rattle.std.specs.Prelude.{ℕ, List, [], ◌∷◌, Option}
-use Rattle.line_model.specs.Choice.{value_at}
+use Rattle.line_model.specs.basics.Choice.{value_at}
 use Rattle.x29_messages.specs.declared.message.MessageCode.{MessageCode}
 use Rattle.x29_messages.specs.declared.message.MessageCode.TheVariants.{Indication, InvitationToClear, Set, Break, Read, Error, SetAndRead, Reselection, ReselectionWithAddress}
 

@@ -1,6 +1,6 @@
 -- The pairs of a message before the separator (X.29 clause 4.4).
 use Rattle.std.specs.Prelude.{ℕ, Bool, not, List, take_while}
-use Rattle.line_model.specs.Pad as pad
+use Rattle.line_model.specs.channels.Pad as pad
 use Rattle.x29_messages.specs.declared.pairs.Pair.{Pair}
 
 -- a pair, as the definitions tell it

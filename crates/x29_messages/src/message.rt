@@ -1,7 +1,7 @@
 //! The messages that a PAD and its partner exchange (X.29 clause 4).
 
 ghost use Rattle.std.specs.Prelude.{◌≡◌, ◌≤◌, ◌∷◌, None, Some, length, IfOk, MatchResult};
-ghost use Rattle.line_model.specs.Pad.{form_fault, is_badly_formed};
+ghost use Rattle.line_model.specs.channels.Pad.{form_fault, is_badly_formed};
 ghost use Rattle.x29_messages.specs.Codes.{code_number, octets_of, code_of};
 
 use crate::pairs::Pairs;
@@ -42,7 +42,7 @@ pub struct Message<'a> {
 
 impl MessageCode {
     ghost use Rattle.std.specs.Prelude.{ℕ, List};
-    ghost use Rattle.line_model.specs.Pad.{is_indication};
+    ghost use Rattle.line_model.specs.channels.Pad.{is_indication};
 
     /// Whether it is that of a parameter indication.
     fn is_indication(self) -> bool
@@ -53,7 +53,7 @@ impl MessageCode {
 }
 
 impl<'a> Message<'a> {
-    ghost use Rattle.line_model.specs.Pad.{standard_pairs};
+    ghost use Rattle.line_model.specs.channels.Pad.{standard_pairs};
 
     /// The standard pairs of the message, those before the separator.
     pub fn standard_pairs(&self) -> Pairs<'a>

@@ -1,7 +1,7 @@
 //! The pairs of a message: parameter references and their values (X.29 clause 4.4).
 
 ghost use Rattle.std.specs.Prelude.{◌≡◌};
-ghost use Rattle.line_model.specs.Pad.{is_separator};
+ghost use Rattle.line_model.specs.channels.Pad.{is_separator};
 ghost use Rattle.x29_messages.specs.Pairs.{pairs_before, shown};
 
 use std::marker::Model;
@@ -25,7 +25,7 @@ pub struct Pairs<'a> {
 
 impl<'a> Model for Pairs<'a> {
     ghost use Rattle.std.specs.Prelude.{List};
-    ghost use Rattle.line_model.specs.Pad as pad;
+    ghost use Rattle.line_model.specs.channels.Pad as pad;
     ghost use Rattle.x29_messages.specs.Pairs.{pairs_before};
 
     ghost Value = { List pad.Pair };

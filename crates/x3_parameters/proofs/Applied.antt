@@ -11,10 +11,10 @@ use Rattle.line_model.specs.declared.event.What.{What}
 use Rattle.line_model.specs.declared.event.What.TheVariants.{Setting, Initial}
 use Rattle.line_model.specs.declared.event.Entry.{Entry}
 use Rattle.line_model.specs.declared.event.Entry.TheVariants.{Unknown, Asked, Said, Refused}
-use Rattle.line_model.specs.Channels.{Told, other}
-use Rattle.line_model.specs.FlowControl.{is_side}
-use Rattle.line_model.specs.Octets.{bits}
-use Rattle.line_model.specs.Pad.{Pair, form_fault, was_asked, is_request, is_indication, is_set, message_fault, settings_after, settings_of, set_told, indicated, indicated_by, asked, is_refusable, is_parameter, standard_pairs}
+use Rattle.line_model.specs.channels.Channels.{Told, other}
+use Rattle.line_model.specs.channels.FlowControl.{is_side}
+use Rattle.line_model.specs.basics.Octets.{bits}
+use Rattle.line_model.specs.channels.Pad.{Pair, form_fault, was_asked, is_request, is_indication, is_set, message_fault, settings_after, settings_of, set_told, indicated, indicated_by, asked, is_refusable, is_parameter, standard_pairs}
 use Rattle.x29_messages.specs.Pairs.{pairs_before}
 use Rattle.x3_parameters.specs.Effects.{said, entry_at, events_of, events_back, all_indicated, own_fault}
 use Rattle.x3_parameters.specs.Told.{set_fault, set_events, set_events_by}

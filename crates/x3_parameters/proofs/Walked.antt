@@ -3,8 +3,8 @@ use Rattle.std.proofs.Common.{◌≡◌, ℕ, Bool, true, false, cond, refl, sym
 use Rattle.std.specs.Prelude.{◌==◌, map, filter, flat_map}
 use Rattle.line_model.specs.declared.state.Side.{Side}
 use Rattle.line_model.specs.declared.event.What.{What}
-use Rattle.line_model.specs.Octets.{bits}
-use Rattle.line_model.specs.Pad.{Pair, is_parameter, indicated, asked}
+use Rattle.line_model.specs.basics.Octets.{bits}
+use Rattle.line_model.specs.channels.Pad.{Pair, is_parameter, indicated, asked}
 use Rattle.x29_messages.specs.Pairs.{pairs_before}
 use Rattle.x3_parameters.specs.declared.settings.Settings.{Settings}
 use Rattle.x3_parameters.specs.Stands.{Tells}

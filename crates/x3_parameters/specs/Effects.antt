@@ -6,10 +6,10 @@ use Rattle.line_model.specs.declared.event.Entry.{Entry}
 use Rattle.line_model.specs.declared.event.Entry.TheVariants.{Unknown}
 use Rattle.line_model.specs.declared.event.What.{What}
 use Rattle.line_model.specs.declared.event.What.TheVariants.{Setting, Initial}
-use Rattle.line_model.specs.Octets.{bits}
-use Rattle.line_model.specs.Channels.{Told, other}
-use Rattle.line_model.specs.FlowControl.{is_side}
-use Rattle.line_model.specs.Pad.{message_fault, settings_after, is_indication, is_set, is_parameter, indicated, asked, Pair}
+use Rattle.line_model.specs.basics.Octets.{bits}
+use Rattle.line_model.specs.channels.Channels.{Told, other}
+use Rattle.line_model.specs.channels.FlowControl.{is_side}
+use Rattle.line_model.specs.channels.Pad.{message_fault, settings_after, is_indication, is_set, is_parameter, indicated, asked, Pair}
 use Rattle.x29_messages.specs.Pairs.{pairs_before}
 
 -- what a content of an event says of a parameter, if anything (X.3)

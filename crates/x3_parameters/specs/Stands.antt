@@ -2,8 +2,8 @@
 use Rattle.std.specs.Prelude.{ℕ, ◌≡◌, ◌<◌, ◌+◌, List, slice_index_or}
 use Rattle.line_model.specs.declared.event.What.{What}
 use Rattle.line_model.specs.declared.event.Entry.TheVariants.{Unknown}
-use Rattle.line_model.specs.Channels.{Told}
-use Rattle.line_model.specs.Pad.{was_asked}
+use Rattle.line_model.specs.channels.Channels.{Told}
+use Rattle.line_model.specs.channels.Pad.{was_asked}
 use Rattle.x3_parameters.specs.declared.settings.Settings.{Settings}
 use Rattle.x3_parameters.specs.Effects.{entry_at, events_of}
 

@@ -6,8 +6,8 @@ use Rattle.line_model.specs.declared.finding.Xcode.{Xcode}
 use Rattle.line_model.specs.declared.finding.Xcode.TheVariants.{X3}
 use Rattle.line_model.specs.declared.event.What.{What}
 use Rattle.line_model.specs.declared.event.What.TheVariants.{Initial}
-use Rattle.line_model.specs.Channels.{Told}
-use Rattle.line_model.specs.Pad.{is_refusable}
+use Rattle.line_model.specs.channels.Channels.{Told}
+use Rattle.line_model.specs.channels.Pad.{is_refusable}
 use Rattle.x29_messages.specs.declared.message.Message.{Message}
 use Rattle.x29_messages.specs.Codes.{octets_of}
 use Rattle.x29_messages.specs.Pairs.{pairs_before}

@@ -2,9 +2,9 @@
 
 ghost use Rattle.std.specs.Prelude.{◌≡◌, ◌≤◌, ◌<◌, ◌-◌, ◌+◌, ◌∷◌, ◌++◌, List, [], ℕ, Some, false, flat_map};
 ghost use Rattle.std.specs.List.{list_any};
-ghost use Rattle.line_model.specs.Channels.{Told};
+ghost use Rattle.line_model.specs.channels.Channels.{Told};
 ghost use Rattle.line_model.specs.declared.event.What.{What};
-ghost use Rattle.line_model.specs.Pad.{is_refusable, is_parameter};
+ghost use Rattle.line_model.specs.channels.Pad.{is_refusable, is_parameter};
 ghost use Rattle.x29_messages.specs.Pairs.{shown};
 ghost use Rattle.x3_parameters.specs.Effects.{own_fault, entry_at, events_of, indicated_one, asked_one};
 
@@ -28,7 +28,7 @@ pub struct Settings {
 impl Settings {
     ghost use Rattle.x3_parameters.specs.Stands.{StandsFor, Tells};
     ghost use Rattle.x3_parameters.specs.Told.{told, set_fault, set_events};
-    ghost use Rattle.line_model.specs.FlowControl.{is_side};
+    ghost use Rattle.line_model.specs.channels.FlowControl.{is_side};
 
     /// Nothing is known of the PAD of a side.
     pub fn new(pad: Side) -> Settings

@@ -2,7 +2,7 @@
 
 ghost use Rattle.std.specs.Prelude.{◌≡◌};
 ghost use Rattle.std.specs.List.{list_any};
-ghost use Rattle.line_model.specs.Pad.{is_refusable, is_parameter};
+ghost use Rattle.line_model.specs.channels.Pad.{is_refusable, is_parameter};
 ghost use Rattle.x29_messages.specs.Pairs.{shown};
 
 use x29_messages::pairs::{Pair, Pairs};

@@ -1,8 +1,8 @@
 //! Steps of a channel whose growths are refused.
 
 ghost use Rattle.std.specs.Prelude.{◌≡◌, All, OnOk};
-ghost use Rattle.line_model.specs.Bounds.{IsItem};
-ghost use Rattle.line_model.specs.Channels as channels;
+ghost use Rattle.line_model.specs.basics.Bounds.{IsItem};
+ghost use Rattle.line_model.specs.channels.Channels as channels;
 
 use crate::channel::{PackedChannel, PlainChannel};
 use crate::run::Channel;

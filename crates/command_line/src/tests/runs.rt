@@ -11,8 +11,8 @@ use std::sync::Wait;
 use std::sync::ledger::{Blank, Ledger};
 use std::thread::Threads;
 use std::time::Clock;
-use streams::heard::Heard;
 use streams::input::{Input, OpenFault};
+use streams::last_bytes::LastBytes;
 use streams::progress::Telling;
 use test_devices::{CutSink, CutSource, Cuts};
 
@@ -36,7 +36,7 @@ pub struct NamedText<'a> {
 struct CutInput<'a, C: Ledger, F: Ledger> {
     source: CutSource<'a, C, F>,
     file: NamedText<'a>,
-    heard: Heard,
+    heard: LastBytes,
 }
 
 impl<C: Ledger, F: Ledger> Source for CutInput<'_, C, F> {
@@ -68,7 +68,7 @@ impl<C: Ledger, F: Ledger> Input for CutInput<'_, C, F> {
         Ok(())
     }
 
-    fn heard(&self) -> &Heard {
+    fn heard(&self) -> &LastBytes {
         &self.heard
     }
 
@@ -109,7 +109,7 @@ fn run_on<C: Ledger, F: Ledger, K: Ledger, E: Ledger, R: Threads + Wait + Clock 
             failures: Count::<F>::open(read_failures),
         },
         file,
-        heard: Heard::new(alloc),
+        heard: LastBytes::new(alloc),
     };
     let mut sink = CutSink {
         taken: Vec::new(alloc),

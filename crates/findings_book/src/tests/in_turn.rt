@@ -1,7 +1,7 @@
 //! The reports of three epochs in two shares, and a report that comes twice.
 
 use crate::tests::{Scenario, THREE_EPOCHS, comes_back, play, post_all, post_one, report};
-use crate::{Desk, Ledgers, Share};
+use crate::{Ledgers, LockedPosts, Share};
 use line_model::piece::PieceReport;
 use line_model::totals::Totals;
 use std::alloc::Global;
@@ -13,26 +13,26 @@ use std::test::Fail;
 /// The first share has posted the reports of six pieces, and all twelve are seen by the second.
 fn has_six_of_twelve<R: Wait + Abort, L: Ledgers>(
     rt: &R,
-    desk: &Desk<Brand, L>,
+    locked_posts: &LockedPosts<Brand, L>,
     first: &Share<L>,
     second: &mut Share<L>,
 ) {
     assert_eq!(rt; first.totals().posts, 6);
     assert_eq!(rt; first.totals().findings, 6);
-    assert_eq!(rt; desk.look(rt, second), THREE_EPOCHS);
+    assert_eq!(rt; locked_posts.look(rt, second), THREE_EPOCHS);
 }
 
 /// Posts the reports of twelve pieces, six by either share.
 pub(super) fn three_epochs<R: Wait + Abort, L: Ledgers>(
     rt: &R,
     alloc: Global,
-    desk: &Desk<Brand, L>,
+    locked_posts: &LockedPosts<Brand, L>,
     first: &mut Share<L>,
     second: &mut Share<L>,
 ) -> Result<(), Fail> {
-    post_all(rt, alloc, desk, first, &[0, 1, 2, 3, 4, 5])?;
-    post_all(rt, alloc, desk, second, &[6, 7, 8, 9, 10, 11])?;
-    has_six_of_twelve(rt, desk, first, second);
+    post_all(rt, alloc, locked_posts, first, &[0, 1, 2, 3, 4, 5])?;
+    post_all(rt, alloc, locked_posts, second, &[6, 7, 8, 9, 10, 11])?;
+    has_six_of_twelve(rt, locked_posts, first, second);
     Ok(())
 }
 
@@ -56,21 +56,25 @@ const ONCE: Totals = Totals {
 };
 
 /// The share and the book have the numbers of the report that was taken.
-fn has_once<R: Wait + Abort, L: Ledgers>(rt: &R, desk: &Desk<Brand, L>, share: &mut Share<L>) {
+fn has_once<R: Wait + Abort, L: Ledgers>(
+    rt: &R,
+    locked_posts: &LockedPosts<Brand, L>,
+    share: &mut Share<L>,
+) {
     assert_eq!(rt; share.totals(), ONCE);
-    assert_eq!(rt; desk.look(rt, share), ONCE);
+    assert_eq!(rt; locked_posts.look(rt, share), ONCE);
 }
 
 /// Posts a report that is taken, and one of its id that comes back.
 pub(super) fn posted_twice<R: Wait + Abort, L: Ledgers>(
     rt: &R,
     alloc: Global,
-    desk: &Desk<Brand, L>,
+    locked_posts: &LockedPosts<Brand, L>,
     share: &mut Share<L>,
 ) -> Result<(), Fail> {
-    post_one(rt, desk, share, report(alloc, 3, 130, 2)?)?;
-    comes_back(rt, desk, report(alloc, 3, 7, 1)?, share);
-    has_once(rt, desk, share);
+    post_one(rt, locked_posts, share, report(alloc, 3, 130, 2)?)?;
+    comes_back(rt, locked_posts, report(alloc, 3, 7, 1)?, share);
+    has_once(rt, locked_posts, share);
     Ok(())
 }
 

@@ -3,7 +3,7 @@
 ghost use Rattle.std.specs.Prelude.{◌≡◌};
 
 use crate::tests::{finding, report};
-use crate::{Blanks, Book, Desk, Ledgers, Share};
+use crate::{Blanks, Book, Ledgers, LockedPosts, Share};
 use line_model::fault::Fault;
 use line_model::piece::PieceReport;
 use line_model::totals::Totals;
@@ -31,7 +31,7 @@ const GROWTHS: u64 = 1000;
 /// The report that was posted came back, the share has what it had, and a look sees all that it had.
 fn check_back<R: Wait + Abort, L: Ledgers>(
     rt: &R,
-    desk: &Desk<Brand, L, &Scarce<Global>>,
+    locked_posts: &LockedPosts<Brand, L, &Scarce<Global>>,
     share: &mut Share<L>,
     before: Totals,
     back: &PieceReport<&Scarce<Global>>,
@@ -40,21 +40,21 @@ fn check_back<R: Wait + Abort, L: Ledgers>(
     assert_eq!(rt; (back.id, back.octets, back.segments), (id, 130, 2));
     assert_eq!(rt; back.findings.as_slice(), [finding(1)].as_slice());
     assert_eq!(rt; share.totals(), before);
-    assert_eq!(rt; desk.look(rt, share), before);
+    assert_eq!(rt; locked_posts.look(rt, share), before);
 }
 
 /// Posts a report, with one growth refused after so many. Answers what came back.
 fn post_refused<'a, R: Wait + Abort, L: Ledgers>(
     rt: &R,
     heap: &'a Scarce<Global>,
-    desk: &Desk<Brand, L, &'a Scarce<Global>>,
+    locked_posts: &LockedPosts<Brand, L, &'a Scarce<Global>>,
     share: &mut Share<L>,
     report: PieceReport<&'a Scarce<Global>>,
     good: u64,
 ) -> Option<PieceReport<&'a Scarce<Global>>> {
     let (id, before) = (report.id, share.totals());
     heap.refuse_one(good);
-    let answer = desk.post(rt, report, share);
+    let answer = locked_posts.post(rt, report, share);
     let refused = good < heap.asked();
     heap.grant_all();
     assert_eq!(rt; answer.is_err(), refused);
@@ -62,7 +62,7 @@ fn post_refused<'a, R: Wait + Abort, L: Ledgers>(
         Ok(()) => None,
         Err((back, fault)) => {
             assert_eq!(rt; fault, Fault::Memory);
-            check_back(rt, desk, share, before, &back, id);
+            check_back(rt, locked_posts, share, before, &back, id);
             Some(back)
         }
     }
@@ -72,13 +72,13 @@ fn post_refused<'a, R: Wait + Abort, L: Ledgers>(
 fn post_until_taken<'a, R: Wait + Abort, L: Ledgers>(
     rt: &R,
     heap: &'a Scarce<Global>,
-    desk: &Desk<Brand, L, &'a Scarce<Global>>,
+    locked_posts: &LockedPosts<Brand, L, &'a Scarce<Global>>,
     share: &mut Share<L>,
     report: PieceReport<&'a Scarce<Global>>,
 ) -> u64 {
     let mut report = report;
     for good in 0..GROWTHS {
-        match post_refused(rt, heap, desk, share, report, good) {
+        match post_refused(rt, heap, locked_posts, share, report, good) {
             None => return good,
             Some(back) => report = back,
         }
@@ -90,13 +90,13 @@ fn post_until_taken<'a, R: Wait + Abort, L: Ledgers>(
 fn post_each<'a, R: Wait + Abort, L: Ledgers>(
     rt: &R,
     heap: &'a Scarce<Global>,
-    desk: &Desk<Brand, L, &'a Scarce<Global>>,
+    locked_posts: &LockedPosts<Brand, L, &'a Scarce<Global>>,
     share: &mut Share<L>,
 ) -> Result<u64, Fault> {
     let mut refused = 0u64;
     for id in 0..REPORTS {
         let report = report(heap, id, 130, 2)?;
-        let came_back = post_until_taken(rt, heap, desk, share, report);
+        let came_back = post_until_taken(rt, heap, locked_posts, share, report);
         assert!(rt; came_back < GROWTHS, "report {id}");
         refused = refused.saturating_add(came_back);
     }
@@ -128,7 +128,7 @@ fn play_refused<'a, R: Wait + Abort, L: Ledgers>(
 {
     let mut book = Book::<Brand, L, &'a Scarce<Global>>::new(heap, blanks);
     let mut share = book.share();
-    let refused = post_each(rt, heap, book.desk(), &mut share)?;
+    let refused = post_each(rt, heap, book.locked_posts(), &mut share)?;
     let posted = share.totals();
     let (totals, reports) = book.gather(vec![in heap; share]?);
     has_each_once(rt, totals, &reports, posted);

@@ -3,7 +3,7 @@
 use crate::tests::{
     Scenario, THREE_EPOCHS, comes_back, finding, play, post_all, report, report_of,
 };
-use crate::{Desk, Ledgers, Share};
+use crate::{Ledgers, LockedPosts, Share};
 use line_model::fault::Fault;
 use line_model::piece::PieceReport;
 use line_model::totals::Totals;
@@ -19,14 +19,14 @@ use std::thread::Threads;
 fn post_side_by_side<R: Threads + Wait + Abort + Sync, L: Ledgers + Sync>(
     rt: &R,
     alloc: Global,
-    desk: &Desk<Brand, L>,
+    locked_posts: &LockedPosts<Brand, L>,
     even: &mut Share<L>,
     odd: &mut Share<L>,
 ) -> Result<(), Fault> {
     let (one, other) = thread::join(
         rt,
-        move || post_all(rt, alloc, desk, even, &[0, 2, 4, 6, 8, 10]),
-        move || post_all(rt, alloc, desk, odd, &[1, 3, 5, 7, 9, 11]),
+        move || post_all(rt, alloc, locked_posts, even, &[0, 2, 4, 6, 8, 10]),
+        move || post_all(rt, alloc, locked_posts, odd, &[1, 3, 5, 7, 9, 11]),
     );
     one?;
     other
@@ -42,11 +42,11 @@ fn have_six_each<R: Abort, L: Ledgers>(rt: &R, first: &Share<L>, second: &Share<
 pub(super) fn twelve_pieces<R: Threads + Wait + Abort + Sync, L: Ledgers + Sync>(
     rt: &R,
     alloc: Global,
-    desk: &Desk<Brand, L>,
+    locked_posts: &LockedPosts<Brand, L>,
     first: &mut Share<L>,
     second: &mut Share<L>,
 ) -> Result<(), Fail> {
-    post_side_by_side(rt, alloc, desk, first, second)?;
+    post_side_by_side(rt, alloc, locked_posts, first, second)?;
     have_six_each(rt, first, second);
     Ok(())
 }
@@ -103,15 +103,15 @@ fn two_findings(alloc: Global) -> Result<PieceReport, Fault> {
 /// Posts a report, and looks.
 fn post_then_look<R: Wait + Abort, L: Ledgers>(
     rt: &R,
-    desk: &Desk<Brand, L>,
+    locked_posts: &LockedPosts<Brand, L>,
     report: PieceReport,
     share: &mut Share<L>,
     posted: Totals,
 ) -> Result<(), Fault> {
-    if let Err((_, fault)) = desk.post(rt, report, share) {
+    if let Err((_, fault)) = locked_posts.post(rt, report, share) {
         return Err(fault);
     }
-    assert!(rt; shows(desk.look(rt, share), posted));
+    assert!(rt; shows(locked_posts.look(rt, share), posted));
     assert_eq!(rt; share.totals(), posted);
     Ok(())
 }
@@ -119,7 +119,7 @@ fn post_then_look<R: Wait + Abort, L: Ledgers>(
 /// Two threads post a report each, and look.
 fn post_and_look_side_by_side<R: Threads + Wait + Abort + Sync, L: Ledgers + Sync>(
     rt: &R,
-    desk: &Desk<Brand, L>,
+    locked_posts: &LockedPosts<Brand, L>,
     reports: (PieceReport, PieceReport),
     first: &mut Share<L>,
     second: &mut Share<L>,
@@ -127,8 +127,8 @@ fn post_and_look_side_by_side<R: Threads + Wait + Abort + Sync, L: Ledgers + Syn
     let (two_findings, one_finding) = reports;
     let (one, other) = thread::join(
         rt,
-        move || post_then_look(rt, desk, two_findings, first, FIRST),
-        move || post_then_look(rt, desk, one_finding, second, SECOND),
+        move || post_then_look(rt, locked_posts, two_findings, first, FIRST),
+        move || post_then_look(rt, locked_posts, one_finding, second, SECOND),
     );
     one?;
     other
@@ -137,27 +137,27 @@ fn post_and_look_side_by_side<R: Threads + Wait + Abort + Sync, L: Ledgers + Syn
 /// Either share sees what both threads posted.
 fn both_are_seen<R: Wait + Abort, L: Ledgers>(
     rt: &R,
-    desk: &Desk<Brand, L>,
+    locked_posts: &LockedPosts<Brand, L>,
     first: &mut Share<L>,
     second: &mut Share<L>,
 ) {
-    assert_eq!(rt; desk.look(rt, first), BOTH);
-    assert_eq!(rt; desk.look(rt, second), BOTH);
+    assert_eq!(rt; locked_posts.look(rt, first), BOTH);
+    assert_eq!(rt; locked_posts.look(rt, second), BOTH);
 }
 
 /// Each of two threads posts a report and looks, and a report of an id that was posted comes back.
 pub(super) fn post_and_look<R: Threads + Wait + Abort + Sync, L: Ledgers + Sync>(
     rt: &R,
     alloc: Global,
-    desk: &Desk<Brand, L>,
+    locked_posts: &LockedPosts<Brand, L>,
     first: &mut Share<L>,
     second: &mut Share<L>,
 ) -> Result<(), Fail> {
     let reports = (two_findings(alloc)?, report(alloc, 1, 0, 0)?);
-    post_and_look_side_by_side(rt, desk, reports, first, second)?;
-    both_are_seen(rt, desk, first, second);
-    comes_back(rt, desk, report(alloc, 0, 7, 1)?, second);
-    both_are_seen(rt, desk, first, second);
+    post_and_look_side_by_side(rt, locked_posts, reports, first, second)?;
+    both_are_seen(rt, locked_posts, first, second);
+    comes_back(rt, locked_posts, report(alloc, 0, 7, 1)?, second);
+    both_are_seen(rt, locked_posts, first, second);
     Ok(())
 }
 

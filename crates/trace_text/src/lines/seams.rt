@@ -20,7 +20,7 @@ fn begins_above(last: u32, first: Option<u32>) -> bool
 impl<A: Allocator> Lines<A> {
     ghost use Rattle.std.specs.Prelude.{◌≡◌, ◌≢◌, ◌==◌, ◌+◌, ◌^◌, ◌++◌, ◌≤◌, ℕ, true, List, [], None, is_some, length};
     ghost use Rattle.std.specs.Bool.{OnTrue, OnFalse};
-    ghost use Rattle.line_model.specs.Text.{begun_line, early, early_rows};
+    ghost use Rattle.line_model.specs.text.Text.{begun_line, early, early_rows};
     ghost use Rattle.trace_text.specs.Progress.{bytes_fed};
     ghost use Rattle.trace_text.specs.Shares.{IsShare, after_share, follows, share_rows};
     ghost use Rattle.trace_text.specs.StandsFor.{StandsFor};

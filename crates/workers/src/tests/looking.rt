@@ -4,10 +4,10 @@ ghost use Rattle.std.specs.Prelude.{◌≡◌, ◌≤◌, IfOk, vec_len};
 
 use crate::gathering::{Gathered, gather};
 use crate::handler::Handler;
-use crate::run::{Ran, run_scoped};
+use crate::run::{RunOutcome, run_scoped};
 use crate::starting::crew_for;
 use crate::tests::Plain;
-use findings_book::{Blanks, Book, Desk, Ledgers, Share};
+use findings_book::{Blanks, Book, Ledgers, LockedPosts, Share};
 use line_model::fault::Fault;
 use line_model::finding::{Code, Finding};
 use line_model::piece::{Piece, PieceReport};
@@ -91,7 +91,7 @@ fn is_within(own: Totals, seen: Totals) -> bool {
 /// Posts a report for each piece and looks. Counts the looks, and those that were below the worker's own share.
 #[derive(Drop)]
 struct Looking<'a, L: Ledgers> {
-    desk: &'a Desk<Brand, L>,
+    locked_posts: &'a LockedPosts<Brand, L>,
     looks: &'a AtomicU64,
     below: &'a AtomicU64,
 }
@@ -107,10 +107,10 @@ impl<'a, L: Ledgers> Handler<Brand, Global, Share<L>> for Looking<'a, L> {
         let Ok(report) = report_of(alloc, piece) else {
             return Err(Fault::Memory);
         };
-        if self.desk.post(rt, report, share).is_err() {
+        if self.locked_posts.post(rt, report, share).is_err() {
             return Err(Fault::Memory);
         }
-        let seen = self.desk.look(rt, share);
+        let seen = self.locked_posts.look(rt, share);
         self.looks.fetch_add(1, SeqCst);
         if !is_within(share.totals(), seen) {
             self.below.fetch_add(1, SeqCst);
@@ -132,7 +132,7 @@ fn work_together<R: Threads + Wait + Clock + Sync, L: Ledgers + Sync>(
     let (work, pass) = Work::<Brand>::new(alloc, 2)?;
     let crew = crew_for(alloc, &work, &mut book, pass, WORKERS)?;
     let looking = Looking {
-        desk: book.desk(),
+        locked_posts: book.locked_posts(),
         looks,
         below,
     };
@@ -142,14 +142,14 @@ fn work_together<R: Threads + Wait + Clock + Sync, L: Ledgers + Sync>(
     };
     match run_scoped(rt, alloc, &work, &looking, crew, pieces) {
         Ok(
-            Ran {
+            RunOutcome {
                 task: _,
                 shares,
                 fault: None,
             },
         ) => gather(alloc, book, shares),
         Ok(
-            Ran {
+            RunOutcome {
                 fault: Some(fault),
                 ..
             },

@@ -1,5 +1,5 @@
 use Rattle.std.proofs.Common.{◌≡◌, ◌∙◌, subst, []}
-use Rattle.line_model.specs.Text.{ended_lines}
+use Rattle.line_model.specs.text.Text.{ended_lines}
 use Rattle.annotated_trace.specs.Annotating.{Stops}
 use Rattle.annotated_trace.specs.Annotators.{HasAnnotated}
 use Rattle.annotated_trace.proofs.ReadingLemmas.{end_annotates, end_stops, fed_held}

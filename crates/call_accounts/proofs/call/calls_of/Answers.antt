@@ -1,7 +1,7 @@
 use Rattle.std.proofs.Common.{◌≡◌, ◌∙◌, ◌+◌, ◌++◌, ◌∷◌, [], List, ap, append-nil, arith, drop, map, subst, sym, take}
 use Rattle.std.proofs.lemmas.List.{take-append-drop, take_all, take_more}
 use Rattle.line_model.specs.declared.event.Event.{Event}
-use Rattle.line_model.specs.Calls.{calls_of}
+use Rattle.line_model.specs.observer.Calls.{calls_of}
 use Rattle.call_accounts.specs.Counted.{IsCountable}
 use Rattle.call_accounts.specs.Places.{AreHeard, place_of}
 use Rattle.call_accounts.proofs.PlaceLemmas.{all_countable, countable_before, heard_left, opens_here, opens_none, places_more}

@@ -1,5 +1,5 @@
 use Rattle.std.proofs.Common.{◌≡◌, map, take}
-use Rattle.line_model.specs.Calls.{calls_of}
+use Rattle.line_model.specs.observer.Calls.{calls_of}
 use Rattle.call_accounts.specs.Places.{AreHeard, place_of}
 use Rattle.call_accounts.proofs.call.calls_of.Given as goal
 

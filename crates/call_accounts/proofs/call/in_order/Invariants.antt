@@ -1,5 +1,5 @@
 use Rattle.std.proofs.Common.{◌≡◌, List, length, map}
-use Rattle.line_model.specs.Records.{CallRecord}
+use Rattle.line_model.specs.basics.Records.{CallRecord}
 use Rattle.call_accounts.specs.Places.{AreLeft, place_of}
 use Rattle.call_accounts.proofs.PlaceLemmas.{IsParted}
 use Rattle.call_accounts.proofs.call.in_order.Given as goal

@@ -1,7 +1,7 @@
 use Rattle.std.proofs.Common.{◌≡◌, ℕ, ◌+◌, cond, count_by, get_or, arith, ap, subst, ◌∙◌}
 use Rattle.std.proofs.lemmas.List.{take_all}
 use Rattle.std.proofs.lemmas.List.Sums.{sum_by_more}
-use Rattle.line_model.specs.Records.{CallRecord}
+use Rattle.line_model.specs.basics.Records.{CallRecord}
 use Rattle.call_accounts.specs.Sweep.{up_to, is_call_up}
 use Rattle.call_accounts.proofs.SweepLemmas.{up_at-counted}
 use Rattle.call_accounts.proofs.peak.times.Goals as goal

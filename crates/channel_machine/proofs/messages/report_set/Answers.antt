@@ -14,4 +14,4 @@ pub returns-else-is_empty : goal.returns-else-is_empty
 returns-else-is_empty g c =
     let all : flat_map (asked_one c.args.pad) c.new.result ≡ set_events c.args.pad c.args.octets.now =
     asked_all c.args.pad c.args.octets.now c.new.result c.new.ensures ∙ ap (λ b. set_events_by b c.args.pad c.args.octets.now) c.if-is_empty.ensures in
-    c.report_asked.ensures ∙ ap (λ ws. c.args.report.now.items ++ map (stamped c.args.stamp) ws) all
+    c.report_asked.ensures ∙ ap (λ ws. c.args.events.now.items ++ map (stamped c.args.stamp) ws) all

@@ -1,6 +1,6 @@
 use Rattle.std.proofs.Common.{◌≡◌, ◌∙◌, ◌++◌, ◌∷◌, [], refl, ap, sym, subst, append_assoc}
-use Rattle.line_model.specs.Records.{Item}
-use Rattle.line_model.specs.Bounds.{IsPiece}
+use Rattle.line_model.specs.basics.Records.{Item}
+use Rattle.line_model.specs.basics.Bounds.{IsPiece}
 use Rattle.channel_machine.specs.Live.{StandsFor}
 use Rattle.channel_machine.proofs.LiveLemmas.{next_item}
 use Rattle.channel_machine.proofs.run.run_piece.Goals as goal

@@ -1,8 +1,8 @@
 use Rattle.std.proofs.Common.{◌∙◌, ap, sym, subst, rules}
 use Rattle.std.specs.Prelude.{All}
 use Rattle.std.proofs.lemmas.List.Elements.{All-push}
-use Rattle.line_model.specs.Bounds.{IsItem}
-use Rattle.line_model.specs.Classes.{packet_of}
+use Rattle.line_model.specs.basics.Bounds.{IsItem}
+use Rattle.line_model.specs.packets.Classes.{packet_of}
 use Rattle.channel_machine.proofs.tests.add_item.Goals as goal
 
 pub returns-clause-of_channel : goal.returns-clause-of_channel

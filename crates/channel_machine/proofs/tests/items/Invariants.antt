@@ -1,6 +1,6 @@
 use Rattle.std.proofs.Common.{◌≤◌, ◌*◌, length}
 use Rattle.std.specs.Prelude.{All}
-use Rattle.line_model.specs.Bounds.{IsItem, all_octets}
+use Rattle.line_model.specs.basics.Bounds.{IsItem, all_octets}
 use Rattle.channel_machine.proofs.tests.items.Given as goal
 
 abbrev pub invariant-loop-line : goal.invariant-loop-line

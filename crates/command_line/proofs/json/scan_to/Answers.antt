@@ -1,7 +1,7 @@
 use Rattle.line_model.specs.declared.fault.Fault.TheVariants.{Write}
 use Rattle.std.proofs.Common.{◌≡◌, ◌<◌, ◌∙◌, ap, inl, inr, length, refl, subst}
 use Rattle.std.specs.Prelude.{OnOk, IfErr}
-use Rattle.line_model.specs.Device.{with_more}
+use Rattle.line_model.specs.basics.Device.{with_more}
 use Rattle.json_lines.specs.Json.{json_text}
 use Rattle.command_line.specs.Program.{fault_status}
 use Rattle.command_line.proofs.JsonLemmas.{none_failed, scanned_afresh}

@@ -1,6 +1,6 @@
 use Rattle.std.proofs.Common.{◌∙◌, ap, ◌++◌, take, arith}
 use Rattle.std.proofs.lemmas.Grind.{common_steps}
-use Rattle.line_model.specs.Device.{with_more}
+use Rattle.line_model.specs.basics.Device.{with_more}
 use Rattle.json_lines.proofs.WrittenLemmas.{split_rest, with_more-append}
 use Rattle.json_lines.proofs.chunk.send.Goals as goal
 

@@ -1,5 +1,5 @@
 use Rattle.std.proofs.Common.{◌∙◌, ap, take}
-use Rattle.line_model.specs.Device.{with_more}
+use Rattle.line_model.specs.basics.Device.{with_more}
 use Rattle.json_lines.proofs.JsonLemmas.{part_of_text}
 use Rattle.json_lines.proofs.text.write_to.Goals as goal
 

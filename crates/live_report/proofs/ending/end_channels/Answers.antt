@@ -1,6 +1,6 @@
 use Rattle.std.proofs.Common.{◌∙◌, ap, sym, subst, Some, length, ◌≡◌, [], ◌∷◌, ◌++◌, arith}
 use Rattle.std.specs.Option.{option_map}
-use Rattle.line_model.specs.Plans.{value}
+use Rattle.line_model.specs.pieces.Plans.{value}
 use Rattle.restart_epochs.specs.OpenRows.{rows_of}
 use Rattle.restart_epochs.specs.OpenLanes.{HasPopped}
 use Rattle.report_merge.specs.Gathered.{gathered}

@@ -1,5 +1,5 @@
 use Rattle.std.proofs.Common.{subst, sym}
-use Rattle.line_model.specs.Bounds.{IsPiece}
+use Rattle.line_model.specs.basics.Bounds.{IsPiece}
 use Rattle.restart_epochs.specs.OpenRows.{rows_of}
 use Rattle.channel_machine.specs.Live.{StandsFor as IsLive}
 use Rattle.live_report.specs.Lanes.{begun_piece}

@@ -1,5 +1,5 @@
 use Rattle.std.proofs.Common.{◌≡◌, ◌∙◌, ◌∷◌, ◌++◌, [], ap, None, length, arith}
-use Rattle.line_model.specs.Plans.{value}
+use Rattle.line_model.specs.pieces.Plans.{value}
 use Rattle.restart_epochs.specs.OpenRows.{rows_of}
 use Rattle.report_merge.specs.Gathered.{gathered}
 use Rattle.live_report.specs.Lanes.{begun_piece}

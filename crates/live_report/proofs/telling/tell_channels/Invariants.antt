@@ -1,6 +1,6 @@
 use Rattle.std.proofs.Common.{◌≡◌, ℕ, ◌+◌, ◌<◌, List, length}
 use Rattle.line_model.specs.declared.interface.Interface.{Interface}
-use Rattle.line_model.specs.Records.{PieceReport}
+use Rattle.line_model.specs.basics.Records.{PieceReport}
 use Rattle.restart_epochs.specs.OpenRows.{OpenRows, IsListing}
 use Rattle.report_merge.specs.Gathered.{gathered}
 use Rattle.live_report.specs.Lanes.{OpenFor}

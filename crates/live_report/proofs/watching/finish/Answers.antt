@@ -1,5 +1,5 @@
 use Rattle.std.proofs.Common.{◌≡◌, ◌++◌, sym, subst, IfOk, append-nil}
-use Rattle.line_model.specs.Report.{report_of}
+use Rattle.line_model.specs.observer.Report.{report_of}
 use Rattle.trace_text.specs.StandsFor.{last_row}
 use Rattle.live_report.specs.Observing.{AreRows}
 use Rattle.live_report.proofs.watching.finish.Goals as goal

@@ -1,6 +1,6 @@
 use Rattle.std.proofs.Common.{◌≡◌, ◌∙◌, ◌+◌, ◌<◌, ◌++◌, List, Err, ap, subst, sym, refl, length, length-append, arith, rules}
 use Rattle.std.specs.Option.{option_to_list}
-use Rattle.line_model.specs.Text.{early, early_rows}
+use Rattle.line_model.specs.text.Text.{early, early_rows}
 use Rattle.line_model.specs.declared.fault.Fault.TheVariants.{Memory}
 use Rattle.line_model.specs.declared.finding.Finding.{Finding}
 use Rattle.trace_text.specs.Progress.{bytes_fed}

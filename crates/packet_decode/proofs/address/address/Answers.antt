@@ -1,7 +1,7 @@
 use Rattle.std.proofs.Common.{arith, ◌≡◌, ◌+◌, ◌-◌, ◌∷◌, ℕ, [], ap, sym, ◌∙◌, ◌++◌, append_assoc, length, length-append, nat_lt, false, List}
 use Rattle.std.specs.Prelude.{map, ◌||◌}
 use Rattle.std.specs.List.{list_any}
-use Rattle.line_model.specs.Octets.{half_octet, half_octets}
+use Rattle.line_model.specs.basics.Octets.{half_octet, half_octets}
 use Rattle.packet_decode.proofs.OctetLemmas.{half_octets_until}
 use Rattle.packet_decode.proofs.address.address.Goals as goal
 

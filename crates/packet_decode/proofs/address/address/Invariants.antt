@@ -1,7 +1,7 @@
 use Rattle.std.proofs.Common.{◌≡◌, ◌+◌, ◌-◌, ◌++◌, length}
 use Rattle.std.specs.Prelude.{map, nat_lt}
 use Rattle.std.specs.List.{list_any}
-use Rattle.line_model.specs.Octets.{half_octets}
+use Rattle.line_model.specs.basics.Octets.{half_octets}
 use Rattle.packet_decode.proofs.address.address.Given as goal
 
 abbrev pub invariant-loop-k : goal.invariant-loop-k

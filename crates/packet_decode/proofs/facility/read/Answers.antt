@@ -1,7 +1,7 @@
 use Rattle.std.proofs.lemmas.Grind.{common_steps}
 use Rattle.std.proofs.Common.{sym, ap, ◌∙◌, cond, List, ℕ, Bool, ◌-◌, length, take, drop, arith}
 use Rattle.std.specs.Prelude.{◌||◌, ◌==◌}
-use Rattle.line_model.specs.Octets.{octet}
+use Rattle.line_model.specs.basics.Octets.{octet}
 use Rattle.packet_decode.specs.Asked.{with_facility}
 use Rattle.packet_decode.specs.declared.facility.Asked.{Asked}
 use Rattle.packet_decode.proofs.FacilityLemmas.{rest_of}

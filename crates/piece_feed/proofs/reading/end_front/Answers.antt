@@ -1,5 +1,5 @@
 use Rattle.std.proofs.Common.{◌∙◌, ap, sym, refl, List, length, arith, length-append}
-use Rattle.line_model.specs.Records.{Piece}
+use Rattle.line_model.specs.basics.Records.{Piece}
 use Rattle.restart_epochs.specs.Cutting.{given_of}
 use Rattle.piece_feed.proofs.Nexts.{last_next}
 use Rattle.piece_feed.proofs.reading.end_front.Goals as goal

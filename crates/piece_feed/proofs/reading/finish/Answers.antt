@@ -1,7 +1,7 @@
 use Rattle.std.proofs.Common.{◌∙◌, ◌++◌, subst, sym}
 use Rattle.std.specs.Prelude.{All}
 use Rattle.std.proofs.lemmas.Result.{IfOk-weaker, IfErr-weaker}
-use Rattle.line_model.specs.Text.{early_head, early_rows, fault}
+use Rattle.line_model.specs.text.Text.{early_head, early_rows, fault}
 use Rattle.piece_feed.specs.Batches.{HasPacket, rows_in}
 use Rattle.piece_feed.proofs.Texts.{memory_fault, plan_is, read_of, ready_end, whole_head}
 use Rattle.piece_feed.proofs.reading.finish.Goals as goal

@@ -1,6 +1,6 @@
 use Rattle.std.proofs.Common.{◌≡◌, ◌∙◌, ◌++◌, ◌∷◌, [], ap, subst, sym, refl, arith, append-nil, append_assoc}
 use Rattle.std.specs.Prelude.{All}
-use Rattle.line_model.specs.Classes.{packet_of}
+use Rattle.line_model.specs.packets.Classes.{packet_of}
 use Rattle.restart_epochs.specs.Cutting.{StandsFor, given_of}
 use Rattle.restart_epochs.proofs.Whole.{MayCome, rest_may_come}
 use Rattle.piece_feed.specs.Batches.{HasPacket, rows_in}

@@ -1,5 +1,5 @@
 use Rattle.std.proofs.Common.{◌∙◌, sym, ap, subst, ◌++◌, Some}
-use Rattle.line_model.specs.Text.{early_head, early_rows}
+use Rattle.line_model.specs.text.Text.{early_head, early_rows}
 use Rattle.std.specs.Prelude.{All}
 use Rattle.piece_feed.specs.Batches.{HasPacket, rows_in}
 use Rattle.piece_feed.specs.Fronts.{HasCut}

@@ -1,6 +1,6 @@
 use Rattle.std.proofs.Common.{◌≡◌, ◌∙◌, ◌+◌, ◌≤◌, ◌++◌, ap, subst, sym, List, length, arith, length-append}
 use Rattle.std.specs.Prelude.{All}
-use Rattle.line_model.specs.Records.{Piece}
+use Rattle.line_model.specs.basics.Records.{Piece}
 use Rattle.restart_epochs.specs.Cutting.{given_of}
 use Rattle.piece_feed.specs.Batches.{HasPacket, rows_in}
 use Rattle.piece_feed.proofs.Batches.{may_follow}

@@ -1,5 +1,5 @@
 use Rattle.std.specs.Prelude.{Some}
-use Rattle.line_model.specs.Traces.{trace_plan}
+use Rattle.line_model.specs.traces.Traces.{trace_plan}
 use Rattle.piece_feed.proofs.tests.read.Given as goal
 
 abbrev pub ghosts-read_on-P-Plan : goal.ghosts-read_on-P-Plan

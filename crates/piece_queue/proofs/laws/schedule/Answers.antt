@@ -1,5 +1,5 @@
 use Rattle.std.proofs.Common.{◌∙◌}
-use Rattle.line_model.specs.Plans.{plan}
+use Rattle.line_model.specs.pieces.Plans.{plan}
 use Rattle.line_model.proofs.BookTotals.{totals_law, numbers_law}
 use Rattle.line_model.proofs.Schedules.{always_prefix, always_once, always_posted, always_totals}
 use Rattle.piece_queue.proofs.laws.schedule.Goals as goal

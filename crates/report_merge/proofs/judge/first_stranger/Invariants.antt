@@ -1,5 +1,5 @@
 use Rattle.std.proofs.Common.{◌≡◌, drop}
-use Rattle.line_model.specs.Book.{ids_of}
+use Rattle.line_model.specs.work.Book.{ids_of}
 use Rattle.report_merge.specs.Refusal.{stranger}
 use Rattle.report_merge.proofs.judge.first_stranger.Given as goal
 

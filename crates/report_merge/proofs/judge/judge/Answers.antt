@@ -1,5 +1,5 @@
 use Rattle.std.proofs.Common.{◌≡◌, ◌∙◌, ℕ, List, Bool, false, length, slice_index_or, sym, ap, arith}
-use Rattle.line_model.specs.Book.{ids_of}
+use Rattle.line_model.specs.work.Book.{ids_of}
 use Rattle.report_merge.specs.Seen.{is_among}
 use Rattle.report_merge.proofs.Doubles.{refused_from, missing_from, whole_from}
 use Rattle.report_merge.proofs.judge.judge.Goals as goal

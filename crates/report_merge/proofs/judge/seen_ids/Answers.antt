@@ -1,7 +1,7 @@
 use Rattle.std.proofs.lemmas.Result.{IfOk-from_err}
 use Rattle.std.proofs.lemmas.Grind.{common_steps}
 use Rattle.std.proofs.Common.{◌≡◌, ℕ, ◌+◌, ◌||◌, false, true, length, get_or, set, drop, count_by, arith, sym, subst, ap, ◌∙◌}
-use Rattle.line_model.specs.Book.{ids_of}
+use Rattle.line_model.specs.work.Book.{ids_of}
 use Rattle.report_merge.specs.Seen.{is_among, double, double_with}
 use Rattle.std.proofs.lemmas.List.{get_or_read, at_drop_all}
 use Rattle.std.proofs.lemmas.List.Sums.{count_by-le-length}

@@ -1,5 +1,5 @@
 use Rattle.std.proofs.Common.{◌≡◌, ℕ, false, ◌||◌, drop, vec_len, slice_index_or, count_by}
-use Rattle.line_model.specs.Book.{ids_of}
+use Rattle.line_model.specs.work.Book.{ids_of}
 use Rattle.report_merge.specs.Seen.{double, double_with, is_among}
 use Rattle.report_merge.specs.Refusal.{stranger}
 use Rattle.std.specs.Prelude.{None}

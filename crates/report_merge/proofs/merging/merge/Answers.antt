@@ -1,7 +1,7 @@
 use Rattle.std.proofs.Common.{List, rules, sym, subst}
 use Rattle.std.proofs.lemmas.Result.{IfErr-weaker, IfOk-weaker}
-use Rattle.line_model.specs.Records.{PieceReport}
-use Rattle.line_model.specs.Book.{ids_of}
+use Rattle.line_model.specs.basics.Records.{PieceReport}
+use Rattle.line_model.specs.work.Book.{ids_of}
 use Rattle.report_merge.specs.Refusal.{IsRefusal, IsWhole}
 use Rattle.report_merge.proofs.AnyOrder.{memory_alone}
 use Rattle.report_merge.proofs.OfWalk.{report_is}

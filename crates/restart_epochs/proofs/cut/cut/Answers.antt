@@ -4,9 +4,9 @@ use Rattle.std.specs.Vec.Iter.{into_iter_items}
 use Rattle.std.proofs.lemmas.List.{map-id}
 use Rattle.std.proofs.lemmas.Iterator.Adapters.{YieldsList-from_vec}
 use Rattle.std.proofs.lemmas.Iterator.Consumers.{YieldsList-end}
-use Rattle.line_model.specs.Classes.{packet_of}
-use Rattle.line_model.specs.Plans.{plan, line_findings}
-use Rattle.line_model.specs.Records.{Row, Piece}
+use Rattle.line_model.specs.packets.Classes.{packet_of}
+use Rattle.line_model.specs.pieces.Plans.{plan, line_findings}
+use Rattle.line_model.specs.basics.Records.{Row, Piece}
 use Rattle.restart_epochs.specs.Cutting.{given_of, StandsFor, IsCounted}
 use Rattle.restart_epochs.proofs.Growth.{ends_nothing, given_pieces}
 use Rattle.restart_epochs.proofs.Whole.{MayCome, all_may_come, rest_may_come}

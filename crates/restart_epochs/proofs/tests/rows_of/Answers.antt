@@ -1,5 +1,5 @@
 use Rattle.std.proofs.Common.{◌≡◌, ◌+◌, ◌*◌, ◌≤◌, ◌++◌, ◌∷◌, [], ℕ, List, length, subst, sym, arith, rules}
-use Rattle.line_model.specs.Records.{Row}
+use Rattle.line_model.specs.basics.Records.{Row}
 use Rattle.line_model.proofs.RowsSoFar.{RowsTo, rows_push, rows_rise}
 use Rattle.restart_epochs.proofs.tests.rows_of.Goals as goal
 

@@ -1,6 +1,6 @@
 use Rattle.std.proofs.Common.{◌∙◌, ap, ◌++◌, length, take, arith}
 use Rattle.std.proofs.lemmas.Grind.{common_steps}
-use Rattle.line_model.specs.Device.{with_more}
+use Rattle.line_model.specs.basics.Device.{with_more}
 use Rattle.streams.proofs.WritingLemmas.{front_of, split_rest, with_more-append}
 use Rattle.streams.proofs.writing.write_all.Goals as goal
 

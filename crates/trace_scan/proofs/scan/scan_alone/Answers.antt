@@ -1,4 +1,4 @@
-use Rattle.line_model.specs.Traces.{trace_report}
+use Rattle.line_model.specs.traces.Traces.{trace_report}
 use Rattle.trace_scan.proofs.ScanLemmas.{end_kinds, end_of_text, end_part, end_refused, nothing_taken, reading_scan, refused_early}
 use Rattle.trace_scan.proofs.scan.scan_alone.Goals as goal
 

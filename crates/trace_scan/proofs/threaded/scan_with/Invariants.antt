@@ -1,5 +1,5 @@
 use Rattle.std.specs.Option.{option_map}
-use Rattle.line_model.specs.Traces.{trace_plan}
+use Rattle.line_model.specs.traces.Traces.{trace_plan}
 use Rattle.trace_scan.proofs.threaded.scan_with.Given as goal
 
 abbrev pub ghosts-scan_in : goal.ghosts-scan_in

@@ -8,5 +8,5 @@ pub returns-in-Ok-clause-stopped : goal.returns-in-Ok-clause-stopped
 returns-in-Ok-clause-stopped g c =
     let w = c.in-Ok.ensures.worked in
     let same : c.in-Ok.worked.task.source.now ≡ c.source-1.given.0 = search rules in
-    subst (λ s. IfErr c.both.result (IsStopped (g.S.Source.left c.args.source.now) (g.S.Source.left s))) same
-    (stopped c.both.result c.in-Ok.worked.task.outcome c.in-Ok.worked.gathered (g.S.Source.left c.args.source.now) (g.S.Source.left c.in-Ok.worked.task.source.now) _ w.0 _ c.both.ensures.first w.1.1 w.2)
+    subst (λ s. IfErr c.first_fault.result (IsStopped (g.S.Source.left c.args.source.now) (g.S.Source.left s))) same
+    (stopped c.first_fault.result c.in-Ok.worked.task.outcome c.in-Ok.worked.gathered (g.S.Source.left c.args.source.now) (g.S.Source.left c.in-Ok.worked.task.source.now) _ w.0 _ c.first_fault.ensures.first w.1.1 w.2)

@@ -1,6 +1,6 @@
 use Rattle.std.proofs.Common.{◌≡◌, ◌<◌, ◌∙◌, ap, length, subst, inl, inr, refl, rules, arith}
 use Rattle.std.specs.Prelude.{All, vec_len}
-use Rattle.workers.specs.Workers.{IsSeat}
+use Rattle.workers.specs.Workers.{IsWorkerStart}
 use Rattle.workers.proofs.Ends.{ended}
 use Rattle.workers.proofs.run.run.Goals as goal
 
@@ -58,8 +58,8 @@ pub start_all-requires : goal.start_all-requires
 start_all-requires g c =
     let b = c.type_bounds in
     let queue = ap (λ crew. crew.queue) c.crew.view_is ∙ c.requires.queue in
-    let seats = subst (λ q. All (IsSeat g.H.Posted.posts q) c.crew.inside.seats.items) queue c.crew.invariant.1 in
-    (b.send-P, (b.send-H, (b.send-A, (b.sync-P, (b.sync-A, (b.sync-W, (b.sync-R, (b.frees-A-Allocator, (seats, (c.in-Ok.ensures.len, omega (arith, c.in-Ok.ensures.capacity, c.len-count.ensures)))))))))))
+    let worker_starts = subst (λ q. All (IsWorkerStart g.H.Posted.posts q) c.crew.inside.worker_starts.items) queue c.crew.invariant.1 in
+    (b.send-P, (b.send-H, (b.send-A, (b.sync-P, (b.sync-A, (b.sync-W, (b.sync-R, (b.frees-A-Allocator, (worker_starts, (c.in-Ok.ensures.len, omega (arith, c.in-Ok.ensures.capacity, c.len-count.ensures)))))))))))
 
 pub join_all-requires-clause-room : goal.join_all-requires-clause-room
 join_all-requires-clause-room g c =

@@ -1,6 +1,6 @@
 use Rattle.std.proofs.Common.{◌≡◌}
 use Rattle.std.specs.List.{list_any}
-use Rattle.line_model.specs.Pad.{is_refusable}
+use Rattle.line_model.specs.channels.Pad.{is_refusable}
 use Rattle.x3_parameters.proofs.values.is_refused.Given as goal
 
 abbrev pub invariant-loop-pair : goal.invariant-loop-pair

@@ -1,6 +1,6 @@
 use Rattle.std.proofs.Common.{ap}
-use Rattle.line_model.specs.Records.{Report}
-use Rattle.line_model.specs.Text.{ended_lines}
+use Rattle.line_model.specs.basics.Records.{Report}
+use Rattle.line_model.specs.text.Text.{ended_lines}
 use Rattle.annotated_trace.proofs.EndOfText.{all_annotated, first_annotated, part_annotated}
 use Rattle.annotated_trace.proofs.PassedLemmas.{sent_all}
 use Rattle.annotated_trace.proofs.annotator.Annotator.close.Goals as goal

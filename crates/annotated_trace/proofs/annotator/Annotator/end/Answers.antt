@@ -1,5 +1,5 @@
 use Rattle.std.proofs.Common.{◌∙◌, ◌++◌, ◌∷◌, [], List, ℕ, sym, ap, subst, refl, length}
-use Rattle.line_model.specs.Text.{begun_line}
+use Rattle.line_model.specs.text.Text.{begun_line}
 use Rattle.line_model.proofs.TextLemmas.{begun-lf}
 use Rattle.annotated_trace.specs.Annotators.{HasFirstOf}
 use Rattle.annotated_trace.proofs.EndOfText.{ended_annotated, ended_refused, last_held, lf_refused, same_first, some_bytes}

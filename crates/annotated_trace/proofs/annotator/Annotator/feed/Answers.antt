@@ -1,5 +1,5 @@
 use Rattle.std.proofs.Common.{◌≡◌, ◌∙◌, sym, ◌++◌, true}
-use Rattle.line_model.specs.Text.{ended_lines}
+use Rattle.line_model.specs.text.Text.{ended_lines}
 use Rattle.annotated_trace.specs.Annotators.{is_line}
 use Rattle.annotated_trace.proofs.CommentLemmas.{on_ok, part_err}
 use Rattle.annotated_trace.proofs.PassedLemmas.{all_first, line_first, line_part, line_sent, sent_all, sent_part, stopped_first}

@@ -1,5 +1,5 @@
 use Rattle.std.proofs.Common.{◌∙◌, ◌++◌, sym, ap}
-use Rattle.line_model.specs.Text.{begun_line}
+use Rattle.line_model.specs.text.Text.{begun_line}
 use Rattle.annotated_trace.proofs.AnnotatedLemmas.{line_annotated, none_begun}
 use Rattle.annotated_trace.proofs.CommentLemmas.{always, on_ok}
 use Rattle.annotated_trace.proofs.annotator.Annotator.take_line.Goals as goal

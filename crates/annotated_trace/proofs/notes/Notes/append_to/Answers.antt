@@ -1,5 +1,5 @@
 use Rattle.std.proofs.Common.{◌∙◌, ◌++◌, ◌∷◌, [], sym, ap, append-nil}
-use Rattle.line_model.specs.Traces.{text}
+use Rattle.line_model.specs.traces.Traces.{text}
 use Rattle.annotated_trace.specs.Wording.{note_line}
 use Rattle.annotated_trace.proofs.WordingLemmas.{note_missing, note_there, noted}
 use Rattle.annotated_trace.proofs.notes.Notes.append_to.Goals as goal

@@ -5,5 +5,5 @@ use Rattle.channel_machine.proofs.channel.StatusChannel.give_up.Goals as goal
 
 pub returns-in_default : goal.returns-in_default
 returns-in_default g c k s =
-    subst (λ o. Does c.args.stamp c.args.self.now c.end.new.self c.args.report.now.items c.end.new.report.items o)
+    subst (λ o. Does c.args.stamp c.args.self.now c.end.new.self c.args.events.now.items c.end.new.events.items o)
     (gives_up c.args.state k c.in_default.not-D1 c.in_default.not-D2 c.in_default.not-D3) (c.end.ensures.does k s)

@@ -1,8 +1,8 @@
 use Rattle.std.proofs.Common.{◌≡◌, ◌∙◌, ap, sym, subst, false, append-nil, Some}
 use Rattle.std.specs.Prelude.{IfOk}
 use Rattle.line_model.specs.declared.verdict.CallChange.TheVariants.{GoesUp}
-use Rattle.line_model.specs.ChannelStep.{call_change, entering, changing}
-use Rattle.line_model.specs.Classes.{class_of}
+use Rattle.line_model.specs.channels.ChannelStep.{call_change, entering, changing}
+use Rattle.line_model.specs.packets.Classes.{class_of}
 use Rattle.packet_decode.specs.CallFaults.{fault_by_class}
 use Rattle.channel_machine.specs.Reached.{is_from}
 use Rattle.channel_machine.specs.TermsStand.{TermsStand, is_fast}
@@ -15,7 +15,7 @@ use Rattle.channel_machine.proofs.channel.StatusChannel.go.Goals as goal
 
 pub returns-in-Ok-clause-does : goal.returns-in-Ok-clause-does
 returns-in-Ok-clause-does g c k fine r from s =
-    subst (λ v. IfOk c.open.result (λ _. Does c.args.stamp c.args.self.now c.open.new.self c.args.report.now.items c.open.new.report.items (changing c.args.octets.now v (entering c.args.to false k))))
+    subst (λ v. IfOk c.open.result (λ _. Does c.args.stamp c.args.self.now c.open.new.self c.args.events.now.items c.open.new.events.items (changing c.args.octets.now v (entering c.args.to false k))))
     (sym c.in-Opens.is ∙ c.change_of.ensures.change) (c.open.ensures.does k c.args.octets.now c.in-Ok.ensures.fields r.bare s)
 
 pub returns-in-Err-clause-does : goal.returns-in-Err-clause-does
@@ -28,7 +28,7 @@ returns-in-Err-clause-does g c k fine r from s =
 pub returns-in-Ok-call_fields-clause-does : goal.returns-in-Ok-call_fields-clause-does
 returns-in-Ok-call_fields-clause-does g c k fine r from s =
     let change : GoesUp ≡ call_change c.args.side c.args.class c.args.to = sym c.in-GoesUp.is ∙ c.change_of.ensures.change in
-    subst (λ v. IfOk c.go_up.result (λ _. Does c.args.stamp c.args.self.now c.go_up.new.self c.args.report.now.items c.go_up.new.report.items (changing c.args.octets.now v (entering c.args.to false k))))
+    subst (λ v. IfOk c.go_up.result (λ _. Does c.args.stamp c.args.self.now c.go_up.new.self c.args.events.now.items c.go_up.new.events.items (changing c.args.octets.now v (entering c.args.to false k))))
     change
     (c.go_up.ensures.does k c.args.octets.now c.in-Ok-call_fields.ensures.fields (unanswered c.args.to k (ap (λ v. is_from v c.args.to k.state) change ∙ from) r) s)
 
@@ -42,11 +42,11 @@ returns-in-Err-call_fields-clause-does g c k fine r from s =
 pub returns-in-Keeps-clause-does : goal.returns-in-Keeps-clause-does
 returns-in-Keeps-clause-does g c k fine r from s =
     let terms_are : agreed_of c.terms-terms.result ≡ c.args.self.now.terms = c.terms-terms.ensures ∙ ap (λ (o : Known). o.terms) c.self.view_is in
-    subst (λ v. Does c.args.stamp c.args.self.now c.enter.new.self c.args.report.now.items c.args.report.now.items (changing c.args.octets.now v (entering c.args.to false k)))
+    subst (λ v. Does c.args.stamp c.args.self.now c.enter.new.self c.args.events.now.items c.args.events.now.items (changing c.args.octets.now v (entering c.args.to false k)))
     (sym c.in-Keeps.is ∙ c.change_of.ensures.change)
     (record {
       interface = c.enter.ensures.interface ∙ ap (λ t. t.interface) terms_are;
       channel = c.enter.ensures.channel;
       stands = c.enter.ensures.stands k (subst (λ t. TermsStand t k) (sym terms_are) s.terms) s.transfer.settings;
-      reports = sym (append-nil c.args.report.now.items);
+      reports = sym (append-nil c.args.events.now.items);
     })

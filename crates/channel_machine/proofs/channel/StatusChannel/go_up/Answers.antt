@@ -23,5 +23,5 @@ returns-clause-does g c k xs shows u s =
           (ap (λ f. f.sizes) shows) (ap (λ f. f.windows) shows) c.accepted-terms.ensures.values)
           s.transfer.settings;
       reports = c.push_reserved.ensures.items ∙ ap (λ l. l ++ c.event.result ∷ []) c.in_ok-reserve.ensures.items
-          ∙ ap (λ v. c.args.report.now.items ++ v ∷ []) c.event.ensures;
+          ∙ ap (λ v. c.args.events.now.items ++ v ∷ []) c.event.ensures;
     }

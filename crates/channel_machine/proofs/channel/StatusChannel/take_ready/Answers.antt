@@ -1,8 +1,8 @@
 use Rattle.std.proofs.Common.{◌≡◌, sym, ◌∙◌, ap, subst, Ok, Err}
 use Rattle.std.specs.Prelude.{unwrap_or}
-use Rattle.line_model.specs.FlowControl.{count_receive}
-use Rattle.line_model.specs.Classes.{receive_number}
-use Rattle.line_model.specs.ChannelStep.{counts_of, counting, failing}
+use Rattle.line_model.specs.channels.FlowControl.{count_receive}
+use Rattle.line_model.specs.packets.Classes.{receive_number}
+use Rattle.line_model.specs.channels.ChannelStep.{counts_of, counting, failing}
 use Rattle.channel_machine.specs.Channels.{Known, known, Stands, Does}
 use Rattle.channel_machine.proofs.Counting.{received}
 use Rattle.channel_machine.proofs.Taking.{refusing, unchanged_through, counted}
@@ -20,7 +20,7 @@ returns-in-Err-clause-does g c k s =
     let is : count_receive c.args.self.now.terms.interface.modulus (counts_of k) c.args.side (unwrap_or (receive_number c.args.self.now.terms.interface c.args.octets.now) 0) ≡ Err c.in-Err.code =
     ap (λ n. count_receive c.args.self.now.terms.interface.modulus (counts_of k) c.args.side n) (sym c.requires.receive)
     ∙ ap (λ (o : Known). count_receive o.terms.interface.modulus (counts_of k) c.args.side c.args.receive) (sym c.self.view_is) ∙ answer.0 in
-    refusing c.fail.result c.args.stamp c.args.self.now (known i.channel (g.S.StatusStore.status c.ack.new.self) i.assembler i.settings) c.fail.new.self c.args.report.now.items c.fail.new.report.items k
+    refusing c.fail.result c.args.stamp c.args.self.now (known i.channel (g.S.StatusStore.status c.ack.new.self) i.assembler i.settings) c.fail.new.self c.args.events.now.items c.fail.new.events.items k
     (failing c.args.side c.args.state c.in-Err.code)
     (counting c.args.side c.args.state (count_receive c.args.self.now.terms.interface.modulus (counts_of k) c.args.side (unwrap_or (receive_number c.args.self.now.terms.interface c.args.octets.now) 0)) k)
     same (ap (λ a. counting c.args.side c.args.state a k) (sym is)) s c.fail.ensures.does
@@ -28,7 +28,7 @@ returns-in-Err-clause-does g c k s =
 pub returns-in-Err-clause-unchanged : goal.returns-in-Err-clause-unchanged
 returns-in-Err-clause-unchanged g c =
     let i = c.self.inside in
-    unchanged_through c.fail.result c.args.self.now (known i.channel (g.S.StatusStore.status c.ack.new.self) i.assembler i.settings) c.fail.new.self c.args.report.now.items c.fail.new.report.items
+    unchanged_through c.fail.result c.args.self.now (known i.channel (g.S.StatusStore.status c.ack.new.self) i.assembler i.settings) c.fail.new.self c.args.events.now.items c.fail.new.events.items
     (ap (λ t. known i.channel t i.assembler i.settings) c.in-Err.ensures.unchanged ∙ c.self.view_is) c.fail.ensures.unchanged
 
 pub returns-in-Ok-clause-does : goal.returns-in-Ok-clause-does
@@ -44,7 +44,7 @@ returns-in-Ok-clause-does g c k s =
     let is : a ≡ Ok answer.0 =
     ap (λ n. count_receive c.args.self.now.terms.interface.modulus (counts_of k) c.args.side n) (sym c.requires.receive)
     ∙ ap (λ (o : Known). count_receive o.terms.interface.modulus (counts_of k) c.args.side c.args.receive) (sym c.self.view_is) ∙ answer.1 in
-    subst (λ o. Does c.args.stamp o (known i.channel after i.assembler i.settings) c.args.report.now.items c.args.report.now.items (counting c.args.side c.args.state a k))
+    subst (λ o. Does c.args.stamp o (known i.channel after i.assembler i.settings) c.args.events.now.items c.args.events.now.items (counting c.args.side c.args.state a k))
     c.self.view_is
-    (counted c.args.stamp old (known i.channel after i.assembler i.settings) c.args.report.now.items c.args.side c.args.state k a answer.0
+    (counted c.args.stamp old (known i.channel after i.assembler i.settings) c.args.events.now.items c.args.side c.args.state k a answer.0
     (ap (λ t. known i.channel t i.assembler i.settings) c.ack.ensures.rest.rest) is st answer.2)

@@ -1,7 +1,7 @@
 use Rattle.std.proofs.Common.{◌≡◌, ◌++◌, ℕ, List, take}
 use Rattle.std.specs.List.{AllByRecursion}
 use Rattle.line_model.specs.declared.event.Event.{Event}
-use Rattle.line_model.specs.Report.{findings_of}
+use Rattle.line_model.specs.observer.Report.{findings_of}
 use Rattle.call_accounts.specs.Counted.{IsCountable}
 use Rattle.call_accounts.specs.SoFar.{IsOf}
 use Rattle.channel_machine.specs.Counted.{Counts}

@@ -2,8 +2,8 @@ use Rattle.std.proofs.Common.{◌≡◌, ◌∙◌, ◌++◌, ◌∷◌, [], Lis
 use Rattle.line_model.specs.declared.event.Event.{Event}
 use Rattle.line_model.specs.declared.event.How.TheVariants.{Restart}
 use Rattle.line_model.specs.declared.event.What.TheVariants.{End}
-use Rattle.line_model.specs.Records.{Piece}
-use Rattle.line_model.specs.Plans.{piece_events}
+use Rattle.line_model.specs.basics.Records.{Piece}
+use Rattle.line_model.specs.pieces.Plans.{piece_events}
 use Rattle.call_accounts.specs.Counted.{IsCountable}
 use Rattle.channel_machine.specs.Counted.{Counts}
 use Rattle.channel_machine.specs.Live.{channel_so_far, so_far}

@@ -1,6 +1,6 @@
 use Rattle.std.proofs.Common.{◌∙◌, ℕ, sym, subst}
-use Rattle.line_model.specs.Records.{Piece}
-use Rattle.line_model.specs.Plans.{piece_events}
+use Rattle.line_model.specs.basics.Records.{Piece}
+use Rattle.line_model.specs.pieces.Plans.{piece_events}
 use Rattle.channel_machine.specs.Counted.{Counts}
 use Rattle.channel_machine.proofs.LiveLemmas.{piece_within}
 use Rattle.channel_machine.proofs.live.LiveChannel.end.Goals as goal

@@ -1,9 +1,9 @@
 use Rattle.std.proofs.Common.{◌∙◌, sym, subst, map, None, List}
-use Rattle.line_model.specs.Records.{Item}
-use Rattle.line_model.specs.Bounds.{IsPiece}
-use Rattle.line_model.specs.Channels.{fresh}
-use Rattle.line_model.specs.Pieces.{piece_value}
-use Rattle.line_model.specs.Observer.{x25, event_of}
+use Rattle.line_model.specs.basics.Records.{Item}
+use Rattle.line_model.specs.basics.Bounds.{IsPiece}
+use Rattle.line_model.specs.channels.Channels.{fresh}
+use Rattle.line_model.specs.pieces.Pieces.{piece_value}
+use Rattle.line_model.specs.observer.Observer.{x25, event_of}
 use Rattle.channel_machine.specs.Counted.{Counts}
 use Rattle.channel_machine.specs.Live.{channel_after}
 use Rattle.channel_machine.proofs.LiveLemmas.{empty_small}

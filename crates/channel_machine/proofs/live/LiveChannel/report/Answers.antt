@@ -1,5 +1,5 @@
 use Rattle.std.proofs.Common.{ℕ, sym, subst}
-use Rattle.line_model.specs.Plans.{piece_events}
+use Rattle.line_model.specs.pieces.Plans.{piece_events}
 use Rattle.channel_machine.specs.Counted.{Counts}
 use Rattle.channel_machine.specs.Live.{so_far}
 use Rattle.channel_machine.proofs.LiveLemmas.{piece_within}

@@ -1,11 +1,11 @@
 use Rattle.std.proofs.Common.{◌≡◌, ◌∙◌, ◌++◌, List, sym, subst}
 use Rattle.std.specs.List.{AllByRecursion}
 use Rattle.line_model.specs.declared.event.Event.{Event}
-use Rattle.line_model.specs.Records.{Item}
-use Rattle.line_model.specs.Bounds.{IsItem}
-use Rattle.line_model.specs.Channels.{Channel, fresh}
-use Rattle.line_model.specs.ChannelStep.{channel_step}
-use Rattle.line_model.specs.Plans.{piece_events}
+use Rattle.line_model.specs.basics.Records.{Item}
+use Rattle.line_model.specs.basics.Bounds.{IsItem}
+use Rattle.line_model.specs.channels.Channels.{Channel, fresh}
+use Rattle.line_model.specs.channels.ChannelStep.{channel_step}
+use Rattle.line_model.specs.pieces.Plans.{piece_events}
 use Rattle.call_accounts.specs.Counted.{IsCountable}
 use Rattle.call_accounts.specs.SoFar.{IsOf}
 use Rattle.channel_machine.specs.Counted.{Counts}

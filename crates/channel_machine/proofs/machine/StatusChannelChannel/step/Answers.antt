@@ -1,7 +1,7 @@
 use Rattle.std.proofs.Common.{◌≡◌, ◌∙◌, ap, subst}
 use Rattle.std.specs.Prelude.{IfOk}
-use Rattle.line_model.specs.Records.{Row}
-use Rattle.line_model.specs.ChannelStep.{channel_step}
+use Rattle.line_model.specs.basics.Records.{Row}
+use Rattle.line_model.specs.channels.ChannelStep.{channel_step}
 use Rattle.channel_machine.specs.declared.events.Stamp.{Stamp}
 use Rattle.channel_machine.specs.Channels.{Known, Does}
 use Rattle.channel_machine.proofs.Reached.{reached_step}

@@ -3,8 +3,8 @@ use Rattle.std.specs.Prelude.{option_to_list, is_none}
 use Rattle.line_model.specs.declared.event.What.{What}
 use Rattle.line_model.specs.declared.event.What.TheVariants.{Data}
 use Rattle.line_model.specs.declared.finding.Xcode.{Xcode}
-use Rattle.line_model.specs.ChannelStep.{option_found}
-use Rattle.line_model.specs.Pad.{form_fault, message_fault, settings_after}
+use Rattle.line_model.specs.channels.ChannelStep.{option_found}
+use Rattle.line_model.specs.channels.Pad.{form_fault, message_fault, settings_after}
 use Rattle.x3_parameters.proofs.Applied.{faulty}
 use Rattle.channel_machine.specs.Events.{Reports, stamped}
 use Rattle.channel_machine.specs.Messages.{SettingsStand, told_reports}
@@ -17,14 +17,14 @@ returns-in-Err-clause-reports g c m ts kept stands =
     let x = c.args.from in
     let e : form_fault m ≡ Some c.in-Err.fault = sym (kept_fault m) ∙ ap (λ l. form_fault l) (sym kept) ∙ c.in-Err.ensures.fault in
     let fs : Option Xcode → List What = λ o. option_to_list (option_found x o) in
-    let done : Reports c.args.stamp c.args.report.now.items c.push_reserved.new.self.items (fs (Some c.in-Err.fault) ++ Data x c.args.size ∷ []) =
-    three c.args.stamp c.args.report.now.items c.report_fault.new.report.items c.push_reserved.new.self.items c.push_reserved.new.self.items
+    let done : Reports c.args.stamp c.args.events.now.items c.push_reserved.new.self.items (fs (Some c.in-Err.fault) ++ Data x c.args.size ∷ []) =
+    three c.args.stamp c.args.events.now.items c.report_fault.new.events.items c.push_reserved.new.self.items c.push_reserved.new.self.items
     (fs (Some c.in-Err.fault)) [] (Data x c.args.size) c.report_fault.ensures.reports
-    (c.push_reserved.ensures.items ∙ ap (λ v. c.report_fault.new.report.items ++ v ∷ []) (c.event.ensures ∙ ap (λ w. stamped c.args.stamp w) c.heard.ensures))
+    (c.push_reserved.ensures.items ∙ ap (λ v. c.report_fault.new.events.items ++ v ∷ []) (c.event.ensures ∙ ap (λ w. stamped c.args.stamp w) c.heard.ensures))
     (sym (append-nil c.push_reserved.new.self.items)) in
-    subst (λ o. Reports c.args.stamp c.args.report.now.items c.push_reserved.new.self.items (fs o ++ Data x c.args.size ∷ settings_after (message_fault x ts m) x m))
+    subst (λ o. Reports c.args.stamp c.args.events.now.items c.push_reserved.new.self.items (fs o ++ Data x c.args.size ∷ settings_after (message_fault x ts m) x m))
     (sym (own_message_fault x ts m c.in-Err.fault e))
-    (subst (λ l. Reports c.args.stamp c.args.report.now.items c.push_reserved.new.self.items (fs (Some c.in-Err.fault) ++ Data x c.args.size ∷ l))
+    (subst (λ l. Reports c.args.stamp c.args.events.now.items c.push_reserved.new.self.items (fs (Some c.in-Err.fault) ++ Data x c.args.size ∷ l))
     (sym (faulted_settings x ts m c.in-Err.fault e)) done)
 
 pub returns-in-Err-clause-stands : goal.returns-in-Err-clause-stands
@@ -42,7 +42,7 @@ returns-in-Err-clause-stands g c m ts kept stands =
 pub returns-in-Ok-clause-reports : goal.returns-in-Ok-clause-reports
 returns-in-Ok-clause-reports g c m ts kept stands =
     let whole : c.args.octets.now ≡ m = kept_whole m c.args.octets.now kept (unfaulted_short c.args.octets.now c.in-Ok.ensures.fault) in
-    subst (λ l. Reports c.args.stamp c.args.report.now.items c.take.new.report.items (told_reports c.args.from c.args.size ts l))
+    subst (λ l. Reports c.args.stamp c.args.events.now.items c.take.new.events.items (told_reports c.args.from c.args.size ts l))
     (c.in-Ok.ensures.message ∙ whole) (c.take.ensures.reports ts stands)
 
 pub returns-in-Ok-clause-stands : goal.returns-in-Ok-clause-stands

@@ -1,7 +1,7 @@
 use Rattle.std.proofs.Common.{◌≡◌, ◌∙◌, refl, ap, sym, subst}
 use Rattle.std.specs.Prelude.{All}
 use Rattle.std.proofs.lemmas.List.Elements.{All-head, All-rest}
-use Rattle.line_model.specs.Bounds.{IsItem}
+use Rattle.line_model.specs.basics.Bounds.{IsItem}
 use Rattle.channel_machine.proofs.tests.steps.step_through.Goals as goal
 
 pub loop-item-init : goal.loop-item-init

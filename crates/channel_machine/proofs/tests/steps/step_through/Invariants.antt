@@ -1,6 +1,6 @@
 use Rattle.std.specs.Prelude.{◌≡◌, All}
-use Rattle.line_model.specs.Bounds.{IsItem}
-use Rattle.line_model.specs.Channels.{Channel}
+use Rattle.line_model.specs.basics.Bounds.{IsItem}
+use Rattle.line_model.specs.channels.Channels.{Channel}
 use Rattle.channel_machine.proofs.tests.steps.step_through.Given as goal
 
 abbrev pub invariant-loop-item : goal.invariant-loop-item

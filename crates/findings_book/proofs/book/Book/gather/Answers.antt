@@ -4,7 +4,7 @@ use Rattle.line_model.specs.declared.totals.Totals.{Totals}
 use Rattle.std.proofs.lemmas.List.{map-id}
 use Rattle.std.proofs.lemmas.Iterator.Adapters.{YieldsList-from_vec}
 use Rattle.std.proofs.lemmas.Iterator.Consumers.{YieldsList-end}
-use Rattle.line_model.specs.Book.{sum_of}
+use Rattle.line_model.specs.work.Book.{sum_of}
 use Rattle.findings_book.proofs.book.Book.gather.Goals as goal
 
 pub returns-clause-shares : goal.returns-clause-shares

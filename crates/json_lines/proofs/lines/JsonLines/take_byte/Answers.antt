@@ -1,6 +1,6 @@
 use Rattle.std.proofs.Common.{◌≡◌, ◌∙◌, ◌<◌, [], ◌∷◌, ◌++◌, ap, subst, arith, length, take, refl}
 use Rattle.std.proofs.lemmas.Bool.Decides.{nat_tests}
-use Rattle.line_model.specs.Text.{begun_line}
+use Rattle.line_model.specs.text.Text.{begun_line}
 use Rattle.json_lines.specs.Json.{json_line, line_room}
 use Rattle.json_lines.specs.Written.{Puts}
 use Rattle.json_lines.proofs.JsonLemmas.{cut_more, cut_full, is_other}

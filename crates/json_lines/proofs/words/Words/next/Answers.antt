@@ -1,5 +1,5 @@
 use Rattle.std.proofs.Common.{◌∙◌, sym, ap}
-use Rattle.line_model.specs.Header.{words_of}
+use Rattle.line_model.specs.text.Header.{words_of}
 use Rattle.json_lines.specs.WordsLeft.{words_left}
 use Rattle.json_lines.proofs.CutLemmas.{words-found, words-none}
 use Rattle.json_lines.proofs.words.Words.next.Goals as goal

@@ -1,5 +1,5 @@
 use Rattle.std.proofs.Common.{◌≡◌, ◌∙◌, ap, sym, length, List, ◌==◌, rules}
-use Rattle.line_model.specs.Records.{Item}
+use Rattle.line_model.specs.basics.Records.{Item}
 use Rattle.line_model.proofs.ItemLemmas.{items-length}
 use Rattle.line_model.proofs.items.Items.is_empty.Goals as goal
 

@@ -1,6 +1,6 @@
 use Rattle.std.proofs.Common.{◌≡◌, ◌∙◌, ap, ap₂, refl, ℕ, List, [], ◌∷◌, ◌++◌, length, rules}
-use Rattle.line_model.specs.Records.{Item}
-use Rattle.line_model.specs.Items.{items_of}
+use Rattle.line_model.specs.basics.Records.{Item}
+use Rattle.line_model.specs.basics.Items.{items_of}
 use Rattle.line_model.specs.declared.items.Head.{Head}
 use Rattle.line_model.proofs.ItemLemmas.{items-push}
 use Rattle.line_model.proofs.items.Items.push.Goals as goal

@@ -1,7 +1,7 @@
 use Rattle.std.proofs.Common.{◌≡◌, ◌∙◌, ◌≤◌, List, sym, ap, subst, length, drop}
-use Rattle.line_model.specs.Device.{with_more}
-use Rattle.line_model.specs.Records.{Report}
-use Rattle.line_model.specs.Traces.{trace_report}
+use Rattle.line_model.specs.basics.Device.{with_more}
+use Rattle.line_model.specs.basics.Records.{Report}
+use Rattle.line_model.specs.traces.Traces.{trace_report}
 use Rattle.line_model.specs.declared.finding.Finding.{Finding}
 use Rattle.report_merge.specs.Parts.{findings_text, rest_text}
 use Rattle.live_report.specs.Found.{found_text}

@@ -1,7 +1,7 @@
 use Rattle.std.proofs.Common.{◌≡◌, ◌∙◌, ◌<◌, ◌++◌, List, [], Err, ap, subst, sym, refl, length, length-append, arith, rules}
 use Rattle.std.specs.Prelude.{IfErr}
 use Rattle.std.specs.Option.{option_to_list}
-use Rattle.line_model.specs.Text.{early}
+use Rattle.line_model.specs.text.Text.{early}
 use Rattle.line_model.specs.declared.fault.Fault.TheVariants.{Memory}
 use Rattle.line_model.specs.declared.finding.Finding.{Finding}
 use Rattle.restart_epochs.proofs.Taken.{on_ok}

@@ -1,5 +1,5 @@
 use Rattle.std.proofs.Common.{◌∙◌, ap, subst, sym}
-use Rattle.line_model.specs.Text.{early_rows, fault}
+use Rattle.line_model.specs.text.Text.{early_rows, fault}
 use Rattle.trace_text.specs.EndedPart.{ended_part}
 use Rattle.trace_text.specs.StandsFor.{IsFaultOf, StandsFor as IsReaderOf}
 use Rattle.trace_text.proofs.EndedLemmas.{part-header, part-rows}

@@ -1,5 +1,5 @@
 use Rattle.std.proofs.Common.{◌∙◌, ◌++◌, [], ap, subst}
-use Rattle.line_model.specs.Text.{early_rows, fault}
+use Rattle.line_model.specs.text.Text.{early_rows, fault}
 use Rattle.trace_text.specs.StandsFor.{IsFaultOf, last_row}
 use Rattle.live_report.specs.Observing.{AreRows}
 use Rattle.live_report.proofs.LiveLemmas.{nothing_seen, watching_of}

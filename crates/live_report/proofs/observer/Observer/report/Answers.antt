@@ -1,5 +1,5 @@
 use Rattle.std.proofs.Common.{◌∙◌, refl, map}
-use Rattle.line_model.specs.Plans.{value}
+use Rattle.line_model.specs.pieces.Plans.{value}
 use Rattle.restart_epochs.specs.Cutting.{given_of}
 use Rattle.restart_epochs.proofs.Listings.{listing}
 use Rattle.live_report.proofs.WholeLemmas.{of_walk}

@@ -1,7 +1,7 @@
 use Rattle.std.proofs.Common.{◌∙◌, ◌+◌, ap, refl, subst, sym}
-use Rattle.line_model.specs.Bounds.{IsPiece}
+use Rattle.line_model.specs.basics.Bounds.{IsPiece}
 use Rattle.restart_epochs.specs.OpenRows.{rows_of}
-use Rattle.line_model.specs.Report.{findings_of}
+use Rattle.line_model.specs.observer.Report.{findings_of}
 use Rattle.channel_machine.specs.Live.{channel_so_far}
 use Rattle.channel_machine.specs.Run.{row_events}
 use Rattle.live_report.specs.Lanes.{begun_piece}

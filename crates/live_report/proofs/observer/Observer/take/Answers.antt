@@ -1,9 +1,9 @@
 use Rattle.std.proofs.Common.{◌≡◌, ◌∙◌, ap, subst, sym, refl, ◌+◌, ◌++◌, ◌∷◌, [], length, map, Some}
 use Rattle.std.specs.Option.{option_to_list}
-use Rattle.line_model.specs.Bounds.{IsPiece}
-use Rattle.line_model.specs.Octets.{channel_of}
-use Rattle.line_model.specs.Plans.{value}
-use Rattle.line_model.specs.RestartMachine.{Routing}
+use Rattle.line_model.specs.basics.Bounds.{IsPiece}
+use Rattle.line_model.specs.basics.Octets.{channel_of}
+use Rattle.line_model.specs.pieces.Plans.{value}
+use Rattle.line_model.specs.channels.RestartMachine.{Routing}
 use Rattle.restart_epochs.specs.OpenRows.{rows_of}
 use Rattle.restart_epochs.specs.Cutting.{IsKeptOn, given_of, pieces_out, route_finding}
 use Rattle.restart_epochs.proofs.Listings.{bare, has_one_more, listing}

@@ -1,5 +1,5 @@
 use Rattle.std.proofs.Common.{◌++◌}
-use Rattle.line_model.specs.Text.{early_rows}
+use Rattle.line_model.specs.text.Text.{early_rows}
 use Rattle.trace_text.specs.StandsFor.{TakesRow}
 use Rattle.live_report.proofs.WatchLemmas.{header_stays, next_rows, watched_row}
 use Rattle.live_report.proofs.tests.findings.answers.Goals as goal

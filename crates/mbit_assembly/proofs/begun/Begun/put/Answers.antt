@@ -1,15 +1,15 @@
 use Rattle.std.proofs.Common.{◌≡◌, true, refl, sym, ◌∙◌, ap}
-use Rattle.line_model.specs.Channels.{Heard}
-use Rattle.line_model.specs.Sequences.{is_category_a}
+use Rattle.line_model.specs.channels.Channels.{AcceptedData}
+use Rattle.line_model.specs.channels.Sequences.{is_category_a}
 use Rattle.mbit_assembly.specs.Assembly.{heard, is_like}
-use Rattle.mbit_assembly.specs.Kept.{Kept}
+use Rattle.mbit_assembly.specs.Sequences.{SequenceView}
 use Rattle.mbit_assembly.proofs.Packets.{alike_is, holds_more, octets_more}
 use Rattle.mbit_assembly.proofs.begun.Begun.put.Goals as goal
 
 pub returns-then-is_category_a-clause-put : goal.returns-then-is_category_a-clause-put
 returns-then-is_category_a-clause-put g c gs h =
-    let p : Heard = heard c.args.side c.args.field.now in
-    let old : Kept = c.args.self.now in
+    let p : AcceptedData = heard c.args.side c.args.field.now in
+    let old : SequenceView = c.args.self.now in
     let like : is_like old.qualified p.qualified ≡ true = sym c.if-not-is_alike.ensures in
     let joined = c.in_ok-join.ensures in (
       alike_is old gs p h ∙ like,
@@ -19,8 +19,8 @@ returns-then-is_category_a-clause-put g c gs h =
 
 pub returns-clause-put : goal.returns-clause-put
 returns-clause-put g c gs h =
-    let p : Heard = heard c.args.side c.args.field.now in
-    let old : Kept = c.args.self.now in
+    let p : AcceptedData = heard c.args.side c.args.field.now in
+    let old : SequenceView = c.args.self.now in
     let like : is_like old.qualified p.qualified ≡ true = sym c.if-not-is_alike.ensures in
     let finished = c.in_ok-octets.ensures in (
       alike_is old gs p h ∙ like,

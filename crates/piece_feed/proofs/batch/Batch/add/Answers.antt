@@ -1,7 +1,7 @@
 use Rattle.std.proofs.Common.{◌≡◌, ◌∙◌, ◌++◌, ◌∷◌, [], ap, subst, sym, rules}
 use Rattle.std.specs.Prelude.{All}
 use Rattle.std.proofs.lemmas.List.Elements.{All-push}
-use Rattle.line_model.specs.Classes.{packet_of}
+use Rattle.line_model.specs.packets.Classes.{packet_of}
 use Rattle.restart_epochs.proofs.Taken.{on_ok}
 use Rattle.piece_feed.specs.Batches.{HasPacket}
 use Rattle.piece_feed.proofs.batch.Batch.add.Goals as goal

@@ -1,5 +1,5 @@
 use Rattle.std.proofs.Common.{◌≡◌, ◌∙◌, ◌+◌, ◌++◌, ap, sym, length, Some}
-use Rattle.line_model.specs.Text.{early_head}
+use Rattle.line_model.specs.text.Text.{early_head}
 use Rattle.trace_text.specs.Progress.{bytes_fed}
 use Rattle.trace_text.specs.StandsFor.{TakesRow}
 use Rattle.piece_feed.proofs.PartReads.{come_row, come_text}

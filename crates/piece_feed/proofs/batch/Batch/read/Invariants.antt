@@ -1,6 +1,6 @@
 use Rattle.std.proofs.Common.{◌≡◌, ◌+◌, ◌++◌, ℕ, List, length, Some}
 use Rattle.std.specs.Prelude.{All}
-use Rattle.line_model.specs.Text.{early_head}
+use Rattle.line_model.specs.text.Text.{early_head}
 use Rattle.line_model.specs.declared.interface.Interface.{Interface}
 use Rattle.trace_text.specs.Progress.{bytes_fed}
 use Rattle.trace_text.specs.StandsFor.{StandsFor}

@@ -1,6 +1,6 @@
 use Rattle.std.proofs.lemmas.Grind.{common_steps}
 use Rattle.std.proofs.Common.{◌++◌, List, ℕ, subst, append_assoc, arith}
-use Rattle.line_model.specs.Report.{account_line}
+use Rattle.line_model.specs.observer.Report.{account_line}
 use Rattle.report_merge.specs.Written.{Writes}
 use Rattle.report_merge.proofs.WrittenLemmas.{lines_more}
 use Rattle.report_merge.proofs.chunk.Chunk.accounts.Goals as goal

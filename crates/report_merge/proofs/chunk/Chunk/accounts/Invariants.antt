@@ -1,6 +1,6 @@
 use Rattle.std.proofs.Common.{◌≡◌, ℕ, List, ◌++◌, Option, drop}
 use Rattle.std.specs.List.{flat_map}
-use Rattle.line_model.specs.Report.{account_line}
+use Rattle.line_model.specs.observer.Report.{account_line}
 use Rattle.report_merge.specs.Written.{Writes}
 use Rattle.report_merge.proofs.chunk.Chunk.accounts.Given as goal
 

@@ -1,7 +1,7 @@
 use Rattle.std.proofs.Common.{◌+◌, ◌++◌, List, ℕ, subst, append_assoc, [], refl, sym, ap, ◌∙◌}
 use Rattle.std.proofs.lemmas.List.{append-nil}
 use Rattle.std.specs.List.{flat_map}
-use Rattle.line_model.specs.Report.{setting_line, setting_lines}
+use Rattle.line_model.specs.observer.Report.{setting_line, setting_lines}
 use Rattle.report_merge.specs.Written.{Writes}
 use Rattle.report_merge.proofs.WrittenLemmas.{numbered_more}
 use Rattle.report_merge.proofs.chunk.Chunk.all_settings.Goals as goal

@@ -1,5 +1,5 @@
 use Rattle.std.proofs.Common.{◌∷◌, ◌++◌, ◌∙◌, [], List, ℕ, subst, ap, codes, decimal}
-use Rattle.line_model.specs.Report.{line, call_line, direction_word, address_word, number_word}
+use Rattle.line_model.specs.observer.Report.{line, call_line, direction_word, address_word, number_word}
 use Rattle.report_merge.specs.Written.{Writes}
 use Rattle.report_merge.proofs.WrittenLemmas.{line_after}
 use Rattle.report_merge.proofs.chunk.Chunk.call.Goals as goal

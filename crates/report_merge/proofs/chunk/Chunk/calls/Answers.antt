@@ -1,6 +1,6 @@
 use Rattle.std.proofs.Common.{◌+◌, ◌++◌, List, ℕ, subst, append_assoc, [], refl, sym}
 use Rattle.std.proofs.lemmas.List.{append-nil}
-use Rattle.line_model.specs.Report.{call_line}
+use Rattle.line_model.specs.observer.Report.{call_line}
 use Rattle.report_merge.specs.Written.{Writes}
 use Rattle.report_merge.proofs.WrittenLemmas.{numbered_more}
 use Rattle.report_merge.proofs.chunk.Chunk.calls.Goals as goal

@@ -1,6 +1,6 @@
 use Rattle.std.proofs.Common.{◌≡◌, ℕ, ◌+◌, List, ◌++◌, Option, drop}
 use Rattle.std.specs.List.{flat_map, enumerate_from}
-use Rattle.line_model.specs.Report.{call_line}
+use Rattle.line_model.specs.observer.Report.{call_line}
 use Rattle.report_merge.specs.Written.{Writes}
 use Rattle.report_merge.proofs.chunk.Chunk.calls.Given as goal
 

@@ -1,6 +1,6 @@
 use Rattle.std.proofs.Common.{◌≡◌, ℕ, List, ◌++◌, Option, drop}
 use Rattle.std.specs.List.{flat_map}
-use Rattle.line_model.specs.Report.{finding_line}
+use Rattle.line_model.specs.observer.Report.{finding_line}
 use Rattle.report_merge.specs.Written.{Writes}
 use Rattle.report_merge.proofs.chunk.Chunk.findings.Given as goal
 

@@ -1,5 +1,5 @@
 use Rattle.std.proofs.Common.{◌++◌, ◌∙◌, subst, ap, append_assoc}
-use Rattle.line_model.specs.Records.{Report}
+use Rattle.line_model.specs.basics.Records.{Report}
 use Rattle.report_merge.specs.Parts.{findings_text, rest_text}
 use Rattle.report_merge.specs.Written.{Writes}
 use Rattle.report_merge.proofs.WrittenLemmas.{two_parts}

@@ -1,9 +1,9 @@
 use Rattle.std.proofs.Common.{◌≡◌, ◌++◌, ◌∙◌, List, ℕ, subst, ap, append_assoc}
 use Rattle.std.specs.List.{flat_map, enumerate_from}
-use Rattle.line_model.specs.Records.{CallRecord}
+use Rattle.line_model.specs.basics.Records.{CallRecord}
 use Rattle.line_model.specs.declared.call.Account.{Account}
-use Rattle.line_model.specs.Records.{Report}
-use Rattle.line_model.specs.Report.{call_line, setting_lines, account_line, peak_line, summary_line}
+use Rattle.line_model.specs.basics.Records.{Report}
+use Rattle.line_model.specs.observer.Report.{call_line, setting_lines, account_line, peak_line, summary_line}
 use Rattle.report_merge.specs.Parts.{rest_text}
 use Rattle.report_merge.specs.Written.{Writes}
 use Rattle.report_merge.proofs.chunk.Chunk.rest.Goals as goal

@@ -1,6 +1,6 @@
 use Rattle.std.proofs.lemmas.Grind.{common_steps}
 use Rattle.std.proofs.Common.{arith}
-use Rattle.line_model.specs.Report.{setting_line}
+use Rattle.line_model.specs.observer.Report.{setting_line}
 use Rattle.report_merge.specs.Written.{Writes}
 use Rattle.report_merge.proofs.WrittenLemmas.{turn}
 use Rattle.report_merge.proofs.chunk.Chunk.settings.Goals as goal

@@ -1,6 +1,6 @@
 use Rattle.std.proofs.Common.{◌≡◌, ℕ, List, ◌++◌, Option, drop}
 use Rattle.std.specs.List.{flat_map}
-use Rattle.line_model.specs.Report.{setting_line}
+use Rattle.line_model.specs.observer.Report.{setting_line}
 use Rattle.report_merge.specs.Written.{Writes}
 use Rattle.report_merge.proofs.chunk.Chunk.settings.Given as goal
 

@@ -1,11 +1,11 @@
 use Rattle.std.proofs.Common.{◌∙◌, ap, subst, List, ◌++◌}
 use Rattle.std.specs.List.Sorted.{IsPermutation}
 use Rattle.std.proofs.lemmas.List.Sorted.{IsPermutation-append_comm, IsPermutation-trans}
-use Rattle.line_model.specs.Records.{CallRecord}
+use Rattle.line_model.specs.basics.Records.{CallRecord}
 use Rattle.line_model.specs.declared.finding.Finding.{Finding}
-use Rattle.line_model.specs.Accounts.{accounts_of}
-use Rattle.line_model.specs.Calls.{up_at}
-use Rattle.line_model.specs.Peak.{IsPeakOfTimes}
+use Rattle.line_model.specs.observer.Accounts.{accounts_of}
+use Rattle.line_model.specs.observer.Calls.{up_at}
+use Rattle.line_model.specs.observer.Peak.{IsPeakOfTimes}
 use Rattle.report_merge.specs.Gathered.{piece_findings}
 use Rattle.report_merge.proofs.OfWalk.{report_is}
 use Rattle.report_merge.proofs.parts.Parts.finish.Goals as goal

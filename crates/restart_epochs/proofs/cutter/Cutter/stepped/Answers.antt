@@ -1,6 +1,6 @@
 use Rattle.std.proofs.Common.{◌≡◌, ◌∙◌, length, rules}
-use Rattle.line_model.specs.Classes.{packet_class}
-use Rattle.line_model.specs.RestartMachine.{line_step}
+use Rattle.line_model.specs.packets.Classes.{packet_class}
+use Rattle.line_model.specs.channels.RestartMachine.{line_step}
 use Rattle.restart_epochs.proofs.cutter.Cutter.stepped.Goals as goal
 
 pub returns : goal.returns

@@ -1,6 +1,6 @@
 use Rattle.std.proofs.Common.{◌≡◌, ◌∙◌, ap, subst, refl, rules}
-use Rattle.line_model.specs.RestartMachine.{Routing}
-use Rattle.line_model.specs.Octets.{channel_of}
+use Rattle.line_model.specs.channels.RestartMachine.{Routing}
+use Rattle.line_model.specs.basics.Octets.{channel_of}
 use Rattle.restart_epochs.specs.Cutting.{IsKeptOn, route_finding}
 use Rattle.restart_epochs.proofs.Routes.{is_to_channel, is_quiet}
 use Rattle.restart_epochs.proofs.Taken.{on_ok, on_ok_both, on_channel_taken, quietly_taken, entering_taken, leaving_taken}

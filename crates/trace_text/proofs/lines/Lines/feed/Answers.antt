@@ -1,5 +1,5 @@
 use Rattle.std.proofs.Common.{Err, ◌++◌}
-use Rattle.line_model.specs.Text.{early_rows}
+use Rattle.line_model.specs.text.Text.{early_rows}
 use Rattle.trace_text.proofs.RefusalLemmas.{told-of}
 use Rattle.trace_text.proofs.lines.Lines.feed.Goals as goal
 

@@ -1,5 +1,5 @@
 use Rattle.std.proofs.Common.{◌≡◌, ◌∙◌, refl, ap, Some}
-use Rattle.window_check.specs.Kept.{word_of}
+use Rattle.window_check.specs.FlowResidues.{word_of}
 use Rattle.window_check.specs.Packed.{kept_in}
 use Rattle.window_check.specs.FlowFields.{kept}
 use Rattle.window_check.proofs.WordLemmas.{word_of-keeps, word_of-kept_in, parts_of, range_read}

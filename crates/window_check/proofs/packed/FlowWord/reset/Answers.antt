@@ -1,6 +1,6 @@
 use Rattle.std.proofs.Common.{ap, sym, subst}
-use Rattle.line_model.specs.FlowControl.{no_counts}
-use Rattle.window_check.specs.Kept.{Stands}
+use Rattle.line_model.specs.channels.FlowControl.{no_counts}
+use Rattle.window_check.specs.FlowResidues.{Stands}
 use Rattle.window_check.proofs.WordLemmas.{Keeps, nothing_sent, cleared, nothing_stands}
 use Rattle.window_check.proofs.packed.FlowWord.reset.Goals as goal
 

@@ -1,5 +1,5 @@
 use Rattle.std.proofs.Common.{sym, subst, refl}
-use Rattle.line_model.specs.Book.{IsValue}
+use Rattle.line_model.specs.work.Book.{IsValue}
 use Rattle.line_model.proofs.Posts.{value_is}
 use Rattle.workers.proofs.handler.PostingHandlerShare.handle.Goals as goal
 

@@ -1,0 +1,30 @@
+-- How large the parts of a trace may be.
+use Rattle.std.specs.Prelude.{◌≡◌, ◌≤◌, ℕ, ◌+◌, ◌^◌, List, length, sum_by, All}
+use Rattle.line_model.specs.declared.interface.Interface.{Interface}
+use Rattle.line_model.specs.declared.finding.Finding.{Finding}
+use Rattle.line_model.specs.basics.Records.{Item, CallRecord}
+use Rattle.line_model.specs.basics.Octets.{channel_of}
+use Rattle.line_model.specs.packets.Classes.{packet_of}
+
+-- a row of channel k, with the packet that its octets are
+pub record IsItem (i : Interface) (k : ℕ) (item : Item) : Type 0 where
+  pub packet : item.packet ≡ packet_of i item.row.octets
+  pub channel : channel_of item.row.octets ≡ k
+
+-- the octets of some rows, all together
+abbrev pub all_octets : List Item → ℕ
+all_octets items = sum_by (λ i. length i.row.octets) items
+
+-- the rows of a piece of channel k
+pub record IsPiece (i : Interface) (k : ℕ) (items : List Item) : Type 0 where
+  pub few_rows : length items ≤ 2 ^ 31
+  pub few_octets : all_octets items ≤ 2 ^ 31
+  pub packets : All (IsItem i k) items
+
+-- what a piece may be worth: so many octets and segments, of which its calls count no more
+pub record IsPieceReport (findings : List Finding) (calls : List CallRecord) (octets segments : ℕ) : Type 0 where
+  pub few_findings : length findings ≤ 2 ^ 31
+  pub few_octets : octets ≤ 2 ^ 31
+  pub few_segments : segments ≤ 2 ^ 31
+  pub call_octets : sum_by (λ c. c.oct_t + c.oct_n) calls ≤ octets
+  pub call_segments : sum_by (λ c. c.segments) calls ≤ segments

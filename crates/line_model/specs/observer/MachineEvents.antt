@@ -1,0 +1,39 @@
+-- The events of a machine's walk, each with its row, its epoch and its channel.
+use Rattle.std.specs.Prelude.{ℕ, Bool, true, false, Option, Some, None, List, [], ◌∷◌, ◌++◌, map}
+use Rattle.std.specs.List.{flat_map}
+use Rattle.line_model.specs.observer.Machine.{Machine, Observer, routed, after}
+
+-- an event with its row and with the epoch and the channel that it belongs to; a line event has no channel
+pub record RowEvent (X E : Type 0) : Type 0 where
+  pub epoch : ℕ
+  pub channel : Option ℕ
+  pub row : X
+  pub what : E
+
+-- contents with their epoch, channel and row
+abbrev pub stamp : {X E : Type 0} → ℕ → Option ℕ → X → List E → List (RowEvent X E)
+stamp e c x ws = map (λ w. record { epoch = e; channel = c; row = x; what = w }) ws
+
+-- a line that was ready and is no more closes each channel
+abbrev pub closed_events : {X L S E : Type 0} → Machine X L S E → Observer L S → X → Bool → Bool → List (RowEvent X E)
+closed_events m o x true false = flat_map (λ k. stamp o.epoch (Some k) x (m.closing_events o.epoch k (o.states k) x)) m.channels
+closed_events m o x _ _ = []
+
+-- the events of a row that steps a channel, or the line part
+abbrev pub row_events_routed : {X L S E : Type 0} → Machine X L S E → Observer L S → X → Option ℕ → List (RowEvent X E)
+row_events_routed m o x (Some k) = stamp o.epoch (Some k) x (m.channel_events o.epoch k (o.states k) x)
+row_events_routed m o x None = stamp o.epoch None x (m.line_events o.epoch o.line x) ++ closed_events m o x (m.ready o.line) (m.ready (m.line_after o.line x))
+
+-- the events of a row
+abbrev pub row_events : {X L S E : Type 0} → Machine X L S E → Observer L S → X → List (RowEvent X E)
+row_events m o x = row_events_routed m o x (routed m o.line x)
+
+-- the events of the walk, in order
+abbrev pub walk_events : {X L S E : Type 0} → Machine X L S E → Observer L S → List X → List (RowEvent X E)
+walk_events m o [] = []
+walk_events m o (x ∷ xs) = row_events m o x ++ walk_events m (after m o x) xs
+
+-- each row with its events, in order
+abbrev pub told : {X L S E : Type 0} → Machine X L S E → Observer L S → List X → List (X × List (RowEvent X E))
+told m o [] = []
+told m o (x ∷ xs) = (x, row_events m o x) ∷ told m (after m o x) xs

@@ -1,0 +1,27 @@
+-- Lists of rows in which the order of the rows of different channels was changed.
+use Rattle.std.specs.Prelude.{◌≡◌, ℕ, Bool, false, ◌==◌, Option, Some, None, List, ◌∷◌, ◌++◌}
+use Rattle.std.specs.List.{filter}
+use Rattle.std.specs.List.Sorted.{IsPermutation}
+use Rattle.line_model.specs.observer.Machine.{Machine, Observer, walk, Changes}
+use Rattle.line_model.specs.observer.MachineEvents.{told}
+
+-- whether a row is one of channel k
+abbrev pub is_channel : ℕ → Option ℕ → Bool
+is_channel k (Some j) = j == k
+is_channel k None = false
+
+-- the rows of channel k, in order
+abbrev pub rows_on : {X L S E : Type 0} → Machine X L S E → ℕ → List X → List X
+rows_on m k xs = filter (λ x. is_channel k (m.channel x)) xs
+
+-- the same rows; a row that changes the line has the same rows before it; the rows of a channel keep their order
+pub record IsShuffle {X L S E : Type 0} (m : Machine X L S E) (start : Observer L S) (xs ys : List X) : Type 0 where
+  pub same_rows : IsPermutation xs ys
+  pub same_before : (before : List X) (x : X) (behind : List X) → xs ≡ before ++ x ∷ behind → Changes m (walk m start before).line x
+      → (before' : List X) × (behind' : List X) × (ys ≡ before' ++ x ∷ behind') × IsPermutation before before'
+  pub same_order : (k : ℕ) → rows_on m k ys ≡ rows_on m k xs
+
+-- each row has the same events in both walks, and both end in one observer
+pub record SameWalks {X L S E : Type 0} (m : Machine X L S E) (start : Observer L S) (xs ys : List X) : Type 0 where
+  pub events : IsPermutation (told m start xs) (told m start ys)
+  pub observer : walk m start ys ≡ walk m start xs

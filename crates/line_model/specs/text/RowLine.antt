@@ -1,0 +1,64 @@
+-- A row's line: `number side hex`.
+use Rattle.std.specs.Prelude.{ℕ, Bool, ◌==◌, ◌&&◌, nat_le, nat_lt, not, List, [], ◌∷◌, length, Option, Some, None, codes, if◌then◌else◌, is_none}
+use Rattle.std.specs.Option.{option_and_then}
+use Rattle.std.specs.Result.{result_ok}
+use Rattle.std.specs.Str.{bytes_eq}
+use Rattle.hex.specs.Hex.{decode_of}
+use Rattle.line_model.specs.text.Header.{words_of, number_of}
+use Rattle.line_model.specs.declared.state.Side.{Side}
+use Rattle.line_model.specs.declared.state.Side.TheVariants.{T, N}
+use Rattle.line_model.specs.declared.fault.Kind.{Kind}
+use Rattle.line_model.specs.declared.fault.Kind.TheVariants.{LineForm, Number, Side as SideKind, Hex}
+use Rattle.line_model.specs.basics.Records.{Row}
+
+-- three words that aren't empty
+pub record RowWords : Type 0 where
+  pub number : List ℕ
+  pub side : List ℕ
+  pub hex : List ℕ
+
+-- whether none of three words is empty
+abbrev pub is_row_words : List ℕ → List ℕ → List ℕ → Bool
+is_row_words number side hex = not (length number == 0) && (not (length side == 0) && not (length hex == 0))
+
+-- three words, none of them empty
+abbrev pub row_words_in : List (List ℕ) → Option RowWords
+row_words_in (number ∷ side ∷ hex ∷ []) = if is_row_words number side hex then Some (record { number = number; side = side; hex = hex }) else None
+row_words_in _ = None
+
+-- the three words of a row's line
+unfoldable pub row_words : List ℕ → Option RowWords
+row_words line = row_words_in (words_of line)
+
+-- numbers rise from row to row, and 0 is none
+abbrev pub rising_number : ℕ → List ℕ → Option ℕ
+rising_number last word = option_and_then (λ n. if nat_lt last n then Some n else None) (number_of word)
+
+-- the side that a word names
+abbrev pub side_of : List ℕ → Option Side
+side_of word = if bytes_eq word (codes "T") then Some T else if bytes_eq word (codes "N") then Some N else None
+
+-- `-` for no octets, else two digits for each of at most 4200
+unfoldable pub octets_of : List ℕ → Option (List ℕ)
+octets_of word =
+    if bytes_eq word (codes "-") then Some []
+    else option_and_then (λ octets. if nat_le (length octets) 4200 then Some octets else None) (result_ok (decode_of word))
+
+-- the first rule that the words break, after a row with the number `last`, or 0
+abbrev pub words_kind : ℕ → RowWords → Option Kind
+words_kind last words =
+    if is_none (rising_number last words.number) then Some Number
+    else if is_none (side_of words.side) then Some SideKind
+    else if is_none (octets_of words.hex) then Some Hex
+    else None
+
+-- the first rule that a row's line breaks, after a row with the number `last`, or 0
+unfoldable pub row_kind : ℕ → List ℕ → Option Kind
+row_kind last line = elim (row_words line) [ None ↦ Some LineForm | Some words ↦ words_kind last words ]
+
+-- the row that a line without a fault writes
+unfoldable pub row_of : List ℕ → Option Row
+row_of line =
+    option_and_then (λ words. option_and_then (λ number. option_and_then (λ side. option_and_then (λ octets.
+    Some (record { number = number; side = side; octets = octets }))
+    (octets_of words.hex)) (side_of words.side)) (number_of words.number)) (row_words line)

@@ -1,0 +1,4 @@
+pub mod Traces
+pub mod WorkedTexts
+pub mod WorkedReports
+pub mod WorkedTraces

@@ -1,0 +1,43 @@
+//! The pieces of an epoch that has ended.
+
+ghost use Rattle.std.specs.Prelude.{◌≡◌, ℕ, ◌<◌, ◌≤◌, ◌+◌, ◌^◌, ◌++◌, [], length};
+ghost use Rattle.std.specs.Vec.{vec_len, vec_capacity};
+ghost use Rattle.line_model.specs.basics.Bounds.{IsPiece};
+ghost use Rattle.restart_epochs.specs.OpenRows.{rows_of};
+ghost use Rattle.restart_epochs.specs.Cutting.{pieces_out, IsEmptied};
+
+use crate::open_epoch::OpenEpoch;
+use line_model::interface::Interface;
+use line_model::piece::Piece;
+use std::alloc::Allocator;
+
+/// Gives out the pieces of the open epoch, by their channels, with ids from `first` on. The list has room for them.
+pub fn give_out<A: Allocator + Copy>(
+    interface: &Interface,
+    epoch: u32,
+    end: Option<u32>,
+    first: u32,
+    epoch_rows: &mut OpenEpoch<A>,
+    out: &mut Vec<Piece<A>, A>,
+)
+    requires room { vec_len out.old + length epoch_rows.old.channels ≤ vec_capacity out.old }
+    requires ids { first + length epoch_rows.old.channels < 2 ^ 32 }
+    requires pieces { (k : ℕ) → IsPiece interface.now k (rows_of epoch_rows.old k) }
+    ensures given { out.new.items ≡ out.old.items ++ pieces_out interface.now epoch end (rows_of epoch_rows.old) first epoch_rows.old.channels }
+    ensures channels { epoch_rows.new.channels ≡ [] }
+    ensures emptied { IsEmptied epoch_rows.old epoch_rows.new }
+{
+    let mut id = first;
+    while let Some((channel, items)) = epoch_rows.pop_first() {
+        let piece = Piece {
+            id,
+            interface: *interface,
+            epoch,
+            channel,
+            items,
+            end,
+        };
+        out.push_reserved(piece);
+        id += 1;
+    }
+}
