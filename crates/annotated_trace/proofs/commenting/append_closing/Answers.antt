@@ -1,6 +1,7 @@
-use Rattle.annotated_trace.proofs.CommentLemmas.{notes_alone, on_ok}
+use Rattle.annotated_trace.proofs.CommentLemmas.{notes_alone}
 use Rattle.annotated_trace.specs.Wording.{notes_of}
 use Rattle.annotated_trace.proofs.commenting.append_closing.Goals as goal
+use Rattle.trace_text.proofs.FeedLemmas.{on_ok}
 
 pub returns-clause-ok : goal.returns-clause-ok
 returns-clause-ok g c =
