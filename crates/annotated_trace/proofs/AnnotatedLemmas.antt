@@ -81,7 +81,7 @@ line_annotated choice x front end begun sent held line now findings e one b h ca
 
 -- ---- where a line is faulty
 
-some_same : {T : Type 0} (a b : T) → Some a ≡ Some b → a ≡ b
+pub some_same : {T : Type 0} (a b : T) → Some a ≡ Some b → a ≡ b
 some_same a b h = cc
 
 fault_begun : (x more : List ℕ) (at : ℕ × Kind) → early x ≡ None → IsOneLine more → early (x ++ more) ≡ Some at → at.0 ≡ length (ended_lines x) + 1

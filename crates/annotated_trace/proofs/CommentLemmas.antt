@@ -16,18 +16,11 @@ use Rattle.annotated_trace.proofs.LinesOfText.{text_append}
 use Rattle.annotated_trace.proofs.MarkLemmas.{marks_in-append}
 use Rattle.annotated_trace.proofs.MarkingLemmas.{both_comments}
 use Rattle.annotated_trace.proofs.WordingLemmas.{notes_are_comments, notes_mark_nothing}
-
-pub on_ok : {T E : Type 0} (r : Result T E) (P Q : Type 0) → OnOk r P → (P → Q) → OnOk r Q
-on_ok (Ok x) P Q h k = k h
-on_ok (Err e) P Q h k = tt
+use Rattle.trace_text.proofs.FeedLemmas.{on_err, on_ok}
 
 pub always : {T E : Type 0} (r : Result T E) (P : Type 0) → P → OnOk r P
 always (Ok x) P h = h
 always (Err e) P h = tt
-
-pub on_err : {T E : Type 0} (r : Result T E) (P Q : E → Type 0) → IfErr r P → ((e : E) → P e → Q e) → IfErr r Q
-on_err (Ok x) P Q h k = tt
-on_err (Err e) P Q h k = k e h
 
 pub memory_of : (at : Option (ℕ × Kind)) (f : Fault) → f ≡ Memory → IsFaultOf at f
 memory_of at f h = subst (IsFaultOf at) (sym h) tt

@@ -14,46 +14,28 @@ use Rattle.line_model.specs.declared.fault.Fault.TheVariants.{Memory, Trace, Rea
 use Rattle.line_model.specs.declared.fault.Kind.{Kind}
 use Rattle.line_model.specs.declared.fault.Kind.TheVariants.{HeaderMissing, TextLarge}
 use Rattle.line_model.specs.declared.totals.Summary.{Summary}
-use Rattle.line_model.proofs.FinalFaults.{early-ended, one_fault}
+use Rattle.line_model.proofs.FinalFaults.{early-ended, one_fault, both_none}
 use Rattle.line_model.proofs.TextLemmas.{begun-lf, ended-lf, first_fault-append, size_kind-none, size_of-append, size_of-ended}
-use Rattle.trace_text.proofs.FeedLemmas.{early-none, no_fault, size-sound}
+use Rattle.trace_text.proofs.FeedLemmas.{early-none, no_fault, size-sound, size_less, on_err}
 use Rattle.line_model.proofs.LineLemmas.{size_kind-zero}
-use Rattle.report_merge.proofs.WrittenLemmas.{with_more-append}
 use Rattle.annotated_trace.specs.Annotation.{AreComments, IsAnnotation, IsAnnotationOf, marks_in}
 use Rattle.annotated_trace.specs.Annotators.{HasAnnotated, HasFirstOf, IsAnnotated, IsCloseRefusal, IsEndRefusal, IsFull}
 use Rattle.annotated_trace.specs.Marking.{HasClosing, HasFirstOfClosing}
 use Rattle.trace_text.specs.StandsFor.{IsFaultOf}
 use Rattle.annotated_trace.specs.Watched.{IsReportOf}
 use Rattle.annotated_trace.specs.declared.choice.Choice.{Choice}
-use Rattle.annotated_trace.proofs.SameReport.{head_all, rows_all}
-
-some_same : {T : Type 0} (a b : T) → Some a ≡ Some b → a ≡ b
-some_same a b h = cc
-
-both_none : {T : Type 0} (a b : Option T) → option_or a b ≡ None → (a ≡ None) × (b ≡ None)
-both_none None b h = (refl, h)
-both_none (Some x) b h = absurd (cc)
+use Rattle.trace_text.proofs.EndLemmas.{one_line, one_kind, fault-last, head-sound, rows-all}
+use Rattle.annotated_trace.proofs.AnnotatedLemmas.{some_same}
+use Rattle.line_model.proofs.DeviceLemmas.{with_more-append}
 
 -- ---- the same lines
-
-last_there : (b : Line) → 0 < length b → line_or_none b ≡ b ∷ []
-last_there [] h = absurd (omega (arith, h))
-last_there (c ∷ b) h = refl
-
-kind_there : (es : List Line) (b : Line) → 0 < length b → begun_kind es b ≡ line_kind es 0 b
-kind_there es [] h = absurd (omega (arith, h))
-kind_there es (c ∷ b) h = refl
 
 pub same_lines : (x : List ℕ) → 0 < length (begun_line x) → lines_of (x ++ 10 ∷ []) ≡ lines_of x
 same_lines x some =
     ap (λ es. es ++ line_or_none (begun_line (x ++ 10 ∷ []))) (ended-lf x) ∙ ap (λ b. (ended_lines x ++ begun_line x ∷ []) ++ line_or_none b) (begun-lf x)
-    ∙ append-nil (ended_lines x ++ begun_line x ∷ []) ∙ ap (λ ls. ended_lines x ++ ls) (sym (last_there (begun_line x) some))
+    ∙ append-nil (ended_lines x ++ begun_line x ∷ []) ∙ ap (λ ls. ended_lines x ++ ls) (sym (one_line (begun_line x) some))
 
 -- ---- the same fault
-
-size_less : (start len : ℕ) → size_kind start 1 len ≡ None → size_kind start 0 len ≡ None
-unfolding size_kind
-size_less start len h = grind (arith, nat_tests)
 
 kind_less : (es : List Line) (l : Line) → line_kind es 1 l ≡ None → line_kind es 0 l ≡ None
 kind_less es l h =
@@ -84,7 +66,7 @@ sound_fault x sound h =
 pub same_fault : (x : List ℕ) → 0 < length (begun_line x) → early x ≡ None → early (x ++ 10 ∷ []) ≡ None → fault (x ++ 10 ∷ []) ≡ fault x
 same_fault x some before sound =
     let kind : begun_kind (ended_lines x) (begun_line x) ≡ None =
-    kind_there (ended_lines x) (begun_line x) some ∙ kind_less (ended_lines x) (begun_line x) (one_sound (ended_lines x) (begun_line x) (sym (last_line x before) ∙ no_fault (x ++ 10 ∷ []) sound)) in
+    one_kind (ended_lines x) (begun_line x) some ∙ kind_less (ended_lines x) (begun_line x) (one_sound (ended_lines x) (begun_line x) (sym (last_line x before) ∙ no_fault (x ++ 10 ∷ []) sound)) in
     sound_fault (x ++ 10 ∷ []) sound (ap (begun_kind (ended_lines (x ++ 10 ∷ []))) (begun-lf x)) ∙ ap missing (same_lines x some) ∙ sym (sound_fault x before kind)
 
 -- ---- where the LF breaks a rule
@@ -103,12 +85,6 @@ lf_large : (start len : ℕ) (kind : Kind) → size_kind start 0 len ≡ None �
 unfolding size_kind
 lf_large start len kind h k = grind (arith, nat_tests)
 
-last_fault : (x : List ℕ) (kind : Kind) → early x ≡ None → begun_kind (ended_lines x) (begun_line x) ≡ Some kind → fault x ≡ Some (length (ended_lines x) + 1, kind)
-unfolding fault
-last_fault x kind sound h =
-    ap (λ o. option_or o (end_kind (ended_lines x) (begun_line x))) (no_fault x sound)
-    ∙ ap (λ (o : Option Kind). option_or (option_map (λ kind. (length (ended_lines x) + 1, kind)) o) (elim (content_of (lines_of x)) as (λ _. Option (ℕ × Kind)) [ [] ↦ Some (length (lines_of x) + 1, HeaderMissing) | l ∷ ms ↦ None ])) h
-
 line_refused : (x : List ℕ) (line : ℕ) (kind : Kind) → 0 < length (begun_line x) → early x ≡ None → line ≡ length (ended_lines x) + 1 → line_kind (ended_lines x) 1 (begun_line x) ≡ Some kind → (fault x ≡ Some (line, kind)) ⊎ IsFull x kind
 line_refused x line kind some sound at h = by_size (size_kind (size_of (ended_lines x)) 1 (length (begun_line x))) refl
   where
@@ -119,8 +95,8 @@ line_refused x line kind some sound at h = by_size (size_kind (size_of (ended_li
     by_size None e =
         let form : form_kind (ended_lines x) (begun_line x) ≡ Some kind = sym (ap (λ o. option_or o (form_kind (ended_lines x) (begun_line x))) e) ∙ h in
         let begun : begun_kind (ended_lines x) (begun_line x) ≡ Some kind =
-        kind_there (ended_lines x) (begun_line x) some ∙ ap (λ o. option_or o (form_kind (ended_lines x) (begun_line x))) less ∙ form in
-        inl (last_fault x kind sound begun ∙ ap (λ n. Some (n, kind)) (sym at))
+        one_kind (ended_lines x) (begun_line x) some ∙ ap (λ o. option_or o (form_kind (ended_lines x) (begun_line x))) less ∙ form in
+        inl (fault-last x kind sound begun ∙ ap (λ n. Some (n, kind)) (sym at))
     by_size (Some other) e =
         let large = lf_large (size_of (ended_lines x)) (length (begun_line x)) other less e in
         let same : other ≡ kind = some_same other kind (sym (ap (λ o. option_or o (form_kind (ended_lines x) (begun_line x))) e) ∙ h) in
@@ -221,8 +197,8 @@ same_annotation choice x bytes some a = record {
 same_sums : (x : List ℕ) → 0 < length (begun_line x) → fault x ≡ None → fault (x ++ 10 ∷ []) ≡ None → trace_summary (x ++ 10 ∷ []) ≡ trace_summary x
 same_sums x some h k =
     let y = x ++ 10 ∷ [] in
-    let header : head y ≡ head x = head_all y k ∙ ap head_of (same_lines x some) ∙ sym (head_all x h) in
-    let rs : rows y ≡ rows x = rows_all y k ∙ ap rows_in (same_lines x some) ∙ sym (rows_all x h) in
+    let header : head y ≡ head x = head-sound y k ∙ ap head_of (same_lines x some) ∙ sym (head-sound x h) in
+    let rs : rows y ≡ rows x = rows-all y k ∙ ap rows_in (same_lines x some) ∙ sym (rows-all x h) in
     ap (λ o. elim o as (λ _. Summary) [ None ↦ no_summary | Some i ↦ (report_of i (rows y)).summary ]) header ∙ ap (λ l. elim (head x) as (λ _. Summary) [ None ↦ no_summary | Some i ↦ (report_of i l).summary ]) rs
 
 pub same_annotated : (choice : Choice) (x : List ℕ) (before after : Option (List ℕ)) (sums : Summary) → 0 < length (begun_line x) → fault (x ++ 10 ∷ []) ≡ fault x → IsAnnotated choice (x ++ 10 ∷ []) before after sums → IsAnnotated choice x before after sums
@@ -242,10 +218,6 @@ pub if_ok : {T E : Type 0} (r : Result T E) (P Q : T → Type 0) → IfOk r P �
 if_ok (Ok x) P Q h k = k x h
 if_ok (Err e) P Q h k = tt
 
-pub if_err : {T E : Type 0} (r : Result T E) (P Q : E → Type 0) → IfErr r P → ((e : E) → P e → Q e) → IfErr r Q
-if_err (Ok x) P Q h k = tt
-if_err (Err e) P Q h k = k e h
-
 -- the last line was ended
 pub last_held : (choice same : Choice) (before taken : Option (List ℕ)) (held now x y : List ℕ) → same ≡ choice → (h : HasAnnotated choice before taken held (ended_lines x)) → IsAnnotationOf choice (ended_lines y) (h.sent ++ now) → HasAnnotated same before taken now (ended_lines y)
 last_held choice same before taken held now x y e h lines =
@@ -256,10 +228,10 @@ ended_annotated choice same x before after r e some h k a =
     if_ok r (IsAnnotated same (x ++ 10 ∷ []) before after) (IsAnnotated choice x before after) a (λ sums b. same_annotated choice x before after sums some (same_fault x some h k) (subst (λ c. IsAnnotated c (x ++ 10 ∷ []) before after sums) e b))
 
 pub ended_refused : (x : List ℕ) (r : Result Summary Fault) → 0 < length (begun_line x) → early x ≡ None → early (x ++ 10 ∷ []) ≡ None → IfErr r (IsCloseRefusal (x ++ 10 ∷ [])) → IfErr r (IsEndRefusal x)
-ended_refused x r some h k a = if_err r (IsCloseRefusal (x ++ 10 ∷ [])) (IsEndRefusal x) a (λ f b. end_refused x (x ++ 10 ∷ []) f (same_fault x some h k) b)
+ended_refused x r some h k a = on_err r (IsCloseRefusal (x ++ 10 ∷ [])) (IsEndRefusal x) a (λ f b. end_refused x (x ++ 10 ∷ []) f (same_fault x some h k) b)
 
 pub whole_refused : (x : List ℕ) (r : Result Summary Fault) → IfErr r (IsCloseRefusal x) → IfErr r (IsEndRefusal x)
-whole_refused x r a = if_err r (IsCloseRefusal x) (IsEndRefusal x) a (λ f b. end_refused x x f refl b)
+whole_refused x r a = on_err r (IsCloseRefusal x) (IsEndRefusal x) a (λ f b. end_refused x x f refl b)
 
 none_left : (n : ℕ) (b : List ℕ) → (n == 0) ≡ true → n ≡ length b → b ≡ []
 none_left n [] h e = refl

@@ -8,7 +8,8 @@ use Rattle.line_model.specs.declared.interface.Interface.{Interface}
 use Rattle.annotated_trace.specs.Annotation.{Annotated, AreMarked, AreMarksOf, all_lines, bare_lines, found_in, is_mark, marks_in}
 use Rattle.annotated_trace.specs.declared.choice.Choice.TheVariants.{EveryRow}
 use Rattle.annotated_trace.specs.Laws.{MarksLaw}
-use Rattle.annotated_trace.proofs.SameReport.{annotation_lines, head_all, lines_are, rows_all}
+use Rattle.annotated_trace.proofs.SameReport.{annotation_lines, lines_are}
+use Rattle.trace_text.proofs.EndLemmas.{head-sound, rows-all}
 
 pub both_marks : (f g : List Finding) (m n : List Line) → AreMarksOf f m → AreMarksOf g n → AreMarksOf (f ++ g) (m ++ n)
 both_marks [] g [] n h k = k
@@ -54,8 +55,8 @@ nothing_found = refl
 
 pub found_whole : (source : List ℕ) (i : Interface) → fault source ≡ None → head source ≡ Some i → found_in (lines_of source) ≡ (report_of i (rows source)).findings
 found_whole source i sound h =
-    ap (λ o. elim o as (λ _. List Finding) [ None ↦ [] | Some j ↦ (report_of j (rows_in (lines_of source))).findings ]) (sym (head_all source sound) ∙ h)
-    ∙ ap (λ rs. (report_of i rs).findings) (sym (rows_all source sound))
+    ap (λ o. elim o as (λ _. List Finding) [ None ↦ [] | Some j ↦ (report_of j (rows_in (lines_of source))).findings ]) (sym (head-sound source sound) ∙ h)
+    ∙ ap (λ rs. (report_of i rs).findings) (sym (rows-all source sound))
 
 pub marked : MarksLaw
 marked source bytes i sound h none a =

@@ -8,13 +8,13 @@ use Rattle.line_model.specs.text.Text.{early, ended_lines, good_lines}
 use Rattle.line_model.specs.declared.fault.Fault.{Fault}
 use Rattle.line_model.specs.declared.fault.Fault.TheVariants.{Memory, Trace, Write}
 use Rattle.line_model.proofs.FinalFaults.{early-append}
-use Rattle.report_merge.proofs.WrittenLemmas.{with_more-append}
 use Rattle.annotated_trace.specs.Annotation.{IsAnnotationOf, IsOneLine}
 use Rattle.annotated_trace.specs.Annotators.{HasAnnotated, HasFirst, HasLinesBefore, IsRefusalOf, IsStoppedAt, StandsFor, is_line}
 use Rattle.trace_text.specs.StandsFor.{IsFaultOf}
 use Rattle.annotated_trace.specs.declared.annotator.Annotator.{Annotator}
 use Rattle.annotated_trace.specs.declared.choice.Choice.{Choice}
 use Rattle.annotated_trace.proofs.AnnotatedLemmas.{before_begun, before_line, first_of}
+use Rattle.line_model.proofs.DeviceLemmas.{with_more-append}
 
 -- some first bytes of a chunk were fed, and what is annotated grew with them
 pub record Passed {A W D : Type 0} (S : W → List ℕ → Type 0) (a0 a : Annotator A W D) (taken0 taken : Option (List ℕ)) (chunk rest : List ℕ) : Type 0 where

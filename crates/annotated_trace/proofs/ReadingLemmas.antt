@@ -5,13 +5,13 @@ use Rattle.line_model.specs.text.Text.{early, ended_lines}
 use Rattle.line_model.specs.declared.fault.Fault.{Fault}
 use Rattle.line_model.specs.declared.fault.Fault.TheVariants.{Memory, Trace, Read, Write}
 use Rattle.line_model.specs.declared.totals.Summary.{Summary}
-use Rattle.report_merge.proofs.WrittenLemmas.{with_more-nil}
 use Rattle.annotated_trace.specs.Annotating.{Annotates, HasFed, IsAllGiven, IsAnnotatingFault, IsGiven, IsReadRefusal, Stops, StopsFirst}
 use Rattle.annotated_trace.specs.Annotators.{HasAnnotated, HasFirst, HasFirstOf, HasLinesBefore, IsAnnotated, IsAnnotatorFault, IsEndRefusal, IsRefusalOf, StandsFor}
 use Rattle.annotated_trace.specs.declared.annotator.Annotator.{Annotator}
 use Rattle.annotated_trace.specs.declared.choice.Choice.{Choice}
 use Rattle.annotated_trace.proofs.AnnotatedLemmas.{nothing_annotated}
 use Rattle.annotated_trace.proofs.PassedLemmas.{all_first}
+use Rattle.line_model.proofs.DeviceLemmas.{with_more-nil}
 
 -- it was fed what a source gave, and the sink has the annotation of the lines that ended
 pub record Reached {A W D : Type 0} (S : W → List ℕ → Type 0) (left after before taken : Option (List ℕ)) (choice : Choice) (a : Annotator A W D) : Type 0 where

@@ -15,6 +15,10 @@ use Rattle.line_model.proofs.TextLemmas.{size_kind-none, size_of-append}
 use Rattle.annotated_trace.specs.Annotation.{Annotated, AreComments, all_lines, bare_lines}
 use Rattle.annotated_trace.specs.Laws.{ReportLaw, SaysTheSame}
 use Rattle.annotated_trace.proofs.LinesOfText.{AreLines, are_lines, begun_text, both_lines, ended_text, size_of_text, text_append}
+use Rattle.line_model.proofs.FinalFaults.{both_none}
+use Rattle.trace_text.proofs.FeedLemmas.{map_none}
+use Rattle.trace_text.proofs.EndLemmas.{rows-all, head-sound, some_content}
+use Rattle.trace_text.proofs.RefusalLemmas.{content_of-append}
 
 -- ---- lines of which none is too long, and none breaks a rule on its contents
 
@@ -30,14 +34,6 @@ same_form a b l h = ap (λ c. contents_kind (is_some_line c) (last_or 0 (filter_
 comment_form : (before : List Line) (l : Line) → is_comment l ≡ true → form_kind before l ≡ None
 unfolding contents_kind
 comment_form before l h = rw h refl
-
-both_none : {T : Type 0} (a b : Option T) → option_or a b ≡ None → (a ≡ None) × (b ≡ None)
-both_none None b h = (refl, h)
-both_none (Some x) b h = absurd (cc)
-
-map_none : {A B : Type 0} (f : A → B) (o : Option A) → option_map f o ≡ None → o ≡ None
-map_none f None h = refl
-map_none f (Some x) h = absurd (cc)
 
 sound_lines : (before ls : List Line) → first_fault before ls ≡ None → AreSound before ls
 sound_lines before [] h = tt
@@ -95,17 +91,13 @@ no_first_fault before (l ∷ ls) h few =
     ap (λ (o : Option Kind). elim o as (λ _. Option (ℕ × Kind)) [ Some kind ↦ Some (length before + 1, kind) | None ↦ first_fault (before ++ l ∷ []) ls ]) here
     ∙ no_first_fault (before ++ l ∷ []) ls h.2 (omega (arith, few, size_of-append before (l ∷ [])))
 
-some_there : (ls : List Line) (n : ℕ) → is_some_line ls ≡ true → (elim ls as (λ _. Option (ℕ × Kind)) [ [] ↦ Some (n, HeaderMissing) | m ∷ ms ↦ None ]) ≡ None
-some_there [] n h = cc
-some_there (l ∷ ls) n h = refl
-
 text_sound : (ls : List Line) → AreLines ls → AreSound [] ls → length (text ls) ≤ 1073741824 → is_some_line (content_of ls) ≡ true → fault (text ls) ≡ None
 unfolding fault
 text_sound ls one sound few headed =
     let ended = ended_text ls one in
     let begun = begun_text ls one in
     let none : first_fault [] ls ≡ None = no_first_fault [] ls sound (omega (arith, few, size_of_text ls)) in
-    let missing : end_kind ls [] ≡ None = some_there (content_of (ls ++ [])) (length (ls ++ []) + 1) (ap (λ xs. is_some_line (content_of xs)) (append-nil ls) ∙ headed) in
+    let missing : end_kind ls [] ≡ None = some_content (content_of (ls ++ [])) (length (ls ++ []) + 1) (ap (λ xs. is_some_line (content_of xs)) (append-nil ls) ∙ headed) in
     ap (λ es. option_or (first_fault [] es) (end_kind es (begun_line (text ls)))) ended ∙ ap (λ b. option_or (first_fault [] ls) (end_kind ls b)) begun
     ∙ ap (λ o. option_or o (end_kind ls [])) none ∙ missing
 
@@ -114,9 +106,6 @@ text_sound ls one sound few headed =
 pub comments_are_lines : (cs : List Line) → AreComments cs → AreLines cs
 comments_are_lines [] h = tt
 comments_are_lines (c ∷ cs) h = (h.0.one, comments_are_lines cs h.1)
-
-content_of-append : (xs ys : List Line) → content_of (xs ++ ys) ≡ content_of xs ++ content_of ys
-content_of-append xs ys = filter-append (λ l. not (is_comment l)) xs ys
 
 pub content_of_comments : (cs : List Line) → AreComments cs → content_of cs ≡ []
 content_of_comments [] h = refl
@@ -192,21 +181,13 @@ same_rows_in : (a b : List Line) → content_of a ≡ content_of b → rows_in a
 unfolding rows_in
 same_rows_in a b h = ap (λ c. filter_map row_of (drop 1 c)) h
 
-pub head_all : (x : List ℕ) → fault x ≡ None → head x ≡ head_of (lines_of x)
-unfolding head
-head_all x h = ap (λ at. head_of (good_lines at (lines_of x))) h
-
-pub rows_all : (x : List ℕ) → fault x ≡ None → rows x ≡ rows_in (lines_of x)
-unfolding rows
-rows_all x h = ap (λ at. rows_in (good_lines at (lines_of x))) h
-
 says_the_same : (source bytes : List ℕ) (ls : List Line) → fault source ≡ None → AreLinesOf source bytes ls → length bytes ≤ 1073741824 → SaysTheSame source bytes
 says_the_same source bytes ls sound h few =
     let given = sound_text source sound in
     let still : fault bytes ≡ None = ap fault h.written ∙ text_sound ls h.one (h.sound given.lines) (subst (λ (xs : List ℕ). length xs ≤ 1073741824) h.written few) (ap is_some_line h.content ∙ given.headed) in
     let content : content_of (lines_of bytes) ≡ content_of (lines_of source) = ap content_of (lines_are source bytes ls h) ∙ h.content in
-    let header : head bytes ≡ head source = head_all bytes still ∙ same_head (lines_of bytes) (lines_of source) content ∙ sym (head_all source sound) in
-    let same : rows bytes ≡ rows source = rows_all bytes still ∙ same_rows_in (lines_of bytes) (lines_of source) content ∙ sym (rows_all source sound) in
+    let header : head bytes ≡ head source = head-sound bytes still ∙ same_head (lines_of bytes) (lines_of source) content ∙ sym (head-sound source sound) in
+    let same : rows bytes ≡ rows source = rows-all bytes still ∙ same_rows_in (lines_of bytes) (lines_of source) content ∙ sym (rows-all source sound) in
     record {
       sound = still;
       header = header;

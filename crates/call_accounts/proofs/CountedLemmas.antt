@@ -59,7 +59,7 @@ up-more (v ∷ own) e = at (is_up v) (up-more own e)
     at true h = refl
     at false h = h
 
-sum-more : (xs ys : List ℕ) → sum (xs ++ ys) ≡ sum xs + sum ys
+pub sum-more : (xs ys : List ℕ) → sum (xs ++ ys) ≡ sum xs + sum ys
 sum-more xs ys = sum_by-append (λ (n : ℕ). n) xs ys
 
 segments-more : (xs ys : List ℕ) → segments_of (xs ++ ys) ≡ segments_of xs + segments_of ys

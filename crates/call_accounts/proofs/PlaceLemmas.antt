@@ -24,6 +24,7 @@ use Rattle.call_accounts.specs.SoFar.{HoldsFor, IsOf, StandsFor, Tells, TellsBy}
 use Rattle.call_accounts.specs.declared.so_far.OpenCall.{OpenCall}
 use Rattle.call_accounts.specs.Places.{AreHeard, AreLeft, IsFound, IsKept, calls_at, own_calls, own_events, place_of, place_order}
 use Rattle.call_accounts.proofs.SoFarLemmas.{record_along}
+use Rattle.line_model.proofs.Merged.{filter_twice}
 
 -- ---- places
 
@@ -192,14 +193,6 @@ heard_more {A} old t after es v epoch channel found others hears kept few =
     before (Some s) stands same = subst (λ x. StandsFor x v.epoch v.channel (own_events v.epoch v.channel es)) (sym same) stands
 
 -- ---- the records of each place
-
-filter_twice : {X : Type 0} → (t : X → Bool) (xs : List X) → filter t (filter t xs) ≡ filter t xs
-filter_twice t [] = refl
-filter_twice {X} t (x ∷ xs) = at (t x) refl (filter_twice t xs)
-  where
-    at : (b : Bool) → t x ≡ b → filter t (filter t xs) ≡ filter t xs → filter t (cond b (x ∷ filter t xs) (filter t xs)) ≡ cond b (x ∷ filter t xs) (filter t xs)
-    at true is h = ap (λ b. cond b (x ∷ filter t (filter t xs)) (filter t (filter t xs))) is ∙ ap (λ l. x ∷ l) h
-    at false is h = h
 
 -- a call hears the events of its place alone
 record_alone : (v : Event) (o : Bool) (a b : List ℕ) (r : Bool) (es : List Event) → record_of v o a b r es ≡ record_of v o a b r (own_events v.epoch v.channel es)

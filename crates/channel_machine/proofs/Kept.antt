@@ -16,6 +16,7 @@ use Rattle.x3_parameters.specs.Effects.{all_indicated}
 use Rattle.x3_parameters.specs.Told.{set_events, set_events_by}
 use Rattle.std.specs.List.{list_any}
 use Rattle.x29_messages.specs.Pairs.{pairs_before}
+use Rattle.x3_parameters.proofs.Applied.{one_octet}
 
 -- the fault of a message that is too long, by its first octet
 long_fault : (x : ℕ) (xs : List ℕ) → nat_lt 1024 (length (x ∷ xs)) ≡ true → (length (x ∷ xs) == 0) ≡ false →
@@ -59,10 +60,6 @@ kept_whole m ys is short =
 -- what the settings of a code are
 pub settings_indicated : (x : Side) (c : MessageCode) (ps : List ℕ) → c ≡ Indication → settings_of x (octets_of c ps) ≡ all_indicated x ps
 settings_indicated x c ps e = ap (λ d. settings_of x (octets_of d ps)) e
-
-one_octet : (c : ℕ) (ps : List ℕ) → (length (c ∷ ps) == 1) ≡ (length ps == 0)
-one_octet c [] = refl
-one_octet c (p ∷ ps) = grind arith
 
 set_by : (b : Bool) (x : Side) (c : MessageCode) (ps : List ℕ) → is_indication (octets_of c ps) ≡ false → b ≡ (length ps == 0) →
     set_told b x (octets_of c ps) ≡ set_events (other x) ps

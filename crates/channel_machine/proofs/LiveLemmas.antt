@@ -36,6 +36,8 @@ use Rattle.channel_machine.specs.Run.{row_events, end_events}
 use Rattle.channel_machine.specs.Counted.{IsWithin}
 use Rattle.channel_machine.specs.Live.{channel_after, channel_so_far, so_far, with_item}
 use Rattle.channel_machine.proofs.DataCounts.{piece_packets}
+use Rattle.call_accounts.proofs.CountedLemmas.{sum-more}
+use Rattle.call_accounts.proofs.PlaceLemmas.{countable_before}
 
 abbrev rows_of : List Item → List Row
 rows_of items = map (λ i. i.row) items
@@ -127,34 +129,23 @@ findings-more es vs = filter_map-append (λ (e : Event). elim e.what [ Found x s
 pub findings_told : (es vs : List Event) (old new : List Finding) → old ≡ findings_of es → new ≡ old ++ findings_of vs → new ≡ findings_of (es ++ vs)
 findings_told es vs old new is step = step ∙ ap (λ l. l ++ findings_of vs) is ∙ sym (findings-more es vs)
 
-sum_told : (xs ys : List ℕ) → sum (xs ++ ys) ≡ sum xs + sum ys
-sum_told xs ys = sum_by-append (λ (n : ℕ). n) xs ys
-
 lengths-more : (es vs : List Event) → all_lengths (es ++ vs) ≡ all_lengths es ++ all_lengths vs
 lengths-more es vs = filter_map-append (λ (e : Event). elim e.what [ Data y n ↦ Some n | _ ↦ None ]) es vs
 
 pub octets_told : (es vs : List Event) (old by new : ℕ) → old ≡ sum (all_lengths es) → by ≡ sum (all_lengths vs) → new ≡ min (old + by) (2 ^ 64 - 1) → IsCountable (es ++ vs) → new ≡ sum (all_lengths (es ++ vs))
 octets_told es vs old by new is more step few =
-    let both = ap sum (lengths-more es vs) ∙ sum_told (all_lengths es) (all_lengths vs) in
+    let both = ap sum (lengths-more es vs) ∙ sum-more (all_lengths es) (all_lengths vs) in
     omega (arith, is, more, step, both, few.octets)
 
 pub segments_told : (es vs : List Event) (old by new : ℕ) → old ≡ segments_of (all_lengths es) → by ≡ segments_of (all_lengths vs) → new ≡ min (old + by) (2 ^ 64 - 1) → IsCountable (es ++ vs) → new ≡ segments_of (all_lengths (es ++ vs))
 segments_told es vs old by new is more step few =
     let rounded : List ℕ → List ℕ = map (λ n. (n + 63) / 64) in
     let both : segments_of (all_lengths (es ++ vs)) ≡ segments_of (all_lengths es) + segments_of (all_lengths vs) =
-    ap segments_of (lengths-more es vs) ∙ ap sum (map-append (λ (n : ℕ). (n + 63) / 64) (all_lengths es) (all_lengths vs)) ∙ sum_told (rounded (all_lengths es)) (rounded (all_lengths vs)) in
+    ap segments_of (lengths-more es vs) ∙ ap sum (map-append (λ (n : ℕ). (n + 63) / 64) (all_lengths es) (all_lengths vs)) ∙ sum-more (rounded (all_lengths es)) (rounded (all_lengths vs)) in
     let all : List Event = es ++ vs in
     omega (arith, is, more, step, both, few.octets, octets_weight all, segments_weight all, fewer_segments all)
 
 -- ---- events, one after the other
-
-countable_front : (es vs : List Event) → IsCountable (es ++ vs) → IsCountable es
-countable_front es vs few =
-    let both = lengths-more es vs in
-    record {
-      packets = omega (arith, ap length both, length-append (all_lengths es) (all_lengths vs), few.packets);
-      octets = omega (arith, ap sum both, sum_told (all_lengths es) (all_lengths vs), few.octets);
-    }
 
 all_at : (P : Event → Type 0) (es : List Event) (i : ℕ) (d : Event) → AllByRecursion P es → i < length es → P (get_or es i d)
 all_at P [] i d h lt = absurd (omega arith)
@@ -167,7 +158,7 @@ heard_on P Q epoch channel es vs i e lt is all few h step =
     let more : take (i + 1) vs ≡ take i vs ++ e ∷ [] = take_more vs i e lt ∙ ap (λ x. take i vs ++ x ∷ []) (sym is) in
     let whole : es ++ take (i + 1) vs ≡ (es ++ take i vs) ++ e ∷ [] = ap (λ l. es ++ l) more ∙ sym (append_assoc es (take i vs) (e ∷ [])) in
     let parts : es ++ vs ≡ (es ++ take (i + 1) vs) ++ drop (i + 1) vs = ap (λ l. es ++ l) (sym (take-append-drop (i + 1) vs)) ∙ sym (append_assoc es (take (i + 1) vs) (drop (i + 1) vs)) in
-    let few_so_far : IsCountable ((es ++ take i vs) ++ e ∷ []) = subst IsCountable whole (countable_front (es ++ take (i + 1) vs) (drop (i + 1) vs) (subst IsCountable parts few)) in
+    let few_so_far : IsCountable ((es ++ take i vs) ++ e ∷ []) = subst IsCountable whole (countable_before (es ++ take (i + 1) vs) (drop (i + 1) vs) (subst IsCountable parts few)) in
     let of : IsOf epoch channel e = subst (IsOf epoch channel) (sym is) (all_at (IsOf epoch channel) vs i e all lt) in
     subst Q (sym whole) (step h of few_so_far)
 

@@ -15,7 +15,7 @@ use crate::status::StatusStore;
 use crate::terms::was_fast;
 use line_model::diagnostic::{CALL_ON_ONE_WAY_LOGICAL_CHANNEL, PACKET_TOO_LONG, PACKET_TOO_SHORT};
 use line_model::interface::Interface;
-use line_model::packet::{Class, DataHeader, Kind, Packet};
+use line_model::packet::{Class, DataHeader, Packet, PacketKind};
 use line_model::state::Side;
 use packet_decode::fields::call_fields;
 use std::alloc::Allocator;
@@ -26,7 +26,7 @@ pub(crate) fn header_of(packet: &Packet) -> Option<DataHeader>
 {
     match packet {
         Packet::Channel {
-            kind: Kind::Data(header),
+            kind: PacketKind::Data(header),
             ..
         } => *header,
         _ => None,
@@ -39,7 +39,7 @@ pub(crate) fn receive_of(packet: &Packet) -> u8
 {
     match packet {
         Packet::Channel {
-            kind: Kind::Rr(receive) | Kind::Rnr(receive),
+            kind: PacketKind::Rr(receive) | PacketKind::Rnr(receive),
             ..
         } => receive.unwrap_or(0),
         _ => 0,

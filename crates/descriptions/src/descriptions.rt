@@ -18,7 +18,7 @@ use line_model::event::{Event, What};
 use line_model::fault::Fault;
 use line_model::finding::Finding;
 use line_model::interface::Interface;
-use line_model::packet::{DataHeader, Kind, Packet};
+use line_model::packet::{DataHeader, Packet, PacketKind};
 use line_model::report::Report;
 use line_model::row::Row;
 use line_model::state::{ChannelState, RState, Side};
@@ -187,7 +187,7 @@ impl<A: Allocator + Copy> Descriptions<A> {
         notes.next_line()?;
         restart_move(notes, self.restart, observer.restart_state())?;
         if let Packet::Channel {
-            kind: Kind::Data(_),
+            kind: PacketKind::Data(_),
             ..
         } = seen.packet
         {
@@ -206,7 +206,7 @@ impl<A: Allocator + Copy> Descriptions<A> {
         &mut self,
         seen: &Seen<'_>,
         channel: u16,
-        kind: Kind,
+        kind: PacketKind,
         observer: &Observer<A, C>,
         notes: &mut P,
     ) -> Result<bool, AllocError> {
@@ -220,7 +220,7 @@ impl<A: Allocator + Copy> Descriptions<A> {
         let lane_after = Lane::seen_as(observer.view(channel));
         channel_move(notes, state, lane_after.state(state))?;
         self.tell(seen, observer.events(), &mut lane, notes)?;
-        if let Kind::Data(_) = kind {
+        if let PacketKind::Data(_) = kind {
             if !seen.is_counted(observer.events()) {
                 self.leave_out(seen, &lane, notes)?;
             }
@@ -241,14 +241,14 @@ impl<A: Allocator + Copy> Descriptions<A> {
     fn say_on_channel<P: Page>(
         &self,
         seen: &Seen<'_>,
-        kind: Kind,
+        kind: PacketKind,
         events: &[Event],
         lane: &mut Lane,
         notes: &mut P,
     ) -> Result<(), AllocError> {
         seen.say(is_fast(lane.view), notes)?;
         match kind {
-            Kind::Data(Some(header)) if seen.is_counted(events) => {
+            PacketKind::Data(Some(header)) if seen.is_counted(events) => {
                 seen.say_message(&header, lane, notes)
             }
             _ => Ok(()),

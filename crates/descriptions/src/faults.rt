@@ -13,7 +13,7 @@ use line_model::diagnostic::{
 };
 use line_model::finding::{Code, Finding, Xcode};
 use line_model::interface::Interface;
-use line_model::packet::{DataHeader, Kind, Packet};
+use line_model::packet::{DataHeader, Packet, PacketKind};
 use line_model::state::{Side, StateName};
 use std::alloc::AllocError;
 use window_check::flow::SendWindow;
@@ -190,7 +190,7 @@ fn range<P: Prose>(out: &mut P, before: &Before, first: u64, last: u64) -> Resul
 fn header(packet: &Packet) -> Option<DataHeader> {
     match packet {
         Packet::Channel {
-            kind: Kind::Data(header),
+            kind: PacketKind::Data(header),
             ..
         } => *header,
         _ => None,
@@ -201,8 +201,8 @@ fn header(packet: &Packet) -> Option<DataHeader> {
 fn acknowledged(packet: &Packet) -> Option<u8> {
     match packet {
         Packet::Channel { kind, .. } => match kind {
-            Kind::Rr(number) | Kind::Rnr(number) => *number,
-            Kind::Data(Some(header)) => Some(header.receive),
+            PacketKind::Rr(number) | PacketKind::Rnr(number) => *number,
+            PacketKind::Data(Some(header)) => Some(header.receive),
             _ => None,
         },
         _ => None,

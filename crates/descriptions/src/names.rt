@@ -1,6 +1,6 @@
 //! The names of sides, packets and states, in the words of the Recommendation.
 
-use line_model::packet::{Kind, Packet};
+use line_model::packet::{Packet, PacketKind};
 use line_model::state::{ChannelState, DState, PState, RState, Side};
 
 /// A side of the interface.
@@ -42,23 +42,23 @@ pub fn packet(from: Side, packet: &Packet) -> &'static str {
 }
 
 /// A packet of a side on a logical channel (X.25 Table 5-2).
-fn channel_packet(from: Side, kind: &Kind) -> &'static str {
+fn channel_packet(from: Side, kind: &PacketKind) -> &'static str {
     match kind {
-        Kind::TwoOctets => "packet without a type",
-        Kind::RestartHere => "restart packet on another channel than 0",
-        Kind::Call => by_side(from, "call request", "incoming call"),
-        Kind::Accepted => by_side(from, "call accepted", "call connected"),
-        Kind::Clear => by_side(from, "clear request", "clear indication"),
-        Kind::ClearConfirm => "clear confirmation",
-        Kind::Interrupt => "interrupt",
-        Kind::InterruptConfirm => "interrupt confirmation",
-        Kind::Reset => by_side(from, "reset request", "reset indication"),
-        Kind::ResetConfirm => "reset confirmation",
-        Kind::Data(_) => "data",
-        Kind::Rr(_) => "RR",
-        Kind::Rnr(_) => "RNR",
-        Kind::Rej => "REJ",
-        Kind::Undefined => "packet of an undefined type",
+        PacketKind::TwoOctets => "packet without a type",
+        PacketKind::RestartHere => "restart packet on another channel than 0",
+        PacketKind::Call => by_side(from, "call request", "incoming call"),
+        PacketKind::Accepted => by_side(from, "call accepted", "call connected"),
+        PacketKind::Clear => by_side(from, "clear request", "clear indication"),
+        PacketKind::ClearConfirm => "clear confirmation",
+        PacketKind::Interrupt => "interrupt",
+        PacketKind::InterruptConfirm => "interrupt confirmation",
+        PacketKind::Reset => by_side(from, "reset request", "reset indication"),
+        PacketKind::ResetConfirm => "reset confirmation",
+        PacketKind::Data(_) => "data",
+        PacketKind::Rr(_) => "RR",
+        PacketKind::Rnr(_) => "RNR",
+        PacketKind::Rej => "REJ",
+        PacketKind::Undefined => "packet of an undefined type",
     }
 }
 

@@ -6,7 +6,7 @@ use crate::diagnostics::diagnostic;
 use crate::names;
 use crate::prose::{Prose, count};
 use line_model::interface::Interface;
-use line_model::packet::{DataHeader, Kind, Packet};
+use line_model::packet::{DataHeader, Packet, PacketKind};
 use line_model::state::Side;
 use std::alloc::AllocError;
 
@@ -61,23 +61,27 @@ fn channel_fields<P: Prose>(
     out: &mut P,
     interface: &Interface,
     octets: &[u8],
-    kind: &Kind,
+    kind: &PacketKind,
     fast_before: bool,
 ) -> Result<(), AllocError> {
     match kind {
-        Kind::Call | Kind::Accepted => call(out, interface, octets, fast_before),
-        Kind::Clear => match octets {
+        PacketKind::Call | PacketKind::Accepted => call(out, interface, octets, fast_before),
+        PacketKind::Clear => match octets {
             [_, _, _, value, rest @ ..] => cause(out, *value, clearing_cause(*value), rest),
             _ => Ok(()),
         },
-        Kind::Reset => match octets {
+        PacketKind::Reset => match octets {
             [_, _, _, value, rest @ ..] => cause(out, *value, resetting_cause(*value), rest),
             _ => Ok(()),
         },
-        Kind::Data(Some(header)) => data(out, interface, header, octets.len()),
-        Kind::Rr(Some(number)) | Kind::Rnr(Some(number)) => receive_number(out, *number),
-        Kind::Data(None) | Kind::Rr(None) | Kind::Rnr(None) => out.say(", its header is cut"),
-        Kind::Interrupt => {
+        PacketKind::Data(Some(header)) => data(out, interface, header, octets.len()),
+        PacketKind::Rr(Some(number)) | PacketKind::Rnr(Some(number)) => receive_number(
+            out, *number,
+        ),
+        PacketKind::Data(None) | PacketKind::Rr(None) | PacketKind::Rnr(None) => out.say(
+            ", its header is cut",
+        ),
+        PacketKind::Interrupt => {
             out.say(", ")?;
             count(
                 out,

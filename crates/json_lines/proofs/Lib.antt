@@ -1,4 +1,3 @@
-pub mod CutLemmas
 pub mod WrittenLemmas
 pub mod JsonLemmas
 pub mod StandingLemmas

@@ -8,10 +8,12 @@ use Rattle.line_model.specs.text.Header.{words_of}
 use Rattle.line_model.specs.observer.Report.{line}
 use Rattle.line_model.specs.text.Text.{Line, begun_line, ended_lines, is_lf, onto_first_line}
 use Rattle.line_model.proofs.TextLemmas.{begun-more, ended-lf, ended-more}
-use Rattle.json_lines.specs.Cuts.{IsLine, IsPlain, Lacks}
+use Rattle.trace_text.specs.Cuts.{Lacks}
+use Rattle.json_lines.specs.Cuts.{IsLine, IsPlain}
 use Rattle.json_lines.specs.Json.{json_line, json_text, line_room, object_of}
-use Rattle.json_lines.proofs.CutLemmas.{words-found, words-none}
+use Rattle.trace_text.proofs.CutLemmas.{words-found, words-none}
 use Rattle.json_lines.proofs.JsonLemmas.{json_lf}
+use Rattle.std.proofs.lemmas.Bool.{or_parts}
 
 -- words with spaces between them
 abbrev joined : List ℕ → List (List ℕ) → List ℕ
@@ -26,14 +28,10 @@ words_joined : (word : List ℕ) (words : List (List ℕ)) → AllByRecursion Is
 words_joined word [] h = words-none 32 word h.0.0
 words_joined word (next ∷ words) h = words-found 32 word (joined next words) h.0.0 ∙ ap (λ l. word ∷ l) (words_joined next words h.1)
 
-both_lack : (v r : Bool) → (v || r) ≡ false → (v ≡ false) × (r ≡ false)
-both_lack true r h = absurd (cc)
-both_lack false r h = (refl, h)
-
 lacks_both : (xs ys : List ℕ) → Lacks 10 xs → Lacks 10 ys → Lacks 10 (xs ++ ys)
 lacks_both [] ys h k = k
 lacks_both (x ∷ xs) ys h k =
-    let parts = both_lack (x == 10) (list_any (λ b. b == 10) xs) h in
+    let parts = or_parts (x == 10) (list_any (λ b. b == 10) xs) h in
     ap (λ v. v || list_any (λ b. b == 10) (xs ++ ys)) parts.0 ∙ lacks_both xs ys parts.1 k
 
 joined_lacks : (word : List ℕ) (words : List (List ℕ)) → AllByRecursion IsPlain (word ∷ words) → Lacks 10 (joined word words)

@@ -10,8 +10,8 @@ use Rattle.json_lines.specs.Json.{json_line, json_text, line_room}
 use Rattle.json_lines.specs.Standing.{Goes, IsFirstPart, Stands, since}
 use Rattle.json_lines.specs.Written.{Writes, Puts}
 use Rattle.json_lines.specs.declared.lines.JsonLines.{JsonLines}
-use Rattle.json_lines.proofs.WrittenLemmas.{with_more-nil}
 use Rattle.json_lines.proofs.JsonLemmas.{json_lf, json_line_cut}
+use Rattle.line_model.proofs.DeviceLemmas.{with_more-nil}
 
 -- ---- first parts
 

@@ -1,12 +1,9 @@
--- Bytes that a list lacks, and lines that are known by their words.
-use Rattle.std.specs.Prelude.{◌≡◌, ◌≤◌, ℕ, List, [], ◌∷◌, false, ◌==◌, length}
-use Rattle.std.specs.List.{AllByRecursion, list_any}
+-- Lines that are known by their words.
+use Rattle.std.specs.Prelude.{◌≤◌, ℕ, List, [], ◌∷◌, length}
+use Rattle.std.specs.List.{AllByRecursion}
 use Rattle.line_model.specs.observer.Report.{line}
+use Rattle.trace_text.specs.Cuts.{Lacks}
 use Rattle.json_lines.specs.Json.{line_room}
-
--- the byte isn't there
-abbrev pub Lacks : ℕ → List ℕ → Type 0
-Lacks byte xs = list_any (λ b. b == byte) xs ≡ false
 
 -- a word of a line: it has no space and no line feed
 abbrev pub IsPlain : List ℕ → Type 0

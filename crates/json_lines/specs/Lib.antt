@@ -3,5 +3,4 @@ pub mod Shown
 pub mod Json
 pub mod Written
 pub mod Standing
-pub mod WordsLeft
 pub mod Cuts

@@ -1,23 +1,11 @@
 //! The words of a line, parted by single spaces.
 
-ghost use Rattle.std.specs.Prelude.{◌≡◌, ◌∷◌, ◌++◌, [], length, drop, MatchOption};
+ghost use Rattle.std.specs.Prelude.{◌≡◌, ◌∷◌, [], length, drop, MatchOption};
 ghost use Rattle.line_model.specs.text.Header.{words_of};
-ghost use Rattle.json_lines.specs.Cuts.{Lacks};
 ghost use Rattle.json_lines.specs.Json.{first_word, line_words};
 
-use memchr::memchr;
 use std::marker::Model;
-
-/// What stands before the first such byte, and after it.
-fn split_at_byte(text: &[u8], byte: u8) -> Option<(&[u8], &[u8])>
-    ensures { MatchOption result (Lacks byte text.now)
-        (λ parts. (text.now ≡ parts.0.now ++ byte ∷ parts.1.now) × Lacks byte parts.0.now) }
-{
-    match memchr(byte, text) {
-        Some(i) => Some((&text[..i], &text[i + 1..])),
-        None => None,
-    }
-}
+use trace_text::cuts::split_at_byte;
 
 /// The words of a line that are still to come. Single spaces part them.
 #[derive(Drop)]
@@ -27,7 +15,7 @@ pub struct Words<'a> {
 
 impl<'a> Model for Words<'a> {
     ghost use Rattle.std.specs.Prelude.{List, ℕ};
-    ghost use Rattle.json_lines.specs.WordsLeft.{words_left};
+    ghost use Rattle.trace_text.specs.WordsLeft.{words_left};
 
     ghost Value = { List (List ℕ) };
 

@@ -18,7 +18,7 @@ early-ended text at h = rw h refl
 pub one_fault : (es : List Line) (l : Line) (kind : Kind) → line_kind es 1 l ≡ Some kind → first_fault es (l ∷ []) ≡ Some (length es + 1, kind)
 one_fault es l kind h = ap (λ (o : Option Kind). elim o as (λ _. Option (ℕ × Kind)) [ Some k ↦ Some (length es + 1, k) | None ↦ None ]) h
 
-both_none : {T : Type 0} (a b : Option T) → option_or a b ≡ None → (a ≡ None) × (b ≡ None)
+pub both_none : {T : Type 0} (a b : Option T) → option_or a b ≡ None → (a ≡ None) × (b ≡ None)
 both_none None b h = (refl, h)
 both_none (Some x) b h = absurd (cc)
 

@@ -42,3 +42,4 @@ pub mod DataLengths
 pub mod ValueBounds
 pub mod RowsSoFar
 pub mod ItemLemmas
+pub mod DeviceLemmas

@@ -6,8 +6,8 @@ use Rattle.line_model.specs.observer.Machine.{Machine, Observer, routed, after}
 use Rattle.line_model.specs.observer.MachineEvents.{stamp, closed_events, row_events, row_events_routed, walk_events}
 use Rattle.line_model.specs.pieces.Merge.{is_line}
 use Rattle.line_model.specs.observer.Peak.{how_many}
-use Rattle.line_model.proofs.Rising.{filter_append}
 use Rattle.line_model.proofs.OncePerRow.{kept_none}
+use Rattle.line_model.proofs.Pieces.{filter_append}
 
 pub channel_dropped : {X E : Type 0} → (e k : ℕ) (x : X) (ws : List E) → filter is_line (stamp e (Some k) x ws) ≡ []
 channel_dropped e k x [] = refl

@@ -68,7 +68,7 @@ pub struct DataHeader {
 
 /// What stands on an assigned channel: data with its header, RR and RNR with P(R). A header that is cut short is `None`.
 #[derive(Clone, Copy, PartialEq, Eq, Debug)]
-pub enum Kind {
+pub enum PacketKind {
     /// A packet without a type.
     TwoOctets,
     /// A restart packet on another channel than 0.
@@ -119,7 +119,7 @@ pub enum Packet {
     /// Restart confirmation, on channel 0.
     RestartConfirm,
     /// A packet on an assigned logical channel.
-    Channel { channel: u16, kind: Kind },
+    Channel { channel: u16, kind: PacketKind },
 }
 
 impl Class {
@@ -160,7 +160,7 @@ impl Packet {
     }
 }
 
-impl Kind {
+impl PacketKind {
     ghost use Rattle.line_model.specs.packets.Classes.{kind_class};
 
     /// The class of what stands on a channel.
@@ -168,21 +168,21 @@ impl Kind {
         ensures { result ≡ kind_class self.now }
     {
         match self {
-            Kind::TwoOctets => Class::TwoOctets,
-            Kind::RestartHere => Class::RestartHere,
-            Kind::Call => Class::Call,
-            Kind::Accepted => Class::Accepted,
-            Kind::Clear => Class::Clear,
-            Kind::ClearConfirm => Class::ClearConfirm,
-            Kind::Interrupt => Class::Interrupt,
-            Kind::InterruptConfirm => Class::InterruptConfirm,
-            Kind::Reset => Class::Reset,
-            Kind::ResetConfirm => Class::ResetConfirm,
-            Kind::Data(_) => Class::Data,
-            Kind::Rr(_) => Class::Rr,
-            Kind::Rnr(_) => Class::Rnr,
-            Kind::Rej => Class::Rej,
-            Kind::Undefined => Class::Undefined,
+            PacketKind::TwoOctets => Class::TwoOctets,
+            PacketKind::RestartHere => Class::RestartHere,
+            PacketKind::Call => Class::Call,
+            PacketKind::Accepted => Class::Accepted,
+            PacketKind::Clear => Class::Clear,
+            PacketKind::ClearConfirm => Class::ClearConfirm,
+            PacketKind::Interrupt => Class::Interrupt,
+            PacketKind::InterruptConfirm => Class::InterruptConfirm,
+            PacketKind::Reset => Class::Reset,
+            PacketKind::ResetConfirm => Class::ResetConfirm,
+            PacketKind::Data(_) => Class::Data,
+            PacketKind::Rr(_) => Class::Rr,
+            PacketKind::Rnr(_) => Class::Rnr,
+            PacketKind::Rej => Class::Rej,
+            PacketKind::Undefined => Class::Undefined,
         }
     }
 }

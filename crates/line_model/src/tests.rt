@@ -6,7 +6,7 @@ use crate::event::Entry;
 use crate::fault::{Fault, Kind};
 use crate::finding::{Code, Finding, Xcode};
 use crate::interface::Interface;
-use crate::packet::{Class, Kind as PacketKind, Packet};
+use crate::packet::{Class, Packet, PacketKind};
 use crate::piece::PieceReport;
 use crate::state::{ChannelState, DState, PState, RState, Side, StateName};
 use crate::table::{Action, table_n, table_t};

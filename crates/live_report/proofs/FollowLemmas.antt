@@ -12,7 +12,7 @@ use Rattle.line_model.specs.declared.fault.Fault.TheVariants.{Memory, Trace}
 use Rattle.line_model.specs.declared.finding.Finding.{Finding}
 use Rattle.line_model.proofs.TextLemmas.{size_kind-none}
 use Rattle.report_merge.specs.Parts.{findings_text, rest_text}
-use Rattle.report_merge.proofs.WrittenLemmas.{two_parts, with_more-append, with_more-nil}
+use Rattle.report_merge.proofs.WrittenLemmas.{two_parts}
 use Rattle.trace_text.specs.Progress.{Progress, bytes_fed}
 use Rattle.trace_text.specs.StandsFor.{StandsFor as IsReaderOf, IsFaultOf, IsTextFault}
 use Rattle.trace_text.proofs.FeedLemmas.{size-sound}
@@ -22,7 +22,8 @@ use Rattle.live_report.specs.Reports.{IsReportFault, IsReportOf}
 use Rattle.line_model.proofs.TextLemmas.{early_rows-nothing}
 use Rattle.live_report.proofs.FoundLemmas.{nothing_found}
 use Rattle.live_report.proofs.LawLemmas.{found_in_report, lines_more}
-use Rattle.live_report.proofs.ReportLemmas.{front_of, report_text}
+use Rattle.live_report.proofs.ReportLemmas.{report_text}
+use Rattle.line_model.proofs.DeviceLemmas.{front_of, with_more-append, with_more-nil}
 
 -- ---- what a chunk found
 

@@ -14,8 +14,8 @@ use Rattle.line_model.proofs.LineLemmas.{size_kind-zero}
 use Rattle.line_model.proofs.TextLemmas.{size_kind-none, size_of-append}
 use Rattle.report_merge.specs.Parts.{findings_text, rest_text}
 use Rattle.report_merge.proofs.WrittenLemmas.{two_parts}
-use Rattle.line_model.proofs.FinalFaults.{early-append, no_size_fault, small_lines}
-use Rattle.trace_text.proofs.FeedLemmas.{early-none}
+use Rattle.line_model.proofs.FinalFaults.{early-append, no_size_fault, small_lines, both_none}
+use Rattle.trace_text.proofs.FeedLemmas.{early-none, map_none}
 use Rattle.trace_text.proofs.Grows.{early_head_stays, head_stays, rows_first}
 use Rattle.trace_text.proofs.RefusalLemmas.{more_lines, rows_grow}
 use Rattle.live_report.specs.Found.{found, found_at, found_text}
@@ -133,14 +133,6 @@ report_text_in text more None e h =
     headless (Some j) k = absurd (let bad : None ≡ Some j = sym e ∙ head_stays text more j h k in cc)
 
 -- ---- a text without a fault has none so far
-
-both_none : {T : Type 0} (a b : Option T) → option_or a b ≡ None → (a ≡ None) × (b ≡ None)
-both_none None b h = (refl, h)
-both_none (Some x) b h = absurd (cc)
-
-map_none : {A B : Type 0} (f : A → B) (o : Option A) → option_map f o ≡ None → o ≡ None
-map_none f None h = refl
-map_none f (Some x) h = absurd (cc)
 
 pub no_fault_so_far : (text : List ℕ) → fault text ≡ None → early text ≡ None
 unfolding fault

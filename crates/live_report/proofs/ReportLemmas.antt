@@ -17,6 +17,7 @@ use Rattle.trace_text.proofs.RefusalLemmas.{head_stands}
 use Rattle.trace_text.proofs.RowsOfText.{text_numbers, text_octets, text_rises}
 use Rattle.live_report.specs.Observing.{AreRows}
 use Rattle.live_report.specs.Reports.{IsReportOf, IsReported, IsTaken}
+use Rattle.line_model.proofs.DeviceLemmas.{front_of}
 
 -- a report of the rows of a text is the text's
 pub told_at : (text : List ℕ) (i : Interface) (rs : List Row) (answer : Result Report Fault) → IfOk answer (λ r. r ≡ report_of i rs) → fault text ≡ None → head text ≡ Some i → rows text ≡ rs → IfOk answer (IsReportOf text)
@@ -45,9 +46,6 @@ report_sums text r is = ap (λ x. x.summary) is.report ∙ ap (λ o. elim o as (
 
 pub reported_by : (text : List ℕ) (r : Report) (before after : Option (List ℕ)) → IsReportOf text r → after ≡ with_more before (text_of r) → IsReported text before after r.summary
 reported_by text r before after is taken = record { sound = is.sound; taken = taken ∙ ap (with_more before) (report_text text r is); counted = report_sums text r is }
-
-pub front_of : (front rest text : List ℕ) → text ≡ front ++ rest → front ≡ take (length front) text
-front_of front rest text e = rw e (sym (take-append_seam front rest))
 
 pub taken_by : (text : List ℕ) (r : Report) (before after : Option (List ℕ)) (f : Fault) → IsReportOf text r → f ≡ Write
     → (front : List ℕ) × (rest : List ℕ) × (text_of r ≡ front ++ rest) × (after ≡ with_more before front) → IsTaken before after (trace_report text) f

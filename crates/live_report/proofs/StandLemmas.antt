@@ -19,6 +19,7 @@ use Rattle.channel_machine.specs.declared.live.LiveChannel.{LiveChannel}
 use Rattle.live_report.specs.declared.observer.Observer.{Observer}
 use Rattle.live_report.specs.Lanes.{begun_piece, LaneFor, OpenFor}
 use Rattle.live_report.specs.Observing.{AreRows, Holds, StandsFor}
+use Rattle.line_model.proofs.LineLemmas.{last_or-add}
 
 -- ---- lanes
 
@@ -51,11 +52,6 @@ lanes_none I N S i e rows lanes empty none = record {
 }
 
 -- ---- rows
-
--- the last number, with one more
-last_more : (a : ℕ) (ns : List ℕ) (n : ℕ) → last_or a (ns ++ n ∷ []) ≡ n
-last_more a [] n = refl
-last_more a (m ∷ ns) n = last_more m ns n
 
 rises_past : (a : ℕ) (ns : List ℕ) (n : ℕ) → RisesFrom a (ns ++ n ∷ []) → last_or a ns < n
 rises_past a [] n h = h.0
@@ -92,7 +88,7 @@ next_stands I N S i rs r more before new after s sound pushed bounds counted hol
   cutting = after;
   cut = pushed.stands;
   bounds = bounds;
-  last = counted.last ∙ sym (ap (last_or 0) (map-append (λ (x : Row). x.number) rs (r ∷ [])) ∙ last_more 0 (map (λ x. x.number) rs) r.number);
+  last = counted.last ∙ sym (ap (last_or 0) (map-append (λ (x : Row). x.number) rs (r ∷ [])) ∙ last_or-add 0 r.number (map (λ x. x.number) rs));
   octets = counted.octets ∙ ap (λ n. n + length r.octets) s.octets ∙ sym (sum_by_push (λ (x : Row). length x.octets) rs r);
   holds = subst (λ reports. Holds I N S after reports new) (sym (ap (map value) pushed.given ∙ map-append value (given_of i rs) more)) holds;
 }

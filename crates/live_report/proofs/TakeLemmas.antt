@@ -21,6 +21,7 @@ use Rattle.restart_epochs.proofs.Listings.{rows_with, has_one_more}
 use Rattle.live_report.specs.declared.observer.Observer.{Observer}
 use Rattle.live_report.specs.Observing.{AreRows, Holds, StandsFor}
 use Rattle.live_report.proofs.StandLemmas.{MayCome, may_come, next_stands}
+use Rattle.line_model.proofs.Posts.{length-values}
 
 -- ---- what a cutter keeps after one more row
 
@@ -128,10 +129,6 @@ enter_stands I N S i rs o new r p step found s sound told enter is holds =
     (stepped_bounds s.cutting after r step.after (s.cutting.epoch + 1) found s.bounds stepped (omega arith) may.rising may.number may.octets) stepped.counted
     (subst (λ l. Holds I N S after l new) (sym (append-nil (map value (given_of i rs)))) holds)
 
-pub same_length : (ps : List Piece) → length (map value ps) ≡ length ps
-same_length [] = refl
-same_length (p ∷ ps) = ap suc (same_length ps)
-
 pub leave_stands : {A C : Type 0} → (I : C → Interface) (N : C → ℕ) (S : C → Channel → Type 0) (i : Interface) (rs : List Row) (o new : Observer A C) (r : Row) (p : Packet) (step : Routing) (code : Option ℕ) (found : List Finding) (s : StandsFor I N S i rs o) → AreRows (rs ++ r ∷ [])
     → Told s.cutting (record { row = r; packet = p }) step → step.route ≡ Leave code → found ≡ route_finding r step.route
     → Holds I N S (left_with s.cutting r step.after found) (map value (given_of i rs) ++ map value (pieces_out s.cutting.interface s.cutting.epoch (Some r.number) (rows_of s.cutting.open_rows) (length (map value (given_of i rs))) s.cutting.open_rows.channels)) new
@@ -144,4 +141,4 @@ leave_stands I N S i rs o new r p step code found s sound told leave is holds =
     next_stands I N S i rs r (pieces_out c.interface c.epoch (Some r.number) (rows_of c.open_rows) c.given c.open_rows.channels) o new after s sound
     (takes_leaving i rs c after (record { row = r; packet = p }) step code found s.cut told leave is left)
     (left_bounds c after r step.after found s.bounds left may.rising may.number may.octets) left.counted
-    (subst (λ n. Holds I N S after (map value (given_of i rs) ++ map value (pieces_out c.interface c.epoch (Some r.number) (rows_of c.open_rows) n c.open_rows.channels)) new) (same_length (given_of i rs) ∙ sym s.cut.given) holds)
+    (subst (λ n. Holds I N S after (map value (given_of i rs) ++ map value (pieces_out c.interface c.epoch (Some r.number) (rows_of c.open_rows) n c.open_rows.channels)) new) (length-values (given_of i rs) ∙ sym s.cut.given) holds)

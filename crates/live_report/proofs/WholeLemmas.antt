@@ -14,7 +14,7 @@ use Rattle.restart_epochs.proofs.Pushes.{rest_open}
 use Rattle.report_merge.specs.Merged.{IsOfWalk}
 use Rattle.live_report.specs.declared.observer.Observer.{Observer}
 use Rattle.live_report.specs.Observing.{StandsFor}
-use Rattle.live_report.proofs.TakeLemmas.{same_length}
+use Rattle.line_model.proofs.Posts.{length-values}
 
 abbrev told : {A C : Type 0} → (I : C → Interface) (N : C → ℕ) (S : C → Channel → Type 0) (i : Interface) (rs : List Row) (o : Observer A C) → StandsFor I N S i rs o → List PieceReport
 told I N S i rs o s =
@@ -24,14 +24,14 @@ told I N S i rs o s =
 all_told : {A C : Type 0} → (I : C → Interface) (N : C → ℕ) (S : C → Channel → Type 0) (i : Interface) (rs : List Row) (o : Observer A C) (s : StandsFor I N S i rs o) → told I N S i rs o s ≡ map value (plan i rs)
 all_told I N S i rs o s =
     let c = s.cutting in
-    ap (λ n. map value (given_of i rs) ++ map value (pieces_out c.interface c.epoch None (rows_of c.open_rows) n c.open_rows.channels)) (same_length (given_of i rs) ∙ sym s.cut.given)
+    ap (λ n. map value (given_of i rs) ++ map value (pieces_out c.interface c.epoch None (rows_of c.open_rows) n c.open_rows.channels)) (length-values (given_of i rs) ∙ sym s.cut.given)
     ∙ sym (map-append value (given_of i rs) (pieces_out c.interface c.epoch None (rows_of c.open_rows) c.given c.open_rows.channels))
     ∙ ap (map value) (rest_open i rs c s.cut)
 
 -- the pieces that are known whole and those of the open epoch are few
 pub few_pieces : {A C : Type 0} → (I : C → Interface) (N : C → ℕ) (S : C → Channel → Type 0) (i : Interface) (rs : List Row) (o : Observer A C) (s : StandsFor I N S i rs o) → o.ended.pieces + length s.cutting.open_rows.channels ≤ 999999999
 few_pieces I N S i rs o s =
-    let given : o.ended.pieces ≡ s.cutting.given = ap (λ p. p.pieces) s.holds.ended ∙ same_length (given_of i rs) ∙ sym s.cut.given in
+    let given : o.ended.pieces ≡ s.cutting.given = ap (λ p. p.pieces) s.holds.ended ∙ length-values (given_of i rs) ∙ sym s.cut.given in
     let ids = s.bounds.ids in
     let rows = s.bounds.rows in
     let last = s.bounds.last in
@@ -46,5 +46,5 @@ of_walk I N S i rs o s line packets found counted =
       values = subst (IsPermutation (map value (plan i rs))) (sym all) (IsPermutation-refl (map value (plan i rs)));
       line_is = found ∙ s.holds.findings ∙ s.cut.findings;
       packets_are = counted ∙ s.holds.packets ∙ s.cut.packets;
-      pieces_are = ap (λ (l : List PieceReport). length l) all ∙ same_length (plan i rs);
+      pieces_are = ap (λ (l : List PieceReport). length l) all ∙ length-values (plan i rs);
     }

@@ -14,6 +14,7 @@ use Rattle.packet_decode.specs.Reading.{ReadsAs, read_of, charges_fast, charges_
 use Rattle.packet_decode.proofs.FacilityLemmas.{facilities_of-bound}
 use Rattle.packet_decode.specs.declared.facility.Asked.{Asked}
 use Rattle.packet_decode.specs.Asked.{asked_in, asked_of, before_marker, with_facility, nothing_asked, two_octets, is_bad_size, is_bad_window}
+use mathlib.Core.Bool.{or-false}
 
 -- what a facility of a code asks, with what those after it ask
 abbrev pub joined : Interface → (code : ℕ) → (rest : List ℕ) → Asked → Asked
@@ -216,17 +217,13 @@ or_some : {A : Type 0} (o p : Option A) (x : A) → option_or (option_or o (Some
 or_some None p x = refl
 or_some (Some y) p x = refl
 
-or_false : (b : Bool) → (b || false) ≡ b
-or_false true = refl
-or_false false = refl
-
 or_grouped : (a b c d : Bool) → (a || (b || c || d)) ≡ ((a || b || c) || d)
 or_grouped true b c d = refl
 or_grouped false b c d = refl
 
 together_nothing : (m : Bool) (a : Asked) → together m a nothing_asked ≡ a
 together_nothing true a = refl
-together_nothing false a = λ k. record a { out_of_range = or_false a.out_of_range k }
+together_nothing false a = λ k. record a { out_of_range = or-false a.out_of_range k }
 
 -- one facility more is read
 abbrev IsTogether : Interface → List ℕ → Asked → Asked → ℕ → Type 0

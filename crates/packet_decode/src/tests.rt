@@ -3,7 +3,7 @@
 use crate::decode::{class_of, decode};
 use crate::fields::{CallFields, call_fields};
 use line_model::interface::Interface;
-use line_model::packet::{Class, DataHeader, Kind, Packet};
+use line_model::packet::{Class, DataHeader, Packet, PacketKind};
 use std::test::Fail;
 
 /// 4095 virtual channels at modulo 8.
@@ -31,7 +31,7 @@ const MODULO_128: Interface = Interface {
 };
 
 /// A packet of a kind on a channel.
-fn on(channel: u16, kind: Kind) -> Packet {
+fn on(channel: u16, kind: PacketKind) -> Packet {
     Packet::Channel { channel, kind }
 }
 
@@ -60,7 +60,7 @@ fn data_header_is_read_from_its_bits(rt: HostRuntime) {
         delivery: true,
         qualified: true,
     };
-    let packet = on(1281, Kind::Data(Some(header)));
+    let packet = on(1281, PacketKind::Data(Some(header)));
     assert_eq!(rt; decode(&MODULO_8, b"\xd5\x01\xb6\xaa"), packet);
     let header = DataHeader {
         send: 63,
@@ -69,11 +69,11 @@ fn data_header_is_read_from_its_bits(rt: HostRuntime) {
         delivery: false,
         qualified: false,
     };
-    let packet = on(1, Kind::Data(Some(header)));
+    let packet = on(1, PacketKind::Data(Some(header)));
     assert_eq!(rt; decode(&MODULO_128, b"\x20\x01\x7e\x83"), packet);
     assert_eq!(rt;
         decode(&MODULO_128, b"\x20\x01\x7e"),
-        on(1, Kind::Data(None))
+        on(1, PacketKind::Data(None))
     );
 }
 
@@ -81,24 +81,24 @@ fn data_header_is_read_from_its_bits(rt: HostRuntime) {
 fn flow_control_packets_carry_the_receive_number(rt: HostRuntime) {
     assert_eq!(rt;
         decode(&MODULO_8, b"\x10\x01\xe1"),
-        on(1, Kind::Rr(Some(7)))
+        on(1, PacketKind::Rr(Some(7)))
     );
     assert_eq!(rt;
         decode(&MODULO_8, b"\x10\x01\xa5"),
-        on(1, Kind::Rnr(Some(5)))
+        on(1, PacketKind::Rnr(Some(5)))
     );
-    assert_eq!(rt; decode(&MODULO_8, b"\x10\x01\xa9"), on(1, Kind::Rej));
+    assert_eq!(rt; decode(&MODULO_8, b"\x10\x01\xa9"), on(1, PacketKind::Rej));
     assert_eq!(rt;
         decode(&MODULO_128, b"\x20\x01\x01\xfe"),
-        on(1, Kind::Rr(Some(127)))
+        on(1, PacketKind::Rr(Some(127)))
     );
     assert_eq!(rt;
         decode(&MODULO_128, b"\x20\x01\x05"),
-        on(1, Kind::Rnr(None))
+        on(1, PacketKind::Rnr(None))
     );
     assert_eq!(rt;
         decode(&MODULO_128, b"\x20\x01\xe1"),
-        on(1, Kind::Undefined)
+        on(1, PacketKind::Undefined)
     );
 }
 
@@ -113,8 +113,8 @@ fn classes_are_judged_in_order(rt: HostRuntime) {
         (b"\x10\x00\xfb\x00\x00", Packet::Restart),
         (b"\x10\x00\xf1", Packet::Diagnostic),
         (b"\x10\x00\xf7", Packet::Registration),
-        (b"\x10\x01", on(1, Kind::TwoOctets)),
-        (b"\x10\x01\xf1", on(1, Kind::Undefined)),
+        (b"\x10\x01", on(1, PacketKind::TwoOctets)),
+        (b"\x10\x01\xf1", on(1, PacketKind::Undefined)),
     ];
     for (octets, packet) in cases {
         assert_eq!(rt; decode(&MODULO_8, octets), packet, "for {octets:?}");
@@ -122,7 +122,7 @@ fn classes_are_judged_in_order(rt: HostRuntime) {
     assert_eq!(rt; decode(&MODULO_128, b"\x20\x07\xfb"), Packet::Unassigned);
     assert_eq!(rt;
         decode(&MODULO_128, b"\x20\x06\xfb"),
-        on(6, Kind::RestartHere)
+        on(6, PacketKind::RestartHere)
     );
 }
 

@@ -11,19 +11,16 @@ use Rattle.restart_epochs.specs.Cutting.{Cutting, IsCounted, HasAppended}
 use Rattle.restart_epochs.proofs.Whole.{MayCome}
 use Rattle.piece_feed.specs.Batches.{rows_in}
 use Rattle.piece_feed.specs.Fronts.{CanFollow, IsCounting, IsTrace}
+use Rattle.line_model.proofs.LineLemmas.{last_or-add}
 
 pub one_more : (before : List Row) (items : List Item) (item : Item) → (before ++ rows_in items) ++ item.row ∷ [] ≡ before ++ rows_in (items ++ item ∷ [])
 one_more before items item = append_assoc before (rows_in items) (item.row ∷ []) ∙ ap (λ l. before ++ l) (sym (map-append (λ (x : Item). x.row) items (item ∷ [])))
-
-last_or-push : (d n : ℕ) (ns : List ℕ) → last_or d (ns ++ n ∷ []) ≡ n
-last_or-push d n [] = refl
-last_or-push d n (m ∷ ns) = last_or-push m n ns
 
 pub counts_one : (rs : List Row) (r : Row) (c c' : Cutting) → IsCounting rs c → IsCounted r c c' → IsCounting (rs ++ r ∷ []) c'
 counts_one rs r c c' h counted =
     let octets = h.octets in
     record {
-      last = counted.last ∙ sym (ap (last_or 0) (map-append (λ (x : Row). x.number) rs (r ∷ [])) ∙ last_or-push 0 r.number (map (λ x. x.number) rs));
+      last = counted.last ∙ sym (ap (last_or 0) (map-append (λ (x : Row). x.number) rs (r ∷ [])) ∙ last_or-add 0 r.number (map (λ x. x.number) rs));
       octets = omega (arith, counted.octets, octets, sum_by_push (λ (x : Row). length x.octets) rs r);
     }
 

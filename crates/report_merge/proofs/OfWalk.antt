@@ -23,10 +23,10 @@ use Rattle.line_model.proofs.Rising.{rises-from_index}
 use Rattle.line_model.proofs.LinePart.{line_none}
 use Rattle.line_model.proofs.BookTotals.{totals_law}
 use Rattle.line_model.proofs.InOrder.{findings_order, calls_order}
-use Rattle.line_model.proofs.PeakOfCalls.{calls_peak}
+use Rattle.line_model.proofs.PeakOfCalls.{calls_peak, increasing}
 use Rattle.report_merge.specs.Merged.{IsMerged, IsOfWalk}
 use Rattle.report_merge.proofs.SortedLists.{sorted_unique, flat_map_permuted, flat_map-map}
-use Rattle.report_merge.proofs.OnePeak.{peak_unique}
+use Rattle.line_model.proofs.Peaks.{peak_unique}
 
 -- ---- data packets are of channels alone
 
@@ -59,11 +59,6 @@ lengths_of_channels i rs =
     lengths_apart (walk_events (x25 i) (start i) rs) (line_none (x25 i) tells_data (λ e l x. line_tells_none x (routing i l x).route) (start i) rs)
 
 -- ---- the parts of the report
-
-increasing : (ns : List ℕ) → IsStrictlyIncreasing (0 ∷ ns) → IsStrictlyIncreasing ns
-increasing ns h = λ k lt.
-    let e : suc k + 1 ≡ suc (k + 1) = omega arith in
-    subst (λ j. get_or ns k 0 < get_or (0 ∷ ns) j 0) e (h (suc k) (omega arith))
 
 findings_are : (i : Interface) (rs : List Row) (reports : List PieceReport) (line : List Finding) (packets pieces : ℕ) (r : Report)
     → IsOfWalk i rs reports line packets pieces → IsMerged r reports line packets → r.findings ≡ findings_of (events i rs)

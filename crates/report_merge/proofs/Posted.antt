@@ -11,6 +11,7 @@ use Rattle.line_model.specs.basics.Records.{Piece, PieceReport}
 use Rattle.line_model.specs.pieces.Plans.{value}
 use Rattle.line_model.specs.work.Book.{times, ids_of, AreOf}
 use Rattle.line_model.proofs.Counting.{bit, times-cons, times-append, each_once}
+use Rattle.line_model.proofs.Schedules.{ids-append}
 
 -- the report stands among the values, which are numbered from n on
 abbrev StandsFrom : ℕ → List PieceReport → PieceReport → Type 0
@@ -23,10 +24,6 @@ all_from_index P (r ∷ rs) h = (h 0 r (omega arith), all_from_index P rs (λ k 
 all_map : (P Q : PieceReport → Type 0) (rs : List PieceReport) → ((r : PieceReport) → P r → Q r) → AllByRecursion P rs → AllByRecursion Q rs
 all_map P Q [] f h = tt
 all_map P Q (r ∷ rs) f h = (f r h.0, all_map P Q rs f h.1)
-
-ids-append : (ps qs : List PieceReport) → ids_of (ps ++ qs) ≡ ids_of ps ++ ids_of qs
-ids-append [] qs = refl
-ids-append (p ∷ ps) qs = ap (λ l. p.id ∷ l) (ids-append ps qs)
 
 -- where a number stands among the ids
 found : (x : ℕ) (rs : List PieceReport) → 0 < times x (ids_of rs) → (front : List PieceReport) × (r : PieceReport) × (back : List PieceReport) × (rs ≡ front ++ r ∷ back) × (r.id ≡ x)

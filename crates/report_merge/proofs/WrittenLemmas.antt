@@ -9,14 +9,7 @@ use Rattle.line_model.specs.basics.Records.{Report}
 use Rattle.line_model.specs.observer.Report.{account_line, call_line, finding_line, line, peak_line, setting_lines, summary_line, text_of}
 use Rattle.report_merge.specs.Parts.{findings_text, rest_text}
 use Rattle.report_merge.specs.Written.{Writes}
-
-pub with_more-append : (o : Option (List ℕ)) (a b : List ℕ) → with_more (with_more o a) b ≡ with_more o (a ++ b)
-with_more-append None a b = refl
-with_more-append (Some t) a b = ap Some (append_assoc t a b)
-
-pub with_more-nil : (o : Option (List ℕ)) → with_more o [] ≡ o
-with_more-nil None = refl
-with_more-nil (Some t) = ap Some (append-nil t)
+use Rattle.line_model.proofs.DeviceLemmas.{with_more-append, with_more-nil, split_rest}
 
 -- what is held is sent, all of it or a first part, and nothing is held then
 pub flushed : (before taken after : Option (List ℕ) × ℕ) (c d : Chunk) (text front rest : List ℕ) → Writes before taken c text → c.failed ≡ false → c.bytes.items ≡ front ++ rest → after.0 ≡ with_more taken.0 front
@@ -79,11 +72,6 @@ still_given_up before taken c d text w was failed = record {
   rising = w.rising;
   cause = λ e. w.cause was;
 }
-
-pub split_rest : (front rest text : List ℕ) (n : ℕ) → text ≡ front ++ rest → text ≡ (front ++ take n rest) ++ take (length rest - n) (drop n rest)
-split_rest front rest text n e =
-    let back : take (length rest - n) (drop n rest) ≡ drop n rest = grind (arith, common_steps) in
-    e ∙ ap (λ xs. front ++ xs) (sym (take-append-drop n rest)) ∙ sym (append_assoc front (take n rest) (drop n rest)) ∙ ap (λ xs. (front ++ take n rest) ++ xs) (sym back)
 
 -- ---- lines
 

@@ -9,9 +9,9 @@ use Rattle.line_model.specs.observer.Machine.{Machine, Observer, routed, after, 
 use Rattle.line_model.specs.pieces.Shuffle.{is_channel}
 use Rattle.line_model.specs.pieces.Pieces.{Placed, placed, leaves_routed, piece_rows, piece_end}
 use Rattle.line_model.specs.observer.Observer.{x25, start}
-use Rattle.line_model.proofs.Rising.{filter_append}
 use Rattle.line_model.proofs.Walks.{walk_append}
 use Rattle.restart_epochs.specs.Cutting.{observer, places}
+use Rattle.line_model.proofs.Pieces.{filter_append}
 
 placed_append : {X L S E : Type 0} → (m : Machine X L S E) (o : Observer L S) (p q : List X) → placed m o (p ++ q) ≡ placed m o p ++ placed m (walk m o p) q
 placed_append m o [] q = refl

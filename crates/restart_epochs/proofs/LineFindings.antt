@@ -19,11 +19,11 @@ use Rattle.line_model.specs.pieces.Merge.{is_line}
 use Rattle.line_model.specs.observer.Observer.{x25, start, routing, is_ready, route_found, event_of}
 use Rattle.line_model.specs.observer.Report.{findings_of}
 use Rattle.line_model.specs.pieces.Plans.{line_findings}
-use Rattle.line_model.proofs.Rising.{filter_append}
 use Rattle.line_model.proofs.LinePart.{channel_dropped, line_kept, closed_dropped}
 use Rattle.restart_epochs.specs.Cutting.{observer, route_finding}
 use Rattle.restart_epochs.proofs.Routes.{is_to_channel}
 use Rattle.restart_epochs.proofs.Steps.{routed_to, routed_none}
+use Rattle.line_model.proofs.Pieces.{filter_append}
 
 pub events_append : {X L S E : Type 0} → (m : Machine X L S E) (o : Observer L S) (p q : List X) → walk_events m o (p ++ q) ≡ walk_events m o p ++ walk_events m (walk m o p) q
 events_append m o [] q = refl

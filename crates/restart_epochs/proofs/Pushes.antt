@@ -29,6 +29,7 @@ use Rattle.restart_epochs.proofs.Cuts.{pieces_to, pieces_in, pieces_more, pieces
 use Rattle.restart_epochs.proofs.Growth.{ends_nothing, ends_same, ends_leave, ends_enter, whole_epochs, given_pieces, same_below, same_line, leave_pieces}
 use Rattle.restart_epochs.proofs.LineFindings.{line_findings_more, to_none}
 use Rattle.restart_epochs.proofs.Listed.{insert_listed, none_listed}
+use mathlib.Core.Bool.{and-not_self}
 
 -- ---- the pieces of an epoch, as they are given out
 
@@ -92,7 +93,7 @@ more_some : (rs : List Row) (r : Row) → has_some (rs ++ r ∷ []) ≡ true
 more_some [] r = refl
 more_some (x ∷ rs) r = refl
 
-filter_each : (f g : ℕ → Bool) → ((k : ℕ) → f k ≡ g k) → (ks : List ℕ) → filter f ks ≡ filter g ks
+pub filter_each : (f g : ℕ → Bool) → ((k : ℕ) → f k ≡ g k) → (ks : List ℕ) → filter f ks ≡ filter g ks
 filter_each f g h [] = refl
 filter_each f g h (k ∷ ks) = ap (λ b. cond b (k ∷ filter f ks) (filter f ks)) (h k) ∙ ap (λ l. cond (g k) (k ∷ l) l) (filter_each f g h ks)
 
@@ -207,10 +208,6 @@ pushed_on_channel i rs r c c' s h kept =
       given = given ∙ sym (append-nil (given_of i rs));
     }
 
-and_not : (b : Bool) → (b && not b) ≡ false
-and_not true = refl
-and_not false = refl
-
 same_epoch : (i : Interface) (o : Observer LineState Channel) (l : LineState) (b : Bool) → (line_moved (x25 i) o l b b).epoch ≡ o.epoch
 same_epoch i o l true = refl
 same_epoch i o l false = refl
@@ -244,7 +241,7 @@ pushed_quietly i rs r c c' ready s h before after step =
     let l' : LineState = (routing i o.line r).after in
     let was : is_ready o.line ≡ ready = ap is_ready (sym s.line) ∙ before in
     let will : is_ready l' ≡ ready = ap (λ l. is_ready (routing i l r).after) (sym s.line) ∙ after in
-    let stays : p.leaves ≡ false = on.leaves ∙ (λ j. was j && not (will j)) ∙ and_not ready in
+    let stays : p.leaves ≡ false = on.leaves ∙ (λ j. was j && not (will j)) ∙ and-not_self ready in
     let epoch : (observer i (rs ++ r ∷ [])).epoch ≡ o.epoch = on.epoch ∙ (λ j. (line_moved (x25 i) o l' (was j) (will j)).epoch) ∙ same_epoch i o l' ready in
     let a : After i rs r ready o.epoch l' = record { is_ready = ap is_ready on.line ∙ will; is_epoch = epoch; is_line = on.line } in
     let ends : EndsOf (places i rs ++ p ∷ []) o.epoch ready = ends_same (places i rs) p o.epoch ready (subst (EndsOf (places i rs) o.epoch) was s.epochs) refl stays in

@@ -13,6 +13,7 @@ use Rattle.line_model.specs.channels.Tables.{action}
 use Rattle.line_model.specs.channels.RestartMachine.{LineState, Routing, is_outside, restart_name, outside_step, restart_moving, restart_error, restart_fault, restart_step, passes_joining, inside_step, line_step}
 use Rattle.line_model.specs.observer.Observer.{is_ready, line_in_r1, handed}
 use Rattle.line_model.proofs.Every.{every, flags, sides, classes, every_flag, every_side, every_class}
+use Rattle.line_model.proofs.Marks.{same_bit}
 
 -- an entry of the restart table, for a packet with this fault of format
 abbrev acted : LineState → Side → Option ℕ → Action → Routing
@@ -107,16 +108,10 @@ all_alike : (f : Option ℕ) → for_all (λ w j x k. alike_at w j x f k) ≡ tr
 all_alike None = refl
 all_alike (Some n) = refl
 
-same_flag : (a b : Bool) → eq_bool a b ≡ true → a ≡ b
-same_flag true true h = refl
-same_flag true false h = sym h
-same_flag false true h = h
-same_flag false false h = refl
-
 pub alike_in_r1 : (w j : Bool) (x : Side) (k : Class) (n : ℕ) → is_to_channel (line_step (line_of R1 w j) x k n).route ≡ is_to_channel (line_step (line_in_r1 false) x k n).route
 alike_in_r1 w j x k n =
     ap (λ r. is_to_channel r.route) (steps (line_of R1 w j) x k n)
-    ∙ same_flag _ _ (one_of_all (λ v i y c. alike_at v i y (restart_fault k n) c) (all_alike (restart_fault k n)) w j x k)
+    ∙ same_bit _ _ (one_of_all (λ v i y c. alike_at v i y (restart_fault k n) c) (all_alike (restart_fault k n)) w j x k)
     ∙ sym (ap (λ r. is_to_channel r.route) (steps (line_in_r1 false) x k n))
 
 -- a route to a channel hands the row to it, and no other route does
@@ -157,8 +152,8 @@ is_quiet (Found s n) = true
 is_quiet _ = false
 
 pub quiet_at : (b a : Bool) (route : Route) → is_quiet route ≡ true → fits_route b a route ≡ true → a ≡ b
-quiet_at b a Pass q h = sym (same_flag b a h)
-quiet_at b a (Found s n) q h = sym (same_flag b a h)
+quiet_at b a Pass q h = sym (same_bit b a h)
+quiet_at b a (Found s n) q h = sym (same_bit b a h)
 quiet_at b a ToChannel q h = absurd (true≢false (sym q))
 quiet_at b a (Leave c) q h = absurd (true≢false (sym q))
 quiet_at b a Enter q h = absurd (true≢false (sym q))

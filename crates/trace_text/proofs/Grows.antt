@@ -11,43 +11,25 @@ use Rattle.line_model.specs.declared.fault.Kind.TheVariants.{HeaderMissing}
 use Rattle.line_model.specs.text.RowLine.{row_of}
 use Rattle.line_model.specs.text.Text.{Line, is_comment, content_of, begun_kind, begun_line, early, early_head, early_rows, end_kind, ended_lines, fault, first_fault, good_lines, head, head_in, head_of, line_kind, line_or_none, lines_of, rows, rows_in}
 use Rattle.line_model.proofs.LineLemmas.{no_content}
-use Rattle.line_model.proofs.Rising.{filter_append}
 use Rattle.line_model.proofs.TextLemmas.{first_fault-append}
 use Rattle.trace_text.specs.Progress.{Progress}
 use Rattle.trace_text.specs.StandsFor.{StandsFor}
 use Rattle.trace_text.proofs.FeedLemmas.{no_fault, rows-sound}
-use Rattle.trace_text.proofs.RefusalLemmas.{IsAfter, at_line, good_more, more_lines, or_after}
+use Rattle.trace_text.proofs.RefusalLemmas.{IsAfter, at_line, good_more, more_lines, or_after, first_fault-after, early-after, missing_after}
+use Rattle.line_model.proofs.Pieces.{filter_append}
 
 -- ---- where the first fault of more text lies
-
-found_later : (o : Option Kind) (n line : ℕ) (p : Option (ℕ × Kind)) → n < line → IsAfter n p → IsAfter n (elim o [ Some kind ↦ Some (line, kind) | None ↦ p ])
-found_later (Some k) n line p h i = h
-found_later None n line p h i = i
-
-later_still : (n m : ℕ) (p : Option (ℕ × Kind)) → n ≤ m → IsAfter m p → IsAfter n p
-later_still n m None h i = tt
-later_still n m (Some at) h i = omega (arith, i)
-
-first_later : (before xs : List Line) → IsAfter (length before) (first_fault before xs)
-first_later before [] = tt
-first_later before (x ∷ xs) =
-    found_later (line_kind before 1 x) (length before) (length before + 1) _ (omega arith)
-    (later_still (length before) (length (before ++ x ∷ [])) _ (omega (arith, length-append before (x ∷ []))) (first_later (before ++ x ∷ []) xs))
 
 lines_later : (given rest : List ℕ) → early given ≡ None → IsAfter (length (ended_lines given)) (first_fault [] (ended_lines (given ++ rest)))
 lines_later given rest h =
     let lines = more_lines given rest in
     let none = no_fault given h in
-    rw (lines.1, first_fault-append [] (ended_lines given) lines.0, none) (first_later (ended_lines given) lines.0)
-
-missing_later : (ls : List Line) (n line : ℕ) → n < line → IsAfter n (elim ls as (λ _. Option (ℕ × Kind)) [ [] ↦ Some (line, HeaderMissing) | m ∷ ms ↦ None ])
-missing_later [] n line h = h
-missing_later (l ∷ ls) n line h = tt
+    rw (lines.1, first_fault-append [] (ended_lines given) lines.0, none) (first_fault-after (ended_lines given) lines.0)
 
 end_later : (es : List Line) (begun : Line) (n : ℕ) → n ≤ length es → IsAfter n (end_kind es begun)
 end_later es begun n h =
     or_after n (option_map (λ kind. (length es + 1, kind)) (begun_kind es begun)) _ (at_line n (length es + 1) (begun_kind es begun) (omega (arith, h)))
-    (missing_later (content_of (es ++ line_or_none begun)) n (length (es ++ line_or_none begun) + 1) (omega (arith, h, length-append es (line_or_none begun))))
+    (missing_after (content_of (es ++ line_or_none begun)) n (length (es ++ line_or_none begun) + 1) (omega (arith, h, length-append es (line_or_none begun))))
 
 more_ended : (given rest : List ℕ) → length (ended_lines given) ≤ length (ended_lines (given ++ rest))
 more_ended given rest = let lines = more_lines given rest in omega (arith, ap (λ (ls : List Line). length ls) lines.1, length-append (ended_lines given) lines.0)
@@ -57,12 +39,6 @@ unfolding fault
 fault_later given rest h =
     or_after (length (ended_lines given)) (first_fault [] (ended_lines (given ++ rest))) (end_kind (ended_lines (given ++ rest)) (begun_line (given ++ rest)))
     (lines_later given rest h) (end_later (ended_lines (given ++ rest)) (begun_line (given ++ rest)) (length (ended_lines given)) (more_ended given rest))
-
-early_later : (given rest : List ℕ) → early given ≡ None → IsAfter (length (ended_lines given)) (early (given ++ rest))
-unfolding early
-early_later given rest h =
-    or_after (length (ended_lines given)) (first_fault [] (ended_lines (given ++ rest))) _ (lines_later given rest h)
-    (at_line (length (ended_lines given)) (length (ended_lines (given ++ rest)) + 1) _ (let more = more_ended given rest in omega (arith, more)))
 
 -- ---- what the lines say
 
@@ -109,7 +85,7 @@ pub early_head_stays : (given more : List ℕ) (i : Interface) → early given �
 unfolding early_head
 early_head_stays given more i h e =
     let lines = more_lines given more in
-    ap (λ ls. head_of (good_lines (early (given ++ more)) ls)) lines.1 ∙ good_head (early (given ++ more)) (ended_lines given) lines.0 i (early_later given more h) (head_so_far given i h e)
+    ap (λ ls. head_of (good_lines (early (given ++ more)) ls)) lines.1 ∙ good_head (early (given ++ more)) (ended_lines given) lines.0 i (early-after given more h) (head_so_far given i h e)
 
 -- without a header there are no rows
 pub no_rows : (v : Progress) (text : List ℕ) → StandsFor v text → v.interface ≡ None → early_rows text ≡ []

@@ -11,6 +11,7 @@ use Rattle.line_model.specs.declared.interface.Interface.{Interface}
 use Rattle.line_model.specs.text.RowLine.{row_of}
 use Rattle.line_model.specs.text.Text.{Line, is_lf, is_comment, content_of, early, early_head, early_rows, head_in, head_of, ended_lines, begun_line, first_fault, good_lines, line_kind, rows_in}
 use Rattle.line_model.specs.declared.fault.Kind.{Kind}
+use Rattle.line_model.specs.declared.fault.Kind.TheVariants.{HeaderMissing}
 use Rattle.line_model.specs.declared.fault.Fault.{Fault}
 use Rattle.line_model.specs.declared.fault.Fault.TheVariants.{Memory, Trace, Read, Write, Start, Double, Stranger, Missing}
 use Rattle.line_model.proofs.TextLemmas.{ended-lf, ended-more, first_fault-append}
@@ -74,7 +75,7 @@ after_less : (n m : ℕ) (p : Option (ℕ × Kind)) → n ≤ m → IsAfter m p 
 after_less n m None h i = tt
 after_less n m (Some at) h i = omega (arith, i)
 
-first_fault-after : (before xs : List Line) → IsAfter (length before) (first_fault before xs)
+pub first_fault-after : (before xs : List Line) → IsAfter (length before) (first_fault before xs)
 first_fault-after before [] = tt
 first_fault-after before (x ∷ xs) =
     found_after (line_kind before 1 x) (length before) (length before + 1) _ (omega arith)
@@ -88,8 +89,12 @@ pub at_line : (n line : ℕ) (o : Option Kind) → n < line → IsAfter n (optio
 at_line n line None h = tt
 at_line n line (Some k) h = h
 
+pub missing_after : (ls : List Line) (n line : ℕ) → n < line → IsAfter n (elim ls as (λ _. Option (ℕ × Kind)) [ [] ↦ Some (line, HeaderMissing) | m ∷ ms ↦ None ])
+missing_after [] n line h = h
+missing_after (l ∷ ls) n line h = tt
+
 -- where nothing is faulty so far, the fault of more text lies in later lines
-early-after : (text more : List ℕ) → early text ≡ None → IsAfter (length (ended_lines text)) (early (text ++ more))
+pub early-after : (text more : List ℕ) → early text ≡ None → IsAfter (length (ended_lines text)) (early (text ++ more))
 unfolding early
 early-after text more h =
     let lines = more_lines text more in
@@ -97,10 +102,6 @@ early-after text more h =
     or_after (length (ended_lines text)) (first_fault [] (ended_lines (text ++ more))) _
     (rw (lines.1, first_fault-append [] (ended_lines text) lines.0, none) (first_fault-after (ended_lines text) lines.0))
     (at_line _ _ _ (omega (arith, ap (λ (ls : List Line). length ls) lines.1, length-append (ended_lines text) lines.0)))
-
-early_rows-sound : (text : List ℕ) → early text ≡ None → early_rows text ≡ rows_in (ended_lines text)
-unfolding early_rows
-early_rows-sound text h = rw h refl
 
 pub rows_grow : (text more : List ℕ) → early text ≡ None → (others : List Row) × (early_rows (text ++ more) ≡ early_rows text ++ others)
 unfolding early_rows

@@ -23,8 +23,11 @@ use Rattle.line_model.specs.text.Text.{Line, is_comment, has_header, last_number
 use Rattle.line_model.proofs.LineLemmas.{last_number-comment, rows_in-comment, last_number-first, rows_in-first, last_number-later, rows_in-later}
 use Rattle.line_model.proofs.TextLemmas.{size_of-append, size_kind-none}
 use Rattle.line_model.proofs.RowsSoFar.{RowsTo, rows_none, rows_push, rows_rise, rows_below}
-use Rattle.trace_text.proofs.FeedLemmas.{no_fault, rows-sound}
+use Rattle.trace_text.proofs.FeedLemmas.{no_fault, rows-sound, map_none}
 use Rattle.trace_text.proofs.NumberLemmas.{number_parts}
+use Rattle.line_model.proofs.FinalFaults.{both_none}
+use Rattle.trace_text.proofs.EndLemmas.{rows-all}
+use Rattle.std.proofs.lemmas.Option.{cond_some}
 
 -- ---- one row's line
 
@@ -36,27 +39,23 @@ pub record WritesRow (last : ℕ) (line : Line) : Type 0 where
   pub few : row.number ≤ 999999999
   pub octets : length row.octets ≤ length line
 
-some_of : {A : Type 0} (b : Bool) (x y : A) → cond b (Some x) None ≡ Some y → (b ≡ true) × (x ≡ y)
-some_of true x y h = (refl, cc)
-some_of false x y h = absurd (cc)
-
 number_few : (word : List ℕ) (n : ℕ) → number_of word ≡ Some n → n ≤ 999999999
 number_few word n h =
-    let s = some_of (is_number word) (digits_value 10 word) n h in
+    let s = cond_some (is_number word) (digits_value 10 word) n h in
     let parts = number_parts word s.0 in
     omega (arith, s.1, digits_value_short (numerals_by_value (AllDigits 10) tells_digits) word 9 parts.1 parts.0)
 
 rising_parts : (last n : ℕ) (o : Option ℕ) → option_and_then (λ m. if nat_lt last m then Some m else None) o ≡ Some n → (o ≡ Some n) × (last < n)
 rising_parts last n None h = absurd (cc)
 rising_parts last n (Some m) h =
-    let s = some_of (nat_lt last m) m n h in
+    let s = cond_some (nat_lt last m) m n h in
     (ap Some s.1, subst (λ k. last < k) s.1 (ltb-true last m s.0))
 
 hex_length : (word xs : List ℕ) (r : Result (List ℕ) FromHexError) → decode_of word ≡ r → option_and_then (λ octets. if nat_le (length octets) 4200 then Some octets else None) (result_ok r) ≡ Some xs
     → length xs ≤ length word
 hex_length word xs (Err e) k h = absurd (cc)
 hex_length word xs (Ok ys) k h =
-    let s = some_of (nat_le (length ys) 4200) ys xs h in
+    let s = cond_some (nat_le (length ys) 4200) ys xs h in
     omega (arith, (decode_of-ok word ys k).2, ap (λ (l : List ℕ). length l) s.1)
 
 octets_length : (word xs : List ℕ) → octets_of word ≡ Some xs → length xs ≤ length word
@@ -72,7 +71,7 @@ some_words a b h = cc
 
 hex_within : (words : List (List ℕ)) (w : RowWords) → row_words_in words ≡ Some w → length w.hex ≤ length (join_with_byte 32 words)
 hex_within (n ∷ s ∷ x ∷ []) w h =
-    let same = some_of (is_row_words n s x) (record { number = n; side = s; hex = x }) w h in
+    let same = cond_some (is_row_words n s x) (record { number = n; side = s; hex = x }) w h in
     omega (arith, ap (λ v. length v.hex) same.1, length-append n (32 ∷ (s ++ 32 ∷ x)), length-append s (32 ∷ x))
 hex_within _ w h = absurd (cc)
 
@@ -121,10 +120,6 @@ record Sound (ls : List Line) : Type 0 where
 sound_nothing : Sound []
 unfolding last_number rows_in
 sound_nothing = record { rows = rows_none 0 0; last = omega arith; size = omega arith }
-
-both_none : {T : Type 0} (a b : Option T) → option_or a b ≡ None → (a ≡ None) × (b ≡ None)
-both_none None b h = (refl, h)
-both_none (Some x) b h = absurd (cc)
 
 more_rows : (last most more : ℕ) (rs : List Row) → RowsTo last most rs → most ≤ more → RowsTo last more rs
 more_rows last most more rs h le = let octets = h.octets in record { rising = h.rising; below = h.below; octets = omega (arith, octets, le) }
@@ -183,10 +178,6 @@ sound_begun : (es : List Line) (b : Line) → Sound es → begun_kind es b ≡ N
 sound_begun es [] s h = subst Sound (sym (append-nil es)) s
 sound_begun es (b ∷ bs) s h = sound_line es (b ∷ bs) 0 s h
 
-map_none : {A B : Type 0} (f : A → B) (o : Option A) → option_map f o ≡ None → o ≡ None
-map_none f None h = refl
-map_none f (Some x) h = absurd (cc)
-
 sound_text : (text : List ℕ) → fault text ≡ None → Sound (lines_of text)
 unfolding fault
 sound_text text h =
@@ -194,14 +185,10 @@ sound_text text h =
     sound_begun (ended_lines text) (begun_line text) (sound_ended [] (ended_lines text) sound_nothing p.0)
     (map_none (λ kind. (length (ended_lines text) + 1, kind)) (begun_kind (ended_lines text) (begun_line text)) (both_none _ _ p.1).0)
 
-all_rows : (text : List ℕ) → fault text ≡ None → rows text ≡ rows_in (lines_of text)
-unfolding rows
-all_rows text h = ap (λ at. rows_in (good_lines at (lines_of text))) h
-
 -- ---- a text without a fault
 
 text_rows : (text : List ℕ) → fault text ≡ None → RowsTo (last_number (lines_of text)) (size_of (lines_of text)) (rows text)
-text_rows text h = subst (RowsTo (last_number (lines_of text)) (size_of (lines_of text))) (sym (all_rows text h)) (sound_text text h).rows
+text_rows text h = subst (RowsTo (last_number (lines_of text)) (size_of (lines_of text))) (sym (rows-all text h)) (sound_text text h).rows
 
 pub text_rises : (text : List ℕ) → fault text ≡ None → IsStrictlyIncreasing (0 ∷ map (λ r. r.number) (rows text))
 text_rises text h = rows_rise (last_number (lines_of text)) (size_of (lines_of text)) (rows text) (text_rows text h)

@@ -20,8 +20,10 @@ use Rattle.trace_text.specs.StandsFor.{StandsFor}
 use Rattle.trace_text.proofs.FeedLemmas.{early-none, no_fault, rows-sound, size-sound}
 use Rattle.trace_text.proofs.RefusalLemmas.{content_of-append}
 use Rattle.trace_text.proofs.RowsOfText.{parts_there, writes_row}
-use Rattle.trace_text.proofs.ShareLemmas.{both_none, head_sound, header_there, rows_there}
+use Rattle.line_model.proofs.FinalFaults.{both_none}
+use Rattle.trace_text.proofs.ShareLemmas.{head_sound, header_there, rows_there}
 use Rattle.trace_text.proofs.WholeLines.{begun-behind, ended-behind, whole-size}
+use Rattle.trace_text.proofs.NumberLemmas.{both}
 
 -- ---- a row that may stand behind a number may stand behind each that is below its own
 
@@ -163,10 +165,6 @@ last_of_share m share (n ∷ ns) e h = rw e h
 
 -- ---- the seam between a reader of lines and a share
 
-both_true : (a b : Bool) → (a && b) ≡ true → (a ≡ true) × (b ≡ true)
-both_true true b h = (refl, h)
-both_true false b h = absurd (cc)
-
 pub record Seam (v : Progress) (share : Extent) : Type 0 where
   pub header : is_some v.interface ≡ true
   pub between : v.begun ≡ []
@@ -175,10 +173,10 @@ pub record Seam (v : Progress) (share : Extent) : Type 0 where
 
 pub seam-holds : (v : Progress) (share : Extent) → follows v share ≡ true → Seam v share
 seam-holds v share h =
-    let header = both_true (is_some v.interface) _ h in
-    let between = both_true (length v.begun == 0) _ header.1 in
-    let running = both_true (is_none v.refused) _ between.1 in
-    let rises = both_true (rises_above v.last share.first) _ running.1 in
+    let header = both (is_some v.interface) _ h in
+    let between = both (length v.begun == 0) _ header.1 in
+    let running = both (is_none v.refused) _ between.1 in
+    let rises = both (rises_above v.last share.first) _ running.1 in
     record {
       header = header.0;
       between = nil_from_length v.begun (eqb-true (length v.begun) 0 between.0);

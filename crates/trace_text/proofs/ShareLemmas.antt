@@ -7,7 +7,7 @@ use Rattle.line_model.specs.text.Text.{Line, begun_line, content_of, ended_lines
 use Rattle.line_model.specs.text.RowLine.{row_of}
 use Rattle.line_model.specs.basics.Records.{Row}
 use Rattle.line_model.specs.declared.fault.Kind.{Kind}
-use Rattle.line_model.proofs.LineLemmas.{content-comment, content-line, rows_in-comment, rows_in-later, row_number-row_of}
+use Rattle.line_model.proofs.LineLemmas.{content-comment, content-line, rows_in-comment, rows_in-later, row_number-row_of, last_or-add}
 use Rattle.line_model.proofs.TextLemmas.{HasNoLf, begun-lf, begun-more, first_fault-append, size_kind-none}
 use Rattle.trace_text.specs.Reads.{ReadsAs}
 use Rattle.trace_text.specs.Shares.{Extent, IsReadable, IsShare, IsShareFault, ReadsShare, TakesShareRow, behind_header, first_of, numbers_in, share_rows}
@@ -19,6 +19,9 @@ use Rattle.trace_text.specs.declared.content.Content.TheVariants.{Comment, Heade
 use Rattle.trace_text.specs.declared.shares.ShareFault.{ShareFault}
 use Rattle.trace_text.specs.declared.shares.ShareFault.TheVariants.{Memory, Broken}
 use Rattle.trace_text.proofs.WholeLines.{ended-behind, first-line, line-behind, whole-size}
+use Rattle.trace_text.proofs.FeedLemmas.{one_good}
+use Rattle.trace_text.proofs.ChunkLemmas.{whole_chunk}
+use Rattle.line_model.proofs.FinalFaults.{both_none}
 
 -- ---- lines behind a header that was not read
 
@@ -46,18 +49,7 @@ first-more : (ns : List ℕ) (n : ℕ) → first_of (ns ++ n ∷ []) ≡ option_
 first-more [] n = refl
 first-more (m ∷ ns) n = refl
 
-pub last-more : (d : ℕ) (ns : List ℕ) (n : ℕ) → last_or d (ns ++ n ∷ []) ≡ n
-last-more d [] n = refl
-last-more d (m ∷ ns) n = last-more m ns n
-
 -- ---- a line
-
-pub both_none : {T : Type 0} (a b : Option T) → option_or a b ≡ None → (a ≡ None) × (b ≡ None)
-both_none None b h = (refl, h)
-both_none (Some x) b h = absurd (cc)
-
-one_sound : (es : List Line) (l : Line) → line_kind es 1 l ≡ None → first_fault es (l ∷ []) ≡ None
-one_sound es l h = ap (λ (o : Option Kind). elim o as (λ _. Option (ℕ × Kind)) [ Some k ↦ Some (length es + 1, k) | None ↦ None ]) h
 
 -- the rule that a line breaks behind a share is the text's
 line-rule : (share : Extent) (bytes line : List ℕ) → IsShare share bytes → line_kind (behind_header (ended_lines bytes)) 1 line ≡ share_kind share line
@@ -68,7 +60,7 @@ line-rule share bytes line s =
 sound_more : (bytes line : List ℕ) → IsReadable bytes → HasNoLf line → line_kind (behind_header (ended_lines bytes)) 1 line ≡ None → first_fault (behind_header []) (ended_lines (bytes ++ line ++ 10 ∷ [])) ≡ None
 sound_more bytes line r h k =
     ap (first_fault (behind_header [])) (line-behind bytes line r.whole h) ∙ first_fault-append (behind_header []) (ended_lines bytes) (line ∷ [])
-    ∙ ap (λ o. option_or o (first_fault (behind_header (ended_lines bytes)) (line ∷ []))) r.sound ∙ one_sound (behind_header (ended_lines bytes)) line k
+    ∙ ap (λ o. option_or o (first_fault (behind_header (ended_lines bytes)) (line ∷ []))) r.sound ∙ one_good (behind_header (ended_lines bytes)) line k
 
 -- what a line leaves of the numbers
 record Numbers (content : Content) (number : ℕ) (share : Extent) (ns : List ℕ) : Type 0 where
@@ -85,7 +77,7 @@ numbers_after Packet row share bytes line s r =
     let more = sym (numbers-row (ended_lines bytes) line row r.0 r.2) in
     record {
       first = ap (λ o. option_or o (Some row.number)) s.first ∙ sym (first-more ns row.number) ∙ ap first_of more;
-      last = sym (last-more 0 ns row.number) ∙ ap (last_or 0) more;
+      last = sym (last_or-add 0 row.number ns) ∙ ap (last_or 0) more;
     }
 
 content_lines : (content : Content) (number : ℕ) (share : Extent) → ((with_content content number share).lines ≡ share.lines) × ((with_content content number share).size ≡ share.size)
@@ -186,15 +178,12 @@ line_sound share bytes line back s h r =
     (sym (first_fault-append (behind_header []) (ended_lines bytes) (line ∷ ended_lines back)) ∙ ap (first_fault (behind_header [])) (sym lines) ∙ r.sound) in
     sym (line-rule share bytes line s) ∙ head_sound (line_kind (behind_header (ended_lines bytes)) 1 line) _ _ parts.1
 
-whole_bytes : (bytes fed rest chunk : List ℕ) → chunk ≡ fed ++ rest → (bytes ++ fed) ++ rest ≡ bytes ++ chunk
-whole_bytes bytes fed rest chunk e = append_assoc bytes fed rest ∙ ap (λ xs. bytes ++ xs) (sym e)
-
 pub broken-line : (before after : Extent) (chunk rest line back : List ℕ) (fault : ShareFault) → PassedLines before after chunk rest → rest ≡ line ++ 10 ∷ back → HasNoLf line → BrokenBy (share_kind after line) fault
     → (bytes : List ℕ) → IsShare before bytes → IsShareFault (bytes ++ chunk) fault
 broken-line before after chunk rest line back Memory p e h k bytes s = tt
 broken-line before after chunk rest line back Broken p e h k bytes s = λ r.
     let split : bytes ++ chunk ≡ (bytes ++ p.fed) ++ line ++ 10 ∷ back =
-    sym (whole_bytes bytes p.fed rest chunk p.whole) ∙ ap (λ xs. (bytes ++ p.fed) ++ xs) e ∙ sym (append_assoc (bytes ++ p.fed) line (10 ∷ back)) in
+    sym (whole_chunk bytes p.fed rest chunk p.whole) ∙ ap (λ xs. (bytes ++ p.fed) ++ xs) e ∙ sym (append_assoc (bytes ++ p.fed) line (10 ∷ back)) in
     k (line_sound after (bytes ++ p.fed) line back (p.stands bytes s) h (subst IsReadable split r))
 
 no_rest : (xs : List ℕ) → xs ≡ [] → length xs ≡ 0
@@ -202,6 +191,6 @@ no_rest xs h = ap (λ (ys : List ℕ). length ys) h
 
 pub not-whole : (before after : Extent) (chunk rest : List ℕ) → PassedLines before after chunk rest → HasNoLf rest → length rest ≢ 0 → (bytes : List ℕ) → IsShare before bytes → ¬ IsReadable (bytes ++ chunk)
 not-whole before after chunk rest p h some bytes s = λ r.
-    let split = whole_bytes bytes p.fed rest chunk p.whole in
+    let split = whole_chunk bytes p.fed rest chunk p.whole in
     let begun : begun_line ((bytes ++ p.fed) ++ rest) ≡ rest = begun-more (bytes ++ p.fed) rest h ∙ ap (λ xs. xs ++ rest) (p.stands bytes s).readable.whole in
     some (no_rest rest (sym begun ∙ ap begun_line split ∙ r.whole))

@@ -18,6 +18,7 @@ use Rattle.trace_text.specs.Reads.{BeginsRow}
 use Rattle.trace_text.proofs.CutLemmas.{words-found, words-none}
 use Rattle.trace_text.proofs.NumberLemmas.{both}
 use Rattle.trace_text.proofs.RowLemmas.{octets_of-ok}
+use mathlib.Core.Bool.{and-false}
 
 no_space : (v : Bool) (b : ℕ) → (b == 32) ≡ v → is_hex_digit b ≡ true → v ≡ false
 no_space false b e h = refl
@@ -29,14 +30,10 @@ digits_lack digits octets h =
     let all = (decode_of-ok digits octets h).1 in
     list_any_none (λ b. b == 32) digits (λ k d l. no_space (get_or digits k d == 32) (get_or digits k d) refl (All-get_or (λ b. is_hex_digit b ≡ true) digits k d l all))
 
-and_false : (b : Bool) → (b && false) ≡ false
-and_false true = refl
-and_false false = refl
-
 not_dash : (digits : List ℕ) → length digits % 2 ≡ 0 → bytes_eq digits (codes "-") ≡ false
 not_dash [] h = refl
 not_dash (a ∷ []) h = absurd (omega (arith, h))
-not_dash (a ∷ b ∷ ds) h = and_false (a == 45)
+not_dash (a ∷ b ∷ ds) h = and-false (a == 45)
 
 -- a number that rises is a word's
 rises_is : (o : Option ℕ) (last number : ℕ) → option_and_then (λ n. if nat_lt last n then Some n else None) o ≡ Some number → o ≡ Some number

@@ -2,15 +2,13 @@
 use Rattle.std.proofs.Common.{◌≡◌, ℕ, suc, refl, List, [], ◌∷◌, ◌++◌, length, sym, subst, arith}
 use Rattle.std.specs.Prelude.{All, sum_by}
 use Rattle.std.proofs.lemmas.List.Elements.{All-push}
+use Rattle.line_model.proofs.Schedules.{All-more}
 
 pub All-rest : {X : Type 0} (P : X → Type 0) (ys xs : List X) (x : X) → ys ≡ x ∷ xs → All P ys → All P xs
 All-rest P ys xs x e h k d lt = subst (λ l. All P l) e h (suc k) d (omega arith)
 
 pub All-first : {X : Type 0} (P : X → Type 0) (ys xs : List X) (x : X) → ys ≡ x ∷ xs → All P ys → P x
 All-first P ys xs x e h = subst (λ l. All P l) e h 0 x (omega arith)
-
-pub All-more : {X : Type 0} (P : X → Type 0) (ys xs : List X) (x : X) → ys ≡ xs ++ x ∷ [] → All P xs → P x → All P ys
-All-more P ys xs x e h p = subst (λ l. All P l) (sym e) (All-push P xs x h p)
 
 pub sum-of-none : {X : Type 0} (f : X → ℕ) (xs : List X) → length xs ≡ 0 → sum_by f xs ≡ 0
 sum-of-none f [] none = refl

@@ -5,10 +5,7 @@ use Rattle.std.proofs.lemmas.List.Sums.{take_while-cons}
 use Rattle.line_model.specs.channels.Pad as pad
 use Rattle.std.proofs.lemmas.List.{length-drop, take_all}
 use Rattle.x29_messages.specs.Pairs.{pairs_before}
-
--- the rest of a list, as a slice pattern gives it
-rest_of : (xs : List ℕ) (k : ℕ) → take (length xs - k) (drop k xs) ≡ drop k xs
-rest_of xs k = take_all (length xs - k) (drop k xs) (omega (arith, length-drop k xs))
+use Rattle.line_model.proofs.DeviceLemmas.{rest_of}
 
 -- the first of some pairs, and those after it
 pub first_pair : (indication : Bool) (xs : List ℕ) → 2 ≤ length xs →

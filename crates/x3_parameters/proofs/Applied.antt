@@ -229,7 +229,7 @@ after_set_fault : (b : Bool) (x : Side) (m : List ℕ) → settings_after (elim 
 after_set_fault true x m = refl
 after_set_fault false x m = refl
 
-one_octet : (c : ℕ) (ps : List ℕ) → (length (c ∷ ps) == 1) ≡ (length ps == 0)
+pub one_octet : (c : ℕ) (ps : List ℕ) → (length (c ∷ ps) == 1) ≡ (length ps == 0)
 one_octet c [] = refl
 one_octet c (p ∷ ps) = grind arith
 

@@ -5,8 +5,8 @@ use Rattle.line_model.specs.declared.packet.Class.{Class}
 use Rattle.line_model.specs.declared.packet.Class.TheVariants.{Short, WrongFormat, Unassigned, Restart, RestartConfirm, Diagnostic, Registration, TwoOctets, RestartHere, Call, Accepted, Clear, ClearConfirm, Interrupt, InterruptConfirm, Reset, ResetConfirm, Data, Rr, Rnr, Rej, Undefined}
 use Rattle.line_model.specs.declared.packet.Packet.{Packet}
 use Rattle.line_model.specs.declared.packet.Packet as packet
-use Rattle.line_model.specs.declared.packet.Kind.{Kind}
-use Rattle.line_model.specs.declared.packet.Kind as kind
+use Rattle.line_model.specs.declared.packet.PacketKind.{PacketKind}
+use Rattle.line_model.specs.declared.packet.PacketKind as kind
 use Rattle.line_model.specs.declared.packet.DataHeader.{DataHeader}
 use Rattle.line_model.specs.basics.Octets.{octet, bits, channel_of}
 use Rattle.line_model.specs.basics.Choice.{first_that, value_at}
@@ -92,7 +92,7 @@ abbrev pub header_length : Interface → ℕ
 header_length i = if i.modulus == 8 then 3 else 4
 
 -- what a packet of a class is on its channel, with its numbers and bits
-abbrev pub kind_of : Interface → List ℕ → Class → Kind
+abbrev pub kind_of : Interface → List ℕ → Class → PacketKind
 kind_of i xs TwoOctets = kind.TheVariants.TwoOctets
 kind_of i xs RestartHere = kind.TheVariants.RestartHere
 kind_of i xs Call = kind.TheVariants.Call
@@ -125,7 +125,7 @@ abbrev pub packet_of : Interface → List ℕ → Packet
 packet_of i xs = packet_with i xs (class_of i xs)
 
 -- the class of a packet that was decoded
-abbrev pub kind_class : Kind → Class
+abbrev pub kind_class : PacketKind → Class
 kind_class kind.TheVariants.TwoOctets = TwoOctets
 kind_class kind.TheVariants.RestartHere = RestartHere
 kind_class kind.TheVariants.Call = Call

@@ -1,7 +1,7 @@
 //! Rows with their packets in two lists, by values from outside.
 
 use crate::items::{ItemRef, Items};
-use crate::packet::{DataHeader, Kind, Packet};
+use crate::packet::{DataHeader, Packet, PacketKind};
 use crate::row::Row;
 use crate::state::Side;
 use std::process::Abort;
@@ -17,20 +17,20 @@ fn lines() -> [Line; 4] {
             1,
             Side::T,
             b"\x10\x01\x0b\x00\x00".as_slice(),
-            on_channel_1(Kind::Call),
+            on_channel_1(PacketKind::Call),
         ),
         (2, Side::T, b"".as_slice(), Packet::Short),
         (
             4,
             Side::N,
             b"\x10\x01\x0f".as_slice(),
-            on_channel_1(Kind::Accepted),
+            on_channel_1(PacketKind::Accepted),
         ),
         (
             9,
             Side::T,
             b"\x10\x01\x22\xaa".as_slice(),
-            on_channel_1(Kind::Data(Some(DataHeader {
+            on_channel_1(PacketKind::Data(Some(DataHeader {
                 send: 1,
                 receive: 1,
                 more: false,
@@ -42,7 +42,7 @@ fn lines() -> [Line; 4] {
 }
 
 /// A packet on channel 1.
-fn on_channel_1(kind: Kind) -> Packet {
+fn on_channel_1(kind: PacketKind) -> Packet {
     Packet::Channel { channel: 1, kind }
 }
 
@@ -131,9 +131,9 @@ fn a_row_stands_with_the_packet_that_it_is_given(rt: HostRuntime) -> Result<(), 
         side: Side::N,
         octets: octets.to_vec(rt.alloc())?,
     };
-    let item = row.with_packet(on_channel_1(Kind::Accepted));
+    let item = row.with_packet(on_channel_1(PacketKind::Accepted));
     assert_eq!(rt; (item.number, item.side), (4, Side::N));
     assert_eq!(rt; item.octets, octets);
-    assert_eq!(rt; item.packet, on_channel_1(Kind::Accepted));
+    assert_eq!(rt; item.packet, on_channel_1(PacketKind::Accepted));
     Ok(())
 }

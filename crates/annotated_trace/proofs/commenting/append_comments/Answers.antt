@@ -1,5 +1,6 @@
-use Rattle.annotated_trace.proofs.CommentLemmas.{notes_and_marks, on_ok}
+use Rattle.annotated_trace.proofs.CommentLemmas.{notes_and_marks}
 use Rattle.annotated_trace.proofs.commenting.append_comments.Goals as goal
+use Rattle.trace_text.proofs.FeedLemmas.{on_ok}
 
 pub returns-in_ok-append_to-in-true-default-clause-ok : goal.returns-in_ok-append_to-in-true-default-clause-ok
 returns-in_ok-append_to-in-true-default-clause-ok g c =

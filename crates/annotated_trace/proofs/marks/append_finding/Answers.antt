@@ -1,7 +1,8 @@
-use Rattle.annotated_trace.proofs.CommentLemmas.{always, on_ok}
+use Rattle.annotated_trace.proofs.CommentLemmas.{always}
 use Rattle.annotated_trace.proofs.MarkingLemmas.{finding_put}
 use Rattle.std.proofs.Common.{◌∙◌, ap, ◌++◌}
 use Rattle.annotated_trace.proofs.marks.append_finding.Goals as goal
+use Rattle.trace_text.proofs.FeedLemmas.{on_ok}
 
 pub returns-clause-ok : goal.returns-clause-ok
 returns-clause-ok g c =

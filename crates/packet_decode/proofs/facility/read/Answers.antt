@@ -4,10 +4,10 @@ use Rattle.std.specs.Prelude.{◌||◌, ◌==◌}
 use Rattle.line_model.specs.basics.Octets.{octet}
 use Rattle.packet_decode.specs.Asked.{with_facility}
 use Rattle.packet_decode.specs.declared.facility.Asked.{Asked}
-use Rattle.packet_decode.proofs.FacilityLemmas.{rest_of}
 use Rattle.packet_decode.proofs.AskedLemmas.{walked_step}
 use Rattle.packet_decode.proofs.facility.read.Goals.{then-is_marked, else-is_marked, then-not-is_marked, else-not-is_marked}
 use Rattle.packet_decode.proofs.facility.read.Goals as goal
+use Rattle.line_model.proofs.DeviceLemmas.{rest_of}
 
 pub loop-left-preserved : goal.loop-left-preserved
 loop-left-preserved c =

@@ -1,8 +1,8 @@
 use Rattle.std.proofs.Common.{◌∙◌, ap, ◌++◌, take, arith}
 use Rattle.std.proofs.lemmas.Grind.{common_steps}
 use Rattle.line_model.specs.basics.Device.{with_more}
-use Rattle.report_merge.proofs.WrittenLemmas.{split_rest, with_more-append}
 use Rattle.report_merge.proofs.chunk.send.Goals as goal
+use Rattle.line_model.proofs.DeviceLemmas.{with_more-append, split_rest}
 
 pub loop-rest-preserved : goal.loop-rest-preserved
 loop-rest-preserved g c =

@@ -1,8 +1,8 @@
 use Rattle.std.proofs.Common.{◌∙◌, ap, ◌++◌, length, take, arith}
 use Rattle.std.proofs.lemmas.Grind.{common_steps}
 use Rattle.line_model.specs.basics.Device.{with_more}
-use Rattle.streams.proofs.WritingLemmas.{front_of, split_rest, with_more-append}
 use Rattle.streams.proofs.writing.write_all.Goals as goal
+use Rattle.line_model.proofs.DeviceLemmas.{front_of, with_more-append, split_rest}
 
 pub returns-in-Err-clause-part : goal.returns-in-Err-clause-part
 returns-in-Err-clause-part g c =

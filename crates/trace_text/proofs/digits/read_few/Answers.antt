@@ -1,12 +1,12 @@
 use Rattle.std.proofs.Common.{◌∙◌, ap, arith, length, ℕ, List, max}
 use Rattle.std.proofs.lemmas.List.{length-drop}
-use Rattle.trace_text.proofs.CutLemmas.{whole_rest}
 use Rattle.trace_text.proofs.DigitLemmas.{read-pair}
 use Rattle.trace_text.proofs.digits.read_few.Goals as goal
+use Rattle.line_model.proofs.DeviceLemmas.{rest_of}
 
 pub loop-rest-preserved : goal.loop-rest-preserved
 loop-rest-preserved g c =
-    let more = whole_rest c.loop-rest.rest.now 2 in
+    let more = rest_of c.loop-rest.rest.now 2 in
     record {
       read = read-pair c.args.digits.now c.args.octets.now.items c.loop-rest.octets.items c.push_reserved.new.self.items c.loop-rest.rest.now _ c.loop-rest.greatest c.digit_value-high.result c.digit_value-low.result c.max-greatest.result
           (c.max-greatest.ensures ∙ ap (λ n. max n c.digit_value-low.result) c.max.ensures) c.in-len2-up.len_at_least more c.digit_value-high.ensures c.digit_value-low.ensures c.push_reserved.ensures.items c.loop-rest.invariant.read;

@@ -1,7 +1,8 @@
 use Rattle.std.proofs.Common.{◌≡◌, arith, rules}
 use Rattle.workers.specs.Workers.{IsWorkerStart}
-use Rattle.workers.proofs.Lists.{All-first, All-rest, All-more}
+use Rattle.workers.proofs.Lists.{All-first, All-rest}
 use Rattle.workers.proofs.starting.start_all.Goals as goal
+use Rattle.line_model.proofs.Schedules.{All-more}
 
 pub loop-worker_start-preserved : goal.loop-worker_start-preserved
 loop-worker_start-preserved g c = record {

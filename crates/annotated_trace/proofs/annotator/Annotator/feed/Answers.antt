@@ -1,9 +1,10 @@
 use Rattle.std.proofs.Common.{◌≡◌, ◌∙◌, sym, ◌++◌, true}
 use Rattle.line_model.specs.text.Text.{ended_lines}
 use Rattle.annotated_trace.specs.Annotators.{is_line}
-use Rattle.annotated_trace.proofs.CommentLemmas.{on_ok, part_err}
+use Rattle.annotated_trace.proofs.CommentLemmas.{part_err}
 use Rattle.annotated_trace.proofs.PassedLemmas.{all_first, line_first, line_part, line_sent, sent_all, sent_part, stopped_first}
 use Rattle.annotated_trace.proofs.annotator.Annotator.feed.Goals as goal
+use Rattle.trace_text.proofs.FeedLemmas.{on_ok}
 
 pub returns-then-not-is_line-clause-taken : goal.returns-then-not-is_line-clause-taken
 returns-then-not-is_line-clause-taken g c text before s h =

@@ -1,8 +1,9 @@
 use Rattle.std.proofs.Common.{◌∙◌, ◌++◌, sym, ap}
 use Rattle.line_model.specs.text.Text.{begun_line}
 use Rattle.annotated_trace.proofs.AnnotatedLemmas.{line_annotated, none_begun}
-use Rattle.annotated_trace.proofs.CommentLemmas.{always, on_ok}
+use Rattle.annotated_trace.proofs.CommentLemmas.{always}
 use Rattle.annotated_trace.proofs.annotator.Annotator.take_line.Goals as goal
+use Rattle.trace_text.proofs.FeedLemmas.{on_ok}
 
 pub returns-clause-stands : goal.returns-clause-stands
 returns-clause-stands g c text front s k =

@@ -1,8 +1,9 @@
 use Rattle.std.proofs.Common.{◌+◌, sym, refl, length, take, [], ◌++◌, arith}
-use Rattle.report_merge.proofs.WrittenLemmas.{with_more-nil}
-use Rattle.annotated_trace.proofs.CommentLemmas.{always, on_err}
+use Rattle.annotated_trace.proofs.CommentLemmas.{always}
 use Rattle.annotated_trace.proofs.PassedLemmas.{line_end, line_passed, line_refusal, line_stopped, much_stopped, rest_annotated, rest_stopped}
 use Rattle.annotated_trace.proofs.annotator.Annotator.take_lines.Goals as goal
+use Rattle.line_model.proofs.DeviceLemmas.{with_more-nil}
+use Rattle.trace_text.proofs.FeedLemmas.{on_err}
 
 pub returns-in-Err-clause-refused : goal.returns-in-Err-clause-refused
 returns-in-Err-clause-refused g c text s =

@@ -1,7 +1,7 @@
 use Rattle.std.proofs.Common.{◌∙◌, sym, ap}
 use Rattle.line_model.specs.text.Header.{words_of}
-use Rattle.json_lines.specs.WordsLeft.{words_left}
-use Rattle.json_lines.proofs.CutLemmas.{words-found, words-none}
+use Rattle.trace_text.specs.WordsLeft.{words_left}
+use Rattle.trace_text.proofs.CutLemmas.{words-found, words-none}
 use Rattle.json_lines.proofs.words.Words.next.Goals as goal
 
 pub returns-in-Some : goal.returns-in-Some
