@@ -8,6 +8,7 @@ mod header;
 pub mod line_ends;
 pub mod lines;
 mod number;
+pub mod places;
 mod reading;
 mod row_line;
 pub mod shares;

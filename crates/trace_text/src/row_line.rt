@@ -9,17 +9,15 @@ ghost use Rattle.trace_text.specs.Reads.{BeginsRow, Breaks};
 
 use crate::content::LineFault;
 use crate::cuts::split_at_byte;
-use crate::digits::read_digits;
 use crate::number::read_number;
+use crate::places::RowPlace;
 use crate::words::Words;
 use line_model::fault::Kind;
-use line_model::row::Row;
 use line_model::state::Side;
-use std::alloc::Allocator;
 use std::marker::Model;
 
 /// The octets that a row may have.
-const OCTET_LIMIT: usize = 4200;
+pub const OCTET_LIMIT: usize = 4200;
 
 /// The three words of a row's line.
 #[derive(Drop)]
@@ -77,11 +75,11 @@ fn read_side(word: &[u8]) -> Option<Side>
 
 /// Puts the octets that hex digits write, or `-` for none, in the place of what was in a list.
 #[tactic(auto, unfolding(line_model::specs::text::RowLine::octets_of))]
-fn read_octets<A: Allocator>(word: &[u8], octets: &mut Vec<u8, A>) -> Result<(), LineFault>
-    ensures { MatchResult result (λ _. octets_of word.now ≡ Some octets.new.items) (λ fault. (fault ≡ Memory) ⊎ ((fault ≡ Broken Hex) × (octets_of word.now ≡ None))) }
+fn read_octets<P: RowPlace>(word: &[u8], row: &mut P) -> Result<(), LineFault>
+    ensures { MatchResult result (λ _. octets_of word.now ≡ Some (P.held row.new).octets) (λ fault. (fault ≡ Memory) ⊎ ((fault ≡ Broken Hex) × (octets_of word.now ≡ None))) }
 {
     if word == b"-".as_slice() {
-        octets.clear();
+        row.clear();
         return Ok(());
     }
     if word.len() > 2 * OCTET_LIMIT {
@@ -90,7 +88,7 @@ fn read_octets<A: Allocator>(word: &[u8], octets: &mut Vec<u8, A>) -> Result<(),
     if word.len() % 2 != 0 {
         return Err(LineFault::Broken(Kind::Hex));
     }
-    match read_digits(word, octets) {
+    match row.read_digits(word) {
         Ok(()) => Ok(()),
         Err(fault) => Err(fault),
     }
@@ -111,8 +109,8 @@ fn split_usual(last: u32, line: &[u8]) -> Option<(u32, Side, &[u8])>
 }
 
 /// Puts the row of the usual line in the place of another. A line that has no octets, or breaks a rule, is another.
-fn read_usual<A: Allocator>(last: u32, line: &[u8], row: &mut Row<A>) -> Result<bool, LineFault>
-    ensures { MatchResult result (λ is_usual. OnTrue is_usual ((row_kind last line.now ≡ None) × (row_of line.now ≡ Some row.new))) (λ fault. fault ≡ Memory) }
+fn read_usual<P: RowPlace>(last: u32, line: &[u8], row: &mut P) -> Result<bool, LineFault>
+    ensures { MatchResult result (λ is_usual. OnTrue is_usual ((row_kind last line.now ≡ None) × (row_of line.now ≡ Some (P.held row.new)))) (λ fault. fault ≡ Memory) }
 {
     let Some((number, side, digits)) = split_usual(last, line) else {
         return Ok(false);
@@ -120,10 +118,9 @@ fn read_usual<A: Allocator>(last: u32, line: &[u8], row: &mut Row<A>) -> Result<
     if digits.is_empty() || digits.len() > 2 * OCTET_LIMIT || digits.len() % 2 != 0 {
         return Ok(false);
     }
-    match read_digits(digits, &mut row.octets) {
+    match row.read_digits(digits) {
         Ok(()) => {
-            row.number = number;
-            row.side = side;
+            row.name(number, side);
             Ok(true)
         }
         Err(LineFault::Memory) => Err(LineFault::Memory),
@@ -133,8 +130,8 @@ fn read_usual<A: Allocator>(last: u32, line: &[u8], row: &mut Row<A>) -> Result<
 
 /// Puts the row of any line in the place of another, or tells the rule that the line breaks.
 #[tactic(auto, unfolding(line_model::specs::text::RowLine::row_kind, line_model::specs::text::RowLine::row_of))]
-fn read_any<A: Allocator>(last: u32, line: &[u8], row: &mut Row<A>) -> Result<(), LineFault>
-    ensures { MatchResult result (λ _. (row_kind last line.now ≡ None) × (row_of line.now ≡ Some row.new)) (Breaks (row_kind last line.now)) }
+fn read_any<P: RowPlace>(last: u32, line: &[u8], row: &mut P) -> Result<(), LineFault>
+    ensures { MatchResult result (λ _. (row_kind last line.now ≡ None) × (row_of line.now ≡ Some (P.held row.new))) (Breaks (row_kind last line.now)) }
 {
     let Some(fields) = split_fields(line) else {
         return Err(LineFault::Broken(Kind::LineForm));
@@ -145,16 +142,15 @@ fn read_any<A: Allocator>(last: u32, line: &[u8], row: &mut Row<A>) -> Result<()
     let Some(side) = read_side(fields.side) else {
         return Err(LineFault::Broken(Kind::Side));
     };
-    read_octets(fields.hex, &mut row.octets)?;
-    row.number = number;
-    row.side = side;
+    read_octets(fields.hex, row)?;
+    row.name(number, side);
     Ok(())
 }
 
 /// Puts the row that a line writes after one of the number `last` in the place of another, or tells the rule that the
 /// line breaks; then the row has no meaning.
-pub fn read_row<A: Allocator>(last: u32, line: &[u8], row: &mut Row<A>) -> Result<(), LineFault>
-    ensures { MatchResult result (λ _. (row_kind last line.now ≡ None) × (row_of line.now ≡ Some row.new)) (Breaks (row_kind last line.now)) }
+pub fn read_row<P: RowPlace>(last: u32, line: &[u8], row: &mut P) -> Result<(), LineFault>
+    ensures { MatchResult result (λ _. (row_kind last line.now ≡ None) × (row_of line.now ≡ Some (P.held row.new))) (Breaks (row_kind last line.now)) }
 {
     match read_usual(last, line, row) {
         Ok(true) => Ok(()),

@@ -3,9 +3,8 @@
 use crate::content::{Content, LineFault};
 use crate::cuts::split_at_byte;
 use crate::lines::size_fault;
+use crate::places::RowPlace;
 use crate::reading::read_line;
-use line_model::row::Row;
-use std::alloc::Allocator;
 use std::marker::Model;
 
 /// Why a share was not read by itself.
@@ -73,8 +72,8 @@ impl Share {
     }
 
     /// What a line says that an LF ends. A row is put in the place of another.
-    fn read<A: Allocator>(&self, line: &[u8], row: &mut Row<A>) -> Result<Content, ShareFault>
-        ensures reads { IfOk result (λ content. (share_kind self.now line.now ≡ None) × ReadsAs true self.now.last line.now content row.new) }
+    fn read<P: RowPlace>(&self, line: &[u8], row: &mut P) -> Result<Content, ShareFault>
+        ensures reads { IfOk result (λ content. (share_kind self.now line.now ≡ None) × ReadsAs true self.now.last line.now content (P.held row.new)) }
         ensures refused { IfErr result (BrokenBy (share_kind self.now line.now)) }
     {
         if size_fault(self.size + 1, 1, line.len()).is_some() {
@@ -114,16 +113,16 @@ impl Share {
     }
 
     /// Takes a line, without its LF. Tells whether it is a row, which then is put in the place of another.
-    fn take_line<A: Allocator>(&mut self, line: &[u8], row: &mut Row<A>) -> Result<bool, ShareFault>
+    fn take_line<P: RowPlace>(&mut self, line: &[u8], row: &mut P) -> Result<bool, ShareFault>
         requires { Lacks 10 line.now }
-        ensures ok { IfOk result (TakesLine self.old self.new line.now row.new) }
+        ensures ok { IfOk result (TakesLine self.old self.new line.now (P.held row.new)) }
         ensures refused { IfErr result (BrokenBy (share_kind self.old line.now)) }
     {
         let content = match self.read(line, row) {
             Ok(content) => content,
             Err(fault) => return Err(fault),
         };
-        let is_row = self.keep(content, row.number);
+        let is_row = self.keep(content, row.number());
         self.count_line(line.len());
         Ok(is_row)
     }
@@ -133,13 +132,13 @@ impl Share {
     /// further row. A line is read where it lies in the chunk.
     ///
     /// What the row holds where none was taken is not said. After a refusal the share stands for nothing.
-    pub fn next_row<'a, A: Allocator>(
+    pub fn next_row<'a, P: RowPlace>(
         &mut self,
         chunk: &'a [u8],
-        row: &mut Row<A>,
+        row: &mut P,
     ) -> Result<Option<&'a [u8]>, ShareFault>
         // Of any share that it stands for: it stands for the share with what was taken, which has that row more, or none.
-        ensures ok { IfOk result (λ next. MatchOption next (ReadsShare self.old self.new chunk.now) (λ rest. TakesShareRow self.old self.new chunk.now rest.now row.new)) }
+        ensures ok { IfOk result (λ next. MatchOption next (ReadsShare self.old self.new chunk.now) (λ rest. TakesShareRow self.old self.new chunk.now rest.now (P.held row.new))) }
         ensures shorter { IfOk result (λ next. IfSome next (λ rest. length rest.now < length chunk.now)) }
         // Else the share with the chunk is not to be read by itself, or memory ran out.
         ensures refused { (bytes : List ℕ) → IsShare self.old bytes → IfErr result (IsShareFault (bytes ++ chunk.now)) }

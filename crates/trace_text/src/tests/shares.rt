@@ -2,9 +2,11 @@
 
 use crate::line_ends::{last_line_end, line_end};
 use crate::lines::Lines;
+use crate::places::FixedRow;
 use crate::shares::{Share, ShareFault};
 use crate::tests::{HEADER, is_wanted, tell};
 use line_model::fault::{Fault, Kind};
+use line_model::packet::Packet;
 use line_model::row::Row;
 use line_model::state::Side;
 use std::alloc::Global;
@@ -232,6 +234,69 @@ fn room_of_the_octets_is_used_again_by_a_share(rt: HostRuntime) -> Result<(), Fa
     assert!(rt; share.next_row(b"2 N 05\n", &mut row).is_ok());
     assert!(rt; is_wanted(&row, 2, Side::N, b"\x05".as_slice()));
     assert_eq!(rt; row.octets.capacity(), room);
+    Ok(())
+}
+
+/// Takes the next row of a share into a fixed row, and tells whether it is this one.
+fn is_next(
+    share: &mut Share,
+    chunk: &mut &[u8],
+    row: &mut FixedRow,
+    number: u32,
+    side: Side,
+    octets: &[u8],
+) -> bool {
+    let Ok(Some(rest)) = share.next_row(chunk, row) else {
+        return false;
+    };
+    *chunk = rest;
+    let item = row.with_packet(Packet::Short);
+    item.number == number && item.side == side && item.octets == octets && row.octets() == octets
+}
+
+#[test]
+fn fixed_row_holds_4200_octets(rt: HostRuntime) -> Result<(), Fail> {
+    let mut text = Vec::new(rt.alloc());
+    let mut octets = Vec::new(rt.alloc());
+    text.extend_from_slice(b"1 T ")?;
+    for _ in 0..4200 {
+        text.extend_from_slice(b"5A")?;
+        octets.push(0x5a)?;
+    }
+    text.extend_from_slice(b"\n2 N -\n# a comment\n3 T 0aFF\n")?;
+    let mut share = Share::new();
+    let mut row = FixedRow::new();
+    let mut rest = text.as_slice();
+    assert!(rt;
+        is_next(
+            &mut share,
+            &mut rest,
+            &mut row,
+            1,
+            Side::T,
+            octets.as_slice()
+        )
+    );
+    assert!(rt; is_next(&mut share, &mut rest, &mut row, 2, Side::N, b"".as_slice()));
+    assert!(rt;
+        is_next(
+            &mut share,
+            &mut rest,
+            &mut row,
+            3,
+            Side::T,
+            b"\x0a\xff".as_slice()
+        )
+    );
+    assert!(rt; rest.is_empty());
+    text.clear();
+    text.extend_from_slice(b"4 T ")?;
+    for _ in 0..4201 {
+        text.extend_from_slice(b"5A")?;
+    }
+    text.push(b'\n')?;
+    let refused = share.next_row(text.as_slice(), &mut row);
+    assert!(rt; refused.is_err_and(|fault| fault == ShareFault::Broken));
     Ok(())
 }
 

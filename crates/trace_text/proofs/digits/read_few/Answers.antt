@@ -8,8 +8,8 @@ pub loop-rest-preserved : goal.loop-rest-preserved
 loop-rest-preserved g c =
     let more = rest_of c.loop-rest.rest.now 2 in
     record {
-      read = read-pair c.args.digits.now c.args.octets.now.items c.loop-rest.octets.items c.push_reserved.new.self.items c.loop-rest.rest.now _ c.loop-rest.greatest c.digit_value-high.result c.digit_value-low.result c.max-greatest.result
-          (c.max-greatest.ensures ∙ ap (λ n. max n c.digit_value-low.result) c.max.ensures) c.in-len2-up.len_at_least more c.digit_value-high.ensures c.digit_value-low.ensures c.push_reserved.ensures.items c.loop-rest.invariant.read;
+      read = read-pair c.args.digits.now (g.O.OctetList.octets c.args.octets.now) (g.O.OctetList.octets c.loop-rest.octets) (g.O.OctetList.octets c.put.new.self) c.loop-rest.rest.now _ c.loop-rest.greatest c.digit_value-high.result c.digit_value-low.result c.max-greatest.result
+          (c.max-greatest.ensures ∙ ap (λ n. max n c.digit_value-low.result) c.max.ensures) c.in-len2-up.len_at_least more c.digit_value-high.ensures c.digit_value-low.ensures c.put.ensures.octets c.loop-rest.invariant.read;
       room = let room = c.loop-rest.invariant.room in
-          omega (arith, room, c.push_reserved.ensures.len, c.push_reserved.ensures.capacity, c.in-len2-up.len_at_least, ap (λ (xs : List ℕ). length xs) more, length-drop 2 c.loop-rest.rest.now);
+          omega (arith, room, c.put.ensures.room, c.in-len2-up.len_at_least, ap (λ (xs : List ℕ). length xs) more, length-drop 2 c.loop-rest.rest.now);
     }

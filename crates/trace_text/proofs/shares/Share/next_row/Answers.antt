@@ -5,12 +5,12 @@ use Rattle.trace_text.proofs.shares.Share.next_row.Goals as goal
 
 pub returns-in-Ok-true-clause-ok : goal.returns-in-Ok-true-clause-ok
 returns-in-Ok-true-clause-ok g c =
-    takes-row c.args.self.now c.loop-line.self c.take_line.new.self c.take_line.new.row c.args.chunk.now c.loop-line.rest.now c.in-Some.line.now c.in-Some.back.now
+    takes-row c.args.self.now c.loop-line.self c.take_line.new.self (g.P.RowPlace.held c.take_line.new.row) c.args.chunk.now c.loop-line.rest.now c.in-Some.line.now c.in-Some.back.now
     c.loop-line.invariant c.in-Some.ensures.0 (rw c.in-Ok-true.field-0-test at c.in-Ok-true.ensures.ok)
 
 pub loop-line-preserved : goal.loop-line-preserved
 loop-line-preserved g c =
-    lines-more c.args.self.now c.loop-line.self c.take_line.new.self c.take_line.new.row c.args.chunk.now c.loop-line.rest.now c.in-Some.line.now c.in-Some.back.now
+    lines-more c.args.self.now c.loop-line.self c.take_line.new.self (g.P.RowPlace.held c.take_line.new.row) c.args.chunk.now c.loop-line.rest.now c.in-Some.line.now c.in-Some.back.now
     c.loop-line.invariant c.in-Some.ensures.0 (rw c.in-Ok-false.field-0-test at c.in-Ok-false.ensures.ok)
 
 pub returns-in-Err-clause-refused : goal.returns-in-Err-clause-refused
