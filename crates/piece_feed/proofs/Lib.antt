@@ -3,3 +3,5 @@ pub mod PartReads
 pub mod Nexts
 pub mod Texts
 pub mod Courses
+pub mod Parts
+pub mod Takings

@@ -1,3 +1,5 @@
 pub mod Batches
 pub mod Fronts
+pub mod Parts
 pub mod Readings
+pub mod Takings

@@ -2,7 +2,9 @@
 #![tactic(auto)]
 
 mod batch;
+mod blocks;
 mod reading;
+mod shares;
 mod taking;
 
 pub use reading::{Read, Reading};
