@@ -123,7 +123,7 @@ impl<'a, K: Sink, B: Origin> ClosingPage<'a, K, B> {
         }
     }
 
-    /// Adds words to the last line, as `Notes::say`: a space for each LF, and no more than a line has room for.
+    /// Adds words to the last line: a space for each LF, and no more than the line has room for.
     fn add(&mut self, words: &[u8])
         ensures said { (notes : Remarks) → HasNoted B.before (K.taken self.old.sink.now, K.failures self.old.sink.now) self.old.chunk self.old.said notes → HasNoted B.before (K.taken self.new.sink.now, K.failures self.new.sink.now) self.new.chunk self.new.said (record notes { line = with_words notes.line words.now }) }
     {
@@ -137,7 +137,7 @@ impl<'a, K: Sink, B: Origin> ClosingPage<'a, K, B> {
         self.said += front.len();
     }
 
-    /// Adds words to the last line. Of notes to which `Notes::say` adds them it makes the same notes.
+    /// Adds words to the last line, as `Notes::say`: the notes that a page says are those that `Notes` would hold.
     pub fn say(&mut self, words: &str)
         ensures said { (notes : Remarks) → HasNoted B.before (K.taken self.old.sink.now, K.failures self.old.sink.now) self.old.chunk self.old.said notes → HasNoted B.before (K.taken self.new.sink.now, K.failures self.new.sink.now) self.new.chunk self.new.said (record notes { line = with_words notes.line words.now }) }
     {

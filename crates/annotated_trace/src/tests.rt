@@ -9,7 +9,7 @@ use crate::choice::Choice;
 use crate::describer::Describer;
 use crate::notes::{Notes, Words};
 use crate::page::{ClosingPage, Origin};
-use channel_machine::channel::PlainChannel;
+use channel_machine::channel::{PackedChannel, PlainChannel};
 use line_model::count::Count;
 use line_model::device::Sink;
 use line_model::fault::{Fault, Kind};
@@ -20,7 +20,7 @@ use std::alloc::{Allocator, Global};
 use std::marker::Brand;
 use std::process::Abort;
 use std::sync::ledger::{Blank, Ledger};
-use test_devices::{CutSink, CutSource};
+use test_devices::{CutSink, CutSource, Cuts};
 
 /// Numbers lines, and says so of each from one of them on.
 #[derive(Drop)]
@@ -62,16 +62,20 @@ struct Answer {
     bytes: Vec<u8>,
 }
 
-fn annotated_on<C: Ledger, F: Ledger, L: Ledger>(
+fn annotated_on<A, D, C: Ledger, F: Ledger, L: Ledger>(
+    heap: A,
     alloc: Global,
     text: &[u8],
-    step: usize,
+    cuts: Cuts,
     choice: Choice,
-    first: u64,
+    describer: D,
     calls: Blank,
     read_failures: Blank,
     write_failures: Blank,
 ) -> Answer
+where
+    A: Allocator + Copy,
+    D: Describer<A, Live<A, PackedChannel<A>>>,
     requires calls_name { calls.name ≡ C.name }
     requires calls_parts { calls.parts ≡ C.parts }
     requires calls_shared { 0 < C.parts }
@@ -84,37 +88,55 @@ fn annotated_on<C: Ledger, F: Ledger, L: Ledger>(
 {
     let mut source = CutSource {
         rest: text,
-        step,
-        good: usize::MAX,
+        step: cuts.read_step,
+        good: cuts.good_bytes,
         calls: Count::<C>::open(calls),
         failures: Count::<F>::open(read_failures),
     };
     let mut sink = CutSink {
         taken: Vec::new(alloc),
-        step,
-        good_calls: usize::MAX,
+        step: cuts.write_step,
+        good_calls: cuts.good_writes,
         failures: Count::<L>::open(write_failures),
     };
-    let describer = Numbered { lines: 0, first };
-    let fault = annotate(alloc, choice, describer, &mut source, &mut sink).err();
+    let fault = annotate(heap, choice, describer, &mut source, &mut sink).err();
     Answer {
         fault,
         bytes: sink.taken,
     }
 }
 
-/// The annotation of a trace that comes in pieces of so many bytes.
-fn annotated(alloc: Global, text: &[u8], step: usize, choice: Choice, first: u64) -> Answer {
-    annotated_on::<Brand, Brand, Brand>(
+/// The annotation of a trace by a describer, from a source and to a sink that cut and fail so.
+fn annotated_by<A, D>(
+    heap: A,
+    alloc: Global,
+    text: &[u8],
+    cuts: Cuts,
+    choice: Choice,
+    describer: D,
+) -> Answer
+where
+    A: Allocator + Copy,
+    D: Describer<A, Live<A, PackedChannel<A>>>,
+{
+    annotated_on::<A, D, Brand, Brand, Brand>(
+        heap,
         alloc,
         text,
-        step,
+        cuts,
         choice,
-        first,
+        describer,
         Blank::new(1),
         Blank::new(1),
         Blank::new(1),
     )
+}
+
+/// The annotation of a trace that comes in pieces of so many bytes, with the numbers of its lines.
+fn annotated(alloc: Global, text: &[u8], step: usize, choice: Choice, first: u64) -> Answer {
+    let cuts = Cuts::of_steps(step, step);
+    let describer = Numbered { lines: 0, first };
+    annotated_by(alloc, alloc, text, cuts, choice, describer)
 }
 
 fn report_on<L: Ledger>(blank: Blank, alloc: Global, text: &[u8]) -> Answer

@@ -108,7 +108,8 @@ impl Flow {
         Ok(())
     }
 
-    /// Judges an interrupt of a side: `UNAUTHORIZED_INTERRUPT` while one of that side is unconfirmed (X.25 clause 4.3.7).
+    /// Judges an interrupt of a side: `UNAUTHORIZED_INTERRUPT` while one of that side is unconfirmed (X.25 clause
+    /// 4.3.7).
     pub fn interrupt(&mut self, side: Side) -> Result<(), u8>
         ensures modulus { self.new.modulus ≡ self.old.modulus }
         ensures windows { self.new.windows ≡ self.old.windows }
@@ -129,8 +130,8 @@ impl Flow {
         Ok(())
     }
 
-    /// Judges an interrupt confirmation of a side: `UNAUTHORIZED_INTERRUPT_CONFIRMATION` while none of the other side is
-    /// unconfirmed (X.25 clause 4.3.7).
+    /// Judges an interrupt confirmation of a side: `UNAUTHORIZED_INTERRUPT_CONFIRMATION` while none of the other side
+    /// is unconfirmed (X.25 clause 4.3.7).
     pub fn confirm(&mut self, side: Side) -> Result<(), u8>
         ensures modulus { self.new.modulus ≡ self.old.modulus }
         ensures windows { self.new.windows ≡ self.old.windows }

@@ -1,24 +1,19 @@
 //! Closing comments that are longer than what is held of them.
 
-ghost use Rattle.std.specs.Prelude.{◌≡◌, ◌<◌};
-
-use crate::annotating::annotate;
 use crate::choice::Choice;
 use crate::describer::Describer;
 use crate::notes::{Notes, Words};
 use crate::page::{ClosingPage, Origin};
-use line_model::count::Count;
+use crate::tests::{Answer, annotated_by};
 use line_model::device::Sink;
 use line_model::fault::Fault;
 use line_model::finding::Finding;
 use line_model::report::Report;
 use std::alloc::{AllocError, Allocator, Global};
-use std::marker::Brand;
 use std::process::Abort;
-use std::sync::ledger::{Blank, Ledger};
 use std::test::Fail;
+use test_devices::Cuts;
 use test_devices::scarce::Scarce;
-use test_devices::{CutSink, CutSource, Cuts};
 
 /// A row, and a last line without an LF.
 const LINES: &str = "X25 1 MOD 8 WIN 2 SIZE 128 PVC 0 SVC 4\n1 T 10010B0000";
@@ -88,13 +83,6 @@ fn whole(alloc: Global, times: usize) -> Result<String, AllocError> {
     Ok(text)
 }
 
-/// Why the trace was refused, if it was, and what the sink took.
-#[derive(Drop)]
-struct Answer {
-    fault: Option<Fault>,
-    bytes: Vec<u8>,
-}
-
 impl Answer {
     /// The sink took all of a text and nothing else.
     fn is_whole(&self, text: &str) -> bool {
@@ -107,56 +95,16 @@ impl Answer {
     }
 }
 
-fn annotated_on<A: Allocator + Copy, C: Ledger, F: Ledger, L: Ledger>(
-    heap: A,
-    alloc: Global,
-    cuts: Cuts,
-    times: usize,
-    calls: Blank,
-    read_failures: Blank,
-    write_failures: Blank,
-) -> Answer
-    requires calls_name { calls.name ≡ C.name }
-    requires calls_parts { calls.parts ≡ C.parts }
-    requires calls_shared { 0 < C.parts }
-    requires read_name { read_failures.name ≡ F.name }
-    requires read_parts { read_failures.parts ≡ F.parts }
-    requires read_shared { 0 < F.parts }
-    requires write_name { write_failures.name ≡ L.name }
-    requires write_parts { write_failures.parts ≡ L.parts }
-    requires write_shared { 0 < L.parts }
-{
-    let mut source = CutSource {
-        rest: LINES.as_bytes(),
-        step: cuts.read_step,
-        good: cuts.good_bytes,
-        calls: Count::<C>::open(calls),
-        failures: Count::<F>::open(read_failures),
-    };
-    let mut sink = CutSink {
-        taken: Vec::new(alloc),
-        step: cuts.write_step,
-        good_calls: cuts.good_writes,
-        failures: Count::<L>::open(write_failures),
-    };
-    let describer = Wordy { times };
-    let fault = annotate(heap, Choice::ChosenRows, describer, &mut source, &mut sink).err();
-    Answer {
-        fault,
-        bytes: sink.taken,
-    }
-}
-
 /// The annotation of the trace, with so many lines behind the first one of its closing.
 fn annotated<A: Allocator + Copy>(heap: A, alloc: Global, cuts: Cuts, times: usize) -> Answer {
-    annotated_on::<A, Brand, Brand, Brand>(
+    let describer = Wordy { times };
+    annotated_by(
         heap,
         alloc,
+        LINES.as_bytes(),
         cuts,
-        times,
-        Blank::new(1),
-        Blank::new(1),
-        Blank::new(1),
+        Choice::ChosenRows,
+        describer,
     )
 }
 

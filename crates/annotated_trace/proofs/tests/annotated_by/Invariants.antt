@@ -1,4 +1,4 @@
-use Rattle.annotated_trace.proofs.tests.closing.annotated.Given as goal
+use Rattle.annotated_trace.proofs.tests.annotated_by.Given as goal
 
 abbrev pub ghosts-annotated_on-C-Ledger : goal.ghosts-annotated_on-C-Ledger
 ghosts-annotated_on-C-Ledger g a = record { name = a.calls.name; parts = a.calls.parts }
