@@ -23,8 +23,13 @@ pub struct Head {
 }
 
 impl Head {
+    ghost use Rattle.line_model.specs.declared.state.Side.TheVariants.{T};
+    ghost use Rattle.line_model.specs.declared.packet.Packet.TheVariants.{Short};
+
     /// A head to be written over: number 0, from T, no octets.
-    pub fn blank() -> Self {
+    pub fn blank() -> Self
+        ensures { result ≡ record { number = 0; side = T; packet = Short; octets = 0 } }
+    {
         Head {
             number: 0,
             side: Side::T,

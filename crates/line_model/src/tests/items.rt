@@ -1,6 +1,7 @@
 //! Rows with their packets in two lists, by values from outside.
 
-use crate::items::{ItemRef, Items};
+use crate::items::lent::LentItems;
+use crate::items::{Head, ItemRef, Items};
 use crate::packet::{DataHeader, Packet, PacketKind};
 use crate::row::Row;
 use crate::state::Side;
@@ -100,6 +101,59 @@ fn a_copy_has_the_rows_and_a_cleared_list_has_none(rt: HostRuntime) -> Result<()
     push_all(&mut items, &[data, call])?;
     check_rows(&rt, &items, &[data, call])?;
     check_rows(&rt, &copy, lines.as_slice())
+}
+
+/// Appends rows to lent lists, and counts those that fit.
+fn push_lent(items: &mut LentItems<'_>, lines: &[Line]) -> usize {
+    let mut fits: usize = 0;
+    for (number, side, octets, packet) in lines {
+        let item = ItemRef {
+            number: *number,
+            side: *side,
+            octets,
+            packet: *packet,
+        };
+        if items.push(&item) {
+            fits = fits.saturating_add(1);
+        }
+    }
+    fits
+}
+
+#[test]
+fn lent_lists_hold_what_fits(rt: HostRuntime) -> Result<(), Fail> {
+    let lines = lines();
+    // 12 octets in four rows; the last row has four, and the third three.
+    for (heads, octets, fits) in [
+        (4, 12, 4),
+        (9, 20, 4),
+        (3, 12, 3),
+        (4, 11, 3),
+        (4, 7, 2),
+        (0, 12, 0),
+    ] {
+        let mut head_list = Vec::new(rt.alloc());
+        head_list.resize(heads, Head::blank())?;
+        let mut octet_list = Vec::new(rt.alloc());
+        octet_list.resize(octets, 0xeeu8)?;
+        let mut items = LentItems::new(head_list.as_mut_slice(), octet_list.as_mut_slice());
+        assert_eq!(rt;
+            push_lent(&mut items, lines.as_slice()),
+            fits,
+            "{heads} and {octets}"
+        );
+        let mut rows = items.into_rows();
+        for (number, side, octets, packet) in lines.iter().take(fits) {
+            let Some(row) = rows.next() else {
+                return Err("a row is missing")?;
+            };
+            assert_eq!(rt; (row.number, row.side), (*number, *side));
+            assert_eq!(rt; row.octets, *octets, "row {number}");
+            assert_eq!(rt; row.packet, *packet, "row {number}");
+        }
+        assert!(rt; rows.next().is_none());
+    }
+    Ok(())
 }
 
 #[test]
