@@ -12,7 +12,6 @@ use Rattle.line_model.specs.pieces.Plans.{item_of, piece_of, plan}
 use Rattle.line_model.specs.observer.Observer.{x25, start}
 use Rattle.restart_epochs.specs.Cutting.{observer, places, channels_in}
 use Rattle.line_model.proofs.Pieces.{filter_append}
-use Rattle.restart_epochs.proofs.Pushes.{filter_each}
 
 abbrev pub keys_in : Interface → List (Placed Row) → ℕ → List (ℕ × ℕ)
 keys_in i ps e = map (λ k. (e, k)) (channels_in i ps e)
@@ -92,6 +91,10 @@ pieces_more i ps n =
 pub record SameEpoch (e : ℕ) (ps qs : List (Placed Row)) : Type 0 where
   pub rows : (k : ℕ) → piece_rows e k qs ≡ piece_rows e k ps
   pub end : piece_end e qs ≡ piece_end e ps
+
+pub filter_each : (f g : ℕ → Bool) → ((k : ℕ) → f k ≡ g k) → (ks : List ℕ) → filter f ks ≡ filter g ks
+filter_each f g h [] = refl
+filter_each f g h (k ∷ ks) = ap (λ b. cond b (k ∷ filter f ks) (filter f ks)) (h k) ∙ ap (λ l. cond (g k) (k ∷ l) l) (filter_each f g h ks)
 
 keys_same : (i : Interface) (ps qs : List (Placed Row)) (e : ℕ) → SameEpoch e ps qs → keys_in i qs e ≡ keys_in i ps e
 keys_same i ps qs e s = ap (map (λ k. (e, k))) (filter_each (λ k. has_some (piece_rows e k qs)) (λ k. has_some (piece_rows e k ps)) (λ k. ap has_some (s.rows k)) (range_with_len 1 i.svc))

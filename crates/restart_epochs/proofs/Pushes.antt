@@ -25,7 +25,7 @@ use Rattle.restart_epochs.specs.Cutting.{Cutting, observer, places, given_of, En
 use Rattle.restart_epochs.proofs.Routes.{is_to_channel}
 use Rattle.restart_epochs.proofs.Epochs.{place_of, places_more, rows_same, rows_on_more, end_new}
 use Rattle.restart_epochs.proofs.Steps.{OnChannel, on_channel, OnLine, on_line}
-use Rattle.restart_epochs.proofs.Cuts.{pieces_to, pieces_in, pieces_more, pieces_to_same, pieces-length, plan_is}
+use Rattle.restart_epochs.proofs.Cuts.{filter_each, pieces_to, pieces_in, pieces_more, pieces_to_same, pieces-length, plan_is}
 use Rattle.restart_epochs.proofs.Growth.{ends_nothing, ends_same, ends_leave, ends_enter, whole_epochs, given_pieces, same_below, same_line, leave_pieces}
 use Rattle.restart_epochs.proofs.LineFindings.{line_findings_more, to_none}
 use Rattle.restart_epochs.proofs.Listed.{insert_listed, none_listed}
@@ -92,10 +92,6 @@ rows_or_none (r ∷ rs) = inr refl
 more_some : (rs : List Row) (r : Row) → has_some (rs ++ r ∷ []) ≡ true
 more_some [] r = refl
 more_some (x ∷ rs) r = refl
-
-pub filter_each : (f g : ℕ → Bool) → ((k : ℕ) → f k ≡ g k) → (ks : List ℕ) → filter f ks ≡ filter g ks
-filter_each f g h [] = refl
-filter_each f g h (k ∷ ks) = ap (λ b. cond b (k ∷ filter f ks) (filter f ks)) (h k) ∙ ap (λ l. cond (g k) (k ∷ l) l) (filter_each f g h ks)
 
 with_known : (items : List Item) (k : ℕ) (channels : List ℕ) → items ≢ [] → with_channel items k channels ≡ channels
 with_known [] k channels ne = absurd (ne refl)
