@@ -12,11 +12,11 @@ use Rattle.mbit_assembly.proofs.SequenceLemmas.{packets_of-same, packets_of-othe
 use Rattle.channel_machine.specs.Transfers.{Transfer, StandsFor, IsCounted}
 
 -- an answer tells what the counts answer
-pub answered_ok : {U : Type 0} (u : U) (old new : Kept) (r : Result Counts ℕ) → Answers (Ok u) old new r → (v : Counts) × (r ≡ Ok v) × Stands new v
+pub answered_ok : {U : Type 0} (u : U) (old new : FlowResidues) (r : Result Counts ℕ) → Answers (Ok u) old new r → (v : Counts) × (r ≡ Ok v) × Stands new v
 answered_ok u old new (Ok v) h = (v, refl, h)
 answered_ok u old new (Err n) h = absurd h
 
-pub answered_err : (U : Type 0) (e : ℕ) (old new : Kept) (r : Result Counts ℕ) → Answers {A = U} (Err e) old new r → (r ≡ Err e) × (new ≡ old)
+pub answered_err : (U : Type 0) (e : ℕ) (old new : FlowResidues) (r : Result Counts ℕ) → Answers {A = U} (Err e) old new r → (r ≡ Err e) × (new ≡ old)
 answered_err U e old new (Ok v) h = absurd h
 answered_err U e old new (Err n) h = (ap (λ k. Err k) (sym h.0), h.1)
 
@@ -70,7 +70,7 @@ sent_more T hs p is = λ j. record { of_t = sym (sent_same T hs p (ap (λ y. is_
 sent_more N hs p is = λ j. record { of_t = sym (sent_apart T hs p (ap (λ y. is_side T y) is)) j; of_n = sym (sent_same N hs p (ap (λ y. is_side N y) is)) j }
 
 -- a channel with other counts, over the same packets and messages
-recounted : (i : Interface) (t : Transfer) (new : Kept) (c : Channel) (v : Counts) → StandsFor i t c →
+recounted : (i : Interface) (t : Transfer) (new : FlowResidues) (c : Channel) (v : Counts) → StandsFor i t c →
     new.modulus ≡ t.flow.modulus → new.windows ≡ t.flow.windows → v.sent ≡ sent_by c.heard → Stands new v →
     StandsFor i (record t { flow = new }) (record c { acknowledged = v.acknowledged; unconfirmed = v.unconfirmed })
 recounted i t new c v stands modulus windows sent_is flow = record {
@@ -83,7 +83,7 @@ recounted i t new c v stands modulus windows sent_is flow = record {
 }
 
 -- the answer of counts that keep what was sent
-counted_by : {U : Type 0} (r : Result U ℕ) (i : Interface) (t : Transfer) (new : Kept) (a : Result Counts ℕ) (c : Channel) → StandsFor i t c →
+counted_by : {U : Type 0} (r : Result U ℕ) (i : Interface) (t : Transfer) (new : FlowResidues) (a : Result Counts ℕ) (c : Channel) → StandsFor i t c →
     new.modulus ≡ t.flow.modulus → new.windows ≡ t.flow.windows → ((v : Counts) → a ≡ Ok v → v.sent ≡ sent_by c.heard) →
     Answers r t.flow new a → IsCounted r i t (record t { flow = new }) a c
 counted_by (Ok u) i t new a c stands modulus windows keeps answer =
@@ -93,20 +93,20 @@ counted_by {U = U} (Err e) i t new a c stands modulus windows keeps answer =
     let (is, same) = answered_err U e t.flow new a answer in
     (is, ap (λ f. record t { flow = f }) same)
 
-pub received : {U : Type 0} (r : Result U ℕ) (i : Interface) (t : Transfer) (new : Kept) (x : Side) (n : ℕ) (c : Channel) → StandsFor i t c →
+pub received : {U : Type 0} (r : Result U ℕ) (i : Interface) (t : Transfer) (new : FlowResidues) (x : Side) (n : ℕ) (c : Channel) → StandsFor i t c →
     new.modulus ≡ t.flow.modulus → new.windows ≡ t.flow.windows → Answers r t.flow new (count_receive t.flow.modulus (counts_of c) x n) →
     IsCounted r i t (record t { flow = new }) (count_receive i.modulus (counts_of c) x n) c
 received r i t new x n c stands modulus windows answer =
     counted_by r i t new (count_receive i.modulus (counts_of c) x n) c stands modulus windows (λ v e. (receive_keeps i.modulus (counts_of c) v x n e).0)
     (subst (λ m. Answers r t.flow new (count_receive m (counts_of c) x n)) stands.modulus answer)
 
-pub interrupted : {U : Type 0} (r : Result U ℕ) (i : Interface) (t : Transfer) (new : Kept) (x : Side) (c : Channel) → StandsFor i t c →
+pub interrupted : {U : Type 0} (r : Result U ℕ) (i : Interface) (t : Transfer) (new : FlowResidues) (x : Side) (c : Channel) → StandsFor i t c →
     new.modulus ≡ t.flow.modulus → new.windows ≡ t.flow.windows → Answers r t.flow new (count_interrupt (counts_of c) x) →
     IsCounted r i t (record t { flow = new }) (count_interrupt (counts_of c) x) c
 interrupted r i t new x c stands modulus windows answer =
     counted_by r i t new (count_interrupt (counts_of c) x) c stands modulus windows (λ v e. interrupt_by (counts_of c) v x (of_side x c.unconfirmed) e) answer
 
-pub confirmed : {U : Type 0} (r : Result U ℕ) (i : Interface) (t : Transfer) (new : Kept) (x : Side) (c : Channel) → StandsFor i t c →
+pub confirmed : {U : Type 0} (r : Result U ℕ) (i : Interface) (t : Transfer) (new : FlowResidues) (x : Side) (c : Channel) → StandsFor i t c →
     new.modulus ≡ t.flow.modulus → new.windows ≡ t.flow.windows → Answers r t.flow new (count_confirm (counts_of c) x) →
     IsCounted r i t (record t { flow = new }) (count_confirm (counts_of c) x) c
 confirmed r i t new x c stands modulus windows answer =

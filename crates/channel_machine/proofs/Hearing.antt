@@ -28,20 +28,20 @@ window_is : (i : Interface) (t : Transfer) (c : Channel) (x : Side) → StandsFo
 window_is i t c T stands = ap (λ v. v.of_t) stands.windows
 window_is i t c N stands = ap (λ v. v.of_n) stands.windows
 
-pub in_force : (U : Type 0) (r : Result U ℕ) (i : Interface) (t : Transfer) (new : Kept) (c : Channel) (x : Side) (s n : ℕ) → StandsFor i t c →
+pub in_force : (U : Type 0) (r : Result U ℕ) (i : Interface) (t : Transfer) (new : FlowResidues) (c : Channel) (x : Side) (s n : ℕ) → StandsFor i t c →
     Answers r t.flow new (count_data t.flow.modulus (of_side x t.flow.windows) (counts_of c) x s n) → Answers r t.flow new (counted_in_force i x s n c)
 in_force U r i t new c x s n stands answer =
     subst (λ w. Answers r t.flow new (count_data i.modulus w (counts_of c) x s n)) (window_is i t c x stands)
     (subst (λ m. Answers r t.flow new (count_data m (of_side x t.flow.windows) (counts_of c) x s n)) stands.modulus answer)
 
 -- a fault of the numbers
-pub refused : (U : Type 0) (e : ℕ) (i : Interface) (s : Stamp) (t : Transfer) (new : Kept) (before : List Event) (x : Side) (p : AcceptedData) (r : Result Counts ℕ) (c : Channel) →
+pub refused : (U : Type 0) (e : ℕ) (i : Interface) (s : Stamp) (t : Transfer) (new : FlowResidues) (before : List Event) (x : Side) (p : AcceptedData) (r : Result Counts ℕ) (c : Channel) →
     Answers {A = U} (Err e) t.flow new r → IsHeard (Some e) i s t t before before x p r c
 refused U e i s t new before x p r c answer =
     ((λ q. ap (λ a. data_counted i x q p a c) (answered_err U e t.flow new r answer).0), refl, refl)
 
 -- another Q bit
-pub mixed : {U : Type 0} (u : U) (i : Interface) (s : Stamp) (t new : Transfer) (flow : Kept) (before after : List Event) (x : Side) (p : AcceptedData) (r : Result Counts ℕ) (c : Channel) →
+pub mixed : {U : Type 0} (u : U) (i : Interface) (s : Stamp) (t new : Transfer) (flow : FlowResidues) (before after : List Event) (x : Side) (p : AcceptedData) (r : Result Counts ℕ) (c : Channel) →
     StandsFor i t c → Answers (Ok u) t.flow flow r → is_alike p (assembly.begun_by t.assembler x c.heard) ≡ false → new ≡ t → after ≡ before →
     IsHeard (Some INCONSISTENT_Q_BIT_SETTING) i s t new before after x p r c
 mixed u i s t new flow before after x p r c stands answer other same none =

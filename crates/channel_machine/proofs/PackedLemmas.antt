@@ -61,7 +61,7 @@ pub fields_fit : (s o c t n : ℕ) → s < 32 → o < 2 → c < 16 → t < 16 �
 fields_fit s o c t n hs ho hc ht hn = omega (arith, hs, ho, hc, ht, hn)
 
 -- the values of a word that was made of them
-pub values_new : (w : Packed) (a : ℕ) (f : Kept) (v : Values) → w.above ≡ a → w.flow ≡ f →
+pub values_new : (w : Packed) (a : ℕ) (f : FlowResidues) (v : Values) → w.above ≡ a → w.flow ≡ f →
     f.windows ≡ record { of_t = v.window_t; of_n = v.window_n } → 2 ^ (a / 1024 % 16) ≡ v.size_t → 2 ^ (a / 16384 % 16) ≡ v.size_n → values_in w ≡ v
 values_new w a f v above flow windows size_t size_n =
     (λ j. values_in (record { flow = flow j; above = above j }))

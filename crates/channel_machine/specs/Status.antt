@@ -11,7 +11,7 @@ pub record Status : Type 0 where
   pub state : ChannelState
   pub owed : Bool
   pub terms : Agreed
-  pub flow : Kept
+  pub flow : FlowResidues
 
 -- the windows of terms
 abbrev pub windows_of : Agreed → Sides ℕ

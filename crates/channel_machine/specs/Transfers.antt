@@ -20,7 +20,7 @@ use Rattle.channel_machine.specs.declared.events.Stamp.{Stamp}
 
 -- what is kept of data transfer: the windows and interrupts, the sequences begun, and the settings of both PADs
 pub record Transfer : Type 0 where
-  pub flow : Kept
+  pub flow : FlowResidues
   pub assembler : Assembly
   pub settings : BothSettings
 
