@@ -13,42 +13,42 @@ returns-clause-interface g c k s =
     let self : Known = c.args.self.now in
     let r : Row = record { number = c.row.inside.number; side = c.row.inside.side; octets = c.deref.result.now } in
     let stamp : Stamp = record { epoch = c.args.epoch; channel = self.channel; packet = c.row.inside.number } in
-    let does : IfOk c.take.result (λ _. Does stamp self c.take.new.self c.args.events.now.items c.take.new.report.items (channel_step self.terms.interface self.channel k r)) =
-    subst (λ n. IfOk c.take.result (λ _. Does (record { epoch = c.args.epoch; channel = n; packet = c.row.inside.number }) self c.take.new.self c.args.events.now.items c.take.new.report.items (channel_step self.terms.interface self.channel k r)))
+    let does : IfOk c.take.result (λ _. Does stamp self c.take.new.self c.args.events.now.items c.take.new.events.items (channel_step self.terms.interface self.channel k r)) =
+    subst (λ n. IfOk c.take.result (λ _. Does (record { epoch = c.args.epoch; channel = n; packet = c.row.inside.number }) self c.take.new.self c.args.events.now.items c.take.new.events.items (channel_step self.terms.interface self.channel k r)))
     (ap (λ (o : Known). o.channel) c.self.view_is) (c.take.ensures.does k s.reached s.stands) in
-    keeps_interface c.take.result stamp self c.take.new.self c.args.events.now.items c.take.new.report.items (channel_step self.terms.interface self.channel k r) does
+    keeps_interface c.take.result stamp self c.take.new.self c.args.events.now.items c.take.new.events.items (channel_step self.terms.interface self.channel k r) does
 
 pub returns-clause-number : goal.returns-clause-number
 returns-clause-number g c k s =
     let self : Known = c.args.self.now in
     let r : Row = record { number = c.row.inside.number; side = c.row.inside.side; octets = c.deref.result.now } in
     let stamp : Stamp = record { epoch = c.args.epoch; channel = self.channel; packet = c.row.inside.number } in
-    let does : IfOk c.take.result (λ _. Does stamp self c.take.new.self c.args.events.now.items c.take.new.report.items (channel_step self.terms.interface self.channel k r)) =
-    subst (λ n. IfOk c.take.result (λ _. Does (record { epoch = c.args.epoch; channel = n; packet = c.row.inside.number }) self c.take.new.self c.args.events.now.items c.take.new.report.items (channel_step self.terms.interface self.channel k r)))
+    let does : IfOk c.take.result (λ _. Does stamp self c.take.new.self c.args.events.now.items c.take.new.events.items (channel_step self.terms.interface self.channel k r)) =
+    subst (λ n. IfOk c.take.result (λ _. Does (record { epoch = c.args.epoch; channel = n; packet = c.row.inside.number }) self c.take.new.self c.args.events.now.items c.take.new.events.items (channel_step self.terms.interface self.channel k r)))
     (ap (λ (o : Known). o.channel) c.self.view_is) (c.take.ensures.does k s.reached s.stands) in
-    keeps_number c.take.result stamp self c.take.new.self c.args.events.now.items c.take.new.report.items (channel_step self.terms.interface self.channel k r) does
+    keeps_number c.take.result stamp self c.take.new.self c.args.events.now.items c.take.new.events.items (channel_step self.terms.interface self.channel k r) does
 
 pub returns-clause-stands : goal.returns-clause-stands
 returns-clause-stands g c k s =
     let self : Known = c.args.self.now in
     let r : Row = record { number = c.row.inside.number; side = c.row.inside.side; octets = c.deref.result.now } in
     let stamp : Stamp = record { epoch = c.args.epoch; channel = self.channel; packet = c.row.inside.number } in
-    let does : IfOk c.take.result (λ _. Does stamp self c.take.new.self c.args.events.now.items c.take.new.report.items (channel_step self.terms.interface self.channel k r)) =
-    subst (λ n. IfOk c.take.result (λ _. Does (record { epoch = c.args.epoch; channel = n; packet = c.row.inside.number }) self c.take.new.self c.args.events.now.items c.take.new.report.items (channel_step self.terms.interface self.channel k r)))
+    let does : IfOk c.take.result (λ _. Does stamp self c.take.new.self c.args.events.now.items c.take.new.events.items (channel_step self.terms.interface self.channel k r)) =
+    subst (λ n. IfOk c.take.result (λ _. Does (record { epoch = c.args.epoch; channel = n; packet = c.row.inside.number }) self c.take.new.self c.args.events.now.items c.take.new.events.items (channel_step self.terms.interface self.channel k r)))
     (ap (λ (o : Known). o.channel) c.self.view_is) (c.take.ensures.does k s.reached s.stands) in
     let whole : r ≡ c.args.row.now = (λ j. record { number = c.row.inside.number; side = c.row.inside.side; octets = c.deref.ensures.value j }) ∙ c.row.view_is in
-    stands_after c.take.result stamp self c.take.new.self c.args.events.now.items c.take.new.report.items (channel_step self.terms.interface self.channel k c.args.row.now)
+    stands_after c.take.result stamp self c.take.new.self c.args.events.now.items c.take.new.events.items (channel_step self.terms.interface self.channel k c.args.row.now)
     (reached_step self.terms.interface self.channel k c.args.row.now s.reached)
-    (of_row c.take.result stamp self c.take.new.self c.args.events.now.items c.take.new.report.items self.terms.interface self.channel k r c.args.row.now whole does)
+    (of_row c.take.result stamp self c.take.new.self c.args.events.now.items c.take.new.events.items self.terms.interface self.channel k r c.args.row.now whole does)
 
 pub returns-clause-events : goal.returns-clause-events
 returns-clause-events g c k s =
     let self : Known = c.args.self.now in
     let r : Row = record { number = c.row.inside.number; side = c.row.inside.side; octets = c.deref.result.now } in
     let stamp : Stamp = record { epoch = c.args.epoch; channel = self.channel; packet = c.row.inside.number } in
-    let does : IfOk c.take.result (λ _. Does stamp self c.take.new.self c.args.events.now.items c.take.new.report.items (channel_step self.terms.interface self.channel k r)) =
-    subst (λ n. IfOk c.take.result (λ _. Does (record { epoch = c.args.epoch; channel = n; packet = c.row.inside.number }) self c.take.new.self c.args.events.now.items c.take.new.report.items (channel_step self.terms.interface self.channel k r)))
+    let does : IfOk c.take.result (λ _. Does stamp self c.take.new.self c.args.events.now.items c.take.new.events.items (channel_step self.terms.interface self.channel k r)) =
+    subst (λ n. IfOk c.take.result (λ _. Does (record { epoch = c.args.epoch; channel = n; packet = c.row.inside.number }) self c.take.new.self c.args.events.now.items c.take.new.events.items (channel_step self.terms.interface self.channel k r)))
     (ap (λ (o : Known). o.channel) c.self.view_is) (c.take.ensures.does k s.reached s.stands) in
     let whole : r ≡ c.args.row.now = (λ j. record { number = c.row.inside.number; side = c.row.inside.side; octets = c.deref.ensures.value j }) ∙ c.row.view_is in
-    adds_events c.take.result stamp self c.take.new.self c.args.events.now.items c.take.new.report.items self.terms.interface k c.args.row.now (ap (λ w. w.number) c.row.view_is)
-    (of_row c.take.result stamp self c.take.new.self c.args.events.now.items c.take.new.report.items self.terms.interface self.channel k r c.args.row.now whole does)
+    adds_events c.take.result stamp self c.take.new.self c.args.events.now.items c.take.new.events.items self.terms.interface k c.args.row.now (ap (λ w. w.number) c.row.view_is)
+    (of_row c.take.result stamp self c.take.new.self c.args.events.now.items c.take.new.events.items self.terms.interface self.channel k r c.args.row.now whole does)
