@@ -3,5 +3,3 @@ pub mod PartReads
 pub mod Nexts
 pub mod Texts
 pub mod Courses
-pub mod Parts
-pub mod Takings

@@ -1,5 +1,3 @@
 pub mod Batches
 pub mod Fronts
-pub mod Parts
 pub mod Readings
-pub mod Takings

@@ -6,12 +6,10 @@ ghost use Rattle.line_model.specs.declared.interface.Interface.{Interface as Any
 ghost use Rattle.trace_text.specs.Progress.{bytes_fed};
 ghost use Rattle.trace_text.specs.StandsFor.{StandsFor, IsFaultOf, IsTextFault};
 ghost use Rattle.piece_feed.specs.Batches.{HasPacket, rows_in};
-ghost use Rattle.piece_feed.specs.Parts.{IsReadBehind};
 
-use crate::shares::Part;
 use line_model::fault::Fault;
 use line_model::interface::Interface;
-use line_model::items::{Items, Iter};
+use line_model::items::Items;
 use line_model::row::Row;
 use line_model::state::Side;
 use packet_decode::decode::decode;
@@ -74,43 +72,6 @@ impl<A: Allocator + Copy> Batch<A> {
                 Err(fault) => return Err(fault),
             }
         }
-    }
-
-    /// The rows of the lines that an LF of this part of the text ends.
-    fn line_rows(&mut self, lines: &mut Lines<A>, bytes: &[u8]) -> Result<Iter<'_>, Fault>
-        ensures ok { OnOk result ((text : List ℕ) → StandsFor lines.old text → StandsFor lines.new (text ++ bytes.now)) }
-        ensures rows { (text : List ℕ) → StandsFor lines.old text → IfOk result (λ rows. early_rows (text ++ bytes.now) ≡ early_rows text ++ rows_in rows) }
-        ensures packets { (text : List ℕ) (i : AnyInterface) → StandsFor lines.old text → early_head (text ++ bytes.now) ≡ Some i → IfOk result (All (HasPacket i)) }
-        ensures refused { (text : List ℕ) → StandsFor lines.old text → IfErr result (IsFaultOf (early (text ++ bytes.now))) }
-        ensures size { OnOk result (bytes_fed lines.new ≡ bytes_fed lines.old + length bytes.now) }
-        ensures limit { bytes_fed lines.new ≤ 2 ^ 30 }
-        ensures kinds { IfErr result IsTextFault }
-    {
-        match self.read(lines, bytes) {
-            Ok(()) => Ok(self.items.iter()),
-            Err(fault) => Err(fault),
-        }
-    }
-
-    /// The rows of a part: those that were read by themselves, where they may stand there, else those of its lines.
-    pub fn rows<'a>(&'a mut self, lines: &mut Lines<A>, part: Part<'a>) -> Result<Iter<'a>, Fault>
-        requires { IsReadBehind lines.old.interface part }
-        ensures ok { OnOk result ((text : List ℕ) → StandsFor lines.old text → StandsFor lines.new (text ++ part.entry.bytes.now)) }
-        ensures rows { (text : List ℕ) → StandsFor lines.old text → IfOk result (λ rows. early_rows (text ++ part.entry.bytes.now) ≡ early_rows text ++ rows_in rows) }
-        ensures packets { (text : List ℕ) (i : AnyInterface) → StandsFor lines.old text → early_head (text ++ part.entry.bytes.now) ≡ Some i → IfOk result (All (HasPacket i)) }
-        ensures refused { (text : List ℕ) → StandsFor lines.old text → IfErr result (IsFaultOf (early (text ++ part.entry.bytes.now))) }
-        ensures size { OnOk result (bytes_fed lines.new ≡ bytes_fed lines.old + length part.entry.bytes.now) }
-        ensures limit { bytes_fed lines.new ≤ 2 ^ 30 }
-        ensures kinds { IfErr result IsTextFault }
-    {
-        let Part { bytes, read } = part;
-        let Some(read) = read else {
-            return self.line_rows(lines, bytes);
-        };
-        if lines.pass(&read.share) {
-            return Ok(read.rows);
-        }
-        self.line_rows(lines, bytes)
     }
 
     /// Puts the row of a last line that no LF ended, if there is one, in the place of the rows before. The header of the

@@ -2,9 +2,7 @@
 #![tactic(auto)]
 
 mod batch;
-mod blocks;
 mod reading;
-mod shares;
 mod taking;
 
 pub use reading::{Read, Reading};

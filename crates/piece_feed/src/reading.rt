@@ -14,9 +14,7 @@ ghost use Rattle.piece_feed.specs.Fronts.{HasCut, IsFedTo, IsEndReady};
 ghost use Rattle.piece_feed.specs.Readings.{HasRead, IsCutOf, IsOutcome, IsReadOf};
 
 use crate::batch::Batch;
-use crate::blocks::take_bytes;
-use crate::shares::Room;
-use crate::taking::{Front, front_of, take_items};
+use crate::taking::{Front, front_of, take_bytes, take_items};
 use line_model::device::Source;
 use line_model::fault::Fault;
 use line_model::finding::Finding;
@@ -32,7 +30,7 @@ use trace_text::lines::Lines;
 use workers::{Feed, feed_pieces};
 
 /// The bytes that are asked for at once.
-const BLOCK: usize = 1 << 20;
+const CHUNK: usize = 1 << 16;
 
 /// What was read: the header of the trace, the findings of the restart machine, and how many rows and pieces there are.
 #[derive(Drop)]
@@ -102,7 +100,7 @@ fn finish<P: Plan, A: Allocator + Copy, R: Wait + Clock>(
         Err(fault) => return Err(fault),
     };
     let front = front_of(alloc, &interface, front);
-    let front = match take_items(rt, alloc, batch.items.iter(), front, work, pass) {
+    let front = match take_items(rt, alloc, &batch.items, front, work, pass) {
         Ok(front) => front,
         Err(fault) => return Err(fault),
     };
@@ -110,9 +108,8 @@ fn finish<P: Plan, A: Allocator + Copy, R: Wait + Clock>(
 }
 
 /// Reads a source to its end. The pieces of its trace are fed as soon as they are known whole.
-fn read_all<P: Plan, A: Allocator + Copy, S: Source, R: Wait + Clock, T: Threads + Sync>(
+fn read_all<P: Plan, A: Allocator + Copy, S: Source, R: Wait + Clock>(
     rt: &R,
-    threads: &T,
     alloc: A,
     source: &mut S,
     work: &Work<P, A>,
@@ -126,22 +123,19 @@ fn read_all<P: Plan, A: Allocator + Copy, S: Source, R: Wait + Clock, T: Threads
     ensures read { HasRead (S.left source.old) (S.left source.new) (S.failures source.old < S.failures source.new) pass.new.record_of.fed result }
     ensures asked { S.calls source.new ≤ S.calls source.old + (2 ^ 30 + 1) }
 {
-    let mut buffer = [0; BLOCK];
+    let mut buffer = [0; CHUNK];
     let mut lines = Lines::new(alloc);
     let mut batch = Batch::new(alloc);
-    let mut room = Room::new(alloc);
     let mut front = None;
     loop {
         match source.read(&mut buffer) {
             Ok(0) => return finish(rt, alloc, lines, batch, front, work, pass),
             Ok(n) => match take_bytes(
                 rt,
-                threads,
                 alloc,
                 &buffer[..n],
                 &mut lines,
                 &mut batch,
-                &mut room,
                 front,
                 work,
                 pass,
@@ -154,8 +148,8 @@ fn read_all<P: Plan, A: Allocator + Copy, S: Source, R: Wait + Clock, T: Threads
     }
 }
 
-/// The reading thread's part of a scan with threads: a source, what starts the threads that read shares of a block side
-/// by side, and what became of reading it: nothing before.
+/// The reading thread's part of a scan with threads: a source, what starts threads that would read beside it (none is
+/// started yet), and what became of reading it: nothing before.
 #[derive(Drop)]
 pub struct Reading<'a, A: Allocator, S, T> {
     pub source: &'a mut S,
@@ -184,7 +178,7 @@ impl<'a, P: Plan, A: Allocator + Copy, S: Source, T: Threads + Sync> Feed<P, A>
             alloc,
             ..
         } = self;
-        let outcome = Some(read_all(rt, threads, alloc, source, work, pass));
+        let outcome = Some(read_all(rt, alloc, source, work, pass));
         Reading {
             source,
             threads,

@@ -20,8 +20,6 @@ use std::time::Clock;
 use trace_text::lines::Lines;
 use workers::{Gate, Worked, work_through};
 
-mod blocks;
-
 /// How many bytes a source gives at once.
 const STEPS: [usize; 3] = [1, 7, usize::MAX];
 

@@ -14,7 +14,7 @@ loop-lines-init g c = record {
 }
 
 pub take_bytes-requires-clause-ready : goal.take_bytes-requires-clause-ready
-take_bytes-requires-clause-ready g c κs within =
+take_bytes-requires-clause-ready g c =
     let course = c.loop-lines.invariant.course in
     let source = gave_more (g.S.Source.left c.args.source.now) (g.S.Source.left c.loop-lines.source) (g.S.Source.left c.read.new.self) course.text _ _ course.source c.in-Ok.ensures.given in
     (course.text, record { reader = course.reader; front_of = course.cut; planned = plan_so_far g.P.Plan.pieces (g.S.Source.left c.args.source.now) (g.S.Source.left c.read.new.self) (course.text ++ _) c.requires.plan source })

@@ -1,4 +1,4 @@
-use Rattle.std.proofs.Common.{◌∙◌, ◌++◌, ◌∷◌, [], ap, subst, sym, refl, arith, append-nil, append_assoc}
+use Rattle.std.proofs.Common.{◌≡◌, ◌∙◌, ◌++◌, ◌∷◌, [], ap, subst, sym, refl, arith, append-nil, append_assoc}
 use Rattle.std.specs.Prelude.{All}
 use Rattle.line_model.specs.packets.Classes.{packet_of}
 use Rattle.restart_epochs.specs.Cutting.{StandsFor, given_of}
@@ -10,14 +10,14 @@ use Rattle.piece_feed.proofs.taking.push_items.Goals as goal
 
 pub loop-item-init : goal.loop-item-init
 loop-item-init g c =
-    let same = sym c.into_iter-item-iterator.ensures.into_iter_gives in record {
+    let same = sym (c.into_iter-item-iterator.ensures.into_iter_gives ∙ c.iter-item-items.ensures) in record {
       stands = λ i before s. subst (λ rs. StandsFor i rs c.args.cutter.now) (sym (append-nil before)) s;
       given = λ i before s. ap (λ l. given_of i before ++ l) c.new-pieces.ensures.items ∙ append-nil (given_of i before) ∙ ap (given_of i) (sym (append-nil before));
       counted = λ before h. subst (λ rs. IsCounting rs c.args.cutter.now) (sym (append-nil before)) h;
       interface = refl;
       all = same;
       packets = subst (All (HasPacket c.args.cutter.now.interface)) same c.requires.packets;
-      left = subst (λ items. MayCome c.args.cutter.now (rows_in items)) same (follows c.args.cutter.now (rows_in c.args.items) c.requires.follow);
+      left = subst (λ items. MayCome c.args.cutter.now (rows_in items)) same (follows c.args.cutter.now (rows_in c.args.items.now) c.requires.follow);
     }
 
 pub push-requires-clause-packet : goal.push-requires-clause-packet

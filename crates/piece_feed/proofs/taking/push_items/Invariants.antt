@@ -14,7 +14,7 @@ invariant-loop-item g l = record {
   given : (i : Interface) (before : List Row) → StandsFor i before l.fn.cutter → given_of i before ++ l.pieces.items ≡ given_of i (before ++ rows_in l.yielded);
   counted : (before : List Row) → IsCounting before l.fn.cutter → IsCounting (before ++ rows_in l.yielded) l.cutter;
   interface : l.cutter.interface ≡ l.fn.cutter.interface;
-  all : l.fn.items ≡ l.yielded ++ l.item-iterator;
+  all : l.items ≡ l.yielded ++ l.item-iterator;
   packets : All (HasPacket l.fn.cutter.interface) l.item-iterator;
   left : MayCome l.cutter (rows_in l.item-iterator);
 }

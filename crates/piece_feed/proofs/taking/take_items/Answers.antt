@@ -1,4 +1,4 @@
-use Rattle.std.proofs.Common.{◌∙◌, ◌+◌, ◌≤◌, ◌++◌, ap, subst, sym, List, length, arith, length-append}
+use Rattle.std.proofs.Common.{◌≡◌, ◌∙◌, ◌+◌, ◌≤◌, ◌++◌, ap, subst, sym, List, length, arith, length-append}
 use Rattle.std.specs.Prelude.{All}
 use Rattle.line_model.specs.basics.Records.{Piece}
 use Rattle.restart_epochs.specs.Cutting.{given_of}
@@ -9,12 +9,12 @@ use Rattle.piece_feed.proofs.taking.take_items.Given.{Over}
 use Rattle.piece_feed.proofs.taking.take_items.Goals as goal
 
 pub push_items-requires-clause-packets : goal.push_items-requires-clause-packets
-push_items-requires-clause-packets g c = subst (λ i. All (HasPacket i) c.args.items) (sym c.requires.ready.1.cut.stands.interface) c.requires.packets
+push_items-requires-clause-packets g c = subst (λ i. All (HasPacket i) c.args.items.now) (sym c.requires.ready.1.cut.stands.interface) c.requires.packets
 
 pub push_items-requires-clause-follow : goal.push_items-requires-clause-follow
 push_items-requires-clause-follow g c =
     let r = c.requires.ready.1 in
-    may_follow c.args.front.cutter c.requires.ready.0 (rows_in c.args.items) r.cut.counting r.trace
+    may_follow c.args.front.cutter c.requires.ready.0 (rows_in c.args.items.now) r.cut.counting r.trace
 
 -- the pieces are no more than the rows
 few : (g : Over) (c : goal.After-len g) → c.args.front.fed + c.len.result ≤ 999999999
@@ -37,7 +37,7 @@ pub feed_pieces-requires-clause-next : goal.feed_pieces-requires-clause-next
 feed_pieces-requires-clause-next g c =
     let r = c.requires.ready.1 in
     let i = c.args.front.interface in
-    given_next g.P.Plan.pieces i (c.requires.ready.0 ++ rows_in c.args.items) (given_of i c.requires.ready.0) c.in_ok-pieces.pieces.items c.args.pass.now.record_of.fed
+    given_next g.P.Plan.pieces i (c.requires.ready.0 ++ rows_in c.args.items.now) (given_of i c.requires.ready.0) c.in_ok-pieces.pieces.items c.args.pass.now.record_of.fed
     r.cut.all (c.in_ok-pieces.ensures.given i c.requires.ready.0 r.cut.stands) r.planned
 
 pub returns-clause-cut : goal.returns-clause-cut
