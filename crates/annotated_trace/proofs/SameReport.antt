@@ -17,7 +17,7 @@ use Rattle.annotated_trace.specs.Laws.{ReportLaw, SaysTheSame}
 use Rattle.annotated_trace.proofs.LinesOfText.{AreLines, are_lines, begun_text, both_lines, ended_text, size_of_text, text_append}
 use Rattle.line_model.proofs.FinalFaults.{both_none}
 use Rattle.trace_text.proofs.FeedLemmas.{map_none}
-use Rattle.trace_text.proofs.EndLemmas.{rows-all, head-sound, some_content}
+use Rattle.trace_text.proofs.EndLemmas.{rows-all, head-sound, some_content as none_missing}
 use Rattle.trace_text.proofs.RefusalLemmas.{content_of-append}
 
 -- ---- lines of which none is too long, and none breaks a rule on its contents
@@ -97,7 +97,7 @@ text_sound ls one sound few headed =
     let ended = ended_text ls one in
     let begun = begun_text ls one in
     let none : first_fault [] ls ≡ None = no_first_fault [] ls sound (omega (arith, few, size_of_text ls)) in
-    let missing : end_kind ls [] ≡ None = some_content (content_of (ls ++ [])) (length (ls ++ []) + 1) (ap (λ xs. is_some_line (content_of xs)) (append-nil ls) ∙ headed) in
+    let missing : end_kind ls [] ≡ None = none_missing (content_of (ls ++ [])) (length (ls ++ []) + 1) (ap (λ xs. is_some_line (content_of xs)) (append-nil ls) ∙ headed) in
     ap (λ es. option_or (first_fault [] es) (end_kind es (begun_line (text ls)))) ended ∙ ap (λ b. option_or (first_fault [] ls) (end_kind ls b)) begun
     ∙ ap (λ o. option_or o (end_kind ls [])) none ∙ missing
 
