@@ -121,68 +121,6 @@ pub struct Scan<A: Allocator = Global> {
     pub shares: Vec<Totals, A>,
 }
 
-/// As `scan_with`, under the plan of the text that the source tells.
-fn scan_in<
-    P: Plan + Send + Sync,
-    A: Allocator + Copy + Send + Sync,
-    S: Source,
-    K: Sink,
-    G: Gate,
-    R: Threads + Wait + Clock + Sync,
->(
-    rt: &R,
-    alloc: A,
-    source: &mut S,
-    sink: &mut K,
-    workers: usize,
-    capacity: usize,
-    gate: &G,
-) -> Result<Scan<A>, Fault>
-    requires plan { P.pieces ≡ option_map trace_plan (S.left source.old) }
-    requires workers { (0 < workers) × (workers ≤ 64) }
-    requires capacity { (0 < capacity) × (capacity ≤ 4096) }
-    // Of a text without a fault the sink took exactly the report of the one observer.
-    ensures reported { (text : List ℕ) → S.left source.old ≡ Some text → IfOk result (λ scan. IsReported text (K.taken sink.old) (K.taken sink.new) scan.summary) }
-    // The totals are that observer's over the channels.
-    ensures totals { (text : List ℕ) → S.left source.old ≡ Some text → IfOk result (λ scan. scan.totals ≡ trace_totals text) }
-    ensures shares { IfOk result (λ scan. (vec_len scan.shares ≡ workers) × (scan.totals ≡ sum_of scan.shares.items)) }
-    // A refusal is by the bytes that were given.
-    ensures refused { (text : List ℕ) → S.left source.old ≡ Some text → IfErr result (IsRefusedBy IsRefusal text (S.left source.new)) }
-    ensures read_failed { result ≡ Err Fault.Read → S.failures source.old < S.failures source.new }
-    ensures write_failed { result ≡ Err Fault.Write → K.failures sink.old < K.failures sink.new }
-    // Where no thread was made the source was not asked.
-    ensures start { result ≡ Err Fault.Start → source.new ≡ source.old }
-    // The sink is not asked before the whole text was accepted and all workers were joined.
-    ensures unwritten { IfErr result (λ fault. fault ≢ Fault.Write → sink.new ≡ sink.old) }
-    ensures taken { (text : List ℕ) → S.left source.old ≡ Some text → IfErr result (IsTaken (K.taken sink.old) (K.taken sink.new) (trace_report text)) }
-    // Never `Double`; the merge's other refusals only where the source does not tell its bytes.
-    ensures kinds { IfErr result (IsWorkedFault (S.left source.old)) }
-    ensures asked { S.calls source.new ≤ S.calls source.old + (2 ^ 30 + 1) }
-{
-    let parts = match work_on_trace::<P, A, S, G, R>(rt, alloc, source, workers, capacity, gate) {
-        Ok(parts) => parts,
-        Err(fault) => return Err(fault),
-    };
-    let ScanParts { read, gathered } = parts;
-    let Gathered {
-        totals,
-        shares,
-        reports,
-    } = gathered;
-    let report = match merge(alloc, reports, read.line, read.packets, read.pieces) {
-        Ok(report) => report,
-        Err(fault) => return Err(fault),
-    };
-    match write_report(&report, sink) {
-        Ok(()) => Ok(Scan {
-            summary: report.summary,
-            totals,
-            shares,
-        }),
-        Err(fault) => Err(fault),
-    }
-}
-
 /// Reads a trace, and has 1 to 64 workers run its pieces while it is read, over a queue of 1 to 4,096 pieces. Once the
 /// whole text was accepted and all workers were joined, it writes what the one observer finds who walks the trace packet
 /// by packet. Refuses where a thread or memory was refused, as reading does, where a worker wanted memory, and where the
@@ -222,5 +160,28 @@ pub fn scan_with<
     ensures kinds { IfErr result (IsWorkedFault (S.left source.old)) }
     ensures asked { S.calls source.new ≤ S.calls source.old + (2 ^ 30 + 1) }
 {
-    scan_in::<Brand, A, S, K, G, R>(rt, alloc, source, sink, workers, capacity, gate)
+    let parts = match work_on_trace::<Brand, A, S, G, R>(
+        rt, alloc, source, workers, capacity, gate,
+    ) {
+        Ok(parts) => parts,
+        Err(fault) => return Err(fault),
+    };
+    let ScanParts { read, gathered } = parts;
+    let Gathered {
+        totals,
+        shares,
+        reports,
+    } = gathered;
+    let report = match merge(alloc, reports, read.line, read.packets, read.pieces) {
+        Ok(report) => report,
+        Err(fault) => return Err(fault),
+    };
+    match write_report(&report, sink) {
+        Ok(()) => Ok(Scan {
+            summary: report.summary,
+            totals,
+            shares,
+        }),
+        Err(fault) => Err(fault),
+    }
 }

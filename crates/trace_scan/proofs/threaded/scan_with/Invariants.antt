@@ -2,5 +2,5 @@ use Rattle.std.specs.Option.{option_map}
 use Rattle.line_model.specs.traces.Traces.{trace_plan}
 use Rattle.trace_scan.proofs.threaded.scan_with.Given as goal
 
-abbrev pub ghosts-scan_in : goal.ghosts-scan_in
-ghosts-scan_in g a = record { pieces = option_map trace_plan (g.S.Source.left a.source.now) }
+abbrev pub ghosts-work_on_trace : goal.ghosts-work_on_trace
+ghosts-work_on_trace g a = record { pieces = option_map trace_plan (g.S.Source.left a.source.now) }
