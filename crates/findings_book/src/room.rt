@@ -22,7 +22,8 @@ where
     ensures unknown { OnOk result (contains nat_cmp ids.old id ≡ false) }
     ensures noted { OnOk result (Updates nat_cmp ids.old ids.new id true) }
     ensures refused { OnErr result (IsUnchanged ids.old ids.new) }
-    ensures double { IfErr result (λ f. (f ≡ Fault.Double id) ↔ (contains nat_cmp ids.old id ≡ true)) }
+    ensures double { IfErr result (λ f. (f ≡ Fault.Double id)
+        ↔ (contains nat_cmp ids.old id ≡ true)) }
     ensures faults { IfErr result (λ f. (f ≡ Fault.Double id) ⊎ (f ≡ Fault.Memory)) }
 {
     if ids.contains(&id) {

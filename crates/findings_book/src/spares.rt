@@ -66,7 +66,12 @@ impl<L: Ledgers> Spares<L> {
     /// No share has come back.
     pub fn into_returned(self) -> Returned<L>
         ensures parts { result.parts ≡ self }
-        ensures nothing { result.sums ≡ record { posts = 0; findings = 0; octets = 0; segments = 0 } }
+        ensures nothing { result.sums ≡ record {
+          posts = 0;
+          findings = 0;
+          octets = 0;
+          segments = 0;
+        } }
     {
         let Spares {
             posts,

@@ -47,7 +47,8 @@ impl<A: Allocator + Clone> Assembler<A> {
     /// refusal for memory, change nothing.
     #[tactic(auto, using(crate::proofs::Sides::put_t, crate::proofs::Sides::put_n))]
     pub fn put<'a>(&mut self, side: Side, field: &DataField<'a>) -> Result<Put<'a, A>, Fault>
-        ensures put { (hs : List AcceptedData) → StandsFor self.old hs → IfOk result (λ p. IsPut p self.old self.new side (heard side field.now) hs) }
+        ensures put { (hs : List AcceptedData) → StandsFor self.old hs
+            → IfOk result (λ p. IsPut p self.old self.new side (heard side field.now) hs) }
         ensures sizes { sizes self.new ≡ sizes self.old }
         ensures mixed { IfOk result (λ p. OnMixed p (self.new ≡ self.old)) }
         ensures unchanged { OnErr result (self.new ≡ self.old) }

@@ -40,7 +40,8 @@ impl<A: Allocator> Joined<A> {
     /// Keeps octets, as far as there is room.
     fn keep(&mut self, octets: &[u8]) -> Result<(), Fault>
         ensures qualified { self.new.qualified ≡ self.old.qualified }
-        ensures kept { OnOk result (self.new.octets.items ≡ with_more self.old.octets.items octets.now) }
+        ensures kept { OnOk result (self.new.octets.items
+            ≡ with_more self.old.octets.items octets.now) }
         ensures unchanged { OnErr result (self.new.octets.items ≡ self.old.octets.items) }
         ensures memory { IfErr result (λ fault. fault ≡ Memory) }
     {
@@ -78,7 +79,8 @@ impl<A: Allocator + Clone> Begun<A> {
         side: Side,
         field: &DataField<'a>,
     ) -> Result<Put<'a, A>, Fault>
-        ensures put { (gs : List AcceptedData) → Holds self.old gs → IfOk result (λ p. IsPutOn p self.old self.new side (heard side field.now) gs) }
+        ensures put { (gs : List AcceptedData) → Holds self.old gs
+            → IfOk result (λ p. IsPutOn p self.old self.new side (heard side field.now) gs) }
         ensures size { self.new.size ≡ self.old.size }
         ensures mixed { IfOk result (λ p. OnMixed p (self.new ≡ self.old)) }
         ensures unchanged { OnErr result (self.new ≡ self.old) }
@@ -114,7 +116,8 @@ impl<A: Allocator + Clone> Begun<A> {
         requires { is_like self.old.qualified field.now.qualified ≡ true }
         ensures size { self.new.size ≡ self.old.size }
         ensures qualified { OnOk result (self.new.qualified ≡ Some field.now.qualified) }
-        ensures kept { OnOk result (self.new.octets ≡ with_more self.old.octets field.now.octets.now) }
+        ensures kept { OnOk result (self.new.octets
+            ≡ with_more self.old.octets field.now.octets.now) }
         ensures unchanged { OnErr result (self.new ≡ self.old) }
         ensures memory { IfErr result (λ fault. fault ≡ Memory) }
     {

@@ -40,8 +40,10 @@ impl<A: Allocator + Copy> Batch<A> {
 
     /// Appends the row that was read, with the packet that its octets are.
     fn add(&mut self, interface: &Interface) -> Result<(), AllocError>
-        ensures rows { OnOk result (rows_in self.new.items ≡ rows_in self.old.items ++ self.old.row ∷ []) }
-        ensures packets { (i : AnyInterface) → i ≡ interface.now → All (HasPacket i) self.old.items → OnOk result (All (HasPacket i) self.new.items) }
+        ensures rows { OnOk result (rows_in self.new.items ≡ rows_in self.old.items
+            ++ self.old.row ∷ []) }
+        ensures packets { (i : AnyInterface) → i ≡ interface.now → All (HasPacket i) self.old.items
+            → OnOk result (All (HasPacket i) self.new.items) }
     {
         let packet = decode(interface, self.row.octets.as_slice());
         self.items.push(&self.row.with_packet(packet))
@@ -49,10 +51,16 @@ impl<A: Allocator + Copy> Batch<A> {
 
     /// Puts the rows of the lines that an LF of this part of the text ends in the place of those before.
     pub fn read(&mut self, lines: &mut Lines<A>, bytes: &[u8]) -> Result<(), Fault>
-        ensures ok { OnOk result ((text : List ℕ) → StandsFor lines.old text → StandsFor lines.new (text ++ bytes.now)) }
-        ensures rows { (text : List ℕ) → StandsFor lines.old text → OnOk result (early_rows (text ++ bytes.now) ≡ early_rows text ++ rows_in self.new.items) }
-        ensures packets { (text : List ℕ) (i : AnyInterface) → StandsFor lines.old text → early_head (text ++ bytes.now) ≡ Some i → OnOk result (All (HasPacket i) self.new.items) }
-        ensures refused { (text : List ℕ) → StandsFor lines.old text → IfErr result (IsFaultOf (early (text ++ bytes.now))) }
+        ensures ok { OnOk result ((text : List ℕ) → StandsFor lines.old text
+            → StandsFor lines.new (text ++ bytes.now)) }
+        ensures rows { (text : List ℕ) → StandsFor lines.old text
+            → OnOk result (early_rows (text ++ bytes.now) ≡ early_rows text
+            ++ rows_in self.new.items) }
+        ensures packets { (text : List ℕ) (i : AnyInterface) → StandsFor lines.old text
+            → early_head (text ++ bytes.now) ≡ Some i
+            → OnOk result (All (HasPacket i) self.new.items) }
+        ensures refused { (text : List ℕ) → StandsFor lines.old text
+            → IfErr result (IsFaultOf (early (text ++ bytes.now))) }
         ensures size { OnOk result (bytes_fed lines.new ≡ bytes_fed lines.old + length bytes.now) }
         ensures limit { bytes_fed lines.new ≤ 2 ^ 30 }
         ensures kinds { IfErr result IsTextFault }
@@ -77,10 +85,13 @@ impl<A: Allocator + Copy> Batch<A> {
     /// Puts the row of a last line that no LF ended, if there is one, in the place of the rows before. The header of the
     /// text, which has ended.
     pub fn end(&mut self, lines: Lines<A>) -> Result<Interface, Fault>
-        ensures ok { (text : List ℕ) → StandsFor lines text → IfOk result (λ interface. (fault text ≡ None) × (head text ≡ Some interface)) }
-        ensures rows { (text : List ℕ) → StandsFor lines text → OnOk result (rows text ≡ early_rows text ++ rows_in self.new.items) }
+        ensures ok { (text : List ℕ) → StandsFor lines text
+            → IfOk result (λ interface. (fault text ≡ None) × (head text ≡ Some interface)) }
+        ensures rows { (text : List ℕ) → StandsFor lines text
+            → OnOk result (rows text ≡ early_rows text ++ rows_in self.new.items) }
         ensures packets { IfOk result (λ interface. All (HasPacket interface) self.new.items) }
-        ensures refused { (text : List ℕ) → StandsFor lines text → IfErr result (IsFaultOf (fault text)) }
+        ensures refused { (text : List ℕ) → StandsFor lines text
+            → IfErr result (IsFaultOf (fault text)) }
         ensures kinds { IfErr result IsTextFault }
     {
         self.items.clear();

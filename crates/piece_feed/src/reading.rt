@@ -50,10 +50,12 @@ fn end_front<P: Plan, A: Allocator + Copy, R: Wait + Clock>(
 ) -> Result<Read<A>, Fault>
     requires queue { pass.old.queue ≡ work.now.queue }
     requires open { pass.old.record_of.ends ≡ 0 }
-    requires ready { (rows : List records.Row) × HasCut rows pass.old.record_of.fed front × IfSome P.pieces (λ ps. ps ≡ plan front.interface rows) }
+    requires ready { (rows : List records.Row) × HasCut rows pass.old.record_of.fed front
+        × IfSome P.pieces (λ ps. ps ≡ plan front.interface rows) }
     ensures queue { pass.new.queue ≡ pass.old.queue }
     ensures kept { HasFed pass.old.record_of pass.new.record_of }
-    ensures cut { (rows : List records.Row) → HasCut rows pass.old.record_of.fed front → IfOk result (IsCutOf front.interface rows pass.new.record_of.fed) }
+    ensures cut { (rows : List records.Row) → HasCut rows pass.old.record_of.fed front
+        → IfOk result (IsCutOf front.interface rows pass.new.record_of.fed) }
     ensures memory { IfErr result (λ fault. fault ≡ Memory) }
 {
     let Front {
@@ -91,8 +93,11 @@ fn finish<P: Plan, A: Allocator + Copy, R: Wait + Clock>(
     requires ready { (text : List ℕ) × IsEndReady P.pieces text lines pass.old.record_of.fed front }
     ensures queue { pass.new.queue ≡ pass.old.queue }
     ensures kept { HasFed pass.old.record_of pass.new.record_of }
-    ensures read { (text : List ℕ) → StandsFor lines text → IsFedTo text pass.old.record_of.fed front → IfOk result (IsReadOf text pass.new.record_of.fed) }
-    ensures refused { (text : List ℕ) → StandsFor lines text → IfErr result (IsFaultOf (fault text)) }
+    ensures read { (text : List ℕ) → StandsFor lines text
+        → IsFedTo text pass.old.record_of.fed front
+        → IfOk result (IsReadOf text pass.new.record_of.fed) }
+    ensures refused { (text : List ℕ) → StandsFor lines text
+        → IfErr result (IsFaultOf (fault text)) }
     ensures kinds { IfErr result IsTextFault }
 {
     let interface = match batch.end(lines) {
@@ -120,7 +125,8 @@ fn read_all<P: Plan, A: Allocator + Copy, S: Source, R: Wait + Clock>(
     requires plan { P.pieces ≡ option_map trace_plan (S.left source.old) }
     ensures queue { pass.new.queue ≡ pass.old.queue }
     ensures kept { HasFed pass.old.record_of pass.new.record_of }
-    ensures read { HasRead (S.left source.old) (S.left source.new) (S.failures source.old < S.failures source.new) pass.new.record_of.fed result }
+    ensures read { HasRead (S.left source.old) (S.left source.new) (S.failures source.old
+        < S.failures source.new) pass.new.record_of.fed result }
     ensures asked { S.calls source.new ≤ S.calls source.old + (2 ^ 30 + 1) }
 {
     let mut buffer = [0; CHUNK];

@@ -39,8 +39,12 @@ pub fn front_of<A: Allocator + Copy>(
     interface: &Interface,
     front: Option<Front<A>>,
 ) -> Front<A>
-    ensures cut { (was : Option AnyInterface) (before : List records.Row) (fed : ℕ) → IsFrontOf was before fed front → IfSome was (λ i. i ≡ interface.now) → HasCut before fed result }
-    ensures interface { (was : Option AnyInterface) (before : List records.Row) (fed : ℕ) → IsFrontOf was before fed front → IfSome was (λ i. i ≡ interface.now) → result.interface ≡ interface.now }
+    ensures cut { (was : Option AnyInterface) (before : List records.Row) (fed : ℕ)
+        → IsFrontOf was before fed front → IfSome was (λ i. i ≡ interface.now)
+        → HasCut before fed result }
+    ensures interface { (was : Option AnyInterface) (before : List records.Row) (fed : ℕ)
+        → IsFrontOf was before fed front → IfSome was (λ i. i ≡ interface.now)
+        → result.interface ≡ interface.now }
 {
     match front {
         Some(front) => front,
@@ -60,9 +64,13 @@ fn push_items<A: Allocator + Copy>(
 ) -> Result<Vec<Piece<A>, A>, Fault>
     requires packets { All (HasPacket cutter.old.interface) items.now }
     requires follow { CanFollow cutter.old (rows_in items.now) }
-    ensures stands { (i : AnyInterface) (before : List records.Row) → IsCutterOf i before cutter.old → OnOk result (IsCutterOf i (before ++ rows_in items.now) cutter.new) }
-    ensures given { (i : AnyInterface) (before : List records.Row) → IsCutterOf i before cutter.old → IfOk result (λ pieces. given_of i before ++ pieces.items ≡ given_of i (before ++ rows_in items.now)) }
-    ensures counted { (before : List records.Row) → IsCounting before cutter.old → OnOk result (IsCounting (before ++ rows_in items.now) cutter.new) }
+    ensures stands { (i : AnyInterface) (before : List records.Row) → IsCutterOf i before cutter.old
+        → OnOk result (IsCutterOf i (before ++ rows_in items.now) cutter.new) }
+    ensures given { (i : AnyInterface) (before : List records.Row) → IsCutterOf i before cutter.old
+        → IfOk result (λ pieces. given_of i before ++ pieces.items
+        ≡ given_of i (before ++ rows_in items.now)) }
+    ensures counted { (before : List records.Row) → IsCounting before cutter.old
+        → OnOk result (IsCounting (before ++ rows_in items.now) cutter.new) }
     ensures interface { OnOk result (cutter.new.interface ≡ cutter.old.interface) }
     ensures memory { IfErr result (λ fault. fault ≡ Memory) }
 {
@@ -84,11 +92,13 @@ pub fn take_items<P: Plan, A: Allocator + Copy, R: Wait + Clock>(
 ) -> Result<Front<A>, Fault>
     requires queue { pass.old.queue ≡ work.now.queue }
     requires open { pass.old.record_of.ends ≡ 0 }
-    requires ready { (before : List records.Row) × IsReady P.pieces before (rows_in items.now) pass.old.record_of.fed front }
+    requires ready { (before : List records.Row)
+        × IsReady P.pieces before (rows_in items.now) pass.old.record_of.fed front }
     requires packets { All (HasPacket front.interface) items.now }
     ensures queue { pass.new.queue ≡ pass.old.queue }
     ensures kept { HasFed pass.old.record_of pass.new.record_of }
-    ensures cut { (before : List records.Row) → HasCut before pass.old.record_of.fed front → IfOk result (HasCut (before ++ rows_in items.now) pass.new.record_of.fed) }
+    ensures cut { (before : List records.Row) → HasCut before pass.old.record_of.fed front
+        → IfOk result (HasCut (before ++ rows_in items.now) pass.new.record_of.fed) }
     ensures interface { IfOk result (λ after. after.interface ≡ front.interface) }
     ensures memory { IfErr result (λ fault. fault ≡ Memory) }
 {
@@ -121,12 +131,17 @@ pub fn take_bytes<P: Plan, A: Allocator + Copy, R: Wait + Clock>(
 ) -> Result<Option<Front<A>>, Fault>
     requires queue { pass.old.queue ≡ work.now.queue }
     requires open { pass.old.record_of.ends ≡ 0 }
-    requires ready { (text : List ℕ) × IsTextReady P.pieces text bytes.now lines.old pass.old.record_of.fed front }
+    requires ready { (text : List ℕ) × IsTextReady P.pieces text bytes.now lines.old
+        pass.old.record_of.fed front }
     ensures queue { pass.new.queue ≡ pass.old.queue }
     ensures kept { HasFed pass.old.record_of pass.new.record_of }
-    ensures stands { OnOk result ((text : List ℕ) → StandsFor lines.old text → StandsFor lines.new (text ++ bytes.now)) }
-    ensures fed { (text : List ℕ) → StandsFor lines.old text → IsFedTo text pass.old.record_of.fed front → IfOk result (IsFedTo (text ++ bytes.now) pass.new.record_of.fed) }
-    ensures refused { (text : List ℕ) → StandsFor lines.old text → IfErr result (IsFaultOf (early (text ++ bytes.now))) }
+    ensures stands { OnOk result ((text : List ℕ) → StandsFor lines.old text
+        → StandsFor lines.new (text ++ bytes.now)) }
+    ensures fed { (text : List ℕ) → StandsFor lines.old text
+        → IsFedTo text pass.old.record_of.fed front
+        → IfOk result (IsFedTo (text ++ bytes.now) pass.new.record_of.fed) }
+    ensures refused { (text : List ℕ) → StandsFor lines.old text
+        → IfErr result (IsFaultOf (early (text ++ bytes.now))) }
     ensures size { OnOk result (bytes_fed lines.new ≡ bytes_fed lines.old + length bytes.now) }
     ensures limit { bytes_fed lines.new ≤ 2 ^ 30 }
     ensures kinds { IfErr result IsTextFault }

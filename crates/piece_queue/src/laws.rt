@@ -14,7 +14,8 @@ pub fn schedule()
     ensures prefix { Always (λ pieces s. IsPrefixOf pieces s.fed) }
     ensures once { Always (λ pieces s. StandsOnce s) }
     ensures posted { Always (λ pieces s. IsSettled s → AllPosted s) }
-    ensures totals { Always (λ pieces s. IsSettled s → length s.fed ≡ length pieces → totals_of s.posts ≡ totals_of (map value pieces)) }
+    ensures totals { Always (λ pieces s. IsSettled s → length s.fed ≡ length pieces
+        → totals_of s.posts ≡ totals_of (map value pieces)) }
     ensures observer { (i : Interface) (rs : List Row) (capacity : ℕ) (moves : List Move) (s : WorkState) → Leads (plan i rs) capacity moves at_start s
         → IsSettled s → length s.fed ≡ length (plan i rs) → totals_of s.posts ≡ channel_totals i rs }
 {}

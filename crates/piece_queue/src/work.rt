@@ -88,7 +88,8 @@ impl<P: Plan, A: Allocator> Work<P, A> {
         A: Clone,
         requires some { 0 < capacity }
         requires few { capacity ≤ 4096 }
-        ensures ok { IfOk result (λ r. (r.0.capacity ≡ capacity) × (r.1.queue ≡ r.0.queue) × (r.1.record_of ≡ feeder 0 0 0 0 [])) }
+        ensures ok { IfOk result (λ r. (r.0.capacity ≡ capacity) × (r.1.queue ≡ r.0.queue)
+            × (r.1.record_of ≡ feeder 0 0 0 0 [])) }
         ensures refused { IfErr result (λ fault. fault ≡ Fault.Memory) }
     {
         let used = ArrayQueue::new(alloc.clone()?, capacity)?;
@@ -141,9 +142,13 @@ impl<P: Plan, A: Allocator> Work<P, A> {
         requires next { IsPlanned P.pieces pass.old.record_of.fed piece }
         requires open { pass.old.record_of.ends ≡ 0 }
         ensures queue { pass.new.queue ≡ pass.old.queue }
-        ensures ok { OnOk result (pass.new.record_of ≡ feeder (pass.old.record_of.fed + 1) pass.old.record_of.ends pass.old.record_of.pending pass.old.record_of.done pass.old.record_of.taken) }
-        ensures err { IfErr result (λ back. (back ≡ piece) × (pass.new.record_of ≡ pass.old.record_of)) }
-        ensures full { OnErr result (Held self.now.capacity (IsInQueue P.pieces pass.old.record_of)) }
+        ensures ok { OnOk result (pass.new.record_of
+            ≡ feeder (pass.old.record_of.fed + 1) pass.old.record_of.ends pass.old.record_of.pending
+            pass.old.record_of.done pass.old.record_of.taken) }
+        ensures err { IfErr result (λ back. (back ≡ piece)
+            × (pass.new.record_of ≡ pass.old.record_of)) }
+        ensures full { OnErr result (Held self.now.capacity
+            (IsInQueue P.pieces pass.old.record_of)) }
     {
         match self
             .queue
@@ -159,9 +164,12 @@ impl<P: Plan, A: Allocator> Work<P, A> {
     pub fn feed_end<R: Wait>(&self, rt: &R, pass: &mut FeederPass<A>) -> Result<(), ()>
         requires queue { pass.old.queue ≡ self.now.queue }
         ensures queue { pass.new.queue ≡ pass.old.queue }
-        ensures ok { OnOk result (pass.new.record_of ≡ feeder pass.old.record_of.fed (pass.old.record_of.ends + 1) pass.old.record_of.pending pass.old.record_of.done pass.old.record_of.taken) }
+        ensures ok { OnOk result (pass.new.record_of
+            ≡ feeder pass.old.record_of.fed (pass.old.record_of.ends + 1) pass.old.record_of.pending
+            pass.old.record_of.done pass.old.record_of.taken) }
         ensures err { OnErr result (pass.new.record_of ≡ pass.old.record_of) }
-        ensures full { OnErr result (Held self.now.capacity (IsInQueue P.pieces pass.old.record_of)) }
+        ensures full { OnErr result (Held self.now.capacity
+            (IsInQueue P.pieces pass.old.record_of)) }
     {
         match self
             .queue

@@ -25,8 +25,11 @@ fn follow_all<A: Allocator + Copy, C: Channel<A>, S: Source, K: Sink>(
     requires fed { IsFed C.interface_of C.number_of C.stands_for follower.old }
     requires nothing { StandsFor C.interface_of C.number_of C.stands_for follower.old [] }
     ensures fed { IsFed C.interface_of C.number_of C.stands_for follower.new }
-    ensures whole { OnOk result (IsFollowed C.interface_of C.number_of C.stands_for (S.left source.old) (S.left source.new) (K.taken sink.old) (K.taken sink.new) follower.new) }
-    ensures stopped { IfErr result (IsStopped (S.left source.old) (S.left source.new) (K.taken sink.old) (K.taken sink.new) (K.failures sink.new ≡ K.failures sink.old)) }
+    ensures whole { OnOk result (IsFollowed C.interface_of C.number_of C.stands_for
+        (S.left source.old) (S.left source.new) (K.taken sink.old)
+        (K.taken sink.new) follower.new) }
+    ensures stopped { IfErr result (IsStopped (S.left source.old) (S.left source.new)
+        (K.taken sink.old) (K.taken sink.new) (K.failures sink.new ≡ K.failures sink.old)) }
     ensures kinds { IfErr result IsScanFault }
     ensures read_failed { result ≡ Err Fault.Read → S.failures source.old < S.failures source.new }
     ensures write_failed { result ≡ Err Fault.Write → K.failures sink.old < K.failures sink.new }
@@ -56,18 +59,25 @@ pub fn follow<A: Allocator + Copy, S: Source, K: Sink>(
     sink: &mut K,
 ) -> Result<Summary, Fault>
     // Of a text without a fault the sink took exactly the report.
-    ensures reported { (text : List ℕ) → S.left source.old ≡ Some text → IfOk result (IsReported text (K.taken sink.old) (K.taken sink.new)) }
+    ensures reported { (text : List ℕ) → S.left source.old ≡ Some text
+        → IfOk result (IsReported text (K.taken sink.old) (K.taken sink.new)) }
     // A refusal is by the bytes that were given.
-    ensures refused { (text : List ℕ) → S.left source.old ≡ Some text → IfErr result (IsRefusedBy IsFollowRefusal text (S.left source.new)) }
+    ensures refused { (text : List ℕ) → S.left source.old ≡ Some text
+        → IfErr result (IsRefusedBy IsFollowRefusal text (S.left source.new)) }
     ensures kinds { IfErr result IsScanFault }
     ensures read_failed { result ≡ Err Fault.Read → S.failures source.old < S.failures source.new }
     ensures write_failed { result ≡ Err Fault.Write → K.failures sink.old < K.failures sink.new }
     // What the sink has at a refusal are first lines of what was found in the bytes that were given.
-    ensures taken { (text : List ℕ) → S.left source.old ≡ Some text → IfErr result (IsRefusedBy (IsToldOf (K.taken sink.old) (K.taken sink.new) (K.failures sink.new ≡ K.failures sink.old)) text (S.left source.new)) }
+    ensures taken { (text : List ℕ) → S.left source.old ≡ Some text
+        → IfErr result (IsRefusedBy (IsToldOf (K.taken sink.old) (K.taken sink.new)
+        (K.failures sink.new ≡ K.failures sink.old)) text (S.left source.new)) }
     ensures asked { S.calls source.new ≤ S.calls source.old + (2 ^ 30 + 1) }
     // Of a source that does not tell its bytes: some bytes were given, and it is so of them.
-    ensures of_text { IfOk result (λ sums. (text : List ℕ) × IsReported text (K.taken sink.old) (K.taken sink.new) sums) }
-    ensures of_given { IfErr result (λ fault. (given : List ℕ) × (rest : List ℕ) × IsFollowRefusal given rest fault × IsToldOf (K.taken sink.old) (K.taken sink.new) (K.failures sink.new ≡ K.failures sink.old) given rest fault) }
+    ensures of_text { IfOk result (λ sums. (text : List ℕ)
+        × IsReported text (K.taken sink.old) (K.taken sink.new) sums) }
+    ensures of_given { IfErr result (λ fault. (given : List ℕ) × (rest : List ℕ)
+        × IsFollowRefusal given rest fault × IsToldOf (K.taken sink.old) (K.taken sink.new)
+        (K.failures sink.new ≡ K.failures sink.old) given rest fault) }
 {
     let mut follower = Follower::<A, PackedChannel<A>>::new(alloc);
     match follow_all(source, sink, &mut follower) {

@@ -24,12 +24,16 @@ pub fn feed_all<A: Allocator + Copy, C: Channel<A>, S: Source>(
     requires nothing { StandsFor C.interface_of C.number_of C.stands_for live.old [] }
     ensures fed { IsFed C.interface_of C.number_of C.stands_for live.new }
     // The source gave all of a text.
-    ensures stands { (text : List ℕ) → S.left source.old ≡ Some text → OnOk result (StandsFor C.interface_of C.number_of C.stands_for live.new text × (S.left source.new ≡ Some [])) }
+    ensures stands { (text : List ℕ) → S.left source.old ≡ Some text
+        → OnOk result (StandsFor C.interface_of C.number_of C.stands_for live.new text
+        × (S.left source.new ≡ Some [])) }
     // So it is with a source that does not tell its bytes.
-    ensures of_text { OnOk result ((text : List ℕ) × StandsFor C.interface_of C.number_of C.stands_for live.new text) }
+    ensures of_text { OnOk result ((text : List ℕ)
+        × StandsFor C.interface_of C.number_of C.stands_for live.new text) }
     ensures kinds { IfErr result IsReadingFault }
     // A refusal by the bytes that were given.
-    ensures refused { (text : List ℕ) → S.left source.old ≡ Some text → IfErr result (IsRefusedBy IsEarlyRefusal text (S.left source.new)) }
+    ensures refused { (text : List ℕ) → S.left source.old ≡ Some text
+        → IfErr result (IsRefusedBy IsEarlyRefusal text (S.left source.new)) }
     ensures read_failed { result ≡ Err Fault.Read → S.failures source.old < S.failures source.new }
     ensures asked { S.calls source.new ≤ S.calls source.old + (2 ^ 30 + 1) }
 {

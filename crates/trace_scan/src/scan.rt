@@ -23,17 +23,21 @@ pub fn scan_alone<A: Allocator + Copy, S: Source, K: Sink>(
     sink: &mut K,
 ) -> Result<Summary, Fault>
     // Of a text without a fault the sink took exactly the report.
-    ensures reported { (text : List ℕ) → S.left source.old ≡ Some text → IfOk result (IsReported text (K.taken sink.old) (K.taken sink.new)) }
+    ensures reported { (text : List ℕ) → S.left source.old ≡ Some text
+        → IfOk result (IsReported text (K.taken sink.old) (K.taken sink.new)) }
     // So it is with a source that does not tell its bytes.
-    ensures of_text { IfOk result (λ sums. (text : List ℕ) × IsReported text (K.taken sink.old) (K.taken sink.new) sums) }
+    ensures of_text { IfOk result (λ sums. (text : List ℕ)
+        × IsReported text (K.taken sink.old) (K.taken sink.new) sums) }
     // A refusal is by the bytes that were given.
-    ensures refused { (text : List ℕ) → S.left source.old ≡ Some text → IfErr result (IsRefusedBy IsRefusal text (S.left source.new)) }
+    ensures refused { (text : List ℕ) → S.left source.old ≡ Some text
+        → IfErr result (IsRefusedBy IsRefusal text (S.left source.new)) }
     ensures kinds { IfErr result IsScanFault }
     ensures read_failed { result ≡ Err Fault.Read → S.failures source.old < S.failures source.new }
     ensures write_failed { result ≡ Err Fault.Write → K.failures sink.old < K.failures sink.new }
     // The sink is not asked before the whole text was accepted.
     ensures unwritten { IfErr result (λ fault. fault ≢ Fault.Write → sink.new ≡ sink.old) }
-    ensures taken { (text : List ℕ) → S.left source.old ≡ Some text → IfErr result (IsTaken (K.taken sink.old) (K.taken sink.new) (trace_report text)) }
+    ensures taken { (text : List ℕ) → S.left source.old ≡ Some text
+        → IfErr result (IsTaken (K.taken sink.old) (K.taken sink.new) (trace_report text)) }
     // Whatever the source tells: where the sink failed, it took a first part of the report of a text without a fault.
     ensures part { result ≡ Err Fault.Write → IsPartTaken (K.taken sink.old) (K.taken sink.new) }
     ensures asked { S.calls source.new ≤ S.calls source.old + (2 ^ 30 + 1) }

@@ -41,7 +41,8 @@ fn first_fault<A: Allocator>(
 ) -> Result<ScanParts<A>, Fault>
     requires some { is_some outcome ≡ true }
     ensures both { IfOk result (λ t. (outcome ≡ Some (Ok t.read)) × (gathered ≡ Ok t.gathered)) }
-    ensures first { IfErr result (λ f. (outcome ≡ Some (Err f)) ⊎ (IfSome outcome (λ o. is_ok o ≡ true) × (gathered ≡ Err f))) }
+    ensures first { IfErr result (λ f. (outcome ≡ Some (Err f))
+        ⊎ (IfSome outcome (λ o. is_ok o ≡ true) × (gathered ≡ Err f))) }
 {
     match outcome {
         Some(Ok(read)) => match gathered {
@@ -71,7 +72,8 @@ fn work_on_trace<
     requires plan { P.pieces ≡ option_map trace_plan (S.left source.old) }
     requires workers { (0 < workers) × (workers ≤ 64) }
     requires capacity { (0 < capacity) × (capacity ≤ 4096) }
-    ensures parts { IfOk result (AreScanParts P.pieces workers (S.left source.old) (S.left source.new)) }
+    ensures parts { IfOk result (AreScanParts P.pieces workers (S.left source.old)
+        (S.left source.new)) }
     ensures stopped { IfErr result (IsStopped (S.left source.old) (S.left source.new)) }
     ensures read_failed { result ≡ Err Fault.Read → S.failures source.old < S.failures source.new }
     ensures start { result ≡ Err Fault.Start → source.new ≡ source.old }
@@ -143,19 +145,24 @@ pub fn scan_with<
     requires workers { (0 < workers) × (workers ≤ 64) }
     requires capacity { (0 < capacity) × (capacity ≤ 4096) }
     // Of a text without a fault the sink took exactly the report of the one observer.
-    ensures reported { (text : List ℕ) → S.left source.old ≡ Some text → IfOk result (λ scan. IsReported text (K.taken sink.old) (K.taken sink.new) scan.summary) }
+    ensures reported { (text : List ℕ) → S.left source.old ≡ Some text
+        → IfOk result (λ scan. IsReported text (K.taken sink.old) (K.taken sink.new) scan.summary) }
     // The totals are that observer's over the channels.
-    ensures totals { (text : List ℕ) → S.left source.old ≡ Some text → IfOk result (λ scan. scan.totals ≡ trace_totals text) }
-    ensures shares { IfOk result (λ scan. (vec_len scan.shares ≡ workers) × (scan.totals ≡ sum_of scan.shares.items)) }
+    ensures totals { (text : List ℕ) → S.left source.old ≡ Some text
+        → IfOk result (λ scan. scan.totals ≡ trace_totals text) }
+    ensures shares { IfOk result (λ scan. (vec_len scan.shares ≡ workers)
+        × (scan.totals ≡ sum_of scan.shares.items)) }
     // A refusal is by the bytes that were given.
-    ensures refused { (text : List ℕ) → S.left source.old ≡ Some text → IfErr result (IsRefusedBy IsRefusal text (S.left source.new)) }
+    ensures refused { (text : List ℕ) → S.left source.old ≡ Some text
+        → IfErr result (IsRefusedBy IsRefusal text (S.left source.new)) }
     ensures read_failed { result ≡ Err Fault.Read → S.failures source.old < S.failures source.new }
     ensures write_failed { result ≡ Err Fault.Write → K.failures sink.old < K.failures sink.new }
     // Where no thread was made the source was not asked.
     ensures start { result ≡ Err Fault.Start → source.new ≡ source.old }
     // The sink is not asked before the whole text was accepted and all workers were joined.
     ensures unwritten { IfErr result (λ fault. fault ≢ Fault.Write → sink.new ≡ sink.old) }
-    ensures taken { (text : List ℕ) → S.left source.old ≡ Some text → IfErr result (IsTaken (K.taken sink.old) (K.taken sink.new) (trace_report text)) }
+    ensures taken { (text : List ℕ) → S.left source.old ≡ Some text
+        → IfErr result (IsTaken (K.taken sink.old) (K.taken sink.new) (trace_report text)) }
     // Never `Double`; the merge's other refusals only where the source does not tell its bytes.
     ensures kinds { IfErr result (IsWorkedFault (S.left source.old)) }
     ensures asked { S.calls source.new ≤ S.calls source.old + (2 ^ 30 + 1) }

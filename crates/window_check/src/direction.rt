@@ -25,7 +25,12 @@ pub(crate) fn residue(sum: u8, modulus: u8) -> u8
 impl Direction {
     /// A direction in which nothing was sent.
     pub(crate) fn fresh(window: u8) -> Direction
-        ensures { result ≡ record { window = window; sent = 0; acknowledged = 0; unconfirmed = false } }
+        ensures { result ≡ record {
+          window = window;
+          sent = 0;
+          acknowledged = 0;
+          unconfirmed = false;
+        } }
     {
         Direction {
             window,
@@ -51,8 +56,10 @@ impl Direction {
         requires sent_below { self.sent < modulus }
         requires acknowledged_below { self.acknowledged < modulus }
         ensures below { IsTrue result → number < modulus }
-        ensures fewer { IsTrue result → outstanding modulus self.sent number ≤ outstanding modulus self.sent self.acknowledged }
-        ensures counts { (s a : ℕ) → Residues modulus s a self.sent self.acknowledged → IsAcknowledged result modulus s a number }
+        ensures fewer { IsTrue result → outstanding modulus self.sent number
+            ≤ outstanding modulus self.sent self.acknowledged }
+        ensures counts { (s a : ℕ) → Residues modulus s a self.sent self.acknowledged
+            → IsAcknowledged result modulus s a number }
     {
         number < modulus
             && residue(number + (modulus - self.acknowledged), modulus) <= self.outstanding(modulus)
@@ -63,8 +70,10 @@ impl Direction {
         requires eight { (modulus ≡ 8) ⊎ (modulus ≡ 128) }
         requires sent_below { self.sent < modulus }
         requires acknowledged_below { self.acknowledged < modulus }
-        ensures room { IsTrue result → outstanding modulus self.sent self.acknowledged < self.window }
-        ensures counts { (s a : ℕ) → Residues modulus s a self.sent self.acknowledged → result ≡ is_send_valid modulus self.window s a number }
+        ensures room { IsTrue result → outstanding modulus self.sent self.acknowledged
+            < self.window }
+        ensures counts { (s a : ℕ) → Residues modulus s a self.sent self.acknowledged
+            → result ≡ is_send_valid modulus self.window s a number }
     {
         number == self.sent && self.outstanding(modulus) < self.window
     }
@@ -73,7 +82,8 @@ impl Direction {
     pub(crate) fn is_in_range(self, modulus: u8) -> bool
         requires { (modulus ≡ 8) ⊎ (modulus ≡ 128) }
         ensures yes { IsTrue result → IsDirection modulus self.window self.sent self.acknowledged }
-        ensures no { ¬ (IsTrue result) → ¬ (IsDirection modulus self.window self.sent self.acknowledged) }
+        ensures no { ¬ (IsTrue result) → ¬ (IsDirection modulus self.window self.sent
+            self.acknowledged) }
     {
         (1..modulus).contains(&self.window)
             && self.sent < modulus

@@ -74,7 +74,9 @@ impl Flow {
         ensures modulus { self.new.modulus ≡ self.old.modulus }
         ensures windows { self.new.windows ≡ self.old.windows }
         ensures unchanged { OnErr result (self.new ≡ self.old) }
-        ensures counts { (c : Counts) → Stands self.old c → Answers result self.old self.new (count_data self.old.modulus (of_side side self.old.windows) c side send receive) }
+        ensures counts { (c : Counts) → Stands self.old c
+            → Answers result self.old self.new
+            (count_data self.old.modulus (of_side side self.old.windows) c side send receive) }
     {
         let sender = self.direction(side);
         if !sender.is_next(self.modulus, send) {
@@ -92,7 +94,8 @@ impl Flow {
         ensures modulus { self.new.modulus ≡ self.old.modulus }
         ensures windows { self.new.windows ≡ self.old.windows }
         ensures unchanged { OnErr result (self.new ≡ self.old) }
-        ensures counts { (c : Counts) → Stands self.old c → Answers result self.old self.new (count_receive self.old.modulus c side receive) }
+        ensures counts { (c : Counts) → Stands self.old c
+            → Answers result self.old self.new (count_receive self.old.modulus c side receive) }
     {
         let acknowledged = self.direction(side.other());
         if !acknowledged.acknowledges(self.modulus, receive) {
@@ -114,7 +117,8 @@ impl Flow {
         ensures modulus { self.new.modulus ≡ self.old.modulus }
         ensures windows { self.new.windows ≡ self.old.windows }
         ensures unchanged { OnErr result (self.new ≡ self.old) }
-        ensures counts { (c : Counts) → Stands self.old c → Answers result self.old self.new (count_interrupt c side) }
+        ensures counts { (c : Counts) → Stands self.old c
+            → Answers result self.old self.new (count_interrupt c side) }
     {
         let sender = self.direction(side);
         if sender.unconfirmed {
@@ -136,7 +140,8 @@ impl Flow {
         ensures modulus { self.new.modulus ≡ self.old.modulus }
         ensures windows { self.new.windows ≡ self.old.windows }
         ensures unchanged { OnErr result (self.new ≡ self.old) }
-        ensures counts { (c : Counts) → Stands self.old c → Answers result self.old self.new (count_confirm c side) }
+        ensures counts { (c : Counts) → Stands self.old c
+            → Answers result self.old self.new (count_confirm c side) }
     {
         let confirmed = self.direction(side.other());
         if !confirmed.unconfirmed {
@@ -193,7 +198,8 @@ impl Flow {
     /// The numbers of the packets of a side.
     fn direction(&self, side: Side) -> Direction
         ensures value { result ≡ direction_of side self.now }
-        ensures in_range { IsDirection self.now.modulus result.window result.sent result.acknowledged }
+        ensures in_range { IsDirection self.now.modulus result.window result.sent
+            result.acknowledged }
     {
         match side {
             Side::T => self.of_t,
@@ -203,7 +209,8 @@ impl Flow {
 
     /// Other numbers for the packets of a side.
     fn set(&mut self, side: Side, direction: Direction)
-        requires { IsDirection self.old.modulus direction.window direction.sent direction.acknowledged }
+        requires { IsDirection self.old.modulus direction.window direction.sent
+            direction.acknowledged }
         ensures { self.new ≡ with_direction side direction self.old }
     {
         match side {

@@ -101,7 +101,10 @@ impl FlowWord {
         ensures windows { self.new.flow.windows ≡ self.old.flow.windows }
         ensures above { self.new.above ≡ self.old.above }
         ensures unchanged { OnErr result (self.new ≡ self.old) }
-        ensures counts { (c : Counts) → Stands self.old.flow c → Answers result self.old.flow self.new.flow (count_data self.old.flow.modulus (of_side side self.old.flow.windows) c side send receive) }
+        ensures counts { (c : Counts) → Stands self.old.flow c
+            → Answers result self.old.flow self.new.flow
+            (count_data self.old.flow.modulus
+            (of_side side self.old.flow.windows) c side send receive) }
     {
         let modulus = self.modulus();
         let sender = self.direction(side);
@@ -120,7 +123,9 @@ impl FlowWord {
         ensures windows { self.new.flow.windows ≡ self.old.flow.windows }
         ensures above { self.new.above ≡ self.old.above }
         ensures unchanged { OnErr result (self.new ≡ self.old) }
-        ensures counts { (c : Counts) → Stands self.old.flow c → Answers result self.old.flow self.new.flow (count_receive self.old.flow.modulus c side receive) }
+        ensures counts { (c : Counts) → Stands self.old.flow c
+            → Answers result self.old.flow self.new.flow
+            (count_receive self.old.flow.modulus c side receive) }
     {
         self.acknowledge(side, receive)
     }
@@ -131,7 +136,8 @@ impl FlowWord {
         ensures windows { self.new.flow.windows ≡ self.old.flow.windows }
         ensures above { self.new.above ≡ self.old.above }
         ensures unchanged { OnErr result (self.new ≡ self.old) }
-        ensures counts { (c : Counts) → Stands self.old.flow c → Answers result self.old.flow self.new.flow (count_interrupt c side) }
+        ensures counts { (c : Counts) → Stands self.old.flow c
+            → Answers result self.old.flow self.new.flow (count_interrupt c side) }
     {
         if self.direction(side).unconfirmed {
             return Err(UNAUTHORIZED_INTERRUPT);
@@ -146,7 +152,8 @@ impl FlowWord {
         ensures windows { self.new.flow.windows ≡ self.old.flow.windows }
         ensures above { self.new.above ≡ self.old.above }
         ensures unchanged { OnErr result (self.new ≡ self.old) }
-        ensures counts { (c : Counts) → Stands self.old.flow c → Answers result self.old.flow self.new.flow (count_confirm c side) }
+        ensures counts { (c : Counts) → Stands self.old.flow c
+            → Answers result self.old.flow self.new.flow (count_confirm c side) }
     {
         if !self.direction(side.other()).unconfirmed {
             return Err(UNAUTHORIZED_INTERRUPT_CONFIRMATION);
@@ -177,7 +184,8 @@ impl FlowWord {
     /// The numbers of the packets of a side.
     fn direction(&self, side: Side) -> Direction
         ensures value { result ≡ direction_of side self.now.flow }
-        ensures in_range { IsDirection self.now.flow.modulus result.window result.sent result.acknowledged }
+        ensures in_range { IsDirection self.now.flow.modulus result.window result.sent
+            result.acknowledged }
     {
         direction(self.word, side)
     }
@@ -189,7 +197,9 @@ impl FlowWord {
         ensures above { self.new.above ≡ self.old.above }
         ensures own { direction_of side self.new.flow ≡ direction_of side self.old.flow }
         ensures unchanged { OnErr result (self.new ≡ self.old) }
-        ensures counts { (c : Counts) → Stands self.old.flow c → Answers result self.old.flow self.new.flow (count_receive self.old.flow.modulus c side receive) }
+        ensures counts { (c : Counts) → Stands self.old.flow c
+            → Answers result self.old.flow self.new.flow
+            (count_receive self.old.flow.modulus c side receive) }
     {
         let acknowledged = self.direction(side.other());
         if !acknowledged.acknowledges(self.modulus(), receive) {
@@ -201,23 +211,35 @@ impl FlowWord {
 
     /// Another number of the next packet of a side.
     fn set_sent(&mut self, side: Side, number: u8)
-        requires { IsDirection self.old.flow.modulus (of_side side self.old.flow.windows) number (of_side side self.old.flow.acknowledged) }
-        ensures { self.new ≡ record self.old { flow = with_direction side (record (direction_of side self.old.flow) { sent = number }) self.old.flow } }
+        requires { IsDirection self.old.flow.modulus (of_side side self.old.flow.windows) number
+            (of_side side self.old.flow.acknowledged) }
+        ensures { self.new ≡ record self.old {
+          flow = with_direction side
+              (record (direction_of side self.old.flow) { sent = number }) self.old.flow;
+        } }
     {
         self.word = with_field(self.word, sent_at(side), 7, u64::from(number));
     }
 
     /// Another number up to which the packets of a side are acknowledged.
     fn set_acknowledged(&mut self, side: Side, number: u8)
-        requires { IsDirection self.old.flow.modulus (of_side side self.old.flow.windows) (of_side side self.old.flow.sent) number }
-        ensures { self.new ≡ record self.old { flow = with_direction side (record (direction_of side self.old.flow) { acknowledged = number }) self.old.flow } }
+        requires { IsDirection self.old.flow.modulus (of_side side self.old.flow.windows)
+            (of_side side self.old.flow.sent) number }
+        ensures { self.new ≡ record self.old {
+          flow = with_direction side
+              (record (direction_of side self.old.flow) { acknowledged = number }) self.old.flow;
+        } }
     {
         self.word = with_field(self.word, acknowledged_at(side), 7, u64::from(number));
     }
 
     /// Whether an interrupt of a side is unconfirmed from now on.
     fn set_unconfirmed(&mut self, side: Side, unconfirmed: bool)
-        ensures { self.new ≡ record self.old { flow = with_direction side (record (direction_of side self.old.flow) { unconfirmed = unconfirmed }) self.old.flow } }
+        ensures { self.new ≡ record self.old {
+          flow = with_direction side
+              (record (direction_of side self.old.flow) { unconfirmed = unconfirmed })
+              self.old.flow;
+        } }
     {
         self.word = with_field(self.word, unconfirmed_at(side), 1, u64::from(unconfirmed));
     }

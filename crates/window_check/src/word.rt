@@ -124,7 +124,8 @@ impl Flow {
     /// window is not below the modulus, a window is 0, more is unacknowledged than the window, or a higher bit is set.
     pub fn unpack(word: u64) -> Option<Flow>
         ensures packs { IfSome result (λ f. word_of f ≡ word) }
-        ensures none { IfNone result ((f : FlowResidues) → AreFlowResidues f → ¬ (word_of f ≡ word)) }
+        ensures none { IfNone result ((f : FlowResidues) → AreFlowResidues f
+            → ¬ (word_of f ≡ word)) }
         ensures back { (f : FlowResidues) → AreFlowResidues f → word_of f ≡ word → result ≡ Some f }
     {
         let modulus = modulus(word);

@@ -48,7 +48,9 @@ pub fn feed_piece<P: Plan, A: Allocator, R: Wait + Clock>(
     requires next { IsPlanned P.pieces pass.old.record_of.fed piece }
     requires open { pass.old.record_of.ends ≡ 0 }
     ensures queue { pass.new.queue ≡ pass.old.queue }
-    ensures fed { pass.new.record_of ≡ feeder (pass.old.record_of.fed + 1) pass.old.record_of.ends pass.old.record_of.pending pass.old.record_of.done pass.old.record_of.taken }
+    ensures fed { pass.new.record_of ≡ feeder
+        (pass.old.record_of.fed + 1) pass.old.record_of.ends pass.old.record_of.pending
+        pass.old.record_of.done pass.old.record_of.taken }
 {
     let mut piece = piece;
     let mut backoff = Backoff::new();
@@ -90,7 +92,9 @@ fn feed_end<P: Plan, A: Allocator, R: Wait + Clock>(
 )
     requires queue { pass.old.queue ≡ work.now.queue }
     ensures queue { pass.new.queue ≡ pass.old.queue }
-    ensures fed { pass.new.record_of ≡ feeder pass.old.record_of.fed (pass.old.record_of.ends + 1) pass.old.record_of.pending pass.old.record_of.done pass.old.record_of.taken }
+    ensures fed { pass.new.record_of ≡ feeder pass.old.record_of.fed
+        (pass.old.record_of.ends + 1) pass.old.record_of.pending pass.old.record_of.done
+        pass.old.record_of.taken }
 {
     let mut backoff = Backoff::new();
     for _ in rt.forever() {

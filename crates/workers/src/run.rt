@@ -48,7 +48,8 @@ fn run<
     requires some { 0 < crew.count }
     requires able { T.can_feed task }
     ensures ran { IfOk result (IsRunOutcome H.posts (T.feed_gives task) crew.count) }
-    ensures refused { IfErr result (λ e. T.unfed task e.0 × ((e.1 ≡ Fault.Memory) ⊎ (e.1 ≡ Fault.Start))) }
+    ensures refused { IfErr result (λ e. T.unfed task e.0
+        × ((e.1 ≡ Fault.Memory) ⊎ (e.1 ≡ Fault.Start))) }
 {
     let Crew {
         mut pass,
@@ -96,14 +97,17 @@ pub fn run_scoped<
     requires some { 0 < crew.count }
     requires able { T.can_feed task }
     ensures ran { IfOk result (IsRunOutcome H.posts (T.feed_gives task) crew.count) }
-    ensures refused { IfErr result (λ e. T.unfed task e.0 × ((e.1 ≡ Fault.Memory) ⊎ (e.1 ≡ Fault.Start))) }
+    ensures refused { IfErr result (λ e. T.unfed task e.0
+        × ((e.1 ≡ Fault.Memory) ⊎ (e.1 ≡ Fault.Start))) }
 {
     thread::scope(
         thread::scope_env(),
         rt,
         move |scope| -> Result<RunOutcome<T, H, A>, (T, Fault)>
             requires { (crew.queue ≡ work.now.queue) × (0 < crew.count) × T.can_feed task }
-            ensures { IfOk result (IsRunOutcome H.posts (T.feed_gives task) crew.count) × IfErr result (λ e. T.unfed task e.0 × ((e.1 ≡ Fault.Memory) ⊎ (e.1 ≡ Fault.Start))) }
+            ensures { IfOk result (IsRunOutcome H.posts (T.feed_gives task) crew.count)
+                × IfErr result (λ e. T.unfed task e.0
+                × ((e.1 ≡ Fault.Memory) ⊎ (e.1 ≡ Fault.Start))) }
         { run(scope, rt, alloc, work, handler, crew, task) },
     )
 }

@@ -102,7 +102,8 @@ fn start<
     let started = scope.spawn_with(
         Finishes { work },
         move || -> WorkerOutcome<H, A>
-            requires { (pass.queue ≡ work.now.queue) × (pass.record_of ≡ worker [] false 0) × (H.posts share ≡ 0) }
+            requires { (pass.queue ≡ work.now.queue) × (pass.record_of ≡ worker [] false 0)
+                × (H.posts share ≡ 0) }
             ensures { IsWorkerOutcome H.posts work.entry.now.queue result }
         { work_on(rt, alloc, work, handler, pass, share) },
     );

@@ -33,9 +33,11 @@ fn gather_ran<P: Plan, L: Ledgers, A: Allocator + Copy, T: Drop>(
     book: Book<P, L, A>,
     ran: RunOutcome<T, Share<L>, A>,
 ) -> Worked<T, A>
-    requires all { MatchOption ran.fault (vec_len ran.shares ≡ book) (λ fault. fault ≡ Fault.Memory) }
+    requires all { MatchOption ran.fault (vec_len ran.shares ≡ book) (λ fault. fault
+        ≡ Fault.Memory) }
     ensures task { result.task ≡ ran.task }
-    ensures whole { IfOk result.gathered (λ g. (ran.fault ≡ None) × IsWhole P.pieces (vec_len ran.shares) (sum_by (λ s. s.posts) ran.shares.items) g) }
+    ensures whole { IfOk result.gathered (λ g. (ran.fault ≡ None)
+        × IsWhole P.pieces (vec_len ran.shares) (sum_by (λ s. s.posts) ran.shares.items) g) }
     ensures refused { IfErr result.gathered (λ fault. fault ≡ Fault.Memory) }
 {
     let RunOutcome {
@@ -72,7 +74,8 @@ fn work_with<
     requires workers { (0 < workers) × (workers ≤ 64) }
     requires able { T.can_feed task }
     ensures worked { IfOk result (HasWorked P.pieces (T.feed_gives task) workers) }
-    ensures refused { IfErr result (λ e. T.unfed task e.0 × ((e.1 ≡ Fault.Memory) ⊎ (e.1 ≡ Fault.Start))) }
+    ensures refused { IfErr result (λ e. T.unfed task e.0
+        × ((e.1 ≡ Fault.Memory) ⊎ (e.1 ≡ Fault.Start))) }
 {
     let (work, pass) = queue;
     let Ok(crew) = crew_for(alloc, work, &mut book, pass, workers) else {
@@ -111,7 +114,8 @@ fn work_in<
     requires capacity { (0 < capacity) × (capacity ≤ 4096) }
     requires able { T.can_feed task }
     ensures worked { IfOk result (HasWorked P.pieces (T.feed_gives task) workers) }
-    ensures refused { IfErr result (λ e. T.unfed task e.0 × ((e.1 ≡ Fault.Memory) ⊎ (e.1 ≡ Fault.Start))) }
+    ensures refused { IfErr result (λ e. T.unfed task e.0
+        × ((e.1 ≡ Fault.Memory) ⊎ (e.1 ≡ Fault.Start))) }
 {
     let Ok((work, pass)) = Work::<P, A>::new(alloc, capacity) else {
         return Err((task.back(), Fault::Memory));
@@ -140,7 +144,8 @@ pub fn work_through<
     requires capacity { (0 < capacity) × (capacity ≤ 4096) }
     requires able { T.can_feed task }
     ensures worked { IfOk result (HasWorked P.pieces (T.feed_gives task) workers) }
-    ensures refused { IfErr result (λ e. T.unfed task e.0 × ((e.1 ≡ Fault.Memory) ⊎ (e.1 ≡ Fault.Start))) }
+    ensures refused { IfErr result (λ e. T.unfed task e.0
+        × ((e.1 ≡ Fault.Memory) ⊎ (e.1 ≡ Fault.Start))) }
 {
     work_in::<P, Brand, A, G, R, T>(rt, alloc, Blanks::new(), workers, capacity, gate, task)
 }

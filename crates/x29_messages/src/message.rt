@@ -68,7 +68,8 @@ impl<'a> Message<'a> {
 /// or the pair (8, 1)). The codes, the length and the order are profile.
 pub fn read_message(octets: &[u8]) -> Result<Message<'_>, Xcode>
     ensures message { IfOk result (λ m. octets_of m.code m.pairs.now ≡ octets.now) }
-    ensures fault { MatchResult result (λ _. form_fault octets.now ≡ None) (λ x. form_fault octets.now ≡ Some x) }
+    ensures fault { MatchResult result (λ _. form_fault octets.now ≡ None) (λ x.
+        form_fault octets.now ≡ Some x) }
 {
     let [first, pairs @ ..] = octets else {
         return Err(Xcode::X1);

@@ -45,7 +45,8 @@ impl Settings {
     /// What is known of a parameter: what the last message says that speaks of it.
     pub fn get(&self, parameter: u8) -> Entry
         requires { (1 ≤ parameter) × (parameter ≤ 22) }
-        ensures { (ts : List Told) → StandsFor self.now ts → result ≡ entry_at self.now.pad parameter (events_of ts) }
+        ensures { (ts : List Told) → StandsFor self.now ts
+            → result ≡ entry_at self.now.pad parameter (events_of ts) }
     {
         let place = usize::from(parameter) - 1;
         self.entries[place]
@@ -56,8 +57,10 @@ impl Settings {
     /// the same. A message that is neither for this PAD nor an indication from it changes nothing and has no fault.
     pub fn apply(&mut self, message: &Message<'_>, from: Side) -> Option<Xcode>
         ensures pad { self.new.pad ≡ self.old.pad }
-        ensures fault { (ts : List Told) → StandsFor self.old ts → result ≡ own_fault self.old.pad ts (told from message.now) }
-        ensures stands { (ts : List Told) → StandsFor self.old ts → StandsFor self.new (ts ++ told from message.now ∷ []) }
+        ensures fault { (ts : List Told) → StandsFor self.old ts
+            → result ≡ own_fault self.old.pad ts (told from message.now) }
+        ensures stands { (ts : List Told) → StandsFor self.old ts
+            → StandsFor self.new (ts ++ told from message.now ∷ []) }
         ensures unchanged { result ≡ Some Xcode.X4 → self.new ≡ self.old }
     {
         match concern_of(self.is_own(from), message.code) {
@@ -91,7 +94,8 @@ impl Settings {
     fn set(&mut self, octets: &[u8]) -> Option<Xcode>
         ensures pad { self.new.pad ≡ self.old.pad }
         ensures asked { self.new.asked ≡ self.old.asked }
-        ensures tells { (ws : List What) → Tells self.old ws → Tells self.new (ws ++ set_events self.old.pad octets.now) }
+        ensures tells { (ws : List What) → Tells self.old ws
+            → Tells self.new (ws ++ set_events self.old.pad octets.now) }
         ensures fault { result ≡ set_fault octets.now }
     {
         if octets.is_empty() {
@@ -119,7 +123,8 @@ impl Settings {
     fn ask(&mut self, pairs: Pairs<'_>)
         ensures pad { self.new.pad ≡ self.old.pad }
         ensures asked { self.new.asked ≡ self.old.asked }
-        ensures tells { (ws : List What) → Tells self.old ws → Tells self.new (ws ++ flat_map (asked_one self.old.pad) pairs.entry) }
+        ensures tells { (ws : List What) → Tells self.old ws
+            → Tells self.new (ws ++ flat_map (asked_one self.old.pad) pairs.entry) }
     {
         for pair in pairs {
             self.ask_one(pair);
@@ -130,7 +135,8 @@ impl Settings {
     fn ask_one(&mut self, pair: Pair)
         ensures pad { self.new.pad ≡ self.old.pad }
         ensures asked { self.new.asked ≡ self.old.asked }
-        ensures tells { (ws : List What) → Tells self.old ws → Tells self.new (ws ++ asked_one self.old.pad (shown pair)) }
+        ensures tells { (ws : List What) → Tells self.old ws
+            → Tells self.new (ws ++ asked_one self.old.pad (shown pair)) }
     {
         if is_parameter(pair.reference) {
             self.enter(pair.reference, Entry::Asked(pair.value));
@@ -141,7 +147,8 @@ impl Settings {
     fn indicate(&mut self, pairs: Pairs<'_>)
         ensures pad { self.new.pad ≡ self.old.pad }
         ensures asked { self.new.asked ≡ self.old.asked }
-        ensures tells { (ws : List What) → Tells self.old ws → Tells self.new (ws ++ flat_map (indicated_one self.old.pad) pairs.entry) }
+        ensures tells { (ws : List What) → Tells self.old ws
+            → Tells self.new (ws ++ flat_map (indicated_one self.old.pad) pairs.entry) }
     {
         for pair in pairs {
             self.indicate_one(pair);
@@ -152,7 +159,8 @@ impl Settings {
     fn indicate_one(&mut self, pair: Pair)
         ensures pad { self.new.pad ≡ self.old.pad }
         ensures asked { self.new.asked ≡ self.old.asked }
-        ensures tells { (ws : List What) → Tells self.old ws → Tells self.new (ws ++ indicated_one self.old.pad (shown pair)) }
+        ensures tells { (ws : List What) → Tells self.old ws
+            → Tells self.new (ws ++ indicated_one self.old.pad (shown pair)) }
     {
         let parameter = pair.reference % 128;
         if is_parameter(parameter) {
@@ -170,7 +178,8 @@ impl Settings {
         requires { (1 ≤ parameter) × (parameter ≤ 22) }
         ensures pad { self.new.pad ≡ self.old.pad }
         ensures asked { self.new.asked ≡ self.old.asked }
-        ensures tells { (ws : List What) → Tells self.old ws → Tells self.new (ws ++ What.Setting self.old.pad parameter entry ∷ []) }
+        ensures tells { (ws : List What) → Tells self.old ws
+            → Tells self.new (ws ++ What.Setting self.old.pad parameter entry ∷ []) }
     {
         self.entries[usize::from(parameter) - 1] = entry;
     }
