@@ -1,8 +1,7 @@
 //! The cutter: a trace falls into pieces by epoch and logical channel, row by row.
 
-ghost use Rattle.std.specs.Prelude.{option_to_list, ◌≡◌, ℕ, ◌<◌, ◌≤◌, ◌+◌, ◌^◌, ◌++◌, ◌∷◌, [], List, length, Some, None, IfErr, IfOk, OnOk, OnErr};
+ghost use Rattle.std.specs.Prelude.{option_to_list, ◌≡◌, ◌<◌, ◌≤◌, ◌+◌, ◌^◌, ◌++◌, ◌∷◌, [], List, length, Some, None, IfErr, IfOk, OnOk, OnErr};
 ghost use Rattle.line_model.specs.packets.Classes.{packet_of, packet_class};
-ghost use Rattle.std.specs.Vec.{vec_len, vec_capacity};
 ghost use Rattle.line_model.specs.basics.Octets.{channel_of};
 ghost use Rattle.line_model.specs.channels.RestartMachine.{line_step};
 ghost use Rattle.restart_epochs.specs.Cutting.{ended_pieces, IsUnchanged};

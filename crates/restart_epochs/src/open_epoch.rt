@@ -1,6 +1,6 @@
 //! The rows of the epoch that has not ended, by logical channel.
 
-ghost use Rattle.std.specs.Prelude.{◌≡◌, ◌≢◌, ℕ, ◌<◌, ◌≤◌, ◌^◌, [], IfErr, IfOk, OnOk, OnErr, MatchOption, length};
+ghost use Rattle.std.specs.Prelude.{◌≡◌, ◌≢◌, ℕ, ◌<◌, [], IfErr, IfOk, OnOk, OnErr, MatchOption, length};
 ghost use Rattle.line_model.specs.declared.fault.Fault.TheVariants.{Memory};
 ghost use Rattle.restart_epochs.specs.OpenRows.{no_rows, rows_of, IsSame, HasMore, IsTakenOut};
 

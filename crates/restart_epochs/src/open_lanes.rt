@@ -1,7 +1,7 @@
 //! A value for each logical channel of the epoch that has not ended.
 
-ghost use Rattle.std.specs.Prelude.{◌≡◌, ℕ, ◌<◌, ◌≤◌, [], IfSome, MatchOption, OnOk, length};
-ghost use Rattle.std.specs.Option.{option_map, option_copied};
+ghost use Rattle.std.specs.Prelude.{◌≡◌, ℕ, ◌<◌, [], MatchOption, OnOk, length};
+ghost use Rattle.std.specs.Option.{option_map};
 ghost use Rattle.restart_epochs.specs.OpenLanes.{value_at, IsEmpty, HasListed, HasTaken, HasPut, HasPopped};
 
 use std::alloc::{AllocError, Allocator};

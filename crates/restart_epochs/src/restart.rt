@@ -3,7 +3,7 @@
 ghost use Rattle.std.specs.Prelude.{◌≡◌, false, true};
 ghost use Rattle.line_model.specs.packets.Classes.{packet_class};
 ghost use Rattle.line_model.specs.observer.Observer.{line_in_r1};
-ghost use Rattle.line_model.specs.channels.RestartMachine.{Routing, restart_fault, restart_move, restart_error, restart_step, inside_step, passes_joining, line_step};
+ghost use Rattle.line_model.specs.channels.RestartMachine.{restart_fault, restart_move, restart_error, restart_step, passes_joining, line_step};
 
 use line_model::diagnostic::{PACKET_TOO_LONG, PACKET_TOO_SHORT};
 use line_model::packet::{Class, Packet};

@@ -1,6 +1,6 @@
 //! What an observer finds at each row.
 
-ghost use Rattle.std.specs.Prelude.{◌≡◌, []};
+ghost use Rattle.std.specs.Prelude.{[]};
 ghost use Rattle.trace_text.specs.StandsFor.{StandsFor as IsReaderOf};
 ghost use Rattle.live_report.specs.Lives.{IsWatcher};
 

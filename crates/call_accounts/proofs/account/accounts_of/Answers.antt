@@ -1,4 +1,4 @@
-use Rattle.std.proofs.Common.{◌≡◌, ◌∙◌, ap, sum_by, arith}
+use Rattle.std.proofs.Common.{◌∙◌, ap, sum_by, arith}
 use Rattle.std.proofs.lemmas.List.Sorted.{sum_by-IsPermutation}
 use Rattle.call_accounts.specs.declared.account.Entry.{Entry}
 use Rattle.call_accounts.specs.Entries.{summed}
