@@ -1,5 +1,5 @@
 -- The calls of one logical channel in one epoch, as its events come.
-use Rattle.std.specs.Prelude.{◌≡◌, ℕ, ◌++◌, true, false, ◌||◌, is_some, List, [], ◌∷◌, find, sum, length, Option, Some, None, option_map}
+use Rattle.std.specs.Prelude.{◌≡◌, ℕ, ◌++◌, true, false, ◌||◌, is_some, List, [], ◌∷◌, find, sum, length, Option, Some, None, option_map, Result, OnOk}
 use Rattle.std.specs.List.{AllByRecursion}
 use Rattle.line_model.specs.declared.state.Side.TheVariants.{T, N}
 use Rattle.line_model.specs.declared.event.How.{How}
@@ -7,7 +7,7 @@ use Rattle.line_model.specs.declared.event.What.TheVariants.{Open}
 use Rattle.line_model.specs.declared.event.Event.{Event}
 use Rattle.line_model.specs.basics.Records.{CallRecord}
 use Rattle.line_model.specs.observer.Calls.{is_up, is_end, is_opening, lengths_from, all_lengths, segments_of, settings_of, calls_of}
-use Rattle.call_accounts.specs.Counted.{Counts}
+use Rattle.call_accounts.specs.Counted.{Counts, IsCountable}
 use Rattle.call_accounts.specs.declared.so_far.OpenCall.{OpenCall}
 use Rattle.call_accounts.specs.declared.so_far.CallsSoFar.{CallsSoFar}
 
@@ -90,3 +90,12 @@ TellsBy told (Some o) cs = (epoch : ℕ) × (channel : ℕ) × (es : List Event)
 -- the records of the calls so far, where no more events come
 abbrev pub Tells : {A : Type 0} → CallsSoFar A → List CallRecord → Type 0
 Tells s cs = TellsBy s.told.items s.call cs
+
+-- of any events that were heard: they were heard with this one behind them, if it is of their channel
+abbrev pub HearsOn : {A T E : Type 0} → (before : CallsSoFar A) → Event → (after : CallsSoFar A) → Result T E → Type 0
+HearsOn before e after result =
+    (epoch channel : ℕ) (es : List Event) → StandsFor before epoch channel es → IsOf epoch channel e → IsCountable (es ++ e ∷ []) → OnOk result (StandsFor after epoch channel (es ++ e ∷ []))
+
+-- of any events that were heard: these are the records of their calls
+abbrev pub AreCallsOf : {A : Type 0} → CallsSoFar A → List CallRecord → Type 0
+AreCallsOf s cs = (epoch channel : ℕ) (es : List Event) → StandsFor s epoch channel es → cs ≡ calls_of es

@@ -9,7 +9,7 @@ ghost use Rattle.call_accounts.specs.Entries.{digit_at, IsRank, IsRanked, accoun
 use line_model::address::Address;
 use line_model::call::{Account, CallRecord};
 use line_model::fault::Fault;
-use std::alloc::Allocator;
+use std::alloc::{AllocError, Allocator};
 
 /// A call by the address that pays for it.
 #[derive(Drop)]
@@ -69,10 +69,10 @@ fn rank(address: &Address) -> u128
 }
 
 /// The calls as entries, in their order.
-fn entries<A: Allocator>(alloc: A, calls: &[CallRecord<A>]) -> Result<Vec<Entry, A>, Fault>
-    ensures entries { IfOk result (λ v. map account_of_entry v.items ≡ map account_of_call calls.now) }
+fn entries<A: Allocator>(alloc: A, calls: &[CallRecord<A>]) -> Result<Vec<Entry, A>, AllocError>
+    ensures entries { IfOk result (λ v.
+        map account_of_entry v.items ≡ map account_of_call calls.now) }
     ensures ranked { IfOk result (λ v. AllByRecursion IsRanked v.items) }
-    ensures memory { IfErr result (λ f. f ≡ Fault.Memory) }
 {
     let mut entries = Vec::with_capacity(alloc, calls.len())?;
     for call in calls {
@@ -96,10 +96,9 @@ fn by_address<A: Allocator>(mut entries: Vec<Entry, A>) -> Vec<Entry, A>
 }
 
 /// The accounts of sorted entries: those of one address are neighbours, and are added up.
-fn added_up<A: Allocator>(alloc: A, entries: &[Entry]) -> Result<Vec<Account, A>, Fault>
+fn added_up<A: Allocator>(alloc: A, entries: &[Entry]) -> Result<Vec<Account, A>, AllocError>
     requires few_segments { sum_by (λ e. e.segments) entries.now ≤ 2 ^ 63 }
-    ensures accounts { IfOk result (λ v. v.items ≡ summed entries.now) }
-    ensures memory { IfErr result (λ f. f ≡ Fault.Memory) }
+    ensures { IfOk result (λ v. v.items ≡ summed entries.now) }
 {
     let mut accounts = Vec::new(alloc);
     let Some((first, rest)) = entries.split_first() else {
@@ -133,5 +132,5 @@ pub fn accounts_of<A: Allocator + Clone>(
     ensures memory { IfErr result (λ f. f ≡ Fault.Memory) }
 {
     let entries = by_address(entries(alloc.clone()?, calls)?);
-    added_up(alloc, &entries)
+    Ok(added_up(alloc, &entries)?)
 }

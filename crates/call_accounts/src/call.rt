@@ -11,7 +11,7 @@ use crate::so_far::CallsSoFar;
 use line_model::call::CallRecord;
 use line_model::event::{Event, What};
 use line_model::fault::Fault;
-use std::alloc::Allocator;
+use std::alloc::{AllocError, Allocator};
 use std::collections::BTreeMap;
 use std::mem::replace;
 
@@ -27,9 +27,8 @@ struct Places<A: Allocator> {
 impl<A: Allocator + Clone> Places<A> {
     /// Nothing was heard. The place of the first event is in hand, so that the events of one place take no room in the
     /// map.
-    fn new(alloc: &A, events: &[Event]) -> Result<Self, Fault>
-        ensures heard { IfOk result (λ places. AreHeard places []) }
-        ensures memory { IfErr result (λ f. f ≡ Fault.Memory) }
+    fn new(alloc: &A, events: &[Event]) -> Result<Self, AllocError>
+        ensures { IfOk result (λ places. AreHeard places []) }
     {
         let (epoch, channel) = match events.first() {
             Some(event) => (event.epoch, event.channel),
@@ -44,11 +43,11 @@ impl<A: Allocator + Clone> Places<A> {
     }
 
     /// Takes the calls of a place in hand.
-    fn turn_to(&mut self, alloc: &A, epoch: u32, channel: u16) -> Result<(), Fault>
+    fn turn_to(&mut self, alloc: &A, epoch: u32, channel: u16) -> Result<(), AllocError>
         ensures turned { OnOk result ((self.new.epoch ≡ epoch) × (self.new.channel ≡ channel)) }
         ensures here { OnOk result (IsFound (calls_at self.old epoch channel) self.new.here) }
-        ensures others { OnOk result ((e c : ℕ) → (epoch == e && channel == c) ≡ false → calls_at self.new e c ≡ calls_at self.old e c) }
-        ensures memory { IfErr result (λ f. f ≡ Fault.Memory) }
+        ensures others { OnOk result ((e c : ℕ) → (epoch == e && channel == c) ≡ false
+            → calls_at self.new e c ≡ calls_at self.old e c) }
     {
         if self.epoch == epoch && self.channel == channel {
             return Ok(());
@@ -65,19 +64,27 @@ impl<A: Allocator + Clone> Places<A> {
     }
 
     /// Hears an event at its place.
-    fn hear(&mut self, alloc: &A, event: &Event) -> Result<(), Fault>
-        ensures heard { (es : List Event) → AreHeard self.old es → IsCountable (es ++ event.now ∷ []) → OnOk result (AreHeard self.new (es ++ event.now ∷ [])) }
-        ensures memory { IfErr result (λ f. f ≡ Fault.Memory) }
+    fn hear(&mut self, alloc: &A, event: &Event) -> Result<(), AllocError>
+        ensures { (es : List Event) → AreHeard self.old es → IsCountable (es ++ event.now ∷ [])
+            → OnOk result (AreHeard self.new (es ++ event.now ∷ [])) }
     {
         self.turn_to(alloc, event.epoch, event.channel)?;
         self.here.hear(event)
     }
 
     /// Takes the record of the call that was opened last at a place.
-    fn pop(&mut self, alloc: &A, epoch: u32, channel: u16) -> Result<Option<CallRecord<A>>, Fault>
-        ensures popped { (cs : List records.CallRecord) (r : records.CallRecord) → AreLeft self.old (cs ++ r ∷ []) → r.epoch ≡ epoch → r.channel ≡ channel → IfOk result (λ call. call ≡ Some r) }
-        ensures left { (cs : List records.CallRecord) (r : records.CallRecord) → AreLeft self.old (cs ++ r ∷ []) → r.epoch ≡ epoch → r.channel ≡ channel → OnOk result (AreLeft self.new cs) }
-        ensures memory { IfErr result (λ f. f ≡ Fault.Memory) }
+    fn pop(
+        &mut self,
+        alloc: &A,
+        epoch: u32,
+        channel: u16,
+    ) -> Result<Option<CallRecord<A>>, AllocError>
+        ensures popped { (cs : List records.CallRecord) (r : records.CallRecord)
+            → AreLeft self.old (cs ++ r ∷ []) → r.epoch ≡ epoch → r.channel ≡ channel
+            → IfOk result (λ call. call ≡ Some r) }
+        ensures left { (cs : List records.CallRecord) (r : records.CallRecord)
+            → AreLeft self.old (cs ++ r ∷ []) → r.epoch ≡ epoch → r.channel ≡ channel
+            → OnOk result (AreLeft self.new cs) }
     {
         self.turn_to(alloc, epoch, channel)?;
         self.here.pop()
@@ -89,9 +96,9 @@ fn in_order<A: Allocator + Clone>(
     alloc: &A,
     mut places: Places<A>,
     mut openings: Vec<(u32, u16), A>,
-) -> Result<Vec<CallRecord<A>, A>, Fault>
-    ensures calls { (cs : List records.CallRecord) → AreLeft places cs → openings.items ≡ map place_of cs → IfOk result (λ v. v.items ≡ cs) }
-    ensures memory { IfErr result (λ f. f ≡ Fault.Memory) }
+) -> Result<Vec<CallRecord<A>, A>, AllocError>
+    ensures { (cs : List records.CallRecord) → AreLeft places cs → openings.items ≡ map place_of cs
+        → IfOk result (λ v. v.items ≡ cs) }
 {
     let mut calls = Vec::with_capacity(alloc.clone()?, openings.len())?;
     while let Some((epoch, channel)) = openings.pop() {
@@ -123,5 +130,5 @@ pub fn calls_of<A: Allocator + Clone>(
             openings.push((event.epoch, event.channel))?;
         }
     }
-    in_order(&alloc, places, openings)
+    Ok(in_order(&alloc, places, openings)?)
 }

@@ -1,6 +1,6 @@
 //! What is counted of a call so far.
 
-ghost use Rattle.std.specs.Prelude.{◌≡◌, ◌+◌, ◌/◌, List, [], IfOk, IfErr};
+ghost use Rattle.std.specs.Prelude.{◌≡◌, ◌+◌, ◌/◌, List, [], IfOk};
 ghost use Rattle.line_model.specs.declared.event.Event.{Event};
 ghost use Rattle.line_model.specs.declared.event.What.TheVariants.{Data, Setting, Initial};
 ghost use Rattle.line_model.specs.observer.Calls.{settings_of};
@@ -9,9 +9,8 @@ ghost use Rattle.call_accounts.specs.Counted.{Counts, Adds};
 use crate::pad_table::PadTable;
 use line_model::call::SettingRecord;
 use line_model::event::{Entry, Event, What};
-use line_model::fault::Fault;
 use line_model::state::Side;
-use std::alloc::Allocator;
+use std::alloc::{AllocError, Allocator};
 
 /// The segments of a data packet: 64 octets each, the last one begun counts whole.
 fn segments(octets: u32) -> u64
@@ -75,7 +74,8 @@ impl CallCounts {
 
     /// The call comes up, where it was not up.
     fn rise(&mut self, packet: u32)
-        ensures { (e : Event) → e.packet ≡ packet → e.what ≡ What.Up → Adds self.old self.new e }
+        ensures { (e : Event) → e.packet ≡ packet → e.what ≡ What.Up
+            → Adds self.old self.new e }
     {
         if self.up.is_none() {
             self.up = Some(packet);
@@ -101,7 +101,8 @@ impl CallCounts {
 
     /// A message says what a parameter of a PAD is.
     fn say(&mut self, pad: Side, parameter: u8, entry: Entry)
-        ensures { (e : Event) → e.what ≡ Setting pad parameter entry → Adds self.old self.new e }
+        ensures { (e : Event) → e.what ≡ Setting pad parameter entry
+            → Adds self.old self.new e }
     {
         match pad {
             Side::T => self.settings_t.say(parameter, entry),
@@ -120,9 +121,12 @@ impl CallCounts {
     }
 
     /// The settings that are known, side T first, by parameter.
-    pub(crate) fn settings<A: Allocator>(&self, alloc: A) -> Result<Vec<SettingRecord, A>, Fault>
-        ensures settings { IfOk result (λ v. (own : List Event) → Counts self.now own → v.items ≡ settings_of own) }
-        ensures memory { IfErr result (λ f. f ≡ Fault.Memory) }
+    pub(crate) fn settings<A: Allocator>(
+        &self,
+        alloc: A,
+    ) -> Result<Vec<SettingRecord, A>, AllocError>
+        ensures { IfOk result (λ v. (own : List Event) → Counts self.now own
+            → v.items ≡ settings_of own) }
     {
         let mut settings = Vec::new(alloc);
         self.settings_t.push_known(Side::T, &mut settings)?;

@@ -1,6 +1,6 @@
 //! What the messages of a call said so far of the parameters of one PAD.
 
-ghost use Rattle.std.specs.Prelude.{◌≡◌, ℕ, ◌≤◌, ◌==◌, ◌++◌, if◌then◌else◌, OnOk, IfErr};
+ghost use Rattle.std.specs.Prelude.{◌≡◌, ℕ, ◌≤◌, ◌==◌, ◌++◌, if◌then◌else◌, OnOk};
 ghost use Rattle.std.specs.List.{range_with_len};
 ghost use Rattle.line_model.specs.declared.event.Entry.TheVariants.{Unknown};
 ghost use Rattle.line_model.specs.observer.Calls.{is_known};
@@ -8,9 +8,8 @@ ghost use Rattle.call_accounts.specs.Counted.{entry_at, settings_in};
 
 use line_model::call::SettingRecord;
 use line_model::event::Entry;
-use line_model::fault::Fault;
 use line_model::state::Side;
-use std::alloc::Allocator;
+use std::alloc::{AllocError, Allocator};
 
 /// The last word on each of the parameters 1 to 22.
 #[derive(Clone, Copy)]
@@ -30,7 +29,8 @@ impl PadTable {
 
     /// A message says what a parameter is.
     pub(crate) fn say(&mut self, parameter: u8, entry: Entry)
-        ensures { (n : ℕ) → 1 ≤ n → n ≤ 22 → entry_at self.new n ≡ (if parameter == n then entry else entry_at self.old n) }
+        ensures { (n : ℕ) → 1 ≤ n → n ≤ 22
+            → entry_at self.new n ≡ (if parameter == n then entry else entry_at self.old n) }
     {
         if (1..=22).contains(&parameter) {
             self.entries[usize::from(parameter) - 1] = entry;
@@ -42,9 +42,9 @@ impl PadTable {
         &self,
         pad: Side,
         settings: &mut Vec<SettingRecord, A>,
-    ) -> Result<(), Fault>
-        ensures settings { OnOk result (settings.new.items ≡ settings.old.items ++ settings_in pad self.now (range_with_len 1 22)) }
-        ensures memory { IfErr result (λ f. f ≡ Fault.Memory) }
+    ) -> Result<(), AllocError>
+        ensures { OnOk result (settings.new.items
+            ≡ settings.old.items ++ settings_in pad self.now (range_with_len 1 22)) }
     {
         for parameter in 1..23u8 {
             let entry = self.entries[usize::from(parameter) - 1];

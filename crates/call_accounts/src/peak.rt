@@ -9,7 +9,7 @@ ghost use Rattle.call_accounts.specs.Sweep.{up_to, is_call_up, IsHighest};
 use line_model::call::CallRecord;
 use line_model::fault::Fault;
 use line_model::report::Peak;
-use std::alloc::Allocator;
+use std::alloc::{AllocError, Allocator};
 
 /// The greatest number of calls that were up at once, and the least row number after which so many were, none for 0.
 /// A call is up from the row with which it came up to the one before its end (profile). It answers `Memory` alone.
@@ -32,9 +32,10 @@ struct UpTimes<A: Allocator> {
 
 impl<A: Allocator> UpTimes<A> {
     /// Adds the times of a call, if it was up.
-    fn add<B: Allocator>(&mut self, call: &CallRecord<B>) -> Result<(), Fault>
-        ensures counts { (n : ℕ) → OnOk result (up_to n self.new.ups.items + up_to n self.old.ends.items ≡ up_to n self.old.ups.items + up_to n self.new.ends.items + cond (is_call_up n call.now) 1 0) }
-        ensures memory { IfErr result (λ f. f ≡ Fault.Memory) }
+    fn add<B: Allocator>(&mut self, call: &CallRecord<B>) -> Result<(), AllocError>
+        ensures { (n : ℕ) → OnOk result (up_to n self.new.ups.items + up_to n self.old.ends.items
+            ≡ up_to n self.old.ups.items + up_to n self.new.ends.items
+            + cond (is_call_up n call.now) 1 0) }
     {
         match (call.up, call.ended) {
             (None, _) => Ok(()),
@@ -52,9 +53,9 @@ impl<A: Allocator> UpTimes<A> {
 }
 
 /// The times of the calls that were up at some time.
-fn times<A: Allocator + Clone>(alloc: A, calls: &[CallRecord<A>]) -> Result<UpTimes<A>, Fault>
-    ensures counts { IfOk result (λ t. (n : ℕ) → up_at calls.now n + up_to n t.ends.items ≡ up_to n t.ups.items) }
-    ensures memory { IfErr result (λ f. f ≡ Fault.Memory) }
+fn times<A: Allocator + Clone>(alloc: A, calls: &[CallRecord<A>]) -> Result<UpTimes<A>, AllocError>
+    ensures { IfOk result (λ t. (n : ℕ) →
+        up_at calls.now n + up_to n t.ends.items ≡ up_to n t.ups.items) }
 {
     let mut times = UpTimes {
         ups: Vec::new(alloc.clone()?),

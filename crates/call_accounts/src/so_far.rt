@@ -3,9 +3,8 @@
 ghost use Rattle.std.specs.Prelude.{◌≡◌, ℕ, List, [], ◌∷◌, ◌++◌, Option, Some, None, map, IfOk, IfErr, OnOk};
 ghost use Rattle.line_model.specs.declared.event.Event.{Event};
 ghost use Rattle.line_model.specs.declared.event.What.TheVariants.{Open, End};
-ghost use Rattle.line_model.specs.observer.Calls.{calls_of};
-ghost use Rattle.call_accounts.specs.Counted.{Counts, IsCountable};
-ghost use Rattle.call_accounts.specs.SoFar.{IsOf, StandsFor, Tells, call_with, opening_of, ended_by, EndFirst};
+ghost use Rattle.call_accounts.specs.Counted.{Counts};
+ghost use Rattle.call_accounts.specs.SoFar.{AreCallsOf, HearsOn, IsOf, StandsFor, Tells, call_with, opening_of, ended_by, EndFirst};
 ghost use Rattle.line_model.specs.basics.Records as records;
 
 use crate::counts::CallCounts;
@@ -13,7 +12,7 @@ use line_model::address::Address;
 use line_model::call::{CallRecord, copies};
 use line_model::event::{Event, How, What};
 use line_model::fault::Fault;
-use std::alloc::Allocator;
+use std::alloc::{AllocError, Allocator};
 
 /// A call that has not ended: where it was opened, and what was counted of it since.
 #[derive(Drop)]
@@ -31,7 +30,8 @@ pub struct OpenCall {
 impl OpenCall {
     /// The call that an event opens.
     fn new(event: &Event, out: bool, called: &Address, calling: &Address, reverse: bool) -> Self
-        ensures opening { event.now.what ≡ Open out called.now calling.now reverse → opening_of result ≡ event.now }
+        ensures opening { event.now.what ≡ Open out called.now calling.now reverse
+            → opening_of result ≡ event.now }
         ensures counts { Counts result.counts [] }
     {
         OpenCall {
@@ -52,9 +52,9 @@ impl OpenCall {
         alloc: A,
         ended: Option<u32>,
         how: Option<How>,
-    ) -> Result<CallRecord<A>, Fault>
-        ensures record { IfOk result (λ r. (own : List Event) → Counts self.now.counts own → r ≡ call_with self.now own ended how) }
-        ensures memory { IfErr result (λ f. f ≡ Fault.Memory) }
+    ) -> Result<CallRecord<A>, AllocError>
+        ensures { IfOk result (λ r. (own : List Event) → Counts self.now.counts own
+            → r ≡ call_with self.now own ended how) }
     {
         let counts = &self.counts;
         let settings = counts.settings(alloc)?;
@@ -81,7 +81,8 @@ impl OpenCall {
 
 /// Ends the calls that have not ended; they are the last ones.
 fn end_last<A: Allocator>(calls: &mut Vec<CallRecord<A>, A>, packet: u32, how: How)
-    ensures { EndFirst calls.old.items → calls.new.items ≡ map (ended_by packet how) calls.old.items }
+    ensures { EndFirst calls.old.items
+        → calls.new.items ≡ map (ended_by packet how) calls.old.items }
 {
     for index in (0..calls.len()).rev() {
         if calls[index].ended.is_some() {
@@ -97,9 +98,8 @@ fn end_last<A: Allocator>(calls: &mut Vec<CallRecord<A>, A>, packet: u32, how: H
 fn push_record<A: Allocator>(
     calls: &mut Vec<CallRecord<A>, A>,
     call: CallRecord<A>,
-) -> Result<(), Fault>
-    ensures pushed { OnOk result (calls.new.items ≡ calls.old.items ++ call ∷ []) }
-    ensures memory { IfErr result (λ f. f ≡ Fault.Memory) }
+) -> Result<(), AllocError>
+    ensures { OnOk result (calls.new.items ≡ calls.old.items ++ call ∷ []) }
 {
     if calls.is_empty() {
         calls.reserve_exact(1)?;
@@ -127,10 +127,9 @@ impl<A: Allocator + Clone> CallsSoFar<A> {
         }
     }
 
-    /// Hears the next event of the channel. It answers `Memory` alone; then it stands for nothing any more.
-    pub fn hear(&mut self, event: &Event) -> Result<(), Fault>
-        ensures heard { (epoch channel : ℕ) (es : List Event) → StandsFor self.old epoch channel es → IsOf epoch channel event.now → IsCountable (es ++ event.now ∷ []) → OnOk result (StandsFor self.new epoch channel (es ++ event.now ∷ [])) }
-        ensures memory { IfErr result (λ f. f ≡ Fault.Memory) }
+    /// Hears the next event of the channel. Where memory is refused it stands for nothing any more.
+    pub fn hear(&mut self, event: &Event) -> Result<(), AllocError>
+        ensures heard { HearsOn self.old event.now self.new result }
     {
         match &event.what {
             What::Open {
@@ -154,11 +153,11 @@ impl<A: Allocator + Clone> CallsSoFar<A> {
     }
 
     /// A call that is open is open no more, and has no end.
-    fn close(&mut self) -> Result<(), Fault>
+    fn close(&mut self) -> Result<(), AllocError>
         ensures none { OnOk result (self.new.call ≡ None) }
-        ensures told { (epoch channel : ℕ) (es : List Event) → StandsFor self.old epoch channel es → OnOk result (self.new.told.items ≡ calls_of es) }
-        ensures tells { (cs : List records.CallRecord) → Tells self.old cs → OnOk result (self.new.told.items ≡ cs) }
-        ensures memory { IfErr result (λ f. f ≡ Fault.Memory) }
+        ensures told { OnOk result (AreCallsOf self.old self.new.told.items) }
+        ensures tells { (cs : List records.CallRecord) → Tells self.old cs
+            → OnOk result (self.new.told.items ≡ cs) }
     {
         let Some(call) = &self.call else {
             return Ok(());
@@ -171,9 +170,11 @@ impl<A: Allocator + Clone> CallsSoFar<A> {
     }
 
     /// The call that is open ends, and with it those that have no end.
-    fn end(&mut self, packet: u32, how: How) -> Result<(), Fault>
-        ensures ended { (epoch channel : ℕ) (es : List Event) (e : Event) → StandsFor self.old epoch channel es → IsOf epoch channel e → e.packet ≡ packet → e.what ≡ End how → OnOk result (StandsFor self.new epoch channel (es ++ e ∷ [])) }
-        ensures memory { IfErr result (λ f. f ≡ Fault.Memory) }
+    fn end(&mut self, packet: u32, how: How) -> Result<(), AllocError>
+        ensures { (epoch channel : ℕ) (es : List Event) (e : Event)
+            → StandsFor self.old epoch channel es
+            → IsOf epoch channel e → e.packet ≡ packet → e.what ≡ End how
+            → OnOk result (StandsFor self.new epoch channel (es ++ e ∷ [])) }
     {
         let Some(call) = &self.call else {
             return Ok(());
@@ -186,11 +187,12 @@ impl<A: Allocator + Clone> CallsSoFar<A> {
         Ok(())
     }
 
-    /// Takes the record of the call that was opened last, which is closed first if it is open. It answers `Memory` alone.
-    pub(crate) fn pop(&mut self) -> Result<Option<CallRecord<A>>, Fault>
-        ensures popped { (cs : List records.CallRecord) (r : records.CallRecord) → Tells self.old (cs ++ r ∷ []) → IfOk result (λ call. call ≡ Some r) }
-        ensures left { (cs : List records.CallRecord) (r : records.CallRecord) → Tells self.old (cs ++ r ∷ []) → OnOk result (Tells self.new cs) }
-        ensures memory { IfErr result (λ f. f ≡ Fault.Memory) }
+    /// Takes the record of the call that was opened last, which is closed first if it is open.
+    pub(crate) fn pop(&mut self) -> Result<Option<CallRecord<A>>, AllocError>
+        ensures popped { (cs : List records.CallRecord) (r : records.CallRecord)
+            → Tells self.old (cs ++ r ∷ []) → IfOk result (λ call. call ≡ Some r) }
+        ensures left { (cs : List records.CallRecord) (r : records.CallRecord)
+            → Tells self.old (cs ++ r ∷ []) → OnOk result (Tells self.new cs) }
     {
         self.close()?;
         Ok(self.told.pop())
@@ -198,7 +200,7 @@ impl<A: Allocator + Clone> CallsSoFar<A> {
 
     /// The records of the calls so far, in the order in which they were opened. It answers `Memory` alone.
     pub fn calls(&self, alloc: A) -> Result<Vec<CallRecord<A>, A>, Fault>
-        ensures calls { IfOk result (λ v. (epoch channel : ℕ) (es : List Event) → StandsFor self.now epoch channel es → v.items ≡ calls_of es) }
+        ensures calls { IfOk result (λ v. AreCallsOf self.now v.items) }
         ensures memory { IfErr result (λ f. f ≡ Fault.Memory) }
     {
         let mut calls = copies(alloc.clone()?, &self.told)?;
@@ -210,11 +212,9 @@ impl<A: Allocator + Clone> CallsSoFar<A> {
         Ok(calls)
     }
 
-    /// The records of the calls when no more events come, in the order in which they were opened. It answers `Memory`
-    /// alone.
-    pub fn finish(mut self) -> Result<Vec<CallRecord<A>, A>, Fault>
-        ensures calls { IfOk result (λ v. (epoch channel : ℕ) (es : List Event) → StandsFor self epoch channel es → v.items ≡ calls_of es) }
-        ensures memory { IfErr result (λ f. f ≡ Fault.Memory) }
+    /// The records of the calls when no more events come, in the order in which they were opened.
+    pub fn finish(mut self) -> Result<Vec<CallRecord<A>, A>, AllocError>
+        ensures calls { IfOk result (λ v. AreCallsOf self v.items) }
     {
         self.close()?;
         Ok(self.told)

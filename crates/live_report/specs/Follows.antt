@@ -1,12 +1,14 @@
 -- A follower: a trace that is fed, and how many of its findings were told.
-use Rattle.std.specs.Prelude.{◌≡◌, ℕ, ◌≤◌, List, Option, Some, None, IfSome, length, take}
+use Rattle.std.specs.Prelude.{◌≡◌, ℕ, ◌≤◌, List, ◌++◌, Option, Some, None, Result, IfErr, IfSome, OnOk, length, take}
 use Rattle.line_model.specs.channels.Channels.{Channel}
 use Rattle.line_model.specs.basics.Device.{with_more}
 use Rattle.line_model.specs.declared.fault.Kind.{Kind}
 use Rattle.line_model.specs.declared.fault.Fault.{Fault}
 use Rattle.line_model.specs.declared.fault.Fault.TheVariants.{Memory, Trace, Write}
 use Rattle.line_model.specs.declared.interface.Interface.{Interface}
+use Rattle.line_model.specs.text.Text.{early}
 use Rattle.trace_text.specs.Progress.{bytes_fed}
+use Rattle.channel_machine.specs.declared.run.Channel.{Ghosts as Machine}
 use Rattle.live_report.specs.declared.follow.Follower.{Follower}
 use Rattle.live_report.specs.Found.{found, found_text}
 use Rattle.live_report.specs.Lives.{StandsFor as IsLive}
@@ -43,3 +45,23 @@ IsRefusalOf at Memory = Unit {0}
 IsRefusalOf at (Trace line kind) = at ≡ Some (line, kind)
 IsRefusalOf at Write = at ≡ None
 IsRefusalOf at _ = ⊥
+
+-- by the members of a machine of one channel: it was fed this text, refused none of it, and told all of its findings
+abbrev pub HasFollowed : {A C : Type 0} → Machine C A → List ℕ → Follower A C → Type 0
+HasFollowed m text f = StandsFor m.interface_of m.number_of m.stands_for f text
+
+-- of any text that it has followed
+abbrev pub OfFollowed : {A C : Type 0} → Machine C A → Follower A C → (List ℕ → Type 0) → Type 0
+OfFollowed m f Fact = (text : List ℕ) → HasFollowed m text f → Fact text
+
+-- of any text that it has followed, and a sink that took its findings behind what it had
+abbrev pub OfTold : {A C : Type 0} → Machine C A → Follower A C → (taken : Option (List ℕ)) → (List ℕ → Option (List ℕ) → Type 0) → Type 0
+OfTold m f taken Fact = (text : List ℕ) (before : Option (List ℕ)) → HasFollowed m text f → HasFindings before taken text → Fact text before
+
+-- of any text that it has followed: it has followed that text with the chunk
+abbrev pub FollowsOn : {A C T E : Type 0} → Machine C A → (before : Follower A C) → (chunk : List ℕ) → (after : Follower A C) → Result T E → Type 0
+FollowsOn m before chunk after result = OfFollowed m before (λ text. OnOk result (HasFollowed m (text ++ chunk) after))
+
+-- of any text that it has followed: why it refuses that text with the chunk
+abbrev pub RefusesOn : {A C T : Type 0} → Machine C A → Follower A C → (chunk : List ℕ) → Result T Fault → Type 0
+RefusesOn m f chunk result = OfFollowed m f (λ text. IfErr result (IsRefusalOf (early (text ++ chunk))))

@@ -1,13 +1,22 @@
 -- The live channels of the open epoch, and the rows that they stand for.
-use Rattle.std.specs.Prelude.{◌≡◌, ◌≢◌, ℕ, true, List, [], Option, Some, None}
+use Rattle.std.specs.Prelude.{◌≡◌, ◌≢◌, ℕ, true, List, [], Option, Some, None, option_to_list}
 use Rattle.line_model.specs.declared.interface.Interface.{Interface}
-use Rattle.line_model.specs.basics.Records.{Item, Piece}
+use Rattle.line_model.specs.declared.packet.Packet.{Packet}
+use Rattle.line_model.specs.declared.finding.Finding.{Finding}
+use Rattle.line_model.specs.basics.Records.{Row, Item, Piece}
 use Rattle.line_model.specs.channels.Channels.{Channel}
+use Rattle.line_model.specs.observer.Report.{findings_of}
 use Rattle.line_model.specs.pieces.Plan.{has_some}
 use Rattle.restart_epochs.specs.OpenRows.{OpenRows, rows_of, with_channel}
 use Rattle.restart_epochs.specs.OpenLanes.{OpenLanes, value_at}
 use Rattle.channel_machine.specs.declared.live.LiveChannel.{LiveChannel}
-use Rattle.channel_machine.specs.Live.{StandsFor as IsLive}
+use Rattle.channel_machine.specs.declared.run.Channel.{Ghosts as Machine}
+use Rattle.channel_machine.specs.Live.{StandsFor as IsLive, channel_so_far}
+use Rattle.channel_machine.specs.Run.{row_events}
+
+-- a row with its packet
+abbrev pub item : Row → Packet → Item
+item row packet = record { row = row; packet = packet }
 
 -- the piece of a channel in an epoch that has not ended
 abbrev pub begun_piece : Interface → (epoch channel : ℕ) → List Item → Piece
@@ -30,3 +39,14 @@ pub record IsOutFor {A C : Type 0} (interface_of : C → Interface) (number_of :
   pub stands : IsLive interface_of number_of stands_for live (begun_piece i epoch channel (rows_of rows channel))
   pub others : (k : ℕ) → k ≢ channel → LaneFor interface_of number_of stands_for (begun_piece i epoch k (rows_of rows k)) (value_at lanes k)
   pub channels : lanes.channels ≡ with_channel (rows_of rows channel) channel rows.channels
+
+-- the same two by the members of a machine of one channel
+abbrev pub LanesStandFor : {A C : Type 0} → Machine C A → Interface → (epoch : ℕ) → OpenRows → OpenLanes (LiveChannel A C) → Type 0
+LanesStandFor m i epoch rows lanes = OpenFor m.interface_of m.number_of m.stands_for i epoch rows lanes
+
+abbrev pub IsOut : {A C : Type 0} → Machine C A → Interface → (epoch channel : ℕ) → OpenRows → LiveChannel A C → OpenLanes (LiveChannel A C) → Type 0
+IsOut m i epoch channel rows live lanes = IsOutFor m.interface_of m.number_of m.stands_for i epoch channel rows live lanes
+
+-- the finding on the next row of a piece
+abbrev pub FindsOn : Piece → Row → Option Finding → Type 0
+FindsOn p row found = option_to_list found ≡ findings_of (row_events p.interface p.epoch p.channel (channel_so_far p) row)

@@ -1,4 +1,5 @@
 pub mod Lanes
+pub mod Telling
 pub mod Observing
 pub mod Reports
 pub mod Found

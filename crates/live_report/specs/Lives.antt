@@ -1,10 +1,12 @@
 -- A trace that is fed in chunks: what was read of it, and the observer of its rows.
-use Rattle.std.specs.Prelude.{◌≡◌, ℕ, List, [], Option, Some, None, IfSome}
+use Rattle.std.specs.Prelude.{◌≡◌, ℕ, List, [], ◌++◌, Option, Some, None, Result, IfErr, IfSome, OnOk}
 use Rattle.line_model.specs.channels.Channels.{Channel}
-use Rattle.line_model.specs.text.Text.{early_rows}
+use Rattle.line_model.specs.declared.fault.Fault.{Fault}
+use Rattle.line_model.specs.text.Text.{early, early_rows}
 use Rattle.line_model.specs.declared.interface.Interface.{Interface}
 use Rattle.trace_text.specs.Progress.{Progress}
-use Rattle.trace_text.specs.StandsFor.{StandsFor as IsReaderOf, IsTextFault}
+use Rattle.trace_text.specs.StandsFor.{StandsFor as IsReaderOf, IsFaultOf, IsTextFault}
+use Rattle.channel_machine.specs.declared.run.Channel.{Ghosts as Machine}
 use Rattle.live_report.specs.declared.observer.Observer.{Observer}
 use Rattle.live_report.specs.declared.live.Live.{Live}
 use Rattle.live_report.specs.Observing.{StandsFor as IsObserverOf}
@@ -31,3 +33,31 @@ pub record StandsFor {A C : Type 0} (interface_of : C → Interface) (number_of 
 pub record IsFed {A C : Type 0} (interface_of : C → Interface) (number_of : C → ℕ) (stands_for : C → Channel → Type 0) (live : Live A C) : Type 0 where
   pub fed : live.refused ≡ None → (text : List ℕ) × StandsFor interface_of number_of stands_for live text
   pub kinds : IfSome live.refused IsTextFault
+
+-- by the members of a machine of one channel: a reader was fed a text, and an observer of its interface took its rows
+abbrev pub Watches : {A C : Type 0} → Machine C A → Interface → List ℕ → Progress → Observer A C → Type 0
+Watches m i text reader o = IsWatching m.interface_of m.number_of m.stands_for i text reader o
+
+-- the same of some interface and text
+abbrev pub IsWatcher : {A C : Type 0} → Machine C A → Progress → Observer A C → Type 0
+IsWatcher m reader o = (i : Interface) × (text : List ℕ) × Watches m i text reader o
+
+-- of any interface and text
+abbrev pub OfWatched : {A C : Type 0} → Machine C A → Progress → Observer A C → (Interface → List ℕ → Type 0) → Type 0
+OfWatched m reader o Fact = (i : Interface) (text : List ℕ) → Watches m i text reader o → Fact i text
+
+-- it was fed this text, and refused none of it
+abbrev pub WasFed : {A C : Type 0} → Machine C A → List ℕ → Live A C → Type 0
+WasFed m text live = StandsFor m.interface_of m.number_of m.stands_for live text
+
+-- of any text that it was fed
+abbrev pub OfFed : {A C : Type 0} → Machine C A → Live A C → (List ℕ → Type 0) → Type 0
+OfFed m live Fact = (text : List ℕ) → WasFed m text live → Fact text
+
+-- of any text that it was fed: it was fed that text with the chunk
+abbrev pub IsFedOn : {A C T E : Type 0} → Machine C A → (before : Live A C) → (chunk : List ℕ) → (after : Live A C) → Result T E → Type 0
+IsFedOn m before chunk after result = OfFed m before (λ text. OnOk result (WasFed m (text ++ chunk) after))
+
+-- of any text that it was fed: it refuses by the first line that is faulty however that text with the chunk goes on
+abbrev pub RefusesEarly : {A C T : Type 0} → Machine C A → Live A C → (chunk : List ℕ) → Result T Fault → Type 0
+RefusesEarly m live chunk result = OfFed m live (λ text. IfErr result (IsFaultOf (early (text ++ chunk))))

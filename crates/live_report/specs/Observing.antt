@@ -1,15 +1,19 @@
 -- The observer that runs: what it holds after some rows.
-use Rattle.std.specs.Prelude.{◌≡◌, ℕ, ◌≤◌, ◌^◌, List, ◌∷◌, All, length, map, sum_by}
+use Rattle.std.specs.Prelude.{◌≡◌, ℕ, ◌≤◌, ◌^◌, List, [], ◌∷◌, ◌++◌, All, Option, Some, Result, IfOk, OnOk, length, map, option_to_list, sum_by}
 use Rattle.std.specs.List.Sorted.{IsStrictlyIncreasing}
 use Rattle.line_model.specs.declared.interface.Interface.{Interface}
-use Rattle.line_model.specs.basics.Records.{Row, PieceReport}
+use Rattle.line_model.specs.declared.finding.Finding.{Finding}
+use Rattle.line_model.specs.basics.Records.{Row, Piece, PieceReport, Report}
 use Rattle.line_model.specs.channels.Channels.{Channel}
+use Rattle.line_model.specs.observer.Report.{report_of}
 use Rattle.line_model.specs.pieces.Plans.{value}
 use Rattle.line_model.specs.text.Text.{last_or}
-use Rattle.restart_epochs.specs.Cutting.{Cutting, IsCutting, StandsFor as IsCutterOf, given_of}
+use Rattle.channel_machine.specs.declared.run.Channel.{Ghosts as Machine}
+use Rattle.restart_epochs.specs.OpenRows.{rows_of}
+use Rattle.restart_epochs.specs.Cutting.{Cutting, IsCutting, StandsFor as IsCutterOf, given_of, pieces_out}
 use Rattle.report_merge.specs.Gathered.{gathered}
 use Rattle.live_report.specs.declared.observer.Observer.{Observer}
-use Rattle.live_report.specs.Lanes.{OpenFor}
+use Rattle.live_report.specs.Lanes.{OpenFor, begun_piece}
 
 -- rows as a trace has them: their numbers rise, and their octets are few
 pub record AreRows (rs : List Row) : Type 0 where
@@ -40,3 +44,45 @@ pub record StandsFor {A C : Type 0} (interface_of : C → Interface) (number_of 
   pub last : cutting.last ≡ last_or 0 (map (λ r. r.number) rs)
   pub octets : cutting.octets ≡ sum_by (λ r. length r.octets) rs
   pub holds : Holds interface_of number_of stands_for cutting (map value (given_of i rs)) o
+
+-- the same two by the members of a machine of one channel
+abbrev pub IsHolding : {A C : Type 0} → Machine C A → Cutting → List PieceReport → Observer A C → Type 0
+IsHolding m c reports o = Holds m.interface_of m.number_of m.stands_for c reports o
+
+abbrev pub HasWalked : {A C : Type 0} → Machine C A → Interface → List Row → Observer A C → Type 0
+HasWalked m i rows o = StandsFor m.interface_of m.number_of m.stands_for i rows o
+
+-- the piece of a channel in the open epoch
+abbrev pub open_piece : Cutting → (channel : ℕ) → Piece
+open_piece c channel = begun_piece c.interface c.epoch channel (rows_of c.open_rows channel)
+
+-- the reports of the pieces that are known whole once a row of this number has left r1
+abbrev pub with_ended : (number : ℕ) → List PieceReport → Cutting → List PieceReport
+with_ended number reports c = reports ++ map value (pieces_out c.interface c.epoch (Some number) (rows_of c.open_rows) (length reports) c.open_rows.channels)
+
+-- it has walked some rows
+abbrev pub IsObserver : {A C : Type 0} → Machine C A → Observer A C → Type 0
+IsObserver m o = (i : Interface) × (rows : List Row) × HasWalked m i rows o
+
+-- it has walked some rows, and these may come behind them
+abbrev pub MayWalk : {A C : Type 0} → Machine C A → Observer A C → (more : List Row) → Type 0
+MayWalk m o more = (i : Interface) × (rows : List Row) × HasWalked m i rows o × AreRows (rows ++ more)
+
+-- of any rows that it has walked: it has walked them and this one
+abbrev pub WalksOn : {A C T E : Type 0} → Machine C A → (before : Observer A C) → Row → (after : Observer A C) → Result T E → Type 0
+WalksOn m before row after result =
+    (i : Interface) (rows : List Row) → HasWalked m i rows before → AreRows (rows ++ row ∷ []) → OnOk result (HasWalked m i (rows ++ row ∷ []) after)
+
+-- of any rows that it has walked: the finding on this one comes behind all that was found before
+abbrev pub TellsFinding : {A C E : Type 0} → Machine C A → Observer A C → Row → Result (Option Finding) E → Type 0
+TellsFinding m o row result =
+    (i : Interface) (rows : List Row) → HasWalked m i rows o → IfOk result (λ found. (report_of i (rows ++ row ∷ [])).findings ≡ (report_of i rows).findings ++ option_to_list found)
+
+-- of any rows that it has walked: their report
+abbrev pub TellsReport : {A C E : Type 0} → Machine C A → Observer A C → Result Report E → Type 0
+TellsReport m o result = (i : Interface) (rows : List Row) → HasWalked m i rows o → IfOk result (λ report. report ≡ report_of i rows)
+
+-- of any rows that it has walked: the report of them and these
+abbrev pub TellsReportWith : {A C E : Type 0} → Machine C A → Observer A C → (more : List Row) → Result Report E → Type 0
+TellsReportWith m o more result =
+    (i : Interface) (rows : List Row) → HasWalked m i rows o → AreRows (rows ++ more) → IfOk result (λ report. report ≡ report_of i (rows ++ more))

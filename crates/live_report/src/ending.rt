@@ -1,15 +1,8 @@
 //! The live channels of an epoch that has ended.
 
-ghost use Rattle.std.specs.Prelude.{◌≡◌, ℕ, ◌<◌, ◌+◌, ◌^◌, ◌++◌, List, IfErr, OnOk, length, map};
-ghost use Rattle.line_model.specs.pieces.Plans.{value};
-ghost use Rattle.line_model.specs.basics.Records as records;
-ghost use Rattle.line_model.specs.declared.interface.Interface.{Interface as AnyInterface};
+ghost use Rattle.std.specs.Prelude.{◌≡◌, ◌<◌, ◌+◌, ◌^◌, IfErr, length};
 ghost use Rattle.line_model.specs.declared.fault.Fault.TheVariants.{Memory};
-ghost use Rattle.restart_epochs.specs.OpenRows.{OpenRows, rows_of, IsListing};
-ghost use Rattle.restart_epochs.specs.OpenLanes.{IsEmpty};
-ghost use Rattle.restart_epochs.specs.Cutting.{pieces_out};
-ghost use Rattle.report_merge.specs.Gathered.{gathered};
-ghost use Rattle.live_report.specs.Lanes.{OpenFor};
+ghost use Rattle.live_report.specs.Telling.{EmptiesLanes, MayTell, TellsPieces};
 
 use channel_machine::live::LiveChannel;
 use channel_machine::run::Channel;
@@ -26,10 +19,10 @@ pub fn end_channels<A: Allocator + Copy, C: Channel<A>>(
     lanes: &mut Lanes<LiveChannel<A, C>, A>,
     out: &mut Parts<A>,
 ) -> Result<(), Fault>
-    requires room { (i : AnyInterface) × (epoch : ℕ) × (rows : OpenRows) × (first : List records.PieceReport) × OpenFor C.interface_of C.number_of C.stands_for i epoch rows lanes.old × IsListing rows × (out.old ≡ gathered first) }
+    requires room { MayTell C.Channel lanes.old out.old }
     requires pieces { out.old.pieces + length lanes.old.channels < 2 ^ 32 }
-    ensures values { (i : AnyInterface) (epoch : ℕ) (rows : OpenRows) (first : List records.PieceReport) → OpenFor C.interface_of C.number_of C.stands_for i epoch rows lanes.old → IsListing rows → out.old ≡ gathered first → OnOk result (out.new ≡ gathered (first ++ map value (pieces_out i epoch end (rows_of rows) (length first) rows.channels))) }
-    ensures emptied { (i : AnyInterface) (epoch : ℕ) (rows : OpenRows) → OpenFor C.interface_of C.number_of C.stands_for i epoch rows lanes.old → IsListing rows → OnOk result (IsEmpty lanes.new) }
+    ensures values { TellsPieces C.Channel end lanes.old out.old out.new result }
+    ensures emptied { EmptiesLanes C.Channel lanes.old lanes.new result }
     ensures memory { IfErr result (λ fault. fault ≡ Memory) }
 {
     while let Some((channel, live)) = lanes.pop_first() {

@@ -1,11 +1,10 @@
 //! A trace whose findings are written as it grows.
 
-ghost use Rattle.std.specs.Prelude.{◌≡◌, ◌≢◌, ℕ, ◌+◌, ◌<◌, ◌≤◌, ◌^◌, ◌++◌, [], List, Option, Some, Err, length, IfErr, IfOk, OnOk};
-ghost use Rattle.line_model.specs.text.Text.{early};
+ghost use Rattle.std.specs.Prelude.{◌≡◌, ◌≢◌, ℕ, ◌+◌, ◌<◌, ◌≤◌, ◌^◌, ◌++◌, [], List, Some, Err, length, IfErr, IfOk, OnOk};
 ghost use Rattle.line_model.specs.traces.Traces.{trace_report};
 ghost use Rattle.trace_text.specs.Progress.{bytes_fed};
 ghost use Rattle.live_report.specs.Found.{found_text};
-ghost use Rattle.live_report.specs.Follows.{HasFindings, HasFindingsAtLine, HasFirst, IsFed, IsRefusalOf, StandsFor};
+ghost use Rattle.live_report.specs.Follows.{FollowsOn, HasFindings, HasFindingsAtLine, HasFirst, HasFollowed, IsFed, OfFollowed, OfTold, RefusesOn};
 ghost use Rattle.live_report.specs.Reports.{IsRefusal, IsReportFault, IsReported};
 
 use crate::live::Live;
@@ -29,7 +28,7 @@ impl<A: Allocator + Copy, C: Channel<A>> Follower<A, C> {
     /// A trace of which nothing was fed. It takes no memory.
     pub fn new(alloc: A) -> Self
         ensures fed { IsFed C.interface_of C.number_of C.stands_for result }
-        ensures stands { StandsFor C.interface_of C.number_of C.stands_for result [] }
+        ensures stands { HasFollowed C.Channel [] result }
     {
         Follower {
             live: Live::new(alloc),
@@ -40,13 +39,18 @@ impl<A: Allocator + Copy, C: Channel<A>> Follower<A, C> {
 
     /// Takes the rows of a chunk, and writes the lines of what they found.
     fn tell<K: Sink>(&mut self, chunk: &[u8], sink: &mut K) -> Result<(), Fault>
-        requires { (text : List ℕ) × StandsFor C.interface_of C.number_of C.stands_for self.old text }
-        ensures stands { (text : List ℕ) → StandsFor C.interface_of C.number_of C.stands_for self.old text → OnOk result (StandsFor C.interface_of C.number_of C.stands_for self.new (text ++ chunk.now)) }
-        ensures refused { (text : List ℕ) → StandsFor C.interface_of C.number_of C.stands_for self.old text → IfErr result (IsRefusalOf (early (text ++ chunk.now))) }
-        ensures told { (text : List ℕ) (before : Option (List ℕ)) → StandsFor C.interface_of C.number_of C.stands_for self.old text → HasFindings before (K.taken sink.old) text → OnOk result (HasFindings before (K.taken sink.new) (text ++ chunk.now)) }
-        ensures taken { (text : List ℕ) (before : Option (List ℕ)) → StandsFor C.interface_of C.number_of C.stands_for self.old text → HasFindings before (K.taken sink.old) text → HasFirst before (K.taken sink.new) (found_text (text ++ chunk.now)) }
-        ensures at_line { (text : List ℕ) (before : Option (List ℕ)) → StandsFor C.interface_of C.number_of C.stands_for self.old text → HasFindings before (K.taken sink.old) text → K.failures sink.new ≡ K.failures sink.old → IfErr result (HasFindingsAtLine before (K.taken sink.new) (text ++ chunk.now)) }
-        ensures size { OnOk result (bytes_fed self.new.live.lines ≡ bytes_fed self.old.live.lines + length chunk.now) }
+        requires { (text : List ℕ) × HasFollowed C.Channel text self.old }
+        ensures stands { FollowsOn C.Channel self.old chunk.now self.new result }
+        ensures refused { RefusesOn C.Channel self.old chunk.now result }
+        ensures told { OfTold C.Channel self.old (K.taken sink.old) (λ text before.
+            OnOk result (HasFindings before (K.taken sink.new) (text ++ chunk.now))) }
+        ensures taken { OfTold C.Channel self.old (K.taken sink.old) (λ text before.
+            HasFirst before (K.taken sink.new) (found_text (text ++ chunk.now))) }
+        ensures at_line { OfTold C.Channel self.old (K.taken sink.old) (λ text before.
+            K.failures sink.new ≡ K.failures sink.old
+            → IfErr result (HasFindingsAtLine before (K.taken sink.new) (text ++ chunk.now))) }
+        ensures size { OnOk result (bytes_fed self.new.live.lines
+            ≡ bytes_fed self.old.live.lines + length chunk.now) }
         ensures limit { OnOk result (bytes_fed self.new.live.lines ≤ 2 ^ 30) }
         ensures kinds { IfErr result IsReportFault }
         ensures rising { K.failures sink.old ≤ K.failures sink.new }
@@ -69,20 +73,27 @@ impl<A: Allocator + Copy, C: Channel<A>> Follower<A, C> {
         requires fed { IsFed C.interface_of C.number_of C.stands_for self.old }
         ensures fed { IsFed C.interface_of C.number_of C.stands_for self.new }
         // Of any text that it was fed: it was fed that text with the chunk.
-        ensures stands { (text : List ℕ) → StandsFor C.interface_of C.number_of C.stands_for self.old text → OnOk result (StandsFor C.interface_of C.number_of C.stands_for self.new (text ++ chunk.now)) }
-        ensures refused { (text : List ℕ) → StandsFor C.interface_of C.number_of C.stands_for self.old text → IfErr result (IsRefusalOf (early (text ++ chunk.now))) }
+        ensures stands { FollowsOn C.Channel self.old chunk.now self.new result }
+        ensures refused { RefusesOn C.Channel self.old chunk.now result }
         // A sink that has the lines of what was found so far has them of the text with the chunk.
-        ensures told { (text : List ℕ) (before : Option (List ℕ)) → StandsFor C.interface_of C.number_of C.stands_for self.old text → HasFindings before (K.taken sink.old) text → OnOk result (HasFindings before (K.taken sink.new) (text ++ chunk.now)) }
+        ensures told { OfTold C.Channel self.old (K.taken sink.old) (λ text before.
+            OnOk result (HasFindings before (K.taken sink.new) (text ++ chunk.now))) }
         // Whatever is answered, it has a first part of them; at a faulty line all, if it did not fail.
-        ensures taken { (text : List ℕ) (before : Option (List ℕ)) → StandsFor C.interface_of C.number_of C.stands_for self.old text → HasFindings before (K.taken sink.old) text → HasFirst before (K.taken sink.new) (found_text (text ++ chunk.now)) }
-        ensures at_line { (text : List ℕ) (before : Option (List ℕ)) → StandsFor C.interface_of C.number_of C.stands_for self.old text → HasFindings before (K.taken sink.old) text → K.failures sink.new ≡ K.failures sink.old → IfErr result (HasFindingsAtLine before (K.taken sink.new) (text ++ chunk.now)) }
-        ensures size { OnOk result (bytes_fed self.new.live.lines ≡ bytes_fed self.old.live.lines + length chunk.now) }
+        ensures taken { OfTold C.Channel self.old (K.taken sink.old) (λ text before.
+            HasFirst before (K.taken sink.new) (found_text (text ++ chunk.now))) }
+        ensures at_line { OfTold C.Channel self.old (K.taken sink.old) (λ text before.
+            K.failures sink.new ≡ K.failures sink.old
+            → IfErr result (HasFindingsAtLine before (K.taken sink.new) (text ++ chunk.now))) }
+        ensures size { OnOk result (bytes_fed self.new.live.lines
+            ≡ bytes_fed self.old.live.lines + length chunk.now) }
         ensures limit { OnOk result (bytes_fed self.new.live.lines ≤ 2 ^ 30) }
         ensures kinds { IfErr result IsReportFault }
         ensures rising { K.failures sink.old ≤ K.failures sink.new }
-        ensures write_failed { (text : List ℕ) → StandsFor C.interface_of C.number_of C.stands_for self.old text → result ≡ Err Fault.Write → K.failures sink.old < K.failures sink.new }
+        ensures write_failed { OfFollowed C.Channel self.old (λ text.
+            result ≡ Err Fault.Write → K.failures sink.old < K.failures sink.new) }
         ensures refuses { IfErr result (λ fault. self.new.refused ≡ Some fault) }
-        ensures again { (fault : Fault) → self.old.refused ≡ Some fault → (result ≡ Err fault) × (self.new ≡ self.old) × (sink.new ≡ sink.old) }
+        ensures again { (fault : Fault) → self.old.refused ≡ Some fault
+            → (result ≡ Err fault) × (self.new ≡ self.old) × (sink.new ≡ sink.old) }
     {
         if let Some(fault) = self.refused {
             return Err(fault);
@@ -98,13 +109,17 @@ impl<A: Allocator + Copy, C: Channel<A>> Follower<A, C> {
     pub fn end<K: Sink>(self, sink: &mut K) -> Result<Summary, Fault>
         requires fed { IsFed C.interface_of C.number_of C.stands_for self }
         // A sink that has the lines of what was found so far has the report.
-        ensures reported { (text : List ℕ) (before : Option (List ℕ)) → StandsFor C.interface_of C.number_of C.stands_for self text → HasFindings before (K.taken sink.old) text → IfOk result (IsReported text before (K.taken sink.new)) }
-        ensures refused { (text : List ℕ) → StandsFor C.interface_of C.number_of C.stands_for self text → IfErr result (IsRefusal text) }
+        ensures reported { OfTold C.Channel self (K.taken sink.old) (λ text before.
+            IfOk result (IsReported text before (K.taken sink.new))) }
+        ensures refused { OfFollowed C.Channel self (λ text. IfErr result (IsRefusal text)) }
         ensures kinds { IfErr result IsReportFault }
-        ensures write_failed { (text : List ℕ) → StandsFor C.interface_of C.number_of C.stands_for self text → result ≡ Err Fault.Write → K.failures sink.old < K.failures sink.new }
+        ensures write_failed { OfFollowed C.Channel self (λ text.
+            result ≡ Err Fault.Write → K.failures sink.old < K.failures sink.new) }
         ensures unwritten { IfErr result (λ fault. fault ≢ Fault.Write → sink.new ≡ sink.old) }
-        ensures taken { (text : List ℕ) (before : Option (List ℕ)) → StandsFor C.interface_of C.number_of C.stands_for self text → HasFindings before (K.taken sink.old) text → result ≡ Err Fault.Write → HasFirst before (K.taken sink.new) (trace_report text) }
-        ensures again { (fault : Fault) → self.refused ≡ Some fault → (result ≡ Err fault) × (sink.new ≡ sink.old) }
+        ensures taken { OfTold C.Channel self (K.taken sink.old) (λ text before.
+            result ≡ Err Fault.Write → HasFirst before (K.taken sink.new) (trace_report text)) }
+        ensures again { (fault : Fault) → self.refused ≡ Some fault
+            → (result ≡ Err fault) × (sink.new ≡ sink.old) }
     {
         let Follower {
             live,

@@ -1,13 +1,10 @@
 //! The live channels of the epoch that has not ended.
 
-ghost use Rattle.std.specs.Prelude.{option_to_list, ◌≡◌, ◌<◌, ◌++◌, ◌∷◌, [], IfErr, IfOk, OnOk, length};
+ghost use Rattle.std.specs.Prelude.{◌≡◌, ◌<◌, ◌++◌, ◌∷◌, [], IfErr, IfOk, OnOk, length};
 ghost use Rattle.line_model.specs.basics.Bounds.{IsPiece};
-ghost use Rattle.line_model.specs.observer.Report.{findings_of};
 ghost use Rattle.line_model.specs.declared.fault.Fault.TheVariants.{Memory};
-ghost use Rattle.channel_machine.specs.Run.{row_events};
-ghost use Rattle.channel_machine.specs.Live.{channel_so_far};
 ghost use Rattle.restart_epochs.specs.OpenRows.{OpenRows, rows_of, HasMore};
-ghost use Rattle.live_report.specs.Lanes.{begun_piece, IsOutFor, OpenFor};
+ghost use Rattle.live_report.specs.Lanes.{begun_piece, item, FindsOn, IsOut, LanesStandFor};
 
 use channel_machine::live::LiveChannel;
 use channel_machine::run::Channel;
@@ -29,7 +26,8 @@ fn take_out<A: Allocator + Copy, C: Channel<A>>(
     channel: u16,
     lanes: &mut Lanes<LiveChannel<A, C>, A>,
 ) -> Result<Box<LiveChannel<A, C>, A>, Fault>
-    ensures out { (rows : OpenRows) → OpenFor C.interface_of C.number_of C.stands_for interface.now epoch rows lanes.old → IfOk result (λ live. IsOutFor C.interface_of C.number_of C.stands_for interface.now epoch channel rows live.value lanes.new) }
+    ensures out { (rows : OpenRows) → LanesStandFor C.Channel interface.now epoch rows lanes.old
+        → IfOk result (λ live. IsOut C.Channel interface.now epoch channel rows live.value lanes.new) }
     ensures room { OnOk result (channel < length lanes.new.lanes) }
     ensures memory { IfErr result (λ fault. fault ≡ Memory) }
 {
@@ -51,9 +49,14 @@ pub fn step_channel<A: Allocator + Copy, C: Channel<A>>(
     events: &mut Vec<Event, A>,
     lanes: &mut Lanes<LiveChannel<A, C>, A>,
 ) -> Result<Option<Finding>, Fault>
-    requires room { (rows : OpenRows) × OpenFor C.interface_of C.number_of C.stands_for interface.now epoch rows lanes.old × IsPiece interface.now channel (rows_of rows channel ++ record { row = row.now; packet = packet.now } ∷ []) }
-    ensures stands { (rows after : OpenRows) → OpenFor C.interface_of C.number_of C.stands_for interface.now epoch rows lanes.old → HasMore channel (record { row = row.now; packet = packet.now }) rows after → IsPiece interface.now channel (rows_of after channel) → OnOk result (OpenFor C.interface_of C.number_of C.stands_for interface.now epoch after lanes.new) }
-    ensures finding { (rows : OpenRows) → OpenFor C.interface_of C.number_of C.stands_for interface.now epoch rows lanes.old → IfOk result (λ found. option_to_list found ≡ findings_of (row_events interface.now epoch channel (channel_so_far (begun_piece interface.now epoch channel (rows_of rows channel))) row.now)) }
+    requires room { (rows : OpenRows) × LanesStandFor C.Channel interface.now epoch rows lanes.old
+        × IsPiece interface.now channel (rows_of rows channel ++ item row.now packet.now ∷ []) }
+    ensures stands { (rows after : OpenRows) → LanesStandFor C.Channel interface.now epoch rows lanes.old
+        → HasMore channel (item row.now packet.now) rows after
+        → IsPiece interface.now channel (rows_of after channel)
+        → OnOk result (LanesStandFor C.Channel interface.now epoch after lanes.new) }
+    ensures finding { (rows : OpenRows) → LanesStandFor C.Channel interface.now epoch rows lanes.old
+        → IfOk result (FindsOn (begun_piece interface.now epoch channel (rows_of rows channel)) row.now) }
     ensures memory { IfErr result (λ fault. fault ≡ Memory) }
 {
     let alloc = *events.allocator();

@@ -2,13 +2,13 @@
 
 ghost use Rattle.std.specs.Prelude.{◌≡◌, ◌≢◌, ℕ, ◌+◌, ◌<◌, ◌≤◌, ◌^◌, ◌++◌, [], List, Some, None, Err, length, IfErr, IfOk, OnOk};
 ghost use Rattle.std.specs.Option.{option_map};
-ghost use Rattle.line_model.specs.text.Text.{early, ended_lines, fault};
+ghost use Rattle.line_model.specs.text.Text.{ended_lines, fault};
 ghost use Rattle.line_model.specs.traces.Traces.{trace_report};
 ghost use Rattle.trace_text.specs.Progress.{bytes_fed};
 ghost use Rattle.trace_text.specs.StandsFor.{IsFaultOf, IsTextFault};
 ghost use Rattle.trace_text.specs.EndedPart.{ended_part};
 ghost use Rattle.live_report.specs.Found.{IsFoundBy, found};
-ghost use Rattle.live_report.specs.Lives.{IsFed, StandsFor};
+ghost use Rattle.live_report.specs.Lives.{IsFed, IsFedOn, OfFed, RefusesEarly, WasFed};
 ghost use Rattle.live_report.specs.Reports.{IsMissing, IsRefusal, IsReportFault, IsReportOf, IsReported, IsTaken};
 
 use crate::observer::Observer;
@@ -44,7 +44,7 @@ impl<A: Allocator + Copy, C: Channel<A>> Live<A, C> {
     /// A trace of which nothing was fed. It takes no memory.
     pub fn new(alloc: A) -> Self
         ensures fed { IsFed C.interface_of C.number_of C.stands_for result }
-        ensures stands { StandsFor C.interface_of C.number_of C.stands_for result [] }
+        ensures stands { WasFed C.Channel [] result }
     {
         Live {
             lines: Lines::new(alloc),
@@ -89,10 +89,12 @@ impl<A: Allocator + Copy, C: Channel<A>> Live<A, C> {
 
     /// Takes the rows of a chunk, and appends what they find.
     fn feed_rows(&mut self, chunk: &[u8]) -> Result<(), Fault>
-        requires { (text : List ℕ) × StandsFor C.interface_of C.number_of C.stands_for self.old text }
-        ensures stands { (text : List ℕ) → StandsFor C.interface_of C.number_of C.stands_for self.old text → OnOk result (StandsFor C.interface_of C.number_of C.stands_for self.new (text ++ chunk.now)) }
-        ensures refused { (text : List ℕ) → StandsFor C.interface_of C.number_of C.stands_for self.old text → IfErr result (IsFaultOf (early (text ++ chunk.now))) }
-        ensures found { (text : List ℕ) → StandsFor C.interface_of C.number_of C.stands_for self.old text → IsFoundBy result self.old.found.items self.new.found.items (found text) (found (text ++ chunk.now)) }
+        requires { (text : List ℕ) × WasFed C.Channel text self.old }
+        ensures stands { IsFedOn C.Channel self.old chunk.now self.new result }
+        ensures refused { RefusesEarly C.Channel self.old chunk.now result }
+        ensures found { OfFed C.Channel self.old (λ text.
+            IsFoundBy result self.old.found.items self.new.found.items
+            (found text) (found (text ++ chunk.now))) }
         ensures few { length self.new.found.items ≤ length self.old.found.items + length chunk.now }
         ensures size { OnOk result (bytes_fed self.new.lines ≡ bytes_fed self.old.lines + length chunk.now) }
         ensures limit { OnOk result (bytes_fed self.new.lines ≤ 2 ^ 30) }
@@ -138,16 +140,18 @@ impl<A: Allocator + Copy, C: Channel<A>> Live<A, C> {
         requires fed { IsFed C.interface_of C.number_of C.stands_for self.old }
         ensures fed { IsFed C.interface_of C.number_of C.stands_for self.new }
         // Of any text that it was fed: it was fed that text with the chunk.
-        ensures stands { (text : List ℕ) → StandsFor C.interface_of C.number_of C.stands_for self.old text → OnOk result (StandsFor C.interface_of C.number_of C.stands_for self.new (text ++ chunk.now)) }
-        ensures refused { (text : List ℕ) → StandsFor C.interface_of C.number_of C.stands_for self.old text → IfErr result (IsFaultOf (early (text ++ chunk.now))) }
+        ensures stands { IsFedOn C.Channel self.old chunk.now self.new result }
+        ensures refused { RefusesEarly C.Channel self.old chunk.now result }
         // What the rows of the chunk found stands behind what all rows before it did; for want of memory some first of it.
-        ensures found { (text : List ℕ) → StandsFor C.interface_of C.number_of C.stands_for self.old text → IsFoundBy result [] self.new.found.items (found text) (found (text ++ chunk.now)) }
+        ensures found { OfFed C.Channel self.old (λ text.
+            IsFoundBy result [] self.new.found.items (found text) (found (text ++ chunk.now))) }
         ensures few { self.old.refused ≡ None → length self.new.found.items ≤ length chunk.now }
         ensures size { OnOk result (bytes_fed self.new.lines ≡ bytes_fed self.old.lines + length chunk.now) }
         ensures limit { OnOk result (bytes_fed self.new.lines ≤ 2 ^ 30) }
         ensures kinds { IfErr result IsTextFault }
         ensures refuses { IfErr result (λ fault. self.new.refused ≡ Some fault) }
-        ensures again { (fault : Fault) → self.old.refused ≡ Some fault → (result ≡ Err fault) × (self.new ≡ self.old) }
+        ensures again { (fault : Fault) → self.old.refused ≡ Some fault
+            → (result ≡ Err fault) × (self.new ≡ self.old) }
     {
         if let Some(fault) = self.refused {
             return Err(fault);
@@ -161,9 +165,12 @@ impl<A: Allocator + Copy, C: Channel<A>> Live<A, C> {
     /// The report of the text up to its last LF.
     fn told(&self) -> Result<Report<A>, Fault>
         requires fed { IsFed C.interface_of C.number_of C.stands_for self.now }
-        ensures told { (text : List ℕ) → StandsFor C.interface_of C.number_of C.stands_for self.now text → IfOk result (IsReportOf (ended_part text)) }
-        ensures refused { (text : List ℕ) → StandsFor C.interface_of C.number_of C.stands_for self.now text → IfErr result (IsFaultOf (fault (ended_part text))) }
-        ensures missing { (text : List ℕ) → StandsFor C.interface_of C.number_of C.stands_for self.now text → IfErr result (IsMissing (length (ended_lines text) + 1)) }
+        ensures told { OfFed C.Channel self.now (λ text.
+            IfOk result (IsReportOf (ended_part text))) }
+        ensures refused { OfFed C.Channel self.now (λ text.
+            IfErr result (IsFaultOf (fault (ended_part text)))) }
+        ensures missing { OfFed C.Channel self.now (λ text.
+            IfErr result (IsMissing (length (ended_lines text) + 1))) }
         ensures kinds { IfErr result IsTextFault }
         ensures again { (fault : Fault) → self.now.refused ≡ Some fault → result ≡ Err fault }
     {
@@ -186,14 +193,20 @@ impl<A: Allocator + Copy, C: Channel<A>> Live<A, C> {
     pub fn report<K: Sink>(&self, sink: &mut K) -> Result<Summary, Fault>
         requires fed { IsFed C.interface_of C.number_of C.stands_for self.now }
         // The sink took exactly the report.
-        ensures reported { (text : List ℕ) → StandsFor C.interface_of C.number_of C.stands_for self.now text → IfOk result (IsReported (ended_part text) (K.taken sink.old) (K.taken sink.new)) }
-        ensures refused { (text : List ℕ) → StandsFor C.interface_of C.number_of C.stands_for self.now text → IfErr result (IsRefusal (ended_part text)) }
-        ensures missing { (text : List ℕ) → StandsFor C.interface_of C.number_of C.stands_for self.now text → IfErr result (IsMissing (length (ended_lines text) + 1)) }
+        ensures reported { OfFed C.Channel self.now (λ text.
+            IfOk result (IsReported (ended_part text) (K.taken sink.old) (K.taken sink.new))) }
+        ensures refused { OfFed C.Channel self.now (λ text.
+            IfErr result (IsRefusal (ended_part text))) }
+        ensures missing { OfFed C.Channel self.now (λ text.
+            IfErr result (IsMissing (length (ended_lines text) + 1))) }
         ensures kinds { IfErr result IsReportFault }
         ensures write_failed { result ≡ Err Fault.Write → K.failures sink.old < K.failures sink.new }
         ensures unwritten { IfErr result (λ fault. fault ≢ Fault.Write → sink.new ≡ sink.old) }
-        ensures taken { (text : List ℕ) → StandsFor C.interface_of C.number_of C.stands_for self.now text → IfErr result (IsTaken (K.taken sink.old) (K.taken sink.new) (trace_report (ended_part text))) }
-        ensures again { (fault : Fault) → self.now.refused ≡ Some fault → (result ≡ Err fault) × (sink.new ≡ sink.old) }
+        ensures taken { OfFed C.Channel self.now (λ text.
+            IfErr result
+            (IsTaken (K.taken sink.old) (K.taken sink.new) (trace_report (ended_part text)))) }
+        ensures again { (fault : Fault) → self.now.refused ≡ Some fault
+            → (result ≡ Err fault) × (sink.new ≡ sink.old) }
     {
         match self.told() {
             Ok(report) => match write_report(&report, sink) {
@@ -207,8 +220,8 @@ impl<A: Allocator + Copy, C: Channel<A>> Live<A, C> {
     /// The report of the whole text.
     pub fn whole(self) -> Result<Report<A>, Fault>
         requires fed { IsFed C.interface_of C.number_of C.stands_for self }
-        ensures told { (text : List ℕ) → StandsFor C.interface_of C.number_of C.stands_for self text → IfOk result (IsReportOf text) }
-        ensures refused { (text : List ℕ) → StandsFor C.interface_of C.number_of C.stands_for self text → IfErr result (IsFaultOf (fault text)) }
+        ensures told { OfFed C.Channel self (λ text. IfOk result (IsReportOf text)) }
+        ensures refused { OfFed C.Channel self (λ text. IfErr result (IsFaultOf (fault text))) }
         ensures kinds { IfErr result IsTextFault }
         ensures again { (fault : Fault) → self.refused ≡ Some fault → result ≡ Err fault }
     {
@@ -237,13 +250,16 @@ impl<A: Allocator + Copy, C: Channel<A>> Live<A, C> {
     /// It refuses by the first faulty line, for want of memory, and where the sink fails.
     pub fn end<K: Sink>(self, sink: &mut K) -> Result<Summary, Fault>
         requires fed { IsFed C.interface_of C.number_of C.stands_for self }
-        ensures reported { (text : List ℕ) → StandsFor C.interface_of C.number_of C.stands_for self text → IfOk result (IsReported text (K.taken sink.old) (K.taken sink.new)) }
-        ensures refused { (text : List ℕ) → StandsFor C.interface_of C.number_of C.stands_for self text → IfErr result (IsRefusal text) }
+        ensures reported { OfFed C.Channel self (λ text.
+            IfOk result (IsReported text (K.taken sink.old) (K.taken sink.new))) }
+        ensures refused { OfFed C.Channel self (λ text. IfErr result (IsRefusal text)) }
         ensures kinds { IfErr result IsReportFault }
         ensures write_failed { result ≡ Err Fault.Write → K.failures sink.old < K.failures sink.new }
         ensures unwritten { IfErr result (λ fault. fault ≢ Fault.Write → sink.new ≡ sink.old) }
-        ensures taken { (text : List ℕ) → StandsFor C.interface_of C.number_of C.stands_for self text → IfErr result (IsTaken (K.taken sink.old) (K.taken sink.new) (trace_report text)) }
-        ensures again { (fault : Fault) → self.refused ≡ Some fault → (result ≡ Err fault) × (sink.new ≡ sink.old) }
+        ensures taken { OfFed C.Channel self (λ text.
+            IfErr result (IsTaken (K.taken sink.old) (K.taken sink.new) (trace_report text))) }
+        ensures again { (fault : Fault) → self.refused ≡ Some fault
+            → (result ≡ Err fault) × (sink.new ≡ sink.old) }
     {
         match self.whole() {
             Ok(report) => match write_report(&report, sink) {

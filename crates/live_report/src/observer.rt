@@ -1,21 +1,15 @@
 //! The observer that runs: it walks a trace row by row, and keeps what it found, not what it read.
 
-ghost use Rattle.std.specs.Prelude.{option_to_list, ◌≡◌, ℕ, ◌<◌, ◌≤◌, ◌+◌, ◌^◌, ◌++◌, ◌∷◌, [], List, length, map, Some, IfErr, IfOk, IfSome, OnOk};
+ghost use Rattle.std.specs.Prelude.{option_to_list, ◌≡◌, ℕ, ◌<◌, ◌+◌, ◌^◌, ◌++◌, ◌∷◌, [], List, length, IfErr, IfOk, IfSome, OnOk};
 ghost use Rattle.line_model.specs.basics.Bounds.{IsPiece};
-ghost use Rattle.line_model.specs.packets.Classes.{packet_of};
-ghost use Rattle.line_model.specs.basics.Octets.{channel_of};
-ghost use Rattle.line_model.specs.pieces.Plans.{value};
 ghost use Rattle.line_model.specs.basics.Records as records;
-ghost use Rattle.line_model.specs.observer.Report.{findings_of, report_of};
-ghost use Rattle.line_model.specs.declared.interface.Interface.{Interface as AnyInterface};
 ghost use Rattle.line_model.specs.declared.fault.Fault.TheVariants.{Memory};
 ghost use Rattle.restart_epochs.specs.OpenRows.{rows_of, no_rows, IsListing};
-ghost use Rattle.restart_epochs.specs.Cutting.{Cutting, IsKeptOn, IsStepped, IsLeft, pieces_out};
+ghost use Rattle.restart_epochs.specs.Cutting.{Cutting, IsKeptOn, IsStepped, IsLeft};
 ghost use Rattle.channel_machine.specs.Live.{channel_so_far};
-ghost use Rattle.channel_machine.specs.Run.{row_events};
 ghost use Rattle.channel_machine.specs.Views.{IsViewOf};
-ghost use Rattle.live_report.specs.Lanes.{begun_piece};
-ghost use Rattle.live_report.specs.Observing.{AreRows, Holds, StandsFor};
+ghost use Rattle.live_report.specs.Lanes.{item, FindsOn};
+ghost use Rattle.live_report.specs.Observing.{open_piece, with_ended, HasWalked, IsHolding, IsObserver, MayWalk, TellsFinding, TellsReport, WalksOn};
 
 use crate::ending::end_channels;
 use crate::lanes::step_channel;
@@ -57,7 +51,7 @@ pub struct Observer<A: Allocator, C: Channel<A>> {
 impl<A: Allocator + Copy, C: Channel<A>> Observer<A, C> {
     /// An observer before the first row. It takes no memory.
     pub fn new(alloc: A, interface: &Interface) -> Self
-        ensures { StandsFor C.interface_of C.number_of C.stands_for interface.now [] result }
+        ensures { HasWalked C.Channel interface.now [] result }
     {
         Observer {
             interface: *interface,
@@ -78,10 +72,18 @@ impl<A: Allocator + Copy, C: Channel<A>> Observer<A, C> {
         row: &Row<A>,
         packet: &Packet,
     ) -> Result<Option<Finding>, Fault>
-        requires room { (c : Cutting) × (reports : List records.PieceReport) × Holds C.interface_of C.number_of C.stands_for c reports self.old × IsPiece c.interface channel (rows_of c.open_rows channel ++ record { row = row.now; packet = packet.now } ∷ []) }
+        requires room { (c : Cutting) × (reports : List records.PieceReport)
+            × IsHolding C.Channel c reports self.old
+            × IsPiece c.interface channel (rows_of c.open_rows channel ++ item row.now packet.now ∷ []) }
         requires packets { self.old.packets + 1 < 2 ^ 32 }
-        ensures holds { (c after : Cutting) (reports : List records.PieceReport) → Holds C.interface_of C.number_of C.stands_for c reports self.old → IsKeptOn channel (record { row = row.now; packet = packet.now }) c after → IsPiece c.interface channel (rows_of after.open_rows channel) → OnOk result (Holds C.interface_of C.number_of C.stands_for after reports self.new) }
-        ensures finding { (c : Cutting) (reports : List records.PieceReport) → Holds C.interface_of C.number_of C.stands_for c reports self.old → IfOk result (λ found. option_to_list found ≡ findings_of (row_events c.interface c.epoch channel (channel_so_far (begun_piece c.interface c.epoch channel (rows_of c.open_rows channel))) row.now)) }
+        ensures holds { (c after : Cutting) (reports : List records.PieceReport)
+            → IsHolding C.Channel c reports self.old
+            → IsKeptOn channel (item row.now packet.now) c after
+            → IsPiece c.interface channel (rows_of after.open_rows channel)
+            → OnOk result (IsHolding C.Channel after reports self.new) }
+        ensures finding { (c : Cutting) (reports : List records.PieceReport)
+            → IsHolding C.Channel c reports self.old
+            → IfOk result (FindsOn (open_piece c channel) row.now) }
         ensures memory { IfErr result (λ fault. fault ≡ Memory) }
     {
         let found = step_channel(
@@ -104,7 +106,10 @@ impl<A: Allocator + Copy, C: Channel<A>> Observer<A, C> {
         finding: Option<Finding>,
     ) -> Result<Option<Finding>, Fault>
         requires packets { self.old.packets + 1 < 2 ^ 32 }
-        ensures holds { (c after : Cutting) (reports : List records.PieceReport) (row : records.Row) → Holds C.interface_of C.number_of C.stands_for c reports self.old → IsStepped row machine c.epoch (option_to_list finding) c after → OnOk result (Holds C.interface_of C.number_of C.stands_for after reports self.new) }
+        ensures holds { (c after : Cutting) (reports : List records.PieceReport) (row : records.Row)
+            → IsHolding C.Channel c reports self.old
+            → IsStepped row machine c.epoch (option_to_list finding) c after
+            → OnOk result (IsHolding C.Channel after reports self.new) }
         ensures found { IfOk result (λ found. found ≡ finding) }
         ensures memory { IfErr result (λ fault. fault ≡ Memory) }
     {
@@ -122,7 +127,11 @@ impl<A: Allocator + Copy, C: Channel<A>> Observer<A, C> {
     ) -> Result<Option<Finding>, Fault>
         requires epochs { self.old.epoch + 1 < 2 ^ 32 }
         requires packets { self.old.packets + 1 < 2 ^ 32 }
-        ensures holds { (c after : Cutting) (reports : List records.PieceReport) (row : records.Row) → Holds C.interface_of C.number_of C.stands_for c reports self.old → ((k : ℕ) → rows_of c.open_rows k ≡ []) → IsStepped row machine (c.epoch + 1) (option_to_list finding) c after → OnOk result (Holds C.interface_of C.number_of C.stands_for after reports self.new) }
+        ensures holds { (c after : Cutting) (reports : List records.PieceReport) (row : records.Row)
+            → IsHolding C.Channel c reports self.old
+            → ((k : ℕ) → rows_of c.open_rows k ≡ [])
+            → IsStepped row machine (c.epoch + 1) (option_to_list finding) c after
+            → OnOk result (IsHolding C.Channel after reports self.new) }
         ensures found { IfOk result (λ found. found ≡ finding) }
         ensures memory { IfErr result (λ fault. fault ≡ Memory) }
     {
@@ -137,11 +146,14 @@ impl<A: Allocator + Copy, C: Channel<A>> Observer<A, C> {
         number: u32,
         finding: Option<Finding>,
     ) -> Result<Option<Finding>, Fault>
-        requires room { (c : Cutting) × (reports : List records.PieceReport) × Holds C.interface_of C.number_of C.stands_for c reports self.old × IsListing c.open_rows }
+        requires room { (c : Cutting) × (reports : List records.PieceReport)
+            × IsHolding C.Channel c reports self.old × IsListing c.open_rows }
         requires packets { self.old.packets + 1 < 2 ^ 32 }
         requires pieces { self.old.ended.pieces + length self.old.lanes.channels < 2 ^ 32 }
-        ensures holds { (c after : Cutting) (reports : List records.PieceReport) (row : records.Row) → Holds C.interface_of C.number_of C.stands_for c reports self.old → IsListing c.open_rows → row.number ≡ number → after.open_rows ≡ no_rows → IsLeft row machine (option_to_list finding) c after
-            → OnOk result (Holds C.interface_of C.number_of C.stands_for after (reports ++ map value (pieces_out c.interface c.epoch (Some number) (rows_of c.open_rows) (length reports) c.open_rows.channels)) self.new) }
+        ensures holds { (c after : Cutting) (reports : List records.PieceReport) (row : records.Row)
+            → IsHolding C.Channel c reports self.old → IsListing c.open_rows → row.number ≡ number
+            → after.open_rows ≡ no_rows → IsLeft row machine (option_to_list finding) c after
+            → OnOk result (IsHolding C.Channel after (with_ended number reports c) self.new) }
         ensures found { IfOk result (λ found. found ≡ finding) }
         ensures memory { IfErr result (λ fault. fault ≡ Memory) }
     {
@@ -182,7 +194,9 @@ impl<A: Allocator + Copy, C: Channel<A>> Observer<A, C> {
 
     /// What is known of a logical channel in the epoch that goes on, if it has rows there.
     pub fn view(&self, channel: u16) -> Option<View>
-        ensures { (c : Cutting) (reports : List records.PieceReport) → Holds C.interface_of C.number_of C.stands_for c reports self.now → IfSome result (IsViewOf c.interface (channel_so_far (begun_piece c.interface c.epoch channel (rows_of c.open_rows channel)))) }
+        ensures { (c : Cutting) (reports : List records.PieceReport)
+            → IsHolding C.Channel c reports self.now
+            → IfSome result (IsViewOf c.interface (channel_so_far (open_piece c channel))) }
     {
         match self.lanes.get(channel) {
             Some(live) => Some(live.view()),
@@ -192,11 +206,11 @@ impl<A: Allocator + Copy, C: Channel<A>> Observer<A, C> {
 
     /// Takes the next row, and answers what it finds. It refuses for want of memory alone, and stands for nothing then.
     pub fn take(&mut self, row: &Row<A>) -> Result<Option<Finding>, Fault>
-        requires room { (i : AnyInterface) × (rows : List records.Row) × StandsFor C.interface_of C.number_of C.stands_for i rows self.old × AreRows (rows ++ row.now ∷ []) }
+        requires room { MayWalk C.Channel self.old (row.now ∷ []) }
         // Of any rows that it took: it stands for them and this one.
-        ensures stands { (i : AnyInterface) (rows : List records.Row) → StandsFor C.interface_of C.number_of C.stands_for i rows self.old → AreRows (rows ++ row.now ∷ []) → OnOk result (StandsFor C.interface_of C.number_of C.stands_for i (rows ++ row.now ∷ []) self.new) }
+        ensures stands { WalksOn C.Channel self.old row.now self.new result }
         // What was found comes behind all that was found before.
-        ensures finding { (i : AnyInterface) (rows : List records.Row) → StandsFor C.interface_of C.number_of C.stands_for i rows self.old → IfOk result (λ found. (report_of i (rows ++ row.now ∷ [])).findings ≡ (report_of i rows).findings ++ option_to_list found) }
+        ensures finding { TellsFinding C.Channel self.old row.now result }
         ensures memory { IfErr result (λ fault. fault ≡ Memory) }
     {
         let octets = row.octets.as_slice();
@@ -216,8 +230,8 @@ impl<A: Allocator + Copy, C: Channel<A>> Observer<A, C> {
     /// The report of the rows that were taken so far, by copies: the observer goes on. It costs what is reported, not
     /// what was read. It refuses for want of memory alone.
     pub fn report(&self) -> Result<Report<A>, Fault>
-        requires room { (i : AnyInterface) × (rows : List records.Row) × StandsFor C.interface_of C.number_of C.stands_for i rows self.now }
-        ensures report { (i : AnyInterface) (rows : List records.Row) → StandsFor C.interface_of C.number_of C.stands_for i rows self.now → IfOk result (λ report. report ≡ report_of i rows) }
+        requires room { IsObserver C.Channel self.now }
+        ensures report { TellsReport C.Channel self.now result }
         ensures memory { IfErr result (λ fault. fault ≡ Memory) }
     {
         let alloc = *self.findings.allocator();
@@ -229,8 +243,8 @@ impl<A: Allocator + Copy, C: Channel<A>> Observer<A, C> {
 
     /// The report of the rows that were taken. It refuses for want of memory alone.
     pub fn end(self) -> Result<Report<A>, Fault>
-        requires room { (i : AnyInterface) × (rows : List records.Row) × StandsFor C.interface_of C.number_of C.stands_for i rows self }
-        ensures report { (i : AnyInterface) (rows : List records.Row) → StandsFor C.interface_of C.number_of C.stands_for i rows self → IfOk result (λ report. report ≡ report_of i rows) }
+        requires room { IsObserver C.Channel self }
+        ensures report { TellsReport C.Channel self result }
         ensures memory { IfErr result (λ fault. fault ≡ Memory) }
     {
         let Observer {

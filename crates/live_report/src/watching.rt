@@ -1,17 +1,13 @@
 //! A chunk of a trace, row by row.
 
-ghost use Rattle.std.specs.Prelude.{◌≡◌, ℕ, ◌+◌, ◌≤◌, ◌^◌, ◌++◌, ◌∷◌, [], List, length, IfErr, IfOk, OnOk};
-ghost use Rattle.line_model.specs.basics.Records as records;
-ghost use Rattle.line_model.specs.observer.Report.{report_of};
-ghost use Rattle.line_model.specs.declared.fault.Fault.TheVariants.{Memory};
-ghost use Rattle.trace_text.specs.StandsFor.{last_row};
-ghost use Rattle.live_report.specs.Observing.{AreRows, StandsFor};
+ghost use Rattle.std.specs.Prelude.{◌≡◌, ◌+◌, ◌≤◌, ◌^◌, ◌++◌, ◌∷◌, [], length, IfErr, OnOk};
 ghost use Rattle.line_model.specs.text.Text.{early};
-ghost use Rattle.line_model.specs.declared.interface.Interface.{Interface as AnyInterface};
+ghost use Rattle.line_model.specs.declared.fault.Fault.TheVariants.{Memory};
 ghost use Rattle.trace_text.specs.Progress.{bytes_fed};
-ghost use Rattle.trace_text.specs.StandsFor.{IsFaultOf, IsTextFault};
+ghost use Rattle.trace_text.specs.StandsFor.{last_row, IsFaultOf, IsTextFault};
 ghost use Rattle.live_report.specs.Found.{IsFoundBy, found_at};
-ghost use Rattle.live_report.specs.Lives.{IsWatching};
+ghost use Rattle.live_report.specs.Lives.{IsWatcher, OfWatched, Watches};
+ghost use Rattle.live_report.specs.Observing.{MayWalk, TellsReportWith};
 
 use crate::observer::Observer;
 use channel_machine::run::Channel;
@@ -31,10 +27,14 @@ pub fn watch<A: Allocator + Copy, C: Channel<A>>(
     observer: &mut Observer<A, C>,
     found: &mut Vec<Finding, A>,
 ) -> Result<(), Fault>
-    requires { (i : AnyInterface) × (text : List ℕ) × IsWatching C.interface_of C.number_of C.stands_for i text lines.old observer.old }
-    ensures watches { (i : AnyInterface) (text : List ℕ) → IsWatching C.interface_of C.number_of C.stands_for i text lines.old observer.old → OnOk result (IsWatching C.interface_of C.number_of C.stands_for i (text ++ chunk.now) lines.new observer.new) }
-    ensures refused { (i : AnyInterface) (text : List ℕ) → IsWatching C.interface_of C.number_of C.stands_for i text lines.old observer.old → IfErr result (IsFaultOf (early (text ++ chunk.now))) }
-    ensures found { (i : AnyInterface) (text : List ℕ) → IsWatching C.interface_of C.number_of C.stands_for i text lines.old observer.old → IsFoundBy result found.old.items found.new.items (found_at i text) (found_at i (text ++ chunk.now)) }
+    requires { IsWatcher C.Channel lines.old observer.old }
+    ensures watches { OfWatched C.Channel lines.old observer.old (λ i text.
+        OnOk result (Watches C.Channel i (text ++ chunk.now) lines.new observer.new)) }
+    ensures refused { OfWatched C.Channel lines.old observer.old (λ i text.
+        IfErr result (IsFaultOf (early (text ++ chunk.now)))) }
+    ensures found { OfWatched C.Channel lines.old observer.old (λ i text.
+        IsFoundBy result found.old.items found.new.items
+        (found_at i text) (found_at i (text ++ chunk.now))) }
     ensures few { length found.new.items ≤ length found.old.items + length chunk.now }
     ensures size { OnOk result (bytes_fed lines.new ≡ bytes_fed lines.old + length chunk.now) }
     ensures limit { OnOk result (bytes_fed lines.new ≤ 2 ^ 30) }
@@ -59,8 +59,8 @@ pub fn finish<A: Allocator + Copy, C: Channel<A>>(
     has_row: bool,
     row: &Row<A>,
 ) -> Result<Report<A>, Fault>
-    requires room { (i : AnyInterface) × (rows : List records.Row) × StandsFor C.interface_of C.number_of C.stands_for i rows observer × AreRows (rows ++ last_row has_row row.now) }
-    ensures report { (i : AnyInterface) (rows : List records.Row) → StandsFor C.interface_of C.number_of C.stands_for i rows observer → AreRows (rows ++ last_row has_row row.now) → IfOk result (λ report. report ≡ report_of i (rows ++ last_row has_row row.now)) }
+    requires room { MayWalk C.Channel observer (last_row has_row row.now) }
+    ensures report { TellsReportWith C.Channel observer (last_row has_row row.now) result }
     ensures memory { IfErr result (λ fault. fault ≡ Memory) }
 {
     if has_row {
@@ -74,8 +74,8 @@ fn take_last<A: Allocator + Copy, C: Channel<A>>(
     mut observer: Observer<A, C>,
     row: &Row<A>,
 ) -> Result<Report<A>, Fault>
-    requires room { (i : AnyInterface) × (rows : List records.Row) × StandsFor C.interface_of C.number_of C.stands_for i rows observer × AreRows (rows ++ row.now ∷ []) }
-    ensures report { (i : AnyInterface) (rows : List records.Row) → StandsFor C.interface_of C.number_of C.stands_for i rows observer → AreRows (rows ++ row.now ∷ []) → IfOk result (λ report. report ≡ report_of i (rows ++ row.now ∷ [])) }
+    requires room { MayWalk C.Channel observer (row.now ∷ []) }
+    ensures report { TellsReportWith C.Channel observer (row.now ∷ []) result }
     ensures memory { IfErr result (λ fault. fault ≡ Memory) }
 {
     observer.take(row)?;

@@ -1,7 +1,6 @@
 -- Texts that a sink takes in parts.
-use Rattle.std.proofs.Common.{◌≡◌, ℕ, ◌-◌, true, false, zero, suc, ◌+◌, ◌<◌, ◌≤◌, List, [], ◌∷◌, ◌++◌, length, get_or, take, drop, refl, sym, ap, ◌∙◌, subst, arith, Option, Some, None, append_assoc}
-use Rattle.std.proofs.lemmas.List.{append-nil, take-append-drop}
-use Rattle.std.proofs.lemmas.Grind.{common_steps}
+use Rattle.std.proofs.Common.{◌≡◌, ℕ, true, false, zero, suc, ◌+◌, ◌<◌, ◌≤◌, List, [], ◌∷◌, ◌++◌, length, get_or, drop, refl, sym, ap, ◌∙◌, subst, arith, Option, append_assoc}
+use Rattle.std.proofs.lemmas.List.{append-nil}
 use Rattle.std.specs.List.{flat_map, enumerate_from}
 use Rattle.line_model.specs.basics.Device.{with_more}
 use Rattle.report_merge.specs.declared.chunk.Chunk.{Chunk}
@@ -9,7 +8,7 @@ use Rattle.line_model.specs.basics.Records.{Report}
 use Rattle.line_model.specs.observer.Report.{account_line, call_line, finding_line, line, peak_line, setting_lines, summary_line, text_of}
 use Rattle.report_merge.specs.Parts.{findings_text, rest_text}
 use Rattle.report_merge.specs.Written.{Writes}
-use Rattle.line_model.proofs.DeviceLemmas.{with_more-append, with_more-nil, split_rest}
+use Rattle.line_model.proofs.DeviceLemmas.{with_more-append}
 
 -- what is held is sent, all of it or a first part, and nothing is held then
 pub flushed : (before taken after : Option (List ℕ) × ℕ) (c d : Chunk) (text front rest : List ℕ) → Writes before taken c text → c.failed ≡ false → c.bytes.items ≡ front ++ rest → after.0 ≡ with_more taken.0 front

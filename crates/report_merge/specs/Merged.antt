@@ -2,11 +2,14 @@
 use Rattle.std.specs.Prelude.{◌≡◌, ℕ, ◌++◌, ◌∷◌, List, length, map, sum_by}
 use Rattle.std.specs.List.Sorted.{IsPermutation, IsNonDecreasingBy, IsStrictlyIncreasing}
 use Rattle.line_model.specs.declared.interface.Interface.{Interface}
+use Rattle.line_model.specs.declared.fault.Fault.{Fault}
+use Rattle.line_model.specs.declared.fault.Fault.TheVariants.{Memory}
 use Rattle.line_model.specs.declared.finding.Finding.{Finding}
 use Rattle.line_model.specs.basics.Records.{Row, CallRecord, PieceReport, Report}
 use Rattle.line_model.specs.observer.Accounts.{accounts_of}
 use Rattle.line_model.specs.observer.Calls.{up_at}
 use Rattle.line_model.specs.observer.Peak.{IsPeakOfTimes}
+use Rattle.line_model.specs.observer.Report.{report_of}
 use Rattle.line_model.specs.pieces.Plans.{plan, value, line_findings}
 use Rattle.report_merge.specs.Gathered.{all_calls, piece_findings}
 
@@ -36,3 +39,11 @@ pub record IsOfWalk (i : Interface) (rs : List Row) (reports : List PieceReport)
   pub line_is : line ≡ line_findings i rs
   pub packets_are : packets ≡ length rs
   pub pieces_are : pieces ≡ length (plan i rs)
+
+-- where that is so, this is the report of the walk
+abbrev pub IsReportOfWalk : List PieceReport → List Finding → (packets pieces : ℕ) → Report → Type 0
+IsReportOfWalk reports line packets pieces r = (i : Interface) (rs : List Row) → IsOfWalk i rs reports line packets pieces → r ≡ report_of i rs
+
+-- where that is so, memory ran out
+abbrev pub IsMemoryOfWalk : List PieceReport → List Finding → (packets pieces : ℕ) → Fault → Type 0
+IsMemoryOfWalk reports line packets pieces f = (i : Interface) (rs : List Row) → IsOfWalk i rs reports line packets pieces → f ≡ Memory

@@ -2,7 +2,7 @@
 
 ghost use Rattle.std.specs.Prelude.{◌≡◌, ℕ, List, [], ◌∷◌, ◌++◌, ◌<◌, ◌≤◌, Option, OnOk, OnErr, IfErr, false, decimal};
 ghost use Rattle.line_model.specs.basics.Device.{with_more};
-ghost use Rattle.report_merge.specs.Written.{Writes, Puts};
+ghost use Rattle.report_merge.specs.Written.{HasFront, KeepsText, OfWriting, PutsTo, TakesAll, TakesFront, Writes};
 
 use arrayvec::ArrayVec;
 use itoa::Buffer;
@@ -18,10 +18,10 @@ pub struct Chunk {
 
 /// Gives the sink all of some bytes.
 pub fn send<W: Sink>(sink: &mut W, bytes: &[u8]) -> Result<(), ()>
-    ensures ok { OnOk result (W.taken sink.new ≡ with_more (W.taken sink.old) bytes.now) }
+    ensures ok { OnOk result (TakesAll W.Sink sink.old sink.new bytes.now) }
     ensures rising { W.failures sink.old ≤ W.failures sink.new }
     ensures cause { OnErr result (W.failures sink.old < W.failures sink.new) }
-    ensures part { OnErr result ((front : List ℕ) × (rest : List ℕ) × (bytes.now ≡ front ++ rest) × (W.taken sink.new ≡ with_more (W.taken sink.old) front)) }
+    ensures part { OnErr result (TakesFront W.Sink sink.old sink.new bytes.now) }
 {
     let mut rest = bytes;
     while !rest.is_empty() {
@@ -46,7 +46,7 @@ impl Chunk {
 
     /// Sends what is held.
     pub fn flush<W: Sink>(&mut self, sink: &mut W)
-        ensures sent { (before : Option (List ℕ) × ℕ) (text : List ℕ) → Writes before (W.taken sink.old, W.failures sink.old) self.old text → Writes before (W.taken sink.new, W.failures sink.new) self.new text }
+        ensures sent { KeepsText W.Sink sink.old sink.new self.old self.new }
         ensures empty { self.new.bytes.items ≡ [] }
     {
         if self.failed {
@@ -64,10 +64,14 @@ impl Chunk {
 
     /// Sends what is held. The sink took the text that was on its way, or it has failed and took a first part of it.
     pub fn end<W: Sink>(mut self, sink: &mut W) -> Result<(), Fault>
-        ensures ok { (before : Option (List ℕ) × ℕ) (text : List ℕ) → Writes before (W.taken sink.old, W.failures sink.old) self text → OnOk result (W.taken sink.new ≡ with_more before.0 text) }
-        ensures part { (before : Option (List ℕ) × ℕ) (text : List ℕ) → Writes before (W.taken sink.old, W.failures sink.old) self text → OnErr result ((front : List ℕ) × (rest : List ℕ) × (text ≡ front ++ rest) × (W.taken sink.new ≡ with_more before.0 front)) }
-        ensures rising { (before : Option (List ℕ) × ℕ) (text : List ℕ) → Writes before (W.taken sink.old, W.failures sink.old) self text → before.1 ≤ W.failures sink.new }
-        ensures cause { (before : Option (List ℕ) × ℕ) (text : List ℕ) → Writes before (W.taken sink.old, W.failures sink.old) self text → OnErr result (before.1 < W.failures sink.new) }
+        ensures ok { OfWriting W.Sink sink.old self (λ before text.
+            OnOk result (W.taken sink.new ≡ with_more before.0 text)) }
+        ensures part { OfWriting W.Sink sink.old self (λ before text.
+            OnErr result (HasFront before.0 (W.taken sink.new) text)) }
+        ensures rising { OfWriting W.Sink sink.old self (λ before text.
+            before.1 ≤ W.failures sink.new) }
+        ensures cause { OfWriting W.Sink sink.old self (λ before text.
+            OnErr result (before.1 < W.failures sink.new)) }
         ensures write { IfErr result (λ f. f ≡ Fault.Write) }
     {
         self.flush(sink);
@@ -81,7 +85,7 @@ impl Chunk {
     /// Sends bytes where nothing is held.
     fn pass<W: Sink>(&mut self, sink: &mut W, bytes: &[u8])
         requires { self.old.bytes.items ≡ [] }
-        ensures { Puts (W.taken sink.old, W.failures sink.old) (W.taken sink.new, W.failures sink.new) self.old self.new bytes.now }
+        ensures { PutsTo W.Sink sink.old sink.new self.old self.new bytes.now }
     {
         if self.failed {
             return;
@@ -94,7 +98,7 @@ impl Chunk {
 
     /// Puts bytes behind what is held, which is sent first.
     fn put_next<W: Sink>(&mut self, sink: &mut W, bytes: &[u8])
-        ensures { Puts (W.taken sink.old, W.failures sink.old) (W.taken sink.new, W.failures sink.new) self.old self.new bytes.now }
+        ensures { PutsTo W.Sink sink.old sink.new self.old self.new bytes.now }
     {
         self.flush(sink);
         match self.bytes.try_extend_from_slice(bytes) {
@@ -105,7 +109,7 @@ impl Chunk {
 
     /// Puts bytes behind what is held.
     pub fn put<W: Sink>(&mut self, sink: &mut W, bytes: &[u8])
-        ensures { Puts (W.taken sink.old, W.failures sink.old) (W.taken sink.new, W.failures sink.new) self.old self.new bytes.now }
+        ensures { PutsTo W.Sink sink.old sink.new self.old self.new bytes.now }
     {
         match self.bytes.try_extend_from_slice(bytes) {
             Ok(()) => {}
@@ -115,7 +119,7 @@ impl Chunk {
 
     /// Puts a word and a space.
     pub fn word<W: Sink>(&mut self, sink: &mut W, word: &[u8])
-        ensures { Puts (W.taken sink.old, W.failures sink.old) (W.taken sink.new, W.failures sink.new) self.old self.new (word.now ++ 32 ∷ []) }
+        ensures { PutsTo W.Sink sink.old sink.new self.old self.new (word.now ++ 32 ∷ []) }
     {
         self.put(sink, word);
         self.put(sink, b" ");
@@ -123,7 +127,7 @@ impl Chunk {
 
     /// Puts the last word of a line.
     pub fn last<W: Sink>(&mut self, sink: &mut W, word: &[u8])
-        ensures { Puts (W.taken sink.old, W.failures sink.old) (W.taken sink.new, W.failures sink.new) self.old self.new (word.now ++ 10 ∷ []) }
+        ensures { PutsTo W.Sink sink.old sink.new self.old self.new (word.now ++ 10 ∷ []) }
     {
         self.put(sink, word);
         self.put(sink, b"\n");
@@ -131,7 +135,7 @@ impl Chunk {
 
     /// Puts a number and a space.
     pub fn number<W: Sink>(&mut self, sink: &mut W, number: u64)
-        ensures { Puts (W.taken sink.old, W.failures sink.old) (W.taken sink.new, W.failures sink.new) self.old self.new (decimal number ++ 32 ∷ []) }
+        ensures { PutsTo W.Sink sink.old sink.new self.old self.new (decimal number ++ 32 ∷ []) }
     {
         let mut buffer = Buffer::new();
         self.word(sink, buffer.format(number).as_bytes());
@@ -139,7 +143,7 @@ impl Chunk {
 
     /// Puts the number that ends a line.
     pub fn last_number<W: Sink>(&mut self, sink: &mut W, number: u64)
-        ensures { Puts (W.taken sink.old, W.failures sink.old) (W.taken sink.new, W.failures sink.new) self.old self.new (decimal number ++ 10 ∷ []) }
+        ensures { PutsTo W.Sink sink.old sink.new self.old self.new (decimal number ++ 10 ∷ []) }
     {
         let mut buffer = Buffer::new();
         self.last(sink, buffer.format(number).as_bytes());

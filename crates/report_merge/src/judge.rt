@@ -49,7 +49,8 @@ fn seen_ids<A: Allocator + Clone>(
 fn first_unmarked(seen: &[bool]) -> Option<usize>
     ensures { MatchOption result
         ((k : ℕ) → k < length seen.now → slice_index_or seen.now k false ≡ true)
-        (λ i. (i < length seen.now) × (slice_index_or seen.now i false ≡ false) × ((k : ℕ) → k < i → slice_index_or seen.now k false ≡ true)) }
+        (λ i. (i < length seen.now) × (slice_index_or seen.now i false ≡ false)
+        × ((k : ℕ) → k < i → slice_index_or seen.now k false ≡ true)) }
 {
     for (place, seen) in seen.iter().enumerate() {
         if !*seen {

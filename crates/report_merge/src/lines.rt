@@ -2,7 +2,7 @@
 
 ghost use Rattle.std.specs.Prelude.{[], ◌∷◌, ◌++◌, Option, decimal};
 ghost use Rattle.line_model.specs.observer.Report.{number_word, address_word, finding_line, call_line, setting_line, account_line, peak_line, summary_line, line};
-ghost use Rattle.report_merge.specs.Written.{Puts};
+ghost use Rattle.report_merge.specs.Written.{PutsTo};
 
 use crate::chunk::Chunk;
 use crate::words::{direction_word, how_word, pad_word, side_word, state_word};
@@ -18,7 +18,8 @@ use std::alloc::Allocator;
 impl Chunk {
     /// Puts a number or a dash, and a space.
     fn maybe<W: Sink>(&mut self, sink: &mut W, number: Option<u32>)
-        ensures { Puts (W.taken sink.old, W.failures sink.old) (W.taken sink.new, W.failures sink.new) self.old self.new (number_word number ++ 32 ∷ []) }
+        ensures { PutsTo W.Sink sink.old sink.new self.old self.new
+            (number_word number ++ 32 ∷ []) }
     {
         match number {
             Some(number) => self.number(sink, u64::from(number)),
@@ -28,7 +29,8 @@ impl Chunk {
 
     /// Puts an address or a dash, and a space.
     fn address<W: Sink>(&mut self, sink: &mut W, address: &Address)
-        ensures { Puts (W.taken sink.old, W.failures sink.old) (W.taken sink.new, W.failures sink.new) self.old self.new (address_word address.now ++ 32 ∷ []) }
+        ensures { PutsTo W.Sink sink.old sink.new self.old self.new
+            (address_word address.now ++ 32 ∷ []) }
     {
         match address.as_bytes() {
             [] => self.word(sink, b"-"),
@@ -38,7 +40,7 @@ impl Chunk {
 
     /// Puts the line of a finding.
     pub fn finding<W: Sink>(&mut self, sink: &mut W, finding: &Finding)
-        ensures { Puts (W.taken sink.old, W.failures sink.old) (W.taken sink.new, W.failures sink.new) self.old self.new (finding_line finding.now) }
+        ensures { PutsTo W.Sink sink.old sink.new self.old self.new (finding_line finding.now) }
     {
         self.word(sink, b"F");
         self.number(sink, u64::from(finding.packet));
@@ -52,7 +54,7 @@ impl Chunk {
 
     /// Puts the line of an account.
     pub fn account<W: Sink>(&mut self, sink: &mut W, account: &Account)
-        ensures { Puts (W.taken sink.old, W.failures sink.old) (W.taken sink.new, W.failures sink.new) self.old self.new (account_line account.now) }
+        ensures { PutsTo W.Sink sink.old sink.new self.old self.new (account_line account.now) }
     {
         self.word(sink, b"A");
         self.address(sink, &account.address);
@@ -62,7 +64,7 @@ impl Chunk {
 
     /// Puts the last line of a report.
     pub fn summary<W: Sink>(&mut self, sink: &mut W, summary: &Summary)
-        ensures { Puts (W.taken sink.old, W.failures sink.old) (W.taken sink.new, W.failures sink.new) self.old self.new (summary_line summary.now) }
+        ensures { PutsTo W.Sink sink.old sink.new self.old self.new (summary_line summary.now) }
     {
         self.word(sink, b"Z");
         self.number(sink, summary.packets);
@@ -74,7 +76,7 @@ impl Chunk {
 
     /// Puts the line of the peak.
     pub fn peak<W: Sink>(&mut self, sink: &mut W, peak: Peak)
-        ensures { Puts (W.taken sink.old, W.failures sink.old) (W.taken sink.new, W.failures sink.new) self.old self.new (peak_line peak) }
+        ensures { PutsTo W.Sink sink.old sink.new self.old self.new (peak_line peak) }
     {
         self.word(sink, b"P");
         self.number(sink, peak.count);
@@ -86,7 +88,7 @@ impl Chunk {
 
     /// Puts the line of a call.
     pub fn call<W: Sink, A: Allocator>(&mut self, sink: &mut W, number: u64, call: &CallRecord<A>)
-        ensures { Puts (W.taken sink.old, W.failures sink.old) (W.taken sink.new, W.failures sink.new) self.old self.new (call_line (number, call.now)) }
+        ensures { PutsTo W.Sink sink.old sink.new self.old self.new (call_line (number, call.now)) }
     {
         self.word(sink, b"C");
         self.number(sink, number);
@@ -108,7 +110,8 @@ impl Chunk {
 
     /// Puts the line of a setting.
     pub fn setting<W: Sink>(&mut self, sink: &mut W, number: u64, setting: &SettingRecord)
-        ensures { Puts (W.taken sink.old, W.failures sink.old) (W.taken sink.new, W.failures sink.new) self.old self.new (setting_line number setting.now) }
+        ensures { PutsTo W.Sink sink.old sink.new self.old self.new
+            (setting_line number setting.now) }
     {
         self.word(sink, b"S");
         self.number(sink, number);
@@ -124,7 +127,8 @@ impl Chunk {
 
     /// Puts a parameter with its entry, and ends the line.
     fn entry<W: Sink>(&mut self, sink: &mut W, parameter: u64, word: &[u8], value: u8)
-        ensures { Puts (W.taken sink.old, W.failures sink.old) (W.taken sink.new, W.failures sink.new) self.old self.new (line (decimal parameter ∷ word.now ∷ decimal value ∷ [])) }
+        ensures { PutsTo W.Sink sink.old sink.new self.old self.new
+            (line (decimal parameter ∷ word.now ∷ decimal value ∷ [])) }
     {
         self.number(sink, parameter);
         self.word(sink, word);

@@ -1,13 +1,10 @@
 //! The report of a trace, from the reports of its pieces.
 
-ghost use Rattle.std.specs.Prelude.{◌≡◌, ◌<◌, ◌^◌, IfOk, IfErr, List, length};
+ghost use Rattle.std.specs.Prelude.{◌≡◌, ◌<◌, ◌^◌, IfOk, IfErr, length};
 ghost use Rattle.line_model.specs.work.Book.{ids_of};
 ghost use Rattle.report_merge.specs.Refusal.{IsRefusal, IsWhole};
 ghost use Rattle.report_merge.specs.Gathered.{gathered};
-ghost use Rattle.report_merge.specs.Merged.{IsMerged, IsOfWalk};
-ghost use Rattle.line_model.specs.declared.interface.Interface.{Interface};
-ghost use Rattle.line_model.specs.basics.Records as records;
-ghost use Rattle.line_model.specs.observer.Report.{report_of};
+ghost use Rattle.report_merge.specs.Merged.{IsMemoryOfWalk, IsMerged, IsReportOfWalk};
 
 use crate::judge::judge;
 use crate::parts::Parts;
@@ -15,16 +12,15 @@ use line_model::fault::Fault;
 use line_model::finding::Finding;
 use line_model::piece::PieceReport;
 use line_model::report::Report;
-use std::alloc::Allocator;
+use std::alloc::{AllocError, Allocator};
 
 /// Puts what pieces give together.
 fn gather<A: Allocator + Clone>(
     alloc: A,
     reports: Vec<PieceReport<A>, A>,
-) -> Result<Parts<A>, Fault>
+) -> Result<Parts<A>, AllocError>
     requires few { length reports.items < 2 ^ 32 }
-    ensures gathered { IfOk result (λ parts. parts ≡ gathered reports.items) }
-    ensures memory { IfErr result (λ fault. fault ≡ Fault.Memory) }
+    ensures { IfOk result (λ parts. parts ≡ gathered reports.items) }
 {
     let mut parts = Parts::with_allocators(alloc.clone()?, alloc);
     for report in reports {
@@ -45,9 +41,9 @@ pub fn merge<A: Allocator + Clone>(
 ) -> Result<Report<A>, Fault>
     ensures whole { IfOk result (λ r. IsWhole pieces (ids_of reports.items)) }
     ensures merged { IfOk result (λ r. IsMerged r reports.items line.items packets) }
-    ensures report { IfOk result (λ r. (i : Interface) (rs : List records.Row) → IsOfWalk i rs reports.items line.items packets pieces → r ≡ report_of i rs) }
+    ensures report { IfOk result (IsReportOfWalk reports.items line.items packets pieces) }
     ensures refused { IfErr result (λ f. IsRefusal f pieces (ids_of reports.items)) }
-    ensures plan { IfErr result (λ f. (i : Interface) (rs : List records.Row) → IsOfWalk i rs reports.items line.items packets pieces → f ≡ Fault.Memory) }
+    ensures plan { IfErr result (IsMemoryOfWalk reports.items line.items packets pieces) }
 {
     judge(&alloc, reports.as_slice(), pieces)?;
     gather(alloc, reports)?.finish(line, packets)

@@ -16,7 +16,7 @@ use line_model::finding::Finding;
 use line_model::piece::PieceReport;
 use line_model::report::Report;
 use line_model::totals::Summary;
-use std::alloc::Allocator;
+use std::alloc::{AllocError, Allocator};
 use std::marker::Model;
 
 /// What some pieces give, put together, in the order in which their reports came.
@@ -75,12 +75,12 @@ impl<A: Allocator + Clone> Parts<A> {
         self.pieces
     }
 
-    /// Adds what a piece gives. It refuses for want of memory alone, and then a part of it may have been added.
-    pub fn add(&mut self, report: PieceReport<A>) -> Result<(), Fault>
+    /// Adds what a piece gives. Where memory is refused a part of it may have been added.
+    pub fn add(&mut self, report: PieceReport<A>) -> Result<(), AllocError>
         requires room { self.old.pieces + 1 < 2 ^ 32 }
-        ensures added { (ps : List records.PieceReport) → self.old ≡ gathered ps → OnOk result (self.new ≡ gathered (ps ++ report ∷ [])) }
+        ensures added { (ps : List records.PieceReport) → self.old ≡ gathered ps
+            → OnOk result (self.new ≡ gathered (ps ++ report ∷ [])) }
         ensures pieces { OnOk result (self.new.pieces ≡ self.old.pieces + 1) }
-        ensures memory { IfErr result (λ fault. fault ≡ Fault.Memory) }
     {
         self.pieces += 1;
         self.octets += report.octets;
@@ -113,8 +113,11 @@ impl<A: Allocator + Clone> Parts<A> {
     /// The report of a trace of so many packets, of which these are all pieces, with the findings of its restart
     /// machine. It refuses for want of memory alone. The order of a report is profile.
     pub fn finish(self, line: Vec<Finding, A>, packets: u32) -> Result<Report<A>, Fault>
-        ensures merged { (ps : List records.PieceReport) → self ≡ gathered ps → IfOk result (λ report. IsMerged report ps line.items packets) }
-        ensures report { (i : Interface) (rs : List records.Row) (ps : List records.PieceReport) → self ≡ gathered ps → IsOfWalk i rs ps line.items packets (length ps) → IfOk result (λ report. report ≡ report_of i rs) }
+        ensures merged { (ps : List records.PieceReport) → self ≡ gathered ps
+            → IfOk result (λ report. IsMerged report ps line.items packets) }
+        ensures report { (i : Interface) (rs : List records.Row) (ps : List records.PieceReport)
+            → self ≡ gathered ps → IsOfWalk i rs ps line.items packets (length ps)
+            → IfOk result (λ report. report ≡ report_of i rs) }
         ensures memory { IfErr result (λ fault. fault ≡ Fault.Memory) }
     {
         let Parts {

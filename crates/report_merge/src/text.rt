@@ -1,11 +1,10 @@
 //! The text of a report.
 
-ghost use Rattle.std.specs.Prelude.{◌≡◌, ℕ, List, ◌++◌, ◌<◌, ◌≤◌, ◌+◌, OnOk, OnErr, IfErr};
+ghost use Rattle.std.specs.Prelude.{◌≡◌, ◌<◌, ◌≤◌, ◌+◌, OnOk, OnErr, IfErr};
 ghost use Rattle.std.specs.List.{flat_map, enumerate_from};
-ghost use Rattle.line_model.specs.basics.Device.{with_more};
 ghost use Rattle.line_model.specs.observer.Report.{text_of, call_line, setting_line, setting_lines, account_line};
 ghost use Rattle.report_merge.specs.Parts.{findings_text, rest_text};
-ghost use Rattle.report_merge.specs.Written.{Writes, Puts};
+ghost use Rattle.report_merge.specs.Written.{PutsTo, TakesAll, TakesFront};
 
 use crate::chunk::Chunk;
 use line_model::call::{Account, CallRecord, SettingRecord};
@@ -18,7 +17,7 @@ use std::alloc::Allocator;
 impl Chunk {
     /// Puts the lines of findings.
     fn findings<W: Sink>(&mut self, sink: &mut W, findings: &[Finding])
-        ensures { Puts (W.taken sink.old, W.failures sink.old) (W.taken sink.new, W.failures sink.new) self.old self.new (findings_text findings.now) }
+        ensures { PutsTo W.Sink sink.old sink.new self.old self.new (findings_text findings.now) }
     {
         for finding in findings {
             self.finding(sink, finding);
@@ -27,7 +26,8 @@ impl Chunk {
 
     /// Puts the lines of accounts.
     fn accounts<W: Sink>(&mut self, sink: &mut W, accounts: &[Account])
-        ensures { Puts (W.taken sink.old, W.failures sink.old) (W.taken sink.new, W.failures sink.new) self.old self.new (flat_map account_line accounts.now) }
+        ensures { PutsTo W.Sink sink.old sink.new self.old self.new
+            (flat_map account_line accounts.now) }
     {
         for account in accounts {
             self.account(sink, account);
@@ -36,7 +36,8 @@ impl Chunk {
 
     /// Puts the lines of the settings of a call.
     fn settings<W: Sink>(&mut self, sink: &mut W, number: u64, settings: &[SettingRecord])
-        ensures { Puts (W.taken sink.old, W.failures sink.old) (W.taken sink.new, W.failures sink.new) self.old self.new (flat_map (setting_line number) settings.now) }
+        ensures { PutsTo W.Sink sink.old sink.new self.old self.new
+            (flat_map (setting_line number) settings.now) }
     {
         for setting in settings {
             self.setting(sink, number, setting);
@@ -45,7 +46,8 @@ impl Chunk {
 
     /// Puts the lines of calls.
     fn calls<W: Sink, A: Allocator>(&mut self, sink: &mut W, calls: &[CallRecord<A>])
-        ensures { Puts (W.taken sink.old, W.failures sink.old) (W.taken sink.new, W.failures sink.new) self.old self.new (flat_map call_line (enumerate_from 1 calls.now)) }
+        ensures { PutsTo W.Sink sink.old sink.new self.old self.new
+            (flat_map call_line (enumerate_from 1 calls.now)) }
     {
         for (index, call) in calls.iter().enumerate() {
             self.call(sink, index as u64 + 1, call);
@@ -54,7 +56,8 @@ impl Chunk {
 
     /// Puts the lines of the settings of calls.
     fn all_settings<W: Sink, A: Allocator>(&mut self, sink: &mut W, calls: &[CallRecord<A>])
-        ensures { Puts (W.taken sink.old, W.failures sink.old) (W.taken sink.new, W.failures sink.new) self.old self.new (flat_map setting_lines (enumerate_from 1 calls.now)) }
+        ensures { PutsTo W.Sink sink.old sink.new self.old self.new
+            (flat_map setting_lines (enumerate_from 1 calls.now)) }
     {
         for (index, call) in calls.iter().enumerate() {
             self.settings(sink, index as u64 + 1, call.settings.as_slice());
@@ -63,7 +66,7 @@ impl Chunk {
 
     /// Puts the lines of a report behind its findings.
     fn rest<W: Sink, A: Allocator>(&mut self, sink: &mut W, report: &Report<A>)
-        ensures { Puts (W.taken sink.old, W.failures sink.old) (W.taken sink.new, W.failures sink.new) self.old self.new (rest_text report.now) }
+        ensures { PutsTo W.Sink sink.old sink.new self.old self.new (rest_text report.now) }
     {
         self.calls(sink, report.calls.as_slice());
         self.all_settings(sink, report.calls.as_slice());
@@ -74,7 +77,7 @@ impl Chunk {
 
     /// Puts all the lines of a report.
     fn report<W: Sink, A: Allocator>(&mut self, sink: &mut W, report: &Report<A>)
-        ensures { Puts (W.taken sink.old, W.failures sink.old) (W.taken sink.new, W.failures sink.new) self.old self.new (text_of report.now) }
+        ensures { PutsTo W.Sink sink.old sink.new self.old self.new (text_of report.now) }
     {
         self.findings(sink, report.findings.as_slice());
         self.rest(sink, report);
@@ -84,8 +87,8 @@ impl Chunk {
 /// Writes the text of a report to a sink, in chunks (the text is profile). It takes no memory. `Write` is answered only
 /// where the sink failed; a first part of the text was taken then.
 pub fn write_report<W: Sink, A: Allocator>(report: &Report<A>, sink: &mut W) -> Result<(), Fault>
-    ensures ok { OnOk result (W.taken sink.new ≡ with_more (W.taken sink.old) (text_of report.now)) }
-    ensures part { OnErr result ((front : List ℕ) × (rest : List ℕ) × (text_of report.now ≡ front ++ rest) × (W.taken sink.new ≡ with_more (W.taken sink.old) front)) }
+    ensures ok { OnOk result (TakesAll W.Sink sink.old sink.new (text_of report.now)) }
+    ensures part { OnErr result (TakesFront W.Sink sink.old sink.new (text_of report.now)) }
     ensures cause { OnErr result (W.failures sink.old < W.failures sink.new) }
     ensures write { IfErr result (λ f. f ≡ Fault.Write) }
 {
@@ -96,8 +99,8 @@ pub fn write_report<W: Sink, A: Allocator>(report: &Report<A>, sink: &mut W) -> 
 
 /// Writes the lines of findings to a sink, as `write_report` writes those of a report.
 pub fn write_findings<W: Sink>(findings: &[Finding], sink: &mut W) -> Result<(), Fault>
-    ensures ok { OnOk result (W.taken sink.new ≡ with_more (W.taken sink.old) (findings_text findings.now)) }
-    ensures part { OnErr result ((front : List ℕ) × (rest : List ℕ) × (findings_text findings.now ≡ front ++ rest) × (W.taken sink.new ≡ with_more (W.taken sink.old) front)) }
+    ensures ok { OnOk result (TakesAll W.Sink sink.old sink.new (findings_text findings.now)) }
+    ensures part { OnErr result (TakesFront W.Sink sink.old sink.new (findings_text findings.now)) }
     ensures rising { W.failures sink.old ≤ W.failures sink.new }
     ensures cause { OnErr result (W.failures sink.old < W.failures sink.new) }
     ensures write { IfErr result (λ f. f ≡ Fault.Write) }
@@ -109,8 +112,8 @@ pub fn write_findings<W: Sink>(findings: &[Finding], sink: &mut W) -> Result<(),
 
 /// Writes to a sink what stands in the text of a report behind the lines of its findings.
 pub fn write_rest<W: Sink, A: Allocator>(report: &Report<A>, sink: &mut W) -> Result<(), Fault>
-    ensures ok { OnOk result (W.taken sink.new ≡ with_more (W.taken sink.old) (rest_text report.now)) }
-    ensures part { OnErr result ((front : List ℕ) × (rest : List ℕ) × (rest_text report.now ≡ front ++ rest) × (W.taken sink.new ≡ with_more (W.taken sink.old) front)) }
+    ensures ok { OnOk result (TakesAll W.Sink sink.old sink.new (rest_text report.now)) }
+    ensures part { OnErr result (TakesFront W.Sink sink.old sink.new (rest_text report.now)) }
     ensures rising { W.failures sink.old ≤ W.failures sink.new }
     ensures cause { OnErr result (W.failures sink.old < W.failures sink.new) }
     ensures write { IfErr result (λ f. f ≡ Fault.Write) }

@@ -7,7 +7,7 @@ use Rattle.line_model.specs.pieces.Plan.{has_some}
 use Rattle.line_model.specs.pieces.Plans.{item_of}
 use Rattle.line_model.specs.pieces.Pieces.{piece_rows}
 use Rattle.line_model.specs.observer.Observer.{is_ready}
-use Rattle.restart_epochs.specs.OpenRows.{OpenRows, rows_of, lane_at, no_rows, with_channel, HasMore, IsListing}
+use Rattle.restart_epochs.specs.OpenRows.{OpenRows, rows_of, lane_at, with_channel, HasMore, IsListing}
 use Rattle.restart_epochs.specs.Cutting.{Cutting, StandsFor, IsCutting, observer, places, rows_if, channels_if, no_cutting}
 use Rattle.restart_epochs.proofs.Pushes.{no_rows_of, stands_nothing}
 use Rattle.restart_epochs.proofs.Bounds.{no_items}

@@ -1,5 +1,5 @@
 -- Lanes: what is written to one is read from it, and the others stay.
-use Rattle.std.proofs.Common.{◌≡◌, ◌≢◌, ap, refl, ℕ, zero, suc, ◌<◌, ◌≤◌, List, [], ◌∷◌, ◌++◌, length, set, get_or, map, arith, length-set, Option, Some, None}
+use Rattle.std.proofs.Common.{◌≡◌, ◌≢◌, ap, refl, ℕ, zero, suc, ◌<◌, ◌≤◌, List, [], ◌∷◌, ◌++◌, length, set, get_or, map, arith, length-set, Option, None}
 use Rattle.restart_epochs.specs.OpenLanes.{lane_at}
 
 -- an empty lane makes no difference

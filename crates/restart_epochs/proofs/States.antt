@@ -1,17 +1,16 @@
 -- The state of each channel is that of the rows of its piece so far.
-use Rattle.std.proofs.Common.{◌≡◌, ◌≢◌, ◌∙◌, sym, ap, refl, subst, ℕ, ◌+◌, Bool, true, false, true≢false, ◌&&◌, cond, eqb, List, [], ◌∷◌, ◌++◌, map, Some, None, arith, append-nil, append_assoc}
+use Rattle.std.proofs.Common.{◌≡◌, ◌∙◌, sym, ap, refl, subst, ℕ, ◌+◌, Bool, true, false, true≢false, ◌&&◌, cond, eqb, List, [], ◌∷◌, ◌++◌, arith, append-nil, append_assoc}
 use Rattle.std.proofs.lemmas.Bool.{ne_eqb, eq-eqb, eqb-true, eqb-false}
 use Rattle.line_model.specs.declared.interface.Interface.{Interface}
 use Rattle.line_model.specs.basics.Records.{Row}
-use Rattle.line_model.specs.channels.RestartMachine.{LineState}
 use Rattle.line_model.specs.channels.Channels.{Channel, fresh}
 use Rattle.line_model.specs.channels.ChannelStep.{channel_step}
 use Rattle.line_model.specs.basics.Octets.{channel_of}
-use Rattle.line_model.specs.observer.Machine.{Observer, after, after_routed, line_moved}
+use Rattle.line_model.specs.observer.Machine.{after_routed, line_moved}
 use Rattle.line_model.specs.pieces.Shuffle.{is_channel}
-use Rattle.line_model.specs.pieces.Pieces.{Placed, piece_rows}
-use Rattle.line_model.specs.observer.Observer.{x25, start, routing, is_ready}
-use Rattle.restart_epochs.specs.Cutting.{observer, places, EndsOf}
+use Rattle.line_model.specs.pieces.Pieces.{piece_rows}
+use Rattle.line_model.specs.observer.Observer.{x25, routing, is_ready}
+use Rattle.restart_epochs.specs.Cutting.{observer, places}
 use Rattle.restart_epochs.proofs.Routes.{is_to_channel}
 use Rattle.restart_epochs.proofs.Epochs.{place_of, places_more, observer_more, rows_same, rows_on_more}
 use Rattle.restart_epochs.proofs.Steps.{on_channel, on_line, routed_to, routed_none}

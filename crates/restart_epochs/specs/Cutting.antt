@@ -115,10 +115,18 @@ pub record StandsFor (i : Interface) (rs : List Row) (c : Cutting) : Type 0 wher
   pub channels : c.open_rows.channels ≡ channels_if (is_ready (observer i rs).line) i (places i rs) (observer i rs).epoch
   pub epochs : EndsOf (places i rs) (observer i rs).epoch (is_ready (observer i rs).line)
 
+-- of any rows of an interface that the cutter was given
+abbrev pub OfCut : Cutting → (Interface → List Row → Type 0) → Type 0
+OfCut c Fact = (i : Interface) (rs : List Row) → StandsFor i rs c → Fact i rs
+
 -- the pieces of an epoch with these channels, from an id on
 abbrev pub pieces_out : Interface → (epoch : ℕ) → (end : Option ℕ) → (ℕ → List Item) → (id : ℕ) → List ℕ → List Piece
 pieces_out i e end rows id [] = []
 pieces_out i e end rows id (k ∷ ks) = record { id = id; interface = i; epoch = e; channel = k; items = rows k; end = end } ∷ pieces_out i e end rows (id + 1) ks
+
+-- the pieces of the open epoch, which a row of this number ends
+abbrev pub ended_pieces : Cutting → (number : ℕ) → List Piece
+ended_pieces c number = pieces_out c.interface c.epoch (Some number) (rows_of c.open_rows) c.given c.open_rows.channels
 
 -- a row was counted
 pub record IsCounted (r : Row) (before after : Cutting) : Type 0 where

@@ -1,12 +1,10 @@
 //! The cutter: a trace falls into pieces by epoch and logical channel, row by row.
 
-ghost use Rattle.std.specs.Prelude.{option_to_list, ◌≡◌, ℕ, ◌<◌, ◌≤◌, ◌+◌, ◌^◌, ◌++◌, ◌∷◌, [], List, length, Some, None, IfErr, IfOk, OnOk, OnErr};
+ghost use Rattle.std.specs.Prelude.{option_to_list, ◌≡◌, ◌<◌, ◌≤◌, ◌+◌, ◌^◌, ◌++◌, ◌∷◌, [], List, length, Some, None, IfErr, IfOk, OnOk, OnErr};
 ghost use Rattle.line_model.specs.packets.Classes.{packet_of, packet_class};
-ghost use Rattle.std.specs.Vec.{vec_len, vec_capacity};
 ghost use Rattle.line_model.specs.basics.Octets.{channel_of};
 ghost use Rattle.line_model.specs.channels.RestartMachine.{line_step};
-ghost use Rattle.restart_epochs.specs.OpenRows.{rows_of};
-ghost use Rattle.restart_epochs.specs.Cutting.{pieces_out, IsUnchanged};
+ghost use Rattle.restart_epochs.specs.Cutting.{ended_pieces, IsUnchanged};
 
 use crate::ended_epoch::give_out;
 use crate::open_epoch::OpenEpoch;
@@ -80,7 +78,7 @@ impl<A: Allocator + Copy> Cutter<A> {
     ghost use Rattle.line_model.specs.basics.Records as records;
     ghost use Rattle.line_model.specs.declared.interface.Interface.{Interface as AnyInterface};
     ghost use Rattle.line_model.specs.declared.fault.Fault.TheVariants.{Memory};
-    ghost use Rattle.restart_epochs.specs.Cutting.{StandsFor, IsCounted, IsKeptOn, IsStepped, IsLeft, IsTaken, HasAppended, given_of};
+    ghost use Rattle.restart_epochs.specs.Cutting.{OfCut, StandsFor, IsCounted, IsKeptOn, IsStepped, IsLeft, IsTaken, HasAppended, given_of};
 
     /// A cutter before the first row. It takes no memory.
     pub fn new(alloc: A, interface: &Interface) -> Self
@@ -130,7 +128,8 @@ impl<A: Allocator + Copy> Cutter<A> {
         requires rising { self.old.last < item.now.row.number }
         requires number { item.now.row.number ≤ 999999999 }
         requires octets { self.old.octets + length item.now.row.octets ≤ 2 ^ 31 }
-        ensures ok { OnOk result (IsStepped item.now.row machine (self.old.epoch + ended) (option_to_list finding) self.old self.new) }
+        ensures ok { OnOk result (IsStepped item.now.row machine (self.old.epoch + ended)
+            (option_to_list finding) self.old self.new) }
         ensures refused { OnErr result (IsUnchanged self.old self.new) }
     {
         note(&mut self.findings, finding)?;
@@ -153,9 +152,12 @@ impl<A: Allocator + Copy> Cutter<A> {
         requires rising { self.old.last < item.now.row.number }
         requires number { item.now.row.number ≤ 999999999 }
         requires octets { self.old.octets + length item.now.row.octets ≤ 2 ^ 31 }
-        ensures ok { OnOk result (IsLeft item.now.row machine (option_to_list finding) self.old self.new) }
-        ensures given { OnOk result (out.new.items ≡ out.old.items ++ pieces_out self.old.interface self.old.epoch (Some item.now.row.number) (rows_of self.old.open_rows) self.old.given self.old.open_rows.channels) }
-        ensures refused { OnErr result (IsUnchanged self.old self.new × (out.new.items ≡ out.old.items)) }
+        ensures ok { OnOk result (IsLeft item.now.row machine
+            (option_to_list finding) self.old self.new) }
+        ensures given { OnOk result (out.new.items
+            ≡ out.old.items ++ ended_pieces self.old item.now.row.number) }
+        ensures refused { OnErr result (IsUnchanged self.old self.new
+            × (out.new.items ≡ out.old.items)) }
     {
         let pieces = self.open_rows.len();
         out.reserve(pieces)?;
@@ -178,7 +180,9 @@ impl<A: Allocator + Copy> Cutter<A> {
 
     /// Where the restart machine stands after a row, and where the row goes.
     fn stepped(&self, item: &ItemRef<'_>) -> (Restart, Route)
-        ensures { record { route = result.1; after = result.0 } ≡ line_step self.now.line item.now.row.side (packet_class item.now.packet) (length item.now.row.octets) }
+        ensures { record { route = result.1; after = result.0 }
+            ≡ line_step self.now.line item.now.row.side
+            (packet_class item.now.packet) (length item.now.row.octets) }
     {
         let mut machine = self.machine;
         let route = machine.step(&item.packet, item.octets.len(), item.side);
@@ -192,7 +196,8 @@ impl<A: Allocator + Copy> Cutter<A> {
         requires number { item.now.row.number ≤ 999999999 }
         requires octets { self.old.octets + length item.now.row.octets ≤ 2 ^ 31 }
         ensures ok { OnOk result (IsTaken item.now self.old self.new out.old.items out.new.items) }
-        ensures refused { OnErr result (IsUnchanged self.old self.new × (out.new.items ≡ out.old.items)) }
+        ensures refused { OnErr result (IsUnchanged self.old self.new
+            × (out.new.items ≡ out.old.items)) }
     {
         let (machine, route) = self.stepped(item);
         let finding = finding_of(route, item.number, item.side);
@@ -213,13 +218,19 @@ impl<A: Allocator + Copy> Cutter<A> {
         requires number { item.now.row.number ≤ 999999999 }
         requires octets { self.old.octets + length item.now.row.octets ≤ 2 ^ 31 }
         // Of any rows that it was given: it stands for them and this one.
-        ensures stands { (i : AnyInterface) (rows : List records.Row) → StandsFor i rows self.old → OnOk result (StandsFor i (rows ++ item.now.row ∷ []) self.new) }
+        ensures stands { OfCut self.old (λ i rows.
+            OnOk result (StandsFor i (rows ++ item.now.row ∷ []) self.new)) }
         // The pieces that are known whole came to stand behind those that were.
-        ensures given { (i : AnyInterface) (rows : List records.Row) (pieces : List records.Piece) → StandsFor i rows self.old → out.old.items ≡ pieces ++ given_of i rows → OnOk result (out.new.items ≡ pieces ++ given_of i (rows ++ item.now.row ∷ [])) }
+        ensures given { (i : AnyInterface) (rows : List records.Row) (pieces : List records.Piece)
+            → StandsFor i rows self.old → out.old.items ≡ pieces ++ given_of i rows
+            → OnOk result (out.new.items ≡ pieces ++ given_of i (rows ++ item.now.row ∷ [])) }
         // Whatever else was taken out of the list: the pieces that came to be known whole are appended.
-        ensures appended { (i : AnyInterface) (rows : List records.Row) → StandsFor i rows self.old → OnOk result (HasAppended out.old.items out.new.items (given_of i rows) (given_of i (rows ++ item.now.row ∷ []))) }
+        ensures appended { OfCut self.old (λ i rows.
+            OnOk result (HasAppended out.old.items out.new.items
+            (given_of i rows) (given_of i (rows ++ item.now.row ∷ [])))) }
         ensures counted { OnOk result (IsCounted item.now.row self.old self.new) }
-        ensures refused { IfErr result (λ fault. (fault ≡ Memory) × IsUnchanged self.old self.new × (out.new.items ≡ out.old.items)) }
+        ensures refused { IfErr result (λ fault. (fault ≡ Memory)
+            × IsUnchanged self.old self.new × (out.new.items ≡ out.old.items)) }
     {
         self.take(item, out)?;
         Ok(())
@@ -228,7 +239,8 @@ impl<A: Allocator + Copy> Cutter<A> {
     /// Copies of the pieces that were not given out yet, which have no end. The cutter stays as it is. It answers
     /// `Memory` alone.
     pub fn peek(&self) -> Result<Vec<Piece<A>, A>, Fault>
-        ensures pieces { (i : AnyInterface) (rows : List records.Row) → StandsFor i rows self.now → IfOk result (λ pieces. given_of i rows ++ pieces.items ≡ plan i rows) }
+        ensures pieces { OfCut self.now (λ i rows.
+            IfOk result (λ pieces. given_of i rows ++ pieces.items ≡ plan i rows)) }
         ensures refused { IfErr result (λ fault. fault ≡ Memory) }
     {
         copy_out(
@@ -242,17 +254,20 @@ impl<A: Allocator + Copy> Cutter<A> {
 
     /// The findings of the restart machine so far.
     pub fn line(&self) -> &[Finding]
-        ensures { (i : AnyInterface) (rows : List records.Row) → StandsFor i rows self.now → result.now ≡ line_findings i rows }
+        ensures { OfCut self.now (λ i rows. result.now ≡ line_findings i rows) }
     {
         self.findings.as_slice()
     }
 
     /// The pieces that were not given out yet, all findings of the restart machine, and the number of rows.
     pub fn end(self) -> Result<Cut<A>, Fault>
-        ensures pieces { (i : AnyInterface) (rows : List records.Row) → StandsFor i rows self → IfOk result (λ cut. given_of i rows ++ cut.pieces.items ≡ plan i rows) }
-        ensures line { (i : AnyInterface) (rows : List records.Row) → StandsFor i rows self → IfOk result (λ cut. cut.line.items ≡ line_findings i rows) }
-        ensures packets { (i : AnyInterface) (rows : List records.Row) → StandsFor i rows self → IfOk result (λ cut. cut.packets ≡ length rows) }
-        ensures few { (i : AnyInterface) (rows : List records.Row) → StandsFor i rows self → IfOk result (λ cut. length (given_of i rows) + length cut.pieces.items ≤ cut.packets) }
+        ensures pieces { OfCut self (λ i rows.
+            IfOk result (λ cut. given_of i rows ++ cut.pieces.items ≡ plan i rows)) }
+        ensures line { OfCut self (λ i rows.
+            IfOk result (λ cut. cut.line.items ≡ line_findings i rows)) }
+        ensures packets { OfCut self (λ i rows. IfOk result (λ cut. cut.packets ≡ length rows)) }
+        ensures few { OfCut self (λ i rows.
+            IfOk result (λ cut. length (given_of i rows) + length cut.pieces.items ≤ cut.packets)) }
         ensures refused { IfErr result (λ fault. fault ≡ Memory) }
     {
         let Cutter {

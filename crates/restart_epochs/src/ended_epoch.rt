@@ -23,7 +23,9 @@ pub fn give_out<A: Allocator + Copy>(
     requires room { vec_len out.old + length epoch_rows.old.channels ≤ vec_capacity out.old }
     requires ids { first + length epoch_rows.old.channels < 2 ^ 32 }
     requires pieces { (k : ℕ) → IsPiece interface.now k (rows_of epoch_rows.old k) }
-    ensures given { out.new.items ≡ out.old.items ++ pieces_out interface.now epoch end (rows_of epoch_rows.old) first epoch_rows.old.channels }
+    ensures given { out.new.items
+        ≡ out.old.items
+        ++ pieces_out interface.now epoch end (rows_of epoch_rows.old) first epoch_rows.old.channels }
     ensures channels { epoch_rows.new.channels ≡ [] }
     ensures emptied { IsEmptied epoch_rows.old epoch_rows.new }
 {

@@ -1,6 +1,6 @@
 //! The rows of the epoch that has not ended, by logical channel.
 
-ghost use Rattle.std.specs.Prelude.{◌≡◌, ◌≢◌, ℕ, ◌<◌, ◌≤◌, ◌^◌, [], IfErr, IfOk, OnOk, OnErr, MatchOption, length};
+ghost use Rattle.std.specs.Prelude.{◌≡◌, ◌≢◌, ℕ, ◌<◌, [], IfErr, IfOk, OnOk, OnErr, MatchOption, length};
 ghost use Rattle.line_model.specs.declared.fault.Fault.TheVariants.{Memory};
 ghost use Rattle.restart_epochs.specs.OpenRows.{no_rows, rows_of, IsSame, HasMore, IsTakenOut};
 
@@ -109,7 +109,8 @@ impl<A: Allocator + Copy> OpenEpoch<A> {
 
     /// Takes out the first channel that has rows, with them.
     pub fn pop_first(&mut self) -> Option<(u16, Items<A>)>
-        ensures { MatchOption result ((self.old.channels ≡ []) × (self.new ≡ self.old)) (λ taken. IsTakenOut taken.0 taken.1 self.old self.new) }
+        ensures { MatchOption result ((self.old.channels ≡ []) × (self.new ≡ self.old))
+            (λ taken. IsTakenOut taken.0 taken.1 self.old self.new) }
     {
         let channel = self.channels.pop_first()?;
         let items = self.empty_lane(channel);

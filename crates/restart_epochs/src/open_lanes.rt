@@ -1,7 +1,7 @@
 //! A value for each logical channel of the epoch that has not ended.
 
-ghost use Rattle.std.specs.Prelude.{◌≡◌, ℕ, ◌<◌, ◌≤◌, [], IfSome, MatchOption, OnOk, length};
-ghost use Rattle.std.specs.Option.{option_map, option_copied};
+ghost use Rattle.std.specs.Prelude.{◌≡◌, ℕ, ◌<◌, [], MatchOption, OnOk, length};
+ghost use Rattle.std.specs.Option.{option_map};
 ghost use Rattle.restart_epochs.specs.OpenLanes.{value_at, IsEmpty, HasListed, HasTaken, HasPut, HasPopped};
 
 use std::alloc::{AllocError, Allocator};
@@ -89,7 +89,8 @@ impl<T: Drop, A: Allocator + Copy> Lanes<T, A> {
 
     /// Takes out the first channel that is listed, with its value.
     pub fn pop_first(&mut self) -> Option<(u16, Option<Box<T, A>>)>
-        ensures { MatchOption result ((self.old.channels ≡ []) × (self.new ≡ self.old)) (λ first. HasPopped first.0 (option_map (λ b. b.value) first.1) self.old self.new) }
+        ensures { MatchOption result ((self.old.channels ≡ []) × (self.new ≡ self.old))
+            (λ first. HasPopped first.0 (option_map (λ b. b.value) first.1) self.old self.new) }
     {
         let channel = self.channels.pop_first()?;
         let value = self.take(channel);

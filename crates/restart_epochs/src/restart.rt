@@ -3,7 +3,7 @@
 ghost use Rattle.std.specs.Prelude.{◌≡◌, false, true};
 ghost use Rattle.line_model.specs.packets.Classes.{packet_class};
 ghost use Rattle.line_model.specs.observer.Observer.{line_in_r1};
-ghost use Rattle.line_model.specs.channels.RestartMachine.{Routing, restart_fault, restart_move, restart_error, restart_step, inside_step, passes_joining, line_step};
+ghost use Rattle.line_model.specs.channels.RestartMachine.{restart_fault, restart_move, restart_error, restart_step, passes_joining, line_step};
 
 use line_model::diagnostic::{PACKET_TOO_LONG, PACKET_TOO_SHORT};
 use line_model::packet::{Class, Packet};
@@ -75,7 +75,8 @@ impl Restart {
 
     /// Takes one row, and says where it goes.
     pub fn step(&mut self, packet: &Packet, length: usize, side: Side) -> Route
-        ensures { record { route = result; after = self.new } ≡ line_step self.old side (packet_class packet.now) length }
+        ensures { record { route = result; after = self.new }
+            ≡ line_step self.old side (packet_class packet.now) length }
     {
         let class = packet.class();
         let name = self.state.name();
@@ -107,7 +108,8 @@ impl Restart {
 
     /// Does what an entry of the table says.
     fn act(&mut self, class: Class, length: usize, side: Side, action: Action) -> Route
-        ensures { record { route = result; after = self.new } ≡ restart_step self.old side class length action }
+        ensures { record { route = result; after = self.new }
+            ≡ restart_step self.old side class length action }
     {
         match action {
             Action::Move(state) => match fault(class, length) {
@@ -126,7 +128,8 @@ impl Restart {
 
     /// Moves to a state.
     fn enter(&mut self, state: StateName) -> Route
-        ensures { record { route = result; after = self.new } ≡ restart_move self.old.state state }
+        ensures { record { route = result; after = self.new }
+            ≡ restart_move self.old.state state }
     {
         let left = self.state == RState::R1;
         self.owed = false;
@@ -148,7 +151,8 @@ impl Restart {
 
     /// Tells an error: the DTE's has the DCE restart.
     fn fail(&mut self, side: Side, code: u8) -> Route
-        ensures { record { route = result; after = self.new } ≡ restart_error self.old side code }
+        ensures { record { route = result; after = self.new }
+            ≡ restart_error self.old side code }
     {
         let state = self.state;
         if side == Side::N {

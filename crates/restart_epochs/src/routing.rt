@@ -35,7 +35,9 @@ pub fn logical_channel(octets: &[u8]) -> u16
 /// The finding of the restart machine on the row of a number and a side, if its route has one.
 pub fn finding_of(route: Route, number: u32, side: Side) -> Option<Finding>
     // Whatever octets the row has.
-    ensures { (octets : List ℕ) → option_to_list result ≡ route_finding (record { number = number; side = side; octets = octets }) route }
+    ensures { (octets : List ℕ)
+        → option_to_list result
+        ≡ route_finding (record { number = number; side = side; octets = octets }) route }
 {
     let (state, code) = match route {
         Route::Found(state, code) => (state, code),

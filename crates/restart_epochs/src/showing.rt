@@ -23,7 +23,8 @@ pub fn copy_out<A: Allocator + Copy>(
 ) -> Result<Vec<Piece<A>, A>, Fault>
     requires ids { first + length epoch_rows.now.channels < 2 ^ 32 }
     requires pieces { (k : ℕ) → IsPiece interface.now k (rows_of epoch_rows.now k) }
-    ensures copied { IfOk result (λ pieces. pieces.items ≡ pieces_out interface.now epoch None (rows_of epoch_rows.now) first epoch_rows.now.channels) }
+    ensures copied { IfOk result (λ pieces. pieces.items
+        ≡ pieces_out interface.now epoch None (rows_of epoch_rows.now) first epoch_rows.now.channels) }
     ensures memory { IfErr result (λ fault. fault ≡ Memory) }
 {
     let mut pieces = Vec::new(alloc);

@@ -292,7 +292,8 @@ fn row_that_leaves_r1_gives_out_its_epoch(rt: HostRuntime) -> Result<(), Fail> {
 
 /// The rows of a trace, which count from 1.
 fn rows_of<A: Allocator + Copy>(alloc: A, packets: &[(Side, &[u8])]) -> Result<Vec<Row<A>, A>, Fail>
-    ensures rising { IfOk result (λ rows. IsStrictlyIncreasing (0 ∷ map (λ r. r.number) rows.items)) }
+    ensures rising { IfOk result (λ rows.
+        IsStrictlyIncreasing (0 ∷ map (λ r. r.number) rows.items)) }
     ensures numbers { IfOk result (λ rows. All (λ r. r.number ≤ 999999999) rows.items) }
     ensures octets { IfOk result (λ rows. sum_by (λ r. length r.octets) rows.items ≤ 2 ^ 31) }
 {

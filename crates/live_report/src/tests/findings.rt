@@ -1,9 +1,8 @@
 //! What an observer finds at each row.
 
-ghost use Rattle.std.specs.Prelude.{◌≡◌, ℕ, [], List};
-ghost use Rattle.line_model.specs.declared.interface.Interface.{Interface as AnyInterface};
+ghost use Rattle.std.specs.Prelude.{[]};
 ghost use Rattle.trace_text.specs.StandsFor.{StandsFor as IsReaderOf};
-ghost use Rattle.live_report.specs.Lives.{IsWatching};
+ghost use Rattle.live_report.specs.Lives.{IsWatcher};
 
 use crate::observer::Observer;
 use crate::tests::same_fault;
@@ -25,7 +24,7 @@ fn answers<A: Allocator + Copy, C: Channel<A>>(
     observer: &mut Observer<A, C>,
     answers: &mut Vec<Option<Finding>, A>,
 ) -> Result<(), Fault>
-    requires { (i : AnyInterface) × (text : List ℕ) × IsWatching C.interface_of C.number_of C.stands_for i text lines.old observer.old }
+    requires { IsWatcher C.Channel lines.old observer.old }
 {
     let mut rest = chunk;
     while let Some(after) = lines.next_row(rest, row)? {

@@ -1,4 +1,4 @@
-use Rattle.std.proofs.Common.{◌≡◌, ◌∙◌, ap, sum_by, subst, IfOk, arith}
+use Rattle.std.proofs.Common.{◌∙◌, ap, sum_by, arith}
 use Rattle.std.proofs.lemmas.List.Sorted.{sum_by-IsPermutation}
 use Rattle.call_accounts.specs.declared.account.Entry.{Entry}
 use Rattle.call_accounts.specs.Entries.{summed}
@@ -18,6 +18,5 @@ pub returns-clause-accounts : goal.returns-clause-accounts
 returns-clause-accounts g c =
     let own = c.in_ok-entries.ensures in
     let sorted = c.by_address-entries.ensures in
-    subst (λ l. IfOk c.added_up.result (λ v. v.items ≡ l))
-    (ap summed c.deref.ensures.value ∙ summed-accounts c.args.calls.now c.in_ok-entries.field-0.items _ own.entries own.ranked sorted.permutation sorted.sorted)
-    c.added_up.ensures.accounts
+    c.in_ok-added_up.ensures ∙ ap summed c.deref.ensures.value
+    ∙ summed-accounts c.args.calls.now c.in_ok-entries.field-0.items _ own.entries own.ranked sorted.permutation sorted.sorted

@@ -19,7 +19,7 @@ loop-event-preserved g c =
     subst IsCountable more (countable_before (take (i + 1) events) (drop (i + 1) events) (subst IsCountable (sym (take-append-drop (i + 1) events)) (all_countable events (omega arith) c.requires.few_octets))) in
     let behind = sym (places_more done v) ∙ ap (λ (es : List Event). map place_of (calls_of es)) (sym more) in
     record {
-      heard = subst (AreHeard c.hear.new.self) (sym more) (c.in_ok-hear.ensures.heard done c.loop-event.invariant.heard few);
+      heard = subst (AreHeard c.hear.new.self) (sym more) (c.in_ok-hear.ensures done c.loop-event.invariant.heard few);
       openings = elim c.match-event.branch [
         | in-Open+in_ok-push w ↦ ap (λ vs. vs.items) w.openings-is ∙ w.in_ok-push.ensures.items ∙ ap (λ l. l ++ (v.epoch, v.channel) ∷ []) c.loop-event.invariant.openings
             ∙ ap (λ l. map place_of (calls_of done) ++ l) (sym (opens_here v _ _ _ _ w.in-Open.is)) ∙ behind
@@ -32,5 +32,5 @@ pub returns-clause-calls : goal.returns-clause-calls
 returns-clause-calls g c =
     let events : List Event = c.args.events.now in
     let whole : take c.loop-event.event-index events ≡ events = take_all c.loop-event.event-index events (omega (arith, c.loop-event-test.false)) in
-    c.in_order.ensures.calls (calls_of events) (heard_left c.loop-event.places events (subst (AreHeard c.loop-event.places) whole c.loop-event.invariant.heard))
+    c.in_ok-in_order.ensures (calls_of events) (heard_left c.loop-event.places events (subst (AreHeard c.loop-event.places) whole c.loop-event.invariant.heard))
     (c.loop-event.invariant.openings ∙ ap (λ (es : List Event). map place_of (calls_of es)) whole)

@@ -19,5 +19,5 @@ returns-clause-peak g c =
     let bits = λ (x : ℕ). cond (nat_le x n) 1 0 in
     let e = sum_by-IsPermutation bits _ _ c.sort_unstable.ensures.permutation in
     let f = sum_by-IsPermutation bits _ _ c.sort_unstable-2.ensures.permutation in
-    rw (c.as_slice.ensures.value, c.as_slice-2.ensures.value) (omega (arith, e, f, c.in_ok-times.ensures.counts n)))
+    rw (c.as_slice.ensures.value, c.as_slice-2.ensures.value) (omega (arith, e, f, c.in_ok-times.ensures n)))
     c.highest.ensures

@@ -14,10 +14,10 @@ loop-call-preserved g c = λ n.
     let f : CallRecord → ℕ = λ x. cond (is_call_up n x) 1 0 in
     let more = sum_by_more f xs i call (omega arith) in
     let bit : f call ≡ f (get_or xs i call) = ap f c.call-item.is in
-    omega (arith, more, bit, c.in_ok-add.ensures.counts n, c.loop-call.invariant n)
+    omega (arith, more, bit, c.in_ok-add.ensures n, c.loop-call.invariant n)
 
-pub returns-clause-counts : goal.returns-clause-counts
-returns-clause-counts g c = λ n.
+pub returns : goal.returns
+returns g c = λ n.
     let all = take_all c.loop-call.call-index c.args.calls.now (omega arith) in
     let counted : count_by (is_call_up n) c.args.calls.now + up_to n c.loop-call.times.ends.items ≡ up_to n c.loop-call.times.ups.items =
     subst (λ l. count_by (is_call_up n) l + up_to n c.loop-call.times.ends.items ≡ up_to n c.loop-call.times.ups.items) all (c.loop-call.invariant n) in

@@ -5,8 +5,8 @@ use Rattle.std.proofs.lemmas.Iterator.Consumers.{YieldsList-turn, YieldsList-end
 use Rattle.report_merge.specs.Gathered.{gathered}
 use Rattle.report_merge.proofs.merging.gather.Goals as goal
 
-pub returns-clause-gathered : goal.returns-clause-gathered
-returns-clause-gathered g c =
+pub returns : goal.returns
+returns g c =
     let given = c.into_iter-report-iterator.ensures.into_iter_gives in
     let t = YieldsList-end (YieldsList-from_vec {s = c.into_iter-report-iterator.result} c.args.reports.items given.0 (given.1 ∙ c.args.reports.ok.0)) c.loop-report.yielded c.loop-report.report-iterator c.loop-report.yielded_by c.next.result c.next.new.self c.in-None.is c.next.ensures.steps in
     c.loop-report.invariant ∙ ap gathered (sym (map-id c.loop-report.yielded) ∙ t.0)

@@ -15,15 +15,15 @@ returns-in_err-judge-clause-plan g c =
 pub returns-clause-whole : goal.returns-clause-whole
 returns-clause-whole g c =
     IfOk-weaker c.finish.result _ _
-    (λ r m. subst (λ (ps : List PieceReport). IsWhole c.args.pieces (ids_of ps)) c.as_slice.ensures.value c.in_ok-judge.ensures.whole) (c.finish.ensures.merged c.args.reports.items c.in_ok-gather.ensures.gathered)
+    (λ r m. subst (λ (ps : List PieceReport). IsWhole c.args.pieces (ids_of ps)) c.as_slice.ensures.value c.in_ok-judge.ensures.whole) (c.finish.ensures.merged c.args.reports.items c.in_ok-gather.ensures)
 
 pub returns-clause-merged : goal.returns-clause-merged
-returns-clause-merged g c = c.finish.ensures.merged c.args.reports.items c.in_ok-gather.ensures.gathered
+returns-clause-merged g c = c.finish.ensures.merged c.args.reports.items c.in_ok-gather.ensures
 
 pub returns-clause-report : goal.returns-clause-report
 returns-clause-report g c =
     IfOk-weaker c.finish.result _ _ (λ r m i rs w. report_is i rs c.args.reports.items c.args.line.items c.args.packets c.args.pieces r w m)
-    (c.finish.ensures.merged c.args.reports.items c.in_ok-gather.ensures.gathered)
+    (c.finish.ensures.merged c.args.reports.items c.in_ok-gather.ensures)
 
 pub returns-clause-refused : goal.returns-clause-refused
 returns-clause-refused g c =

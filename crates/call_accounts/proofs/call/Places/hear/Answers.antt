@@ -1,8 +1,8 @@
 use Rattle.call_accounts.proofs.PlaceLemmas.{heard_more, on_result}
 use Rattle.call_accounts.proofs.call.Places.hear.Goals as goal
 
-pub returns-clause-heard : goal.returns-clause-heard
-returns-clause-heard g c es heard few =
+pub returns : goal.returns
+returns g c es heard few =
     let turned = c.in_ok-turn_to.ensures in
     on_result c.hear.result
     (λ ok. heard_more c.args.self.now c.turn_to.new.self c.hear.new.self es c.args.event.now turned.turned.0 turned.turned.1 turned.here turned.others

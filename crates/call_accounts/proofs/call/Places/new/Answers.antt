@@ -1,5 +1,5 @@
 use Rattle.call_accounts.proofs.PlaceLemmas.{none_heard}
 use Rattle.call_accounts.proofs.call.Places.new.Goals as goal
 
-pub returns-clause-heard : goal.returns-clause-heard
-returns-clause-heard g c = none_heard _ _ c.new.result c.new-2.result c.new.ensures c.new-2.ensures.empty
+pub returns : goal.returns
+returns g c = none_heard _ _ c.new.result c.new-2.result c.new.ensures c.new-2.ensures.empty

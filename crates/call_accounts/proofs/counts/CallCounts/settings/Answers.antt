@@ -6,11 +6,11 @@ use Rattle.call_accounts.specs.Counted.{settings_in}
 use Rattle.call_accounts.proofs.CountedLemmas.{settings_known}
 use Rattle.call_accounts.proofs.counts.CallCounts.settings.Goals as goal
 
-pub returns-clause-settings : goal.returns-clause-settings
-returns-clause-settings g c = λ m g.
+pub returns : goal.returns
+returns g c = λ m g.
     let h = c.args.self.now in
     let first : List SettingRecord = settings_in T h.settings_t (range_with_len 1 22) in
     let second : List SettingRecord = settings_in N h.settings_n (range_with_len 1 22) in
-    c.in_ok-push_known-2.ensures.settings
-    ∙ ap (λ l. l ++ second) (c.in_ok-push_known.ensures.settings ∙ ap (λ l. l ++ first) c.new-settings.ensures.items)
+    c.in_ok-push_known-2.ensures
+    ∙ ap (λ l. l ++ second) (c.in_ok-push_known.ensures ∙ ap (λ l. l ++ first) c.new-settings.ensures.items)
     ∙ settings_known h m g

@@ -7,10 +7,10 @@ pub returns-clause-told : goal.returns-clause-told
 returns-clause-told g c = λ epoch channel es s.
     let told = c.args.self.now.told.items in
     open_calls_are told c.push_record.new.calls.items c.in-Some.call epoch channel es s.of_channel (subst (λ o. HoldsFor told o es) c.in-Some.is s.holds)
-    c.in_ok-record.record c.in_ok-record.ensures.record c.in_ok-push_record.ensures.pushed
+    c.in_ok-record.record c.in_ok-record.ensures c.in_ok-push_record.ensures
 
 pub returns-clause-tells : goal.returns-clause-tells
 returns-clause-tells g c cs t =
     let told = c.args.self.now.told.items in
     let h = subst (λ o. TellsBy told o cs) c.in-Some.is t in
-    open_calls_are told c.push_record.new.calls.items c.in-Some.call h.0 h.1 h.2 h.3 h.4 c.in_ok-record.record c.in_ok-record.ensures.record c.in_ok-push_record.ensures.pushed ∙ sym h.5
+    open_calls_are told c.push_record.new.calls.items c.in-Some.call h.0 h.1 h.2 h.3 h.4 c.in_ok-record.record c.in_ok-record.ensures c.in_ok-push_record.ensures ∙ sym h.5

@@ -13,7 +13,6 @@ returns-in-Some g c = record {
             counted_within c.args.self.now.told.items c.args.self.now.call c.in-Some.call _ es e c.in-Some.is s.holds
             (other_within e c.in_default.not-Open c.in_default.not-End) refl c.hear.ensures few;
       };
-  memory = tt;
 }
 
 pub returns-in_default-call : goal.returns-in_default-call
@@ -26,5 +25,4 @@ returns-in_default-call g c = record {
             stays_none c.args.self.now.told.items c.args.self.now.call epoch channel es e c.in_default-call.is s.of_channel of s.holds
             (within_opens_none e (other_within e c.in_default.not-Open c.in_default.not-End));
       };
-  memory = tt;
 }

@@ -1,4 +1,4 @@
-use Rattle.std.proofs.Common.{◌≡◌, ◌∙◌, ap, sym, refl, Some, None, true, false, true≢false, ◌<◌, ◌≤◌, length, rules}
+use Rattle.std.proofs.Common.{◌∙◌, ap, sym, refl, true≢false, ◌<◌, ◌≤◌, length, rules}
 use Rattle.std.specs.Option.{option_map}
 use Rattle.restart_epochs.specs.OpenLanes.{value_at}
 use Rattle.restart_epochs.proofs.OpenLaneLemmas.{open-get, open-past, open-set, open-other, open-room}
