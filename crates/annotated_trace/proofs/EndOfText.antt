@@ -1,5 +1,5 @@
 -- A text whose last line an LF ends or not.
-use Rattle.std.proofs.Common.{◌≡◌, ◌∙◌, sym, ap, subst, refl, ℕ, ◌+◌, ◌<◌, ◌≤◌, true, false, List, [], ◌∷◌, ◌++◌, length, Option, Some, None, Result, Ok, Err, IfOk, IfErr, arith, append_assoc, append-nil, ◌⊎◌, inl, inr}
+use Rattle.std.proofs.Common.{◌≡◌, ◌∙◌, sym, ap, subst, refl, ℕ, ◌+◌, ◌<◌, ◌≤◌, true, false, List, [], ◌∷◌, ◌++◌, length, Option, Some, None, Result, Ok, Err, IfOk, IfErr, OnOk, arith, append_assoc, append-nil, ◌⊎◌, inl, inr}
 use Rattle.std.specs.Prelude.{◌==◌}
 use Rattle.std.proofs.lemmas.Bool.{eqb-true}
 use Rattle.std.specs.Option.{option_or, option_map}
@@ -20,12 +20,13 @@ use Rattle.trace_text.proofs.FeedLemmas.{early-none, no_fault, size-sound, size_
 use Rattle.line_model.proofs.LineLemmas.{size_kind-zero}
 use Rattle.annotated_trace.specs.Annotation.{AreComments, IsAnnotation, IsAnnotationOf, marks_in}
 use Rattle.annotated_trace.specs.Annotators.{HasAnnotated, HasFirstOf, IsAnnotated, IsCloseRefusal, IsEndRefusal, IsFull}
-use Rattle.annotated_trace.specs.Marking.{HasClosing, HasFirstOfClosing}
+use Rattle.annotated_trace.specs.Marking.{HasClosing, HasFirstOfClosing, StopsClosing}
 use Rattle.trace_text.specs.StandsFor.{IsFaultOf}
 use Rattle.annotated_trace.specs.Watched.{IsReportOf}
 use Rattle.annotated_trace.specs.declared.choice.Choice.{Choice}
 use Rattle.trace_text.proofs.EndLemmas.{one_line, one_kind, fault-last, head-sound, rows-all}
 use Rattle.annotated_trace.proofs.AnnotatedLemmas.{some_same}
+use Rattle.annotated_trace.proofs.PassedLemmas.{sent_all}
 use Rattle.line_model.proofs.DeviceLemmas.{with_more-append}
 
 -- ---- the same lines
@@ -200,6 +201,19 @@ same_sums x some h k =
     let header : head y ≡ head x = head-sound y k ∙ ap head_of (same_lines x some) ∙ sym (head-sound x h) in
     let rs : rows y ≡ rows x = rows-all y k ∙ ap rows_in (same_lines x some) ∙ sym (rows-all x h) in
     ap (λ o. elim o as (λ _. Summary) [ None ↦ no_summary | Some i ↦ (report_of i (rows y)).summary ]) header ∙ ap (λ l. elim (head x) as (λ _. Summary) [ None ↦ no_summary | Some i ↦ (report_of i l).summary ]) rs
+
+-- the lines that were held and the closing comments
+pub all_closed : (choice : Choice) (x : List ℕ) (before taken after : Option (List ℕ)) (held : List ℕ) (r : Report) (result : Result Summary Fault) → begun_line x ≡ [] → HasAnnotated choice before taken held (ended_lines x) → IsReportOf x r → OnOk result (HasClosing (with_more taken held) after)
+    → IfOk result (λ sums. sums ≡ r.summary) → IfOk result (IsAnnotated choice x before after)
+all_closed choice x before taken after held r (Ok sums) none h told closing same =
+    all_annotated choice x before (with_more taken held) after r sums none (sent_all choice before taken (with_more taken held) held (ended_lines x) h refl) closing told same
+all_closed choice x before taken after held r (Err f) none h told closing same = tt
+
+-- a first part of them
+pub first_closed : (choice : Choice) (x : List ℕ) (before taken after : Option (List ℕ)) (held : List ℕ) → begun_line x ≡ [] → HasAnnotated choice before taken held (ended_lines x) → StopsClosing held taken after → HasFirstOf choice x before after
+first_closed choice x before taken after held none h (inl p) = part_annotated choice x before taken after held p.front p.left none h p.whole p.taken
+first_closed choice x before taken after held none h (inr p) =
+    first_annotated choice x before (with_more taken held) after none (sent_all choice before taken (with_more taken held) held (ended_lines x) h refl) p
 
 pub same_annotated : (choice : Choice) (x : List ℕ) (before after : Option (List ℕ)) (sums : Summary) → 0 < length (begun_line x) → fault (x ++ 10 ∷ []) ≡ fault x → IsAnnotated choice (x ++ 10 ∷ []) before after sums → IsAnnotated choice x before after sums
 same_annotated choice x before after sums some e a =

@@ -1,5 +1,6 @@
 pub mod LinesOfText
 pub mod SameReport
+pub mod StopLemmas
 pub mod MarkLemmas
 pub mod WordingLemmas
 pub mod PageLemmas

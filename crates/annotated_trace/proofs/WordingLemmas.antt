@@ -53,6 +53,9 @@ appended_ok (Err x) now out rest whole e h one = tt
 pub none_added : (before : List ℕ) → BeginsWith before before
 none_added before = ([], sym (append-nil before))
 
+pub kept_after : (before mid now more : List ℕ) → mid ≡ before ++ more → BeginsWith mid now → BeginsWith before now
+kept_after before mid now more e h = (more ++ h.0, h.1 ∙ ap (λ xs. xs ++ h.0) e ∙ append_assoc before more h.0)
+
 pub more_added : (before bytes more now : List ℕ) → BeginsWith before bytes → now ≡ bytes ++ more → BeginsWith before now
 more_added before bytes more now h e = (h.0 ++ more, e ∙ ap (λ xs. xs ++ more) h.1 ∙ append_assoc before h.0 more)
 

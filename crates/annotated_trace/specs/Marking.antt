@@ -67,3 +67,14 @@ pub record HasFirstOfClosing (before after : Option (List ℕ)) : Type 0 where
   pub taken : after ≡ with_more before front
   pub comments : AreComments closing
   pub unmarked : marks_in closing ≡ []
+
+-- it took a first part of some bytes
+pub record HasFirstPart (bytes : List ℕ) (before after : Option (List ℕ)) : Type 0 where
+  pub front : List ℕ
+  pub left : List ℕ
+  pub whole : bytes ≡ front ++ left
+  pub taken : after ≡ with_more before front
+
+-- it took a first part of what was held, or all of it and a first part of comments that mark nothing
+abbrev pub StopsClosing : (held : List ℕ) (before after : Option (List ℕ)) → Type 0
+StopsClosing held before after = HasFirstPart held before after ⊎ HasFirstOfClosing (with_more before held) after

@@ -8,11 +8,9 @@ use crate::annotator::Annotator;
 use crate::choice::Choice;
 use crate::describer::Describer;
 use crate::watcher::Watcher;
-use channel_machine::channel::PackedChannel;
 use line_model::device::{Sink, Source};
 use line_model::fault::Fault;
 use line_model::totals::Summary;
-use live_report::live::Live;
 use std::alloc::Allocator;
 
 /// The bytes that are asked for at once.
@@ -51,7 +49,7 @@ fn feed_all<A: Allocator + Copy, W: Watcher<A>, D: Describer<A, W>, S: Source, K
 /// Writes a trace again that a source gives, each line with its comments as soon as its LF was read, and answers the last
 /// line of its report as numbers. It refuses by the first faulty line as soon as it is known, and has written the lines
 /// before it; where a device fails; for want of memory; and as `Annotator::end`.
-pub fn annotate_with<A: Allocator + Copy, W: Watcher<A>, D: Describer<A, W>, S: Source, K: Sink>(
+pub fn annotate<A: Allocator + Copy, W: Watcher<A>, D: Describer<A, W>, S: Source, K: Sink>(
     alloc: A,
     trace: W,
     choice: Choice,
@@ -74,28 +72,4 @@ pub fn annotate_with<A: Allocator + Copy, W: Watcher<A>, D: Describer<A, W>, S: 
         Ok(()) => annotator.end(sink),
         Err(fault) => Err(fault),
     }
-}
-
-/// Writes a trace again that a source gives, as `annotate_with`, with what the scan of one thread holds of its rows.
-pub fn annotate<
-    A: Allocator + Copy,
-    D: Describer<A, Live<A, PackedChannel<A>>>,
-    S: Source,
-    K: Sink,
->(alloc: A, choice: Choice, describer: D, source: &mut S, sink: &mut K) -> Result<Summary, Fault>
-    ensures annotated { IfOk result (Annotates choice (S.left source.old) (S.left source.new) (K.taken sink.old) (K.taken sink.new)) }
-    ensures stopped { IfErr result (Stops choice (S.left source.old) (S.left source.new) (K.taken sink.old) (K.taken sink.new) (K.failures sink.new ≡ K.failures sink.old)) }
-    ensures kinds { IfErr result IsAnnotatingFault }
-    ensures read_failed { result ≡ Err Fault.Read → S.failures source.old < S.failures source.new }
-    ensures write_failed { result ≡ Err Fault.Write → K.failures sink.old < K.failures sink.new }
-    ensures asked { S.calls source.new ≤ S.calls source.old + (2 ^ 30 + 1) }
-{
-    annotate_with(
-        alloc,
-        Live::<A, PackedChannel<A>>::new(alloc),
-        choice,
-        describer,
-        source,
-        sink,
-    )
 }

@@ -8,7 +8,7 @@ ghost use Rattle.trace_text.specs.StandsFor.{IsFaultOf, IsTextFault};
 ghost use Rattle.annotated_trace.specs.Annotators.{HasAnnotated, HasFirst, HasFirstOf, HasLinesBefore, IsAnnotated, IsAnnotatorFault, IsCloseRefusal, IsEndRefusal, IsRefusalOf, IsStoppedAt, StandsFor, is_line};
 
 use crate::choice::Choice;
-use crate::closing::write_closing;
+use crate::closing::send_closing;
 use crate::commenting::{Scratch, append_comments};
 use crate::describer::Describer;
 use crate::holding::{send_held, send_much};
@@ -92,7 +92,8 @@ impl<A: Allocator + Copy, W: Watcher<A>, D: Describer<A, W>> Annotator<A, W, D> 
             &mut self.describer,
             &mut self.scratch,
             &mut self.held,
-        )
+        )?;
+        Ok(())
     }
 
     /// Takes bytes without an LF.
@@ -187,16 +188,8 @@ impl<A: Allocator + Copy, W: Watcher<A>, D: Describer<A, W>> Annotator<A, W, D> 
             mut held,
             ..
         } = self;
-        let report = match trace.whole() {
-            Ok(report) => report,
-            Err(fault) => return Err(fault),
-        };
-        match send_held(&mut held, sink) {
-            Ok(()) => {}
-            Err(fault) => return Err(fault),
-        }
-        match write_closing(&report, &mut describer, sink) {
-            Ok(()) => Ok(report.summary),
+        match trace.whole() {
+            Ok(report) => send_closing(&report, &mut describer, &mut held, sink),
             Err(fault) => Err(fault),
         }
     }

@@ -1,13 +1,16 @@
 //! The comments behind the last line of a text are written.
 
-ghost use Rattle.std.specs.Prelude.{◌≡◌, ◌<◌, IfErr, OnErr, OnOk};
-ghost use Rattle.annotated_trace.specs.Marking.{HasClosing, HasFirstOfClosing};
+ghost use Rattle.std.specs.Prelude.{◌≡◌, ◌<◌, IfErr, IfOk, OnErr, OnOk};
+ghost use Rattle.line_model.specs.basics.Device.{with_more};
+ghost use Rattle.annotated_trace.specs.Marking.{HasClosing, HasFirstOfClosing, StopsClosing};
 
 use crate::describer::Describer;
+use crate::holding::send_held;
 use crate::page::{ClosingPage, Lent, Origin, Returned};
 use line_model::device::Sink;
 use line_model::fault::Fault;
 use line_model::report::Report;
+use line_model::totals::Summary;
 use std::alloc::Allocator;
 use std::marker::Brand;
 
@@ -37,7 +40,7 @@ fn take_back<K>(_sink: &mut K)
 
 /// Gives a sink the comments behind the last line of a text. It takes no memory. Where the sink fails it took a first part
 /// of them.
-pub fn write_closing<A: Allocator, W, D: Describer<A, W>, K: Sink>(
+fn write_closing<A: Allocator, W, D: Describer<A, W>, K: Sink>(
     report: &Report<A>,
     describer: &mut D,
     sink: &mut K,
@@ -50,4 +53,28 @@ pub fn write_closing<A: Allocator, W, D: Describer<A, W>, K: Sink>(
     let Returned { sink, answer } = write_to::<A, W, D, K, Brand>(report, describer, Lent { sink });
     take_back(sink);
     answer
+}
+
+/// Gives a sink what is held, and behind it the comments behind the last line of a text; answers the last line of the
+/// report as numbers. Where the sink fails it took a first part of them.
+pub fn send_closing<A: Allocator, W, D: Describer<A, W>, K: Sink>(
+    report: &Report<A>,
+    describer: &mut D,
+    held: &mut Vec<u8, A>,
+    sink: &mut K,
+) -> Result<Summary, Fault>
+    ensures ok { OnOk result (HasClosing (with_more (K.taken sink.old) held.old.items) (K.taken sink.new)) }
+    ensures sums { IfOk result (λ sums. sums ≡ report.now.summary) }
+    ensures part { OnErr result (StopsClosing held.old.items (K.taken sink.old) (K.taken sink.new)) }
+    ensures cause { OnErr result (K.failures sink.old < K.failures sink.new) }
+    ensures write { IfErr result (λ fault. fault ≡ Fault.Write) }
+{
+    match send_held(held, sink) {
+        Ok(()) => {}
+        Err(fault) => return Err(fault),
+    }
+    match write_closing(report, describer, sink) {
+        Ok(()) => Ok(report.summary),
+        Err(fault) => Err(fault),
+    }
 }

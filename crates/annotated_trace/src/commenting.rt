@@ -1,7 +1,6 @@
 //! The comments behind a line.
 
-ghost use Rattle.std.specs.Prelude.{◌≡◌, IfErr, OnOk};
-ghost use Rattle.line_model.specs.declared.fault.Fault.TheVariants.{Memory};
+ghost use Rattle.std.specs.Prelude.{OnOk};
 ghost use Rattle.annotated_trace.specs.Marking.{HasCommentsOf, HasMarksOf};
 
 use crate::choice::Choice;
@@ -9,8 +8,7 @@ use crate::describer::Describer;
 use crate::marks::append_mark;
 use crate::notes::{Notes, Words};
 use crate::watcher::Watcher;
-use line_model::fault::Fault;
-use std::alloc::Allocator;
+use std::alloc::{AllocError, Allocator};
 
 /// Room for the words of comments, which is used again.
 #[derive(Drop)]
@@ -35,9 +33,8 @@ fn append_marks<A: Allocator + Copy, W: Watcher<A>, D: Describer<A, W>>(
     describer: &mut D,
     words: &mut Words<A>,
     out: &mut Vec<u8, A>,
-) -> Result<(), Fault>
-    ensures ok { OnOk result (HasMarksOf (W.last_found trace.now) out.old.items out.new.items) }
-    ensures memory { IfErr result (λ fault. fault ≡ Memory) }
+) -> Result<(), AllocError>
+    ensures { OnOk result (HasMarksOf (W.last_found trace.now) out.old.items out.new.items) }
 {
     let found = trace.found();
     for finding in found {
@@ -55,9 +52,8 @@ pub fn append_comments<A: Allocator + Copy, W: Watcher<A>, D: Describer<A, W>>(
     describer: &mut D,
     scratch: &mut Scratch<A>,
     out: &mut Vec<u8, A>,
-) -> Result<(), Fault>
-    ensures ok { OnOk result (HasCommentsOf choice (W.last_found trace.now) out.old.items out.new.items) }
-    ensures memory { IfErr result (λ fault. fault ≡ Memory) }
+) -> Result<(), AllocError>
+    ensures { OnOk result (HasCommentsOf choice (W.last_found trace.now) out.old.items out.new.items) }
 {
     scratch.notes.clear();
     let told = describer.describe(trace, &mut scratch.notes)?;

@@ -1,15 +1,13 @@
 //! The marks of findings.
 
-ghost use Rattle.std.specs.Prelude.{◌≡◌, ◌<◌, ◌^◌, ◌++◌, IfErr, OnOk, decimal};
+ghost use Rattle.std.specs.Prelude.{◌≡◌, ◌<◌, ◌^◌, ◌++◌, OnOk, decimal};
 ghost use Rattle.line_model.specs.observer.Report.{code_word};
-ghost use Rattle.line_model.specs.declared.fault.Fault.TheVariants.{Memory};
 ghost use Rattle.annotated_trace.specs.Annotation.{explained};
 ghost use Rattle.annotated_trace.specs.Marking.{HasMarkOf, IsCode, finding_words};
 ghost use Rattle.annotated_trace.specs.Wording.{IsWords};
 
 use crate::notes::Words;
 use itoa::Buffer;
-use line_model::fault::Fault;
 use line_model::finding::{Code, Finding};
 use report_merge::words::{pad_word, side_word, state_word};
 use std::alloc::{AllocError, Allocator};
@@ -67,9 +65,8 @@ pub(crate) fn append_mark<A: Allocator>(
     finding: &Finding,
     words: &Words<A>,
     out: &mut Vec<u8, A>,
-) -> Result<(), Fault>
-    ensures ok { OnOk result (HasMarkOf finding.now out.old.items out.new.items) }
-    ensures memory { IfErr result (λ fault. fault ≡ Memory) }
+) -> Result<(), AllocError>
+    ensures { OnOk result (HasMarkOf finding.now out.old.items out.new.items) }
 {
     out.extend_from_slice(b"#! ")?;
     append_finding(finding, out)?;

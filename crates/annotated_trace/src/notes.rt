@@ -1,13 +1,11 @@
 //! Comments in words, as they are written.
 
-ghost use Rattle.std.specs.Prelude.{◌≡◌, ◌==◌, ◌++◌, ◌∷◌, ◌≤◌, ℕ, List, [], IfErr, OnErr, OnOk, decimal, length};
+ghost use Rattle.std.specs.Prelude.{◌≡◌, ◌==◌, ◌++◌, ◌∷◌, ◌≤◌, ℕ, List, [], OnErr, OnOk, decimal, length};
 ghost use Rattle.hex.specs.Hex.{encode_upper};
 ghost use Rattle.line_model.specs.traces.Traces.{text};
-ghost use Rattle.line_model.specs.declared.fault.Fault.TheVariants.{Memory};
 ghost use Rattle.annotated_trace.specs.Wording.{BeginsWith, IsWords, note_line, notes_of, plain, with_words, words_limit};
 
 use itoa::Buffer;
-use line_model::fault::Fault;
 use std::alloc::{AllocError, Allocator};
 use std::marker::Model;
 use trace_text::cuts::split_at_byte;
@@ -91,9 +89,8 @@ impl<A: Allocator> Words<A> {
     }
 
     /// Says bytes.
-    fn add(&mut self, words: &[u8]) -> Result<(), Fault>
+    fn add(&mut self, words: &[u8]) -> Result<(), AllocError>
         ensures ok { OnOk result (self.new ≡ with_words self.old words.now) }
-        ensures memory { IfErr result (λ fault. fault ≡ Memory) }
     {
         let room = WORDS_LIMIT - self.bytes.len();
         let front = &words[..room.min(words.len())];
@@ -101,18 +98,16 @@ impl<A: Allocator> Words<A> {
         Ok(())
     }
 
-    /// Says words. For want of memory, its only refusal, a first part of them may be said.
-    pub fn say(&mut self, words: &str) -> Result<(), Fault>
+    /// Says words. For want of memory a first part of them may be said.
+    pub fn say(&mut self, words: &str) -> Result<(), AllocError>
         ensures ok { OnOk result (self.new ≡ with_words self.old words.now) }
-        ensures memory { IfErr result (λ fault. fault ≡ Memory) }
     {
         self.add(words.as_bytes())
     }
 
     /// Says a number in decimal digits, as `say` says words.
-    pub fn number(&mut self, number: u64) -> Result<(), Fault>
+    pub fn number(&mut self, number: u64) -> Result<(), AllocError>
         ensures ok { OnOk result (self.new ≡ with_words self.old (decimal number)) }
-        ensures memory { IfErr result (λ fault. fault ≡ Memory) }
     {
         let mut buffer = Buffer::new();
         self.add(buffer.format(number).as_bytes())
@@ -121,9 +116,8 @@ impl<A: Allocator> Words<A> {
 
 impl<A: Allocator + Copy> Words<A> {
     /// Says octets in hex digits, two for each, as `say` says words.
-    pub fn octets(&mut self, octets: &[u8]) -> Result<(), Fault>
+    pub fn octets(&mut self, octets: &[u8]) -> Result<(), AllocError>
         ensures ok { OnOk result (self.new ≡ with_words self.old (encode_upper octets.now)) }
-        ensures memory { IfErr result (λ fault. fault ≡ Memory) }
     {
         let digits = hex::encode_upper(*self.bytes.allocator(), octets)?;
         self.add(digits.as_bytes())
@@ -171,35 +165,31 @@ impl<A: Allocator + Copy> Notes<A> {
         self.line.clear();
     }
 
-    /// Adds words to the last line. For want of memory, its only refusal, a first part of them may be added.
-    pub fn say(&mut self, words: &str) -> Result<(), Fault>
+    /// Adds words to the last line. For want of memory a first part of them may be added.
+    pub fn say(&mut self, words: &str) -> Result<(), AllocError>
         ensures ok { OnOk result (self.new ≡ record self.old { line = with_words self.old.line words.now }) }
-        ensures memory { IfErr result (λ fault. fault ≡ Memory) }
     {
         self.line.say(words)
     }
 
     /// Adds a number in decimal digits, as `say` adds words.
-    pub fn number(&mut self, number: u64) -> Result<(), Fault>
+    pub fn number(&mut self, number: u64) -> Result<(), AllocError>
         ensures ok { OnOk result (self.new ≡ record self.old { line = with_words self.old.line (decimal number) }) }
-        ensures memory { IfErr result (λ fault. fault ≡ Memory) }
     {
         self.line.number(number)
     }
 
     /// Adds octets in hex digits, two for each, as `say` adds words.
-    pub fn octets(&mut self, octets: &[u8]) -> Result<(), Fault>
+    pub fn octets(&mut self, octets: &[u8]) -> Result<(), AllocError>
         ensures ok { OnOk result (self.new ≡ record self.old { line = with_words self.old.line (encode_upper octets.now) }) }
-        ensures memory { IfErr result (λ fault. fault ≡ Memory) }
     {
         self.line.octets(octets)
     }
 
-    /// Ends the last line, and begins a further one. For want of memory, its only refusal, nothing has changed.
-    pub fn next(&mut self) -> Result<(), Fault>
+    /// Ends the last line, and begins a further one. For want of memory nothing has changed.
+    pub fn next(&mut self) -> Result<(), AllocError>
         ensures ok { OnOk result (self.new ≡ ended_notes self.old) }
         ensures same { OnErr result (self.new ≡ self.old) }
-        ensures memory { IfErr result (λ fault. fault ≡ Memory) }
     {
         let ended = self.lines.len();
         match append_note(&self.line, &mut self.lines) {
@@ -207,25 +197,23 @@ impl<A: Allocator + Copy> Notes<A> {
                 self.line.clear();
                 Ok(())
             }
-            Err(_) => {
+            Err(error) => {
                 self.lines.truncate(ended);
-                Err(Fault::Memory)
+                Err(error)
             }
         }
     }
 
     /// Appends the notes to bytes, the last line only where it says something.
-    pub(crate) fn append_to(&self, out: &mut Vec<u8, A>) -> Result<(), Fault>
+    pub(crate) fn append_to(&self, out: &mut Vec<u8, A>) -> Result<(), AllocError>
         ensures ok { OnOk result (out.new.items ≡ out.old.items ++ text (notes_of self.now)) }
         ensures notes { AreNotes (notes_of self.now) }
-        ensures memory { IfErr result (λ fault. fault ≡ Memory) }
     {
         let is_ended = self.line.is_empty();
         out.extend_from_slice(self.lines.as_slice())?;
         if is_ended {
             return Ok(());
         }
-        append_note(&self.line, out)?;
-        Ok(())
+        append_note(&self.line, out)
     }
 }

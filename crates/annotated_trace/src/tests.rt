@@ -16,7 +16,7 @@ use line_model::fault::{Fault, Kind};
 use line_model::finding::Finding;
 use line_model::report::Report;
 use live_report::live::Live;
-use std::alloc::{Allocator, Global};
+use std::alloc::{AllocError, Allocator, Global};
 use std::marker::Brand;
 use std::process::Abort;
 use std::sync::ledger::{Blank, Ledger};
@@ -30,7 +30,7 @@ struct Numbered {
 }
 
 impl<A: Allocator + Copy, W> Describer<A, W> for Numbered {
-    fn describe(&mut self, _trace: &W, notes: &mut Notes<A>) -> Result<bool, Fault> {
+    fn describe(&mut self, _trace: &W, notes: &mut Notes<A>) -> Result<bool, AllocError> {
         self.lines = self.lines.wrapping_add(1);
         notes.say("line\n")?;
         notes.number(self.lines)?;
@@ -42,7 +42,7 @@ impl<A: Allocator + Copy, W> Describer<A, W> for Numbered {
         _trace: &W,
         finding: &Finding,
         words: &mut Words<A>,
-    ) -> Result<(), Fault> {
+    ) -> Result<(), AllocError> {
         words.say("packet\n")?;
         words.number(u64::from(finding.packet))
     }
@@ -99,7 +99,8 @@ where
         good_calls: cuts.good_writes,
         failures: Count::<L>::open(write_failures),
     };
-    let fault = annotate(heap, choice, describer, &mut source, &mut sink).err();
+    let trace = Live::<A, PackedChannel<A>>::new(heap);
+    let fault = annotate(heap, trace, choice, describer, &mut source, &mut sink).err();
     Answer {
         fault,
         bytes: sink.taken,

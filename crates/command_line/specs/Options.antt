@@ -57,10 +57,21 @@ trace_rule = record (new_rule (codes "trace")) { value_names = 1; action = Some 
 abbrev pub versioned : App
 versioned = on_top (λ s. record s { has_version = true }) (new_app (codes "x25scan"))
 
+-- with the options that say how the trace is scanned
+abbrev pub with_scanning : App → App
+with_scanning app = with_rule (with_rule (with_rule app workers_rule) (flag_rule (codes "alone"))) (flag_rule (codes "follow"))
+
+-- with those that say what is written, and of which rows
+abbrev pub with_telling : App → App
+with_telling app =
+    with_rule (with_rule (with_rule (with_rule app (flag_rule (codes "json"))) (flag_rule (codes "annotate"))) channel_rule) call_rule
+
+-- with those that ask for more, and the name of the trace
+abbrev pub with_asking : App → App
+with_asking app = with_rule (with_rule (with_rule app (flag_rule (codes "progress"))) explain_rule) trace_rule
+
 abbrev pub command : App
-command =
-    with_rule (with_rule (with_rule (with_rule (with_rule (with_rule (with_rule (with_rule (with_rule (with_rule versioned workers_rule) (flag_rule (codes "alone"))) (flag_rule (codes "follow")))
-    (flag_rule (codes "json"))) (flag_rule (codes "annotate"))) channel_rule) call_rule) (flag_rule (codes "progress"))) explain_rule) trace_rule
+command = with_asking (with_telling (with_scanning versioned))
 
 -- the kinds of error that the words have by the rules of `clap`, `--help` and `--version` among them
 abbrev pub words_fault : List Text → Kinds

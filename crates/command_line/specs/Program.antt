@@ -94,6 +94,11 @@ abbrev pub IsTold : (json followed : Bool) → (text : List ℕ) → (left befor
 IsTold false followed text left before after well status = IsScanned followed text left before after well status
 IsTold true followed text left before after well status = IsScannedAsJson followed text left before after status
 
+-- what it says of a trace whose text the source tells
+abbrev pub TellsOf : (json followed : Bool) → (trace left before after : Option (List ℕ)) → (well : Type 0) → (status : ℕ) → Type 0
+TellsOf json followed trace left before after well status =
+    (text : List ℕ) → trace ≡ Some text → IsTold json followed text left before after well status
+
 -- the trace that is read: that of its name, or standard input
 abbrev pub trace_of : (name : Option (List ℕ)) → (standard : Option (List ℕ)) → (named : List ℕ → Option (List ℕ)) → Option (List ℕ)
 trace_of None standard named = standard

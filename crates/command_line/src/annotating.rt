@@ -22,7 +22,8 @@ fn run_annotate<S: Input, K: Sink, E: Sink>(
     sink: &mut K,
     errors: &mut E,
 ) -> u8
-    ensures status { IsAnnotateStatus (choice_of rows) (S.left source.old) (S.left source.new) (K.taken sink.old) (K.taken sink.new) (K.failures sink.new ≡ K.failures sink.old) result }
+    ensures status { IsAnnotateStatus (choice_of rows) (S.left source.old) (S.left source.new)
+        (K.taken sink.old) (K.taken sink.new) (K.failures sink.new ≡ K.failures sink.old) result }
     ensures range { result < 4 }
     ensures asked { S.calls source.new ≤ S.calls source.old + (2 ^ 30 + 1) }
 {
@@ -42,7 +43,8 @@ fn annotate_named<S: Input, K: Sink, E: Sink>(
     errors: &mut E,
 ) -> u8
     ensures status { IsUnread source.old source.new sink.old sink.new result
-        ⊎ IsAnnotateStatus (choice_of rows) (S.named source.old name.now) (S.left source.new) (K.taken sink.old) (K.taken sink.new) (K.failures sink.new ≡ K.failures sink.old) result }
+        ⊎ IsAnnotateStatus (choice_of rows) (S.named source.old name.now) (S.left source.new)
+        (K.taken sink.old) (K.taken sink.new) (K.failures sink.new ≡ K.failures sink.old) result }
     ensures range { result < 4 }
     ensures asked { S.calls source.new ≤ S.calls source.old + (2 ^ 30 + 1) }
 {
@@ -61,8 +63,11 @@ fn annotate_input<S: Input, K: Sink, E: Sink>(
     sink: &mut K,
     errors: &mut E,
 ) -> u8
-    ensures status { IsUnread source.old source.new sink.old sink.new result
-        ⊎ IsAnnotateStatus (choice_of rows) (trace_of (option_map (λ name. name.now) options.entry.trace) (S.left source.old) (S.named source.old)) (S.left source.new) (K.taken sink.old) (K.taken sink.new) (K.failures sink.new ≡ K.failures sink.old) result }
+    ensures status { let name = option_map (λ name. name.now) options.entry.trace in
+        let trace = trace_of name (S.left source.old) (S.named source.old) in
+        IsUnread source.old source.new sink.old sink.new result
+        ⊎ IsAnnotateStatus (choice_of rows) trace (S.left source.new)
+        (K.taken sink.old) (K.taken sink.new) (K.failures sink.new ≡ K.failures sink.old) result }
     ensures range { result < 4 }
     ensures asked { S.calls source.new ≤ S.calls source.old + (2 ^ 30 + 1) }
 {
@@ -92,7 +97,11 @@ pub(crate) fn annotate_trace<S: Input, K: Sink, E: Sink>(
     sink: &mut K,
     errors: &mut E,
 ) -> u8
-    ensures answer { IsAnnotateAnswer options.entry.json (choice_of rows) source.old source.new sink.old sink.new (trace_of (option_map (λ name. name.now) options.entry.trace) (S.left source.old) (S.named source.old)) (S.left source.new) (K.taken sink.old) (K.taken sink.new) (K.failures sink.new ≡ K.failures sink.old) result }
+    ensures answer { let name = option_map (λ name. name.now) options.entry.trace in
+        let trace = trace_of name (S.left source.old) (S.named source.old) in
+        IsAnnotateAnswer options.entry.json (choice_of rows) source.old source.new sink.old sink.new
+        trace (S.left source.new) (K.taken sink.old) (K.taken sink.new)
+        (K.failures sink.new ≡ K.failures sink.old) result }
     ensures unwritten { result ≡ 64 → sink.new ≡ sink.old }
     ensures asked { S.calls source.new ≤ S.calls source.old + (2 ^ 30 + 1) }
 {

@@ -40,7 +40,8 @@ fn answer(alloc: Global, word: &str) -> Result<Option<String>, AllocError>
 /// Gives an answer to the sink, and answers the exit status.
 fn tell_answer<K: Sink, E: Sink>(alloc: Global, text: &str, sink: &mut K, errors: &mut E) -> u8
     ensures told { result ≡ 0 → K.taken sink.new ≡ with_more (K.taken sink.old) text.now }
-    ensures part { result ≡ 3 → (n : ℕ) × (K.taken sink.new ≡ with_more (K.taken sink.old) (take n text.now)) }
+    ensures part { result ≡ 3 → (n : ℕ) × (K.taken sink.new
+        ≡ with_more (K.taken sink.old) (take n text.now)) }
     ensures range { (result ≡ 0) ⊎ (result ≡ 3) }
 {
     match write_all(sink, text.as_bytes()) {

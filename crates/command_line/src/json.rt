@@ -33,7 +33,9 @@ fn scan_to<'a, S: Input, K: Sink, E: Sink, R: Threads + Wait + Clock + Sync, B: 
     requires name { to.sink.ghost_name ≡ B.name }
     requires before { (K.taken to.sink.now, K.failures to.sink.now) ≡ B.before }
     ensures name { result.sink.ghost_name ≡ B.name }
-    ensures told { (text : List ℕ) → S.left source.old ≡ Some text → IsScannedAsJson options.entry.follow text (S.left source.new) B.before.0 (K.taken result.sink.now) result.status }
+    ensures told { (text : List ℕ) → S.left source.old ≡ Some text
+        → IsScannedAsJson options.entry.follow text (S.left source.new) B.before.0
+        (K.taken result.sink.now) result.status }
     ensures range { result.status < 4 }
     ensures asked { S.calls source.new ≤ S.calls source.old + (2 ^ 30 + 1) }
 {
@@ -71,7 +73,9 @@ pub(crate) fn scan_json<S: Input, K: Sink, E: Sink, R: Threads + Wait + Clock + 
     sink: &mut K,
     errors: &mut E,
 ) -> u8
-    ensures told { (text : List ℕ) → S.left source.old ≡ Some text → IsScannedAsJson options.entry.follow text (S.left source.new) (K.taken sink.old) (K.taken sink.new) result }
+    ensures told { (text : List ℕ) → S.left source.old ≡ Some text
+        → IsScannedAsJson options.entry.follow text (S.left source.new) (K.taken sink.old)
+        (K.taken sink.new) result }
     ensures range { result < 4 }
     ensures asked { S.calls source.new ≤ S.calls source.old + (2 ^ 30 + 1) }
 {

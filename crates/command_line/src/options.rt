@@ -3,7 +3,7 @@
 ghost use Rattle.std.specs.Prelude.{◌≡◌, ◌≤◌, IfOk, codes, false, map, option_map};
 ghost use Rattle.descriptions.specs.Rows.{choice_of};
 ghost use Rattle.clap.specs.Words.{FailsBy, app_of, first_value, found_of, rule_of};
-ghost use Rattle.command_line.specs.Options.{annotation, annotation_by, as_json, asked_word, call_rule, channel_rule, command, explain_rule, flag_rule, follows, is_given, named_by, named_trace, trace_rule, words_fault, workers_rule};
+ghost use Rattle.command_line.specs.Options.{annotation, annotation_by, as_json, asked_word, call_rule, channel_rule, command, explain_rule, flag_rule, follows, is_given, named_by, named_trace, trace_rule, versioned, with_asking, with_scanning, with_telling, words_fault, workers_rule};
 
 use crate::help::{ABOUT, AFTER_HELP, VERSION};
 use clap::{Arg, ArgAction, ArgMatches, Command, Error, value_parser};
@@ -11,7 +11,7 @@ use descriptions::rows::Rows;
 use std::alloc::{AllocError, Global};
 
 /// What the words ask for.
-#[derive(Clone, Copy, Debug, PartialEq, Eq)]
+#[derive(Clone, Copy)]
 pub struct Options<'a> {
     /// The worker threads, 1 to 64 (profile).
     pub workers: u8,
@@ -109,45 +109,70 @@ fn trace<'a>(alloc: Global) -> Arg<'a>
         .action(ArgAction::Set)
 }
 
-/// The command as its reader is told it.
-fn command<'a>(alloc: Global) -> Result<Command<'a>, AllocError>
-    ensures { IfOk result (λ told. app_of told ≡ command) }
+/// Adds the options that say how the trace is scanned.
+fn with_scanning<'a>(alloc: Global, command: Command<'a>) -> Result<Command<'a>, AllocError>
+    ensures { IfOk result (λ told. app_of told ≡ with_scanning (app_of command.entry)) }
 {
-    let alone = flag(alloc, "alone", "Scan in one thread");
-    let follow = flag(
-        alloc,
-        "follow",
-        "Write each finding as soon as its packet is known, in one thread",
-    );
-    let json = flag(
-        alloc,
-        "json",
-        "Write the report as JSON, an object for each line",
-    );
-    let annotate = flag(
-        alloc,
-        "annotate",
-        "Write the trace again, with comments that say what its rows are and did",
-    );
-    let progress = flag(
-        alloc,
-        "progress",
-        "Tell each second how far the reading is, on standard error",
-    );
+    command
+        .arg(workers(alloc))?
+        .arg(flag(alloc, "alone", "Scan in one thread"))?
+        .arg(flag(
+            alloc,
+            "follow",
+            "Write each finding as soon as its packet is known, in one thread",
+        ))
+}
+
+/// Adds the options that say what is written, and of which rows.
+fn with_telling<'a>(alloc: Global, command: Command<'a>) -> Result<Command<'a>, AllocError>
+    ensures { IfOk result (λ told. app_of told ≡ with_telling (app_of command.entry)) }
+{
+    command
+        .arg(flag(
+            alloc,
+            "json",
+            "Write the report as JSON, an object for each line",
+        ))?
+        .arg(flag(
+            alloc,
+            "annotate",
+            "Write the trace again, with comments that say what its rows are and did",
+        ))?
+        .arg(channel(alloc))?
+        .arg(call(alloc))
+}
+
+/// Adds the options that ask for more, and the name of the trace.
+fn with_asking<'a>(alloc: Global, command: Command<'a>) -> Result<Command<'a>, AllocError>
+    ensures { IfOk result (λ told. app_of told ≡ with_asking (app_of command.entry)) }
+{
+    command
+        .arg(flag(
+            alloc,
+            "progress",
+            "Tell each second how far the reading is, on standard error",
+        ))?
+        .arg(explain(alloc))?
+        .arg(trace(alloc))
+}
+
+/// The program with its version, without options.
+fn plain<'a>(alloc: Global) -> Command<'a>
+    ensures { app_of result ≡ versioned }
+{
     Command::new(alloc, "x25scan")
         .version(VERSION)
         .about(ABOUT)
         .after_help(AFTER_HELP)
-        .arg(workers(alloc))?
-        .arg(alone)?
-        .arg(follow)?
-        .arg(json)?
-        .arg(annotate)?
-        .arg(channel(alloc))?
-        .arg(call(alloc))?
-        .arg(progress)?
-        .arg(explain(alloc))?
-        .arg(trace(alloc))
+}
+
+/// The command as its reader is told it.
+fn command<'a>(alloc: Global) -> Result<Command<'a>, AllocError>
+    ensures { IfOk result (λ told. app_of told ≡ command) }
+{
+    let scanning = with_scanning(alloc, plain(alloc))?;
+    let telling = with_telling(alloc, scanning)?;
+    with_asking(alloc, telling)
 }
 
 /// Whether a flag was given.
@@ -162,7 +187,8 @@ fn is_given(matches: &ArgMatches<'_>, id: &str) -> bool
 
 /// The name of the trace, which `-` is not.
 fn trace_in<'a>(matches: &ArgMatches<'a>) -> Option<&'a str>
-    ensures { option_map (λ name. name.now) result ≡ named_by (first_value (found_of matches.now) (codes "trace")) }
+    ensures { option_map (λ name. name.now) result
+        ≡ named_by (first_value (found_of matches.now) (codes "trace")) }
 {
     match matches.get_str("trace") {
         Some(name) if name != "-" => Some(name),
@@ -172,7 +198,10 @@ fn trace_in<'a>(matches: &ArgMatches<'a>) -> Option<&'a str>
 
 /// Which rows comments are asked for, if they are: a choice of rows asks for them too.
 fn rows_in(matches: &ArgMatches<'_>) -> Option<Rows>
-    ensures { option_map choice_of result ≡ annotation_by (first_value (found_of matches.now) (codes "annotate")) (first_value (found_of matches.now) (codes "channel")) (first_value (found_of matches.now) (codes "call")) }
+    ensures { option_map choice_of result ≡ annotation_by
+        (first_value (found_of matches.now) (codes "annotate"))
+        (first_value (found_of matches.now) (codes "channel"))
+        (first_value (found_of matches.now) (codes "call")) }
 {
     match (matches.get_str("channel"), matches.get_str("call")) {
         (None, None) => {
@@ -191,11 +220,17 @@ fn rows_in(matches: &ArgMatches<'_>) -> Option<Rows>
 
 /// What the matches of the command ask for.
 fn options_in<'a>(matches: &ArgMatches<'a>) -> Options<'a>
-    ensures follow { result.follow ≡ is_given (first_value (found_of matches.now) (codes "follow")) }
+    ensures follow { result.follow ≡ is_given
+        (first_value (found_of matches.now) (codes "follow")) }
     ensures json { result.json ≡ is_given (first_value (found_of matches.now) (codes "json")) }
-    ensures annotate { option_map choice_of result.annotate ≡ annotation_by (first_value (found_of matches.now) (codes "annotate")) (first_value (found_of matches.now) (codes "channel")) (first_value (found_of matches.now) (codes "call")) }
-    ensures explain { option_map (λ word. word.now) result.explain ≡ first_value (found_of matches.now) (codes "explain") }
-    ensures trace { option_map (λ name. name.now) result.trace ≡ named_by (first_value (found_of matches.now) (codes "trace")) }
+    ensures annotate { option_map choice_of result.annotate
+        ≡ annotation_by (first_value (found_of matches.now) (codes "annotate"))
+        (first_value (found_of matches.now) (codes "channel"))
+        (first_value (found_of matches.now) (codes "call")) }
+    ensures explain { option_map (λ word. word.now) result.explain
+        ≡ first_value (found_of matches.now) (codes "explain") }
+    ensures trace { option_map (λ name. name.now) result.trace
+        ≡ named_by (first_value (found_of matches.now) (codes "trace")) }
 {
     let alone = is_given(matches, "alone");
     let follow = is_given(matches, "follow");
@@ -220,11 +255,16 @@ fn options_in<'a>(matches: &ArgMatches<'a>) -> Options<'a>
 /// Reads the program's name and its arguments. An error is of a kind that the words have, or memory ran out.
 pub fn parse<'a>(alloc: Global, words: &'a [&'a str]) -> Result<Options<'a>, Error>
     ensures kinds { FailsBy (words_fault (map (λ word. word.now) words.entry.now)) result }
-    ensures follow { IfOk result (λ options. options.follow ≡ follows (map (λ word. word.now) words.entry.now)) }
-    ensures json { IfOk result (λ options. options.json ≡ as_json (map (λ word. word.now) words.entry.now)) }
-    ensures annotate { IfOk result (λ options. option_map choice_of options.annotate ≡ annotation (map (λ word. word.now) words.entry.now)) }
-    ensures explain { IfOk result (λ options. option_map (λ word. word.now) options.explain ≡ asked_word (map (λ word. word.now) words.entry.now)) }
-    ensures trace { IfOk result (λ options. option_map (λ name. name.now) options.trace ≡ named_trace (map (λ word. word.now) words.entry.now)) }
+    ensures follow { IfOk result (λ options. options.follow
+        ≡ follows (map (λ word. word.now) words.entry.now)) }
+    ensures json { IfOk result (λ options. options.json
+        ≡ as_json (map (λ word. word.now) words.entry.now)) }
+    ensures annotate { IfOk result (λ options. option_map choice_of options.annotate
+        ≡ annotation (map (λ word. word.now) words.entry.now)) }
+    ensures explain { IfOk result (λ options. option_map (λ word. word.now) options.explain
+        ≡ asked_word (map (λ word. word.now) words.entry.now)) }
+    ensures trace { IfOk result (λ options. option_map (λ name. name.now) options.trace
+        ≡ named_trace (map (λ word. word.now) words.entry.now)) }
 {
     let command = command(alloc)?;
     match command.try_get_matches_from(words) {

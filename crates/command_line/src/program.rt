@@ -7,7 +7,7 @@ ghost use Rattle.command_line.specs.Explaining.{IsAnswered};
 ghost use Rattle.annotated_trace.specs.declared.choice.Choice.{Choice};
 ghost use Rattle.descriptions.specs.Rows.{choice_of};
 ghost use Rattle.command_line.specs.Annotating.{IsAnnotateAnswer};
-ghost use Rattle.command_line.specs.Program.{IsFollowStatus, IsStatus, IsTold, IsUnread, IsWordsStatus, fault_status, summary_status, trace_of, words_status};
+ghost use Rattle.command_line.specs.Program.{IsFollowStatus, IsStatus, IsUnread, IsWordsStatus, TellsOf, fault_status, summary_status, trace_of, words_status};
 
 use crate::annotating::annotate_trace;
 use crate::explaining::explain_word;
@@ -113,7 +113,8 @@ fn run_alone<S: Input, K: Sink, E: Sink>(
     sink: &mut K,
     errors: &mut E,
 ) -> u8
-    ensures status { (text : List ℕ) → S.left source.old ≡ Some text → IsStatus text (S.left source.new) (K.taken sink.old) (K.taken sink.new) result }
+    ensures status { (text : List ℕ) → S.left source.old ≡ Some text
+        → IsStatus text (S.left source.new) (K.taken sink.old) (K.taken sink.new) result }
     ensures range { result < 4 }
     ensures asked { S.calls source.new ≤ S.calls source.old + (2 ^ 30 + 1) }
 {
@@ -130,7 +131,9 @@ fn run_follow<S: Input, K: Sink, E: Sink>(
     sink: &mut K,
     errors: &mut E,
 ) -> u8
-    ensures status { (text : List ℕ) → S.left source.old ≡ Some text → IsFollowStatus text (S.left source.new) (K.taken sink.old) (K.taken sink.new) (K.failures sink.new ≡ K.failures sink.old) result }
+    ensures status { (text : List ℕ) → S.left source.old ≡ Some text
+        → IsFollowStatus text (S.left source.new) (K.taken sink.old) (K.taken sink.new)
+        (K.failures sink.new ≡ K.failures sink.old) result }
     ensures range { result < 4 }
     ensures asked { S.calls source.new ≤ S.calls source.old + (2 ^ 30 + 1) }
 {
@@ -150,7 +153,8 @@ fn run_with<S: Input, K: Sink, E: Sink, R: Threads + Wait + Clock + Sync>(
     errors: &mut E,
 ) -> u8
     requires workers { (0 < workers) × (workers ≤ 64) }
-    ensures status { (text : List ℕ) → S.left source.old ≡ Some text → IsStatus text (S.left source.new) (K.taken sink.old) (K.taken sink.new) result }
+    ensures status { (text : List ℕ) → S.left source.old ≡ Some text
+        → IsStatus text (S.left source.new) (K.taken sink.old) (K.taken sink.new) result }
     ensures range { result < 4 }
     ensures asked { S.calls source.new ≤ S.calls source.old + (2 ^ 30 + 1) }
 {
@@ -189,8 +193,11 @@ pub(crate) fn scan<S: Input, K: Sink, E: Sink, R: Threads + Wait + Clock + Sync>
     sink: &mut K,
     errors: &mut E,
 ) -> u8
-    ensures status { options.entry.follow ≡ false → (text : List ℕ) → S.left source.old ≡ Some text → IsStatus text (S.left source.new) (K.taken sink.old) (K.taken sink.new) result }
-    ensures followed { options.entry.follow ≡ true → (text : List ℕ) → S.left source.old ≡ Some text → IsFollowStatus text (S.left source.new) (K.taken sink.old) (K.taken sink.new) (K.failures sink.new ≡ K.failures sink.old) result }
+    ensures status { options.entry.follow ≡ false → (text : List ℕ) → S.left source.old ≡ Some text
+        → IsStatus text (S.left source.new) (K.taken sink.old) (K.taken sink.new) result }
+    ensures followed { options.entry.follow ≡ true → (text : List ℕ) → S.left source.old ≡ Some text
+        → IsFollowStatus text (S.left source.new) (K.taken sink.old) (K.taken sink.new)
+        (K.failures sink.new ≡ K.failures sink.old) result }
     ensures range { result < 4 }
     ensures asked { S.calls source.new ≤ S.calls source.old + (2 ^ 30 + 1) }
 {
@@ -228,7 +235,8 @@ fn tell<S: Input, K: Sink, E: Sink, R: Threads + Wait + Clock + Sync>(
     sink: &mut K,
     errors: &mut E,
 ) -> u8
-    ensures told { (text : List ℕ) → S.left source.old ≡ Some text → IsTold options.entry.json options.entry.follow text (S.left source.new) (K.taken sink.old) (K.taken sink.new) (K.failures sink.new ≡ K.failures sink.old) result }
+    ensures told { TellsOf options.entry.json options.entry.follow (S.left source.old) (S.left source.new)
+        (K.taken sink.old) (K.taken sink.new) (K.failures sink.new ≡ K.failures sink.old) result }
     ensures range { result < 4 }
     ensures asked { S.calls source.new ≤ S.calls source.old + (2 ^ 30 + 1) }
 {
@@ -250,7 +258,9 @@ fn tell_named<S: Input, K: Sink, E: Sink, R: Threads + Wait + Clock + Sync>(
     errors: &mut E,
 ) -> u8
     ensures told { IsUnread source.old source.new sink.old sink.new result
-        ⊎ ((text : List ℕ) → S.named source.old name.now ≡ Some text → IsTold options.entry.json options.entry.follow text (S.left source.new) (K.taken sink.old) (K.taken sink.new) (K.failures sink.new ≡ K.failures sink.old) result) }
+        ⊎ TellsOf options.entry.json options.entry.follow (S.named source.old name.now)
+        (S.left source.new) (K.taken sink.old) (K.taken sink.new)
+        (K.failures sink.new ≡ K.failures sink.old) result }
     ensures range { result < 4 }
     ensures asked { S.calls source.new ≤ S.calls source.old + (2 ^ 30 + 1) }
 {
@@ -269,8 +279,11 @@ fn tell_trace<S: Input, K: Sink, E: Sink, R: Threads + Wait + Clock + Sync>(
     sink: &mut K,
     errors: &mut E,
 ) -> u8
-    ensures told { IsUnread source.old source.new sink.old sink.new result
-        ⊎ ((text : List ℕ) → trace_of (option_map (λ name. name.now) options.entry.trace) (S.left source.old) (S.named source.old) ≡ Some text → IsTold options.entry.json options.entry.follow text (S.left source.new) (K.taken sink.old) (K.taken sink.new) (K.failures sink.new ≡ K.failures sink.old) result) }
+    ensures told { let name = option_map (λ name. name.now) options.entry.trace in
+        let trace = trace_of name (S.left source.old) (S.named source.old) in
+        IsUnread source.old source.new sink.old sink.new result
+        ⊎ TellsOf options.entry.json options.entry.follow trace (S.left source.new)
+        (K.taken sink.old) (K.taken sink.new) (K.failures sink.new ≡ K.failures sink.old) result }
     ensures range { result < 4 }
     ensures asked { S.calls source.new ≤ S.calls source.old + (2 ^ 30 + 1) }
 {
@@ -289,10 +302,23 @@ fn run<S: Input, K: Sink, E: Sink, R: Threads + Wait + Clock + Sync>(
     sink: &mut K,
     errors: &mut E,
 ) -> u8
-    ensures told { option_map (λ word. word.now) options.entry.explain ≡ None → option_map choice_of options.entry.annotate ≡ None → IsUnread source.old source.new sink.old sink.new result
-        ⊎ ((text : List ℕ) → trace_of (option_map (λ name. name.now) options.entry.trace) (S.left source.old) (S.named source.old) ≡ Some text → IsTold options.entry.json options.entry.follow text (S.left source.new) (K.taken sink.old) (K.taken sink.new) (K.failures sink.new ≡ K.failures sink.old) result) }
-    ensures annotated { option_map (λ word. word.now) options.entry.explain ≡ None → IfSome (option_map choice_of options.entry.annotate) (λ choice. IsAnnotateAnswer options.entry.json choice source.old source.new sink.old sink.new (trace_of (option_map (λ name. name.now) options.entry.trace) (S.left source.old) (S.named source.old)) (S.left source.new) (K.taken sink.old) (K.taken sink.new) (K.failures sink.new ≡ K.failures sink.old) result) }
-    ensures explained { IfSome (option_map (λ word. word.now) options.entry.explain) (λ word. (source.new ≡ source.old) × IsAnswered word (K.taken sink.old) (K.taken sink.new) result) }
+    ensures told { let name = option_map (λ name. name.now) options.entry.trace in
+        let trace = trace_of name (S.left source.old) (S.named source.old) in
+        option_map (λ word. word.now) options.entry.explain ≡ None
+        → option_map choice_of options.entry.annotate ≡ None
+        → IsUnread source.old source.new sink.old sink.new result
+        ⊎ TellsOf options.entry.json options.entry.follow trace (S.left source.new)
+        (K.taken sink.old) (K.taken sink.new) (K.failures sink.new ≡ K.failures sink.old) result }
+    ensures annotated { let name = option_map (λ name. name.now) options.entry.trace in
+        let trace = trace_of name (S.left source.old) (S.named source.old) in
+        option_map (λ word. word.now) options.entry.explain ≡ None
+        → IfSome (option_map choice_of options.entry.annotate) (λ choice.
+        IsAnnotateAnswer options.entry.json choice source.old source.new sink.old sink.new trace
+        (S.left source.new) (K.taken sink.old) (K.taken sink.new)
+        (K.failures sink.new ≡ K.failures sink.old) result) }
+    ensures explained { IfSome (option_map (λ word. word.now) options.entry.explain) (λ word.
+        (source.new ≡ source.old)
+        × IsAnswered word (K.taken sink.old) (K.taken sink.new) result) }
     ensures unwritten { result ≡ 64 → sink.new ≡ sink.old }
     ensures asked { S.calls source.new ≤ S.calls source.old + (2 ^ 30 + 1) }
 {
@@ -353,17 +379,32 @@ pub fn program<S: Input, K: Sink, E: Sink, R: Threads + Wait + Clock + Sync>(
     // Where the words are right and ask for no explanation and no annotation, the status and the bytes are those of a scan of the trace that
     // is named, or of standard input: a scan that follows it where they ask so, and the objects of the report's lines
     // where they ask for JSON. Or it could not be opened, or memory ran out, and nothing was read.
-    ensures told { words_fault (map (λ word. word.now) words.now) ≡ [] → asked_word (map (λ word. word.now) words.now) ≡ None → annotation (map (λ word. word.now) words.now) ≡ None → IsUnread source.old source.new sink.old sink.new result
-        ⊎ ((text : List ℕ) → trace_of (named_trace (map (λ word. word.now) words.now)) (S.left source.old) (S.named source.old) ≡ Some text → IsTold (as_json (map (λ word. word.now) words.now)) (follows (map (λ word. word.now) words.now)) text (S.left source.new) (K.taken sink.old) (K.taken sink.new) (K.failures sink.new ≡ K.failures sink.old) result) }
+    ensures told { let asked = map (λ word. word.now) words.now in
+        let trace = trace_of (named_trace asked) (S.left source.old) (S.named source.old) in
+        words_fault asked ≡ [] → asked_word asked ≡ None → annotation asked ≡ None
+        → IsUnread source.old source.new sink.old sink.new result
+        ⊎ TellsOf (as_json asked) (follows asked) trace (S.left source.new)
+        (K.taken sink.old) (K.taken sink.new) (K.failures sink.new ≡ K.failures sink.old) result }
     // Where they ask for an annotation, of each row or of those that they choose, the sink took one of that trace, or it
     // was refused. Where they ask for JSON with it, they are refused.
-    ensures annotated { (choice : Choice) → words_fault (map (λ word. word.now) words.now) ≡ [] → asked_word (map (λ word. word.now) words.now) ≡ None → annotation (map (λ word. word.now) words.now) ≡ Some choice → IsUnread source.old source.new sink.old sink.new result
-        ⊎ IsAnnotateAnswer (as_json (map (λ word. word.now) words.now)) choice source.old source.new sink.old sink.new (trace_of (named_trace (map (λ word. word.now) words.now)) (S.left source.old) (S.named source.old)) (S.left source.new) (K.taken sink.old) (K.taken sink.new) (K.failures sink.new ≡ K.failures sink.old) result }
+    ensures annotated { let asked = map (λ word. word.now) words.now in
+        let trace = trace_of (named_trace asked) (S.left source.old) (S.named source.old) in
+        (choice : Choice) → words_fault asked ≡ [] → asked_word asked ≡ None
+        → annotation asked ≡ Some choice
+        → IsUnread source.old source.new sink.old sink.new result
+        ⊎ IsAnnotateAnswer (as_json asked) choice source.old source.new sink.old sink.new trace
+        (S.left source.new) (K.taken sink.old) (K.taken sink.new)
+        (K.failures sink.new ≡ K.failures sink.old) result }
     // Where they ask for the explanation of a word the source is not asked, and the table answers.
-    ensures explained { (word : List ℕ) → words_fault (map (λ word. word.now) words.now) ≡ [] → asked_word (map (λ word. word.now) words.now) ≡ Some word → IsUnread source.old source.new sink.old sink.new result
-        ⊎ ((source.new ≡ source.old) × IsAnswered word (K.taken sink.old) (K.taken sink.new) result) }
+    ensures explained { let asked = map (λ word. word.now) words.now in
+        (word : List ℕ) → words_fault asked ≡ [] → asked_word asked ≡ Some word
+        → IsUnread source.old source.new sink.old sink.new result
+        ⊎ ((source.new ≡ source.old)
+        × IsAnswered word (K.taken sink.old) (K.taken sink.new) result) }
     // Where the words are wrong the source is not asked, and help and the version alone go to the sink.
-    ensures usage { words_fault (map (λ word. word.now) words.now) ≢ [] → (source.new ≡ source.old) × IsWordsStatus (words_fault (map (λ word. word.now) words.now)) result }
+    ensures usage { let asked = map (λ word. word.now) words.now in
+        words_fault asked ≢ []
+        → (source.new ≡ source.old) × IsWordsStatus (words_fault asked) result }
     ensures unwritten { result ≡ 64 → sink.new ≡ sink.old }
     ensures asked { S.calls source.new ≤ S.calls source.old + (2 ^ 30 + 1) }
 {

@@ -6,7 +6,7 @@ use crate::faults::{Before, fault};
 use crate::lanes::{Lane, Lanes};
 use crate::messages::message;
 use crate::packets::packet;
-use crate::prose::Page;
+use crate::prose::{Page, Telling};
 use crate::rows::Rows;
 use crate::uncounted::Uncounted;
 use annotated_trace::describer::Describer;
@@ -15,7 +15,6 @@ use annotated_trace::page::{ClosingPage, Origin};
 use channel_machine::run::{Channel, View};
 use line_model::device::Sink;
 use line_model::event::{Event, What};
-use line_model::fault::Fault;
 use line_model::finding::Finding;
 use line_model::interface::Interface;
 use line_model::packet::{DataHeader, Packet, PacketKind};
@@ -69,12 +68,7 @@ impl Seen<'_> {
     }
 
     /// Says the PAD message of a data packet that was counted, where it is whole in it.
-    fn say_message<P: Page>(
-        &self,
-        header: &DataHeader,
-        lane: &mut Lane,
-        notes: &mut P,
-    ) -> Result<(), AllocError> {
+    fn say_message<P: Page>(&self, header: &DataHeader, lane: &mut Lane, notes: &mut P) {
         let data = self.data();
         let begins = !lane.continues(self.side);
         let goes_on = header.more
@@ -82,9 +76,8 @@ impl Seen<'_> {
             && data.len() == usize::from(self.size(lane.view));
         lane.set_continues(self.side, goes_on);
         if header.qualified && is_pad_call(lane.view) && begins && !goes_on {
-            return message(notes, data);
+            message(notes, data);
         }
-        Ok(())
     }
 
     /// The packet size in force for data from the side of the row.
@@ -99,7 +92,7 @@ impl Seen<'_> {
     }
 
     /// Says what the row is.
-    fn say<P: Page>(&self, fast_before: bool, notes: &mut P) -> Result<(), AllocError> {
+    fn say<P: Page>(&self, fast_before: bool, notes: &mut P) {
         packet(
             notes,
             &self.interface,
@@ -107,7 +100,7 @@ impl Seen<'_> {
             self.octets,
             &self.packet,
             fast_before,
-        )
+        );
     }
 }
 
@@ -169,7 +162,7 @@ impl<A: Allocator + Copy> Descriptions<A> {
                 self.on_channel(seen, channel, kind, observer, notes)
             }
             _ => {
-                self.on_interface(seen, observer, notes)?;
+                self.on_interface(seen, observer, notes);
                 Ok(self.rows.has_of_interface(&seen.packet))
             }
         }
@@ -181,11 +174,11 @@ impl<A: Allocator + Copy> Descriptions<A> {
         seen: &Seen<'_>,
         observer: &Observer<A, C>,
         notes: &mut P,
-    ) -> Result<(), AllocError> {
+    ) {
         self.remember(seen, &Lane::fresh());
-        seen.say(false, notes)?;
-        notes.next_line()?;
-        restart_move(notes, self.restart, observer.restart_state())?;
+        seen.say(false, notes);
+        notes.next_line();
+        restart_move(notes, self.restart, observer.restart_state());
         if let Packet::Channel {
             kind: PacketKind::Data(_),
             ..
@@ -198,7 +191,6 @@ impl<A: Allocator + Copy> Descriptions<A> {
             self.epoch = observer.epoch();
             self.lanes.clear();
         }
-        Ok(())
     }
 
     /// A row that its channel took.
@@ -215,14 +207,14 @@ impl<A: Allocator + Copy> Descriptions<A> {
         let first_call = lane.call;
         let fresh = seen.interface.fresh_state(self.epoch, channel);
         let state = lane.state(fresh);
-        self.say_on_channel(seen, kind, observer.events(), &mut lane, notes)?;
-        notes.next_line()?;
+        self.say_on_channel(seen, kind, observer.events(), &mut lane, notes);
+        notes.next_line();
         let lane_after = Lane::seen_as(observer.view(channel));
-        channel_move(notes, state, lane_after.state(state))?;
-        self.tell(seen, observer.events(), &mut lane, notes)?;
+        channel_move(notes, state, lane_after.state(state));
+        self.tell(seen, observer.events(), &mut lane, notes);
         if let PacketKind::Data(_) = kind {
             if !seen.is_counted(observer.events()) {
-                self.leave_out(seen, &lane, notes)?;
+                self.leave_out(seen, &lane, notes);
             }
         }
         let last_call = lane.call;
@@ -245,24 +237,18 @@ impl<A: Allocator + Copy> Descriptions<A> {
         events: &[Event],
         lane: &mut Lane,
         notes: &mut P,
-    ) -> Result<(), AllocError> {
-        seen.say(is_fast(lane.view), notes)?;
+    ) {
+        seen.say(is_fast(lane.view), notes);
         match kind {
             PacketKind::Data(Some(header)) if seen.is_counted(events) => {
-                seen.say_message(&header, lane, notes)
+                seen.say_message(&header, lane, notes);
             }
-            _ => Ok(()),
+            _ => {}
         }
     }
 
     /// Tells the events of a row and the call that it belongs to.
-    fn tell<P: Page>(
-        &mut self,
-        seen: &Seen<'_>,
-        events: &[Event],
-        lane: &mut Lane,
-        notes: &mut P,
-    ) -> Result<(), AllocError> {
+    fn tell<P: Page>(&mut self, seen: &Seen<'_>, events: &[Event], lane: &mut Lane, notes: &mut P) {
         let mut named = false;
         for told in events {
             if told.packet == seen.number {
@@ -272,45 +258,39 @@ impl<A: Allocator + Copy> Descriptions<A> {
                     named = false;
                 }
                 if !named {
-                    of_call(notes, lane.call)?;
+                    of_call(notes, lane.call);
                     named = true;
                 }
-                event(notes, told)?;
+                event(notes, told);
                 if let What::End(_) = told.what {
                     lane.call = 0;
                 }
             }
         }
-        if named {
-            return Ok(());
+        if !named {
+            of_call(notes, lane.call);
         }
-        of_call(notes, lane.call)
     }
 
     /// A data packet that was not counted. Of one with a finding the finding tells why.
-    fn leave_out<P: Page>(
-        &mut self,
-        seen: &Seen<'_>,
-        lane: &Lane,
-        notes: &mut P,
-    ) -> Result<(), AllocError> {
+    fn leave_out<P: Page>(&mut self, seen: &Seen<'_>, lane: &Lane, notes: &mut P) {
         let octets = seen.data().len() as u64;
         if seen.faulty {
             self.uncounted.faulty(octets);
-            return Ok(());
+            return;
         }
         let why = match lane.view {
             Some(view) => Passed::before(view.state, view.owed),
             None => Passed::Unknown,
         };
         self.uncounted.passed(why, octets);
-        notes.say("; not counted: ")?;
-        notes.say(why.reason())
+        notes.say("; not counted: ");
+        notes.say(why.reason());
     }
 }
 
 impl<A: Allocator + Copy, C: Channel<A>> Describer<A, Live<A, C>> for Descriptions<A> {
-    fn describe(&mut self, trace: &Live<A, C>, notes: &mut Notes<A>) -> Result<bool, Fault> {
+    fn describe(&mut self, trace: &Live<A, C>, notes: &mut Notes<A>) -> Result<bool, AllocError> {
         let Some(observer) = trace.observer() else {
             return Ok(false);
         };
@@ -331,7 +311,9 @@ impl<A: Allocator + Copy, C: Channel<A>> Describer<A, Live<A, C>> for Descriptio
             packet: decode(&interface, octets),
             faulty: !trace.found().is_empty(),
         };
-        let told = self.row(&seen, observer, notes)?;
+        let mut telling = Telling::new(notes);
+        let told = self.row(&seen, observer, &mut telling)?;
+        telling.answer()?;
         Ok(told)
     }
 
@@ -340,15 +322,15 @@ impl<A: Allocator + Copy, C: Channel<A>> Describer<A, Live<A, C>> for Descriptio
         trace: &Live<A, C>,
         finding: &Finding,
         words: &mut Words<A>,
-    ) -> Result<(), Fault> {
+    ) -> Result<(), AllocError> {
+        let mut telling = Telling::new(words);
         if let Some(before) = &self.before {
-            fault(words, before, trace.row().octets.as_slice(), finding)?;
+            fault(&mut telling, before, trace.row().octets.as_slice(), finding);
         }
-        Ok(())
+        telling.answer()
     }
 
     fn close<K: Sink, B: Origin>(&mut self, report: &Report<A>, page: &mut ClosingPage<'_, K, B>) {
-        // A page refuses nothing.
-        let _ = closing::report(page, report, &self.uncounted);
+        closing::report(page, report, &self.uncounted);
     }
 }

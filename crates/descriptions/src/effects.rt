@@ -2,47 +2,38 @@
 
 use crate::names;
 use crate::parameters::setting;
-use crate::prose::{Prose, count};
+use crate::prose::{Prose, count, say_number};
 use line_model::event::{Event, How, What};
 use line_model::state::{ChannelState, RState};
-use std::alloc::AllocError;
 
 /// A change of state, or the state where none changed.
-fn moved<P: Prose>(out: &mut P, before: &str, after: &str) -> Result<(), AllocError> {
+fn moved<P: Prose>(out: &mut P, before: &str, after: &str) {
     if before == after {
-        out.say("stays ")?;
+        out.say("stays ");
     } else {
-        out.say(before)?;
-        out.say(" to ")?;
+        out.say(before);
+        out.say(" to ");
     }
-    out.say(after)
+    out.say(after);
 }
 
 /// What a packet of the restart machine did.
-pub fn restart_move<P: Prose>(
-    out: &mut P,
-    before: RState,
-    after: RState,
-) -> Result<(), AllocError> {
+pub fn restart_move<P: Prose>(out: &mut P, before: RState, after: RState) {
     moved(
         out,
         names::restart_state(before),
         names::restart_state(after),
-    )?;
+    );
     match (before, after) {
-        (RState::R1, RState::R1) => Ok(()),
+        (RState::R1, RState::R1) => {}
         (RState::R1, _) => out.say("; all channels and their calls end"),
         (_, RState::R1) => out.say("; all channels are fresh"),
-        _ => Ok(()),
+        _ => {}
     }
 }
 
 /// How the state of a channel changed.
-pub fn channel_move<P: Prose>(
-    out: &mut P,
-    before: ChannelState,
-    after: ChannelState,
-) -> Result<(), AllocError> {
+pub fn channel_move<P: Prose>(out: &mut P, before: ChannelState, after: ChannelState) {
     moved(
         out,
         names::channel_state(before),
@@ -51,39 +42,36 @@ pub fn channel_move<P: Prose>(
 }
 
 /// The call that a row belongs to, by its number in the report; nothing for 0.
-pub fn of_call<P: Prose>(out: &mut P, call: u32) -> Result<(), AllocError> {
+pub fn of_call<P: Prose>(out: &mut P, call: u32) {
     if call == 0 {
-        return Ok(());
+        return;
     }
-    out.say("; call ")?;
-    out.number(u64::from(call))
+    say_number(out, "; call ", u64::from(call));
 }
 
 /// What a row told.
-pub fn event<P: Prose>(out: &mut P, event: &Event) -> Result<(), AllocError> {
+pub fn event<P: Prose>(out: &mut P, event: &Event) {
     match &event.what {
-        What::Found { .. } => Ok(()),
+        What::Found { .. } => {}
         What::Open { .. } => out.say(" begins"),
         What::Up => out.say(", in data transfer from here on"),
         What::End(how) => out.say(ending(*how)),
         What::Data { octets, .. } => {
-            out.say("; counted: ")?;
-            count(out, u64::from(*octets), " octet", " octets")?;
-            out.say(" in ")?;
-            count(out, segments(*octets), " segment", " segments")
+            count(out, "; counted: ", u64::from(*octets), " octet");
+            count(out, " in ", segments(*octets), " segment");
         }
         What::Setting {
             pad,
             parameter: reference,
             entry,
         } => {
-            out.say("; ")?;
-            setting(out, *pad, *reference, *entry)
+            out.say("; ");
+            setting(out, *pad, *reference, *entry);
         }
         What::Initial { pad } => {
-            out.say("; the settings of the PAD of the ")?;
-            out.say(names::side(*pad))?;
-            out.say(" are unknown again")
+            out.say("; the settings of the PAD of the ");
+            out.say(names::side(*pad));
+            out.say(" are unknown again");
         }
     }
 }
@@ -104,7 +92,7 @@ fn ending(how: How) -> &'static str {
 }
 
 /// Why a data packet without a finding was not counted.
-#[derive(Clone, Copy, Debug, PartialEq, Eq)]
+#[derive(Clone, Copy)]
 pub enum Passed {
     /// The DCE owes its indication.
     Owed,

@@ -1,6 +1,6 @@
 //! What is wrong with a row, in words.
 
-use crate::prose::{Prose, count};
+use crate::prose::{Prose, count, say_number};
 use channel_machine::run::View;
 use explanations::explanation::Explanation;
 use explanations::flow_codes::flow_codes;
@@ -15,7 +15,6 @@ use line_model::finding::{Code, Finding, Xcode};
 use line_model::interface::Interface;
 use line_model::packet::{DataHeader, Packet, PacketKind};
 use line_model::state::{Side, StateName};
-use std::alloc::AllocError;
 use window_check::flow::SendWindow;
 
 /// What was known before a row, and the row's packet.
@@ -63,27 +62,22 @@ fn numbered(number: u8) -> Option<&'static Explanation> {
 }
 
 /// A finding: the name of its code, what is wrong with the values of the row, what the DCE does next, and the clause.
-pub fn fault<P: Prose>(
-    out: &mut P,
-    before: &Before,
-    octets: &[u8],
-    finding: &Finding,
-) -> Result<(), AllocError> {
+pub fn fault<P: Prose>(out: &mut P, before: &Before, octets: &[u8], finding: &Finding) {
     let Some(row) = explanation(finding.code) else {
-        return Ok(());
+        return;
     };
-    out.say(row.name)?;
-    out.say(": ")?;
-    if values(out, before, octets, finding)? {
-        out.say(".")?;
+    out.say(row.name);
+    out.say(": ");
+    if values(out, before, octets, finding) {
+        out.say(".");
     } else {
-        out.say(row.meaning)?;
+        out.say(row.meaning);
     }
-    out.say(" ")?;
-    out.say(consequence(finding))?;
-    out.say(". (")?;
-    out.say(row.clause)?;
-    out.say(")")
+    out.say(" ");
+    out.say(consequence(finding));
+    out.say(". (");
+    out.say(row.clause);
+    out.say(")");
 }
 
 /// What an error has the DCE do.
@@ -111,12 +105,7 @@ fn reaction(state: StateName, code: u8) -> &'static str {
 }
 
 /// What is wrong with the values of a row, where its values tell it.
-fn values<P: Prose>(
-    out: &mut P,
-    before: &Before,
-    octets: &[u8],
-    finding: &Finding,
-) -> Result<bool, AllocError> {
+fn values<P: Prose>(out: &mut P, before: &Before, octets: &[u8], finding: &Finding) -> bool {
     match finding.code {
         Code::Number(INVALID_P_S) => send_number(out, before, finding.side),
         Code::Number(INVALID_P_R) => receive_number(out, before, finding.side),
@@ -127,63 +116,60 @@ fn values<P: Prose>(
         Code::Number(INVALID_GENERAL_FORMAT_IDENTIFIER) => format(out, before, octets),
         Code::Number(UNIDENTIFIABLE_PACKET) => packet_type(out, octets),
         Code::Number(INCONSISTENT_Q_BIT_SETTING) => qualifier(out, before),
-        _ => Ok(false),
+        _ => false,
     }
 }
 
 /// A P(S) that does not follow, or lies outside the window.
-fn send_number<P: Prose>(out: &mut P, before: &Before, side: Side) -> Result<bool, AllocError> {
+fn send_number<P: Prose>(out: &mut P, before: &Before, side: Side) -> bool {
     let Some(header) = header(&before.packet) else {
-        return Ok(false);
+        return false;
     };
     let window = send_window(before, side);
-    out.say("P(S) ")?;
-    out.number(u64::from(header.send))?;
+    say_number(out, "P(S) ", u64::from(header.send));
     if header.send != window.next {
-        out.say(" where ")?;
-        out.number(u64::from(window.next))?;
-        out.say(" comes next")?;
-        return Ok(true);
+        say_number(out, " where ", u64::from(window.next));
+        out.say(" comes next");
+        return true;
     }
-    out.say(" where ")?;
+    out.say(" where ");
     let highest = u64::from(window.lowest) + u64::from(window.window).saturating_sub(1);
-    range(out, before, u64::from(window.lowest), highest)?;
-    Ok(true)
+    range(out, before, u64::from(window.lowest), highest);
+    true
 }
 
 /// A P(R) that acknowledges nothing that was sent.
-fn receive_number<P: Prose>(out: &mut P, before: &Before, side: Side) -> Result<bool, AllocError> {
+fn receive_number<P: Prose>(out: &mut P, before: &Before, side: Side) -> bool {
     let Some(number) = acknowledged(&before.packet) else {
-        return Ok(false);
+        return false;
     };
     let window = send_window(before, side.other());
-    out.say("P(R) ")?;
-    out.number(u64::from(number))?;
-    out.say(" where ")?;
+    say_number(out, "P(R) ", u64::from(number));
+    out.say(" where ");
     range(
         out,
         before,
         u64::from(window.lowest),
         u64::from(window.next),
-    )?;
-    Ok(true)
+    );
+    true
 }
 
 /// The numbers that were allowed, from a first to a last one, which is brought below the modulus.
-fn range<P: Prose>(out: &mut P, before: &Before, first: u64, last: u64) -> Result<(), AllocError> {
+fn range<P: Prose>(out: &mut P, before: &Before, first: u64, last: u64) {
     let modulus = if before.interface.modulus == 8 {
         8
     } else {
         128
     };
     let last = last % modulus;
-    out.number(first)?;
+    out.number(first);
     if first == last {
-        return out.say(" alone was allowed");
+        out.say(" alone was allowed");
+        return;
     }
-    out.say(" to ")?;
-    out.number(last)?;
-    out.say(" were allowed")
+    say_number(out, " to ", last);
+    out.say(" were allowed");
 }
 
 /// The header of a data packet.
@@ -223,58 +209,49 @@ fn send_window(before: &Before, side: Side) -> SendWindow {
 }
 
 /// A call against the direction of its channel.
-fn direction<P: Prose>(out: &mut P, before: &Before, side: Side) -> Result<bool, AllocError> {
+fn direction<P: Prose>(out: &mut P, before: &Before, side: Side) -> bool {
     let interface = &before.interface;
     match side {
-        Side::T => channels(out, interface.pvc, interface.incoming, "incoming")?,
-        Side::N => channels(out, interface.two_way, interface.svc, "outgoing")?,
+        Side::T => channels(out, interface.pvc, interface.incoming, "incoming"),
+        Side::N => channels(out, interface.two_way, interface.svc, "outgoing"),
     }
-    Ok(true)
+    true
 }
 
 /// Which channels are for calls of one side.
-fn channels<P: Prose>(out: &mut P, below: u16, last: u16, calls: &str) -> Result<(), AllocError> {
-    out.say("logical channels ")?;
-    out.number(u64::from(below) + 1)?;
-    out.say(" to ")?;
-    out.number(u64::from(last))?;
-    out.say(" are for ")?;
-    out.say(calls)?;
-    out.say(" calls")
+fn channels<P: Prose>(out: &mut P, below: u16, last: u16, calls: &str) {
+    say_number(out, "logical channels ", u64::from(below) + 1);
+    say_number(out, " to ", u64::from(last));
+    out.say(" are for ");
+    out.say(calls);
+    out.say(" calls");
 }
 
 /// A channel that the interface does not have.
-fn channel<P: Prose>(out: &mut P, before: &Before, octets: &[u8]) -> Result<bool, AllocError> {
+fn channel<P: Prose>(out: &mut P, before: &Before, octets: &[u8]) -> bool {
     let channel = match octets {
         [first, second, ..] => u64::from(*first % 16) * 256 + u64::from(*second),
-        _ => return Ok(false),
+        _ => return false,
     };
     if channel <= u64::from(before.interface.svc) {
-        return Ok(false);
+        return false;
     }
-    out.say("logical channel ")?;
-    out.number(channel)?;
-    out.say(" where ")?;
-    out.number(u64::from(before.interface.svc))?;
-    out.say(" is the last")?;
-    Ok(true)
+    say_number(out, "logical channel ", channel);
+    say_number(out, " where ", u64::from(before.interface.svc));
+    out.say(" is the last");
+    true
 }
 
 /// How long a packet is.
-fn length<P: Prose>(out: &mut P, octets: &[u8], why: &str) -> Result<bool, AllocError> {
-    count(out, octets.len() as u64, " octet", " octets")?;
-    out.say(", ")?;
-    out.say(why)?;
-    Ok(true)
+fn length<P: Prose>(out: &mut P, octets: &[u8], why: &str) -> bool {
+    count(out, "", octets.len() as u64, " octet");
+    out.say(", ");
+    out.say(why);
+    true
 }
 
 /// How long a packet is that is too long, and what it may have where it is a data packet.
-fn too_long<P: Prose>(
-    out: &mut P,
-    before: &Before,
-    octets: &[u8],
-    side: Side,
-) -> Result<bool, AllocError> {
+fn too_long<P: Prose>(out: &mut P, before: &Before, octets: &[u8], side: Side) -> bool {
     if header(&before.packet).is_none() {
         return length(out, octets, "which is too long");
     }
@@ -286,58 +263,52 @@ fn too_long<P: Prose>(
         },
         None => before.interface.size,
     };
-    count(
-        out,
-        octets.len().saturating_sub(own) as u64,
-        " octet",
-        " octets",
-    )?;
-    out.say(" of user data where ")?;
-    out.number(u64::from(size))?;
-    out.say(" are allowed")?;
-    Ok(true)
+    count(out, "", octets.len().saturating_sub(own) as u64, " octet");
+    say_number(out, " of user data where ", u64::from(size));
+    out.say(" are allowed");
+    true
 }
 
 /// Bits 6 and 5 of the first octet.
-fn format<P: Prose>(out: &mut P, before: &Before, octets: &[u8]) -> Result<bool, AllocError> {
+fn format<P: Prose>(out: &mut P, before: &Before, octets: &[u8]) -> bool {
     let [first, ..] = octets else {
-        return Ok(false);
+        return false;
     };
-    out.say("bits 6 and 5 of octet 1 are ")?;
+    out.say("bits 6 and 5 of octet 1 are ");
     out.say(match *first / 16 % 4 {
         0 => "00",
         1 => "01",
         2 => "10",
         _ => "11",
-    })?;
+    });
     out.say(if before.interface.modulus == 8 {
         " where modulo 8 has 01"
     } else {
         " where modulo 128 has 10"
-    })?;
-    Ok(true)
+    });
+    true
 }
 
 /// The type octet of a packet.
-fn packet_type<P: Prose>(out: &mut P, octets: &[u8]) -> Result<bool, AllocError> {
+fn packet_type<P: Prose>(out: &mut P, octets: &[u8]) -> bool {
     let [_, _, kind, ..] = octets else {
-        return Ok(false);
+        return false;
     };
-    out.say("octet 3 is ")?;
-    out.octets(&[*kind])?;
-    out.say(", the type of no packet")?;
-    Ok(true)
+    out.say("octet 3 is ");
+    out.octets(&[*kind]);
+    out.say(", the type of no packet");
+    true
 }
 
 /// The Q bit of a packet in a sequence with another one.
-fn qualifier<P: Prose>(out: &mut P, before: &Before) -> Result<bool, AllocError> {
+fn qualifier<P: Prose>(out: &mut P, before: &Before) -> bool {
     let Some(header) = header(&before.packet) else {
-        return Ok(false);
+        return false;
     };
     out.say(if header.qualified {
         "Q 1 in a sequence that began with Q 0"
     } else {
         "Q 0 in a sequence that began with Q 1"
-    })?;
-    Ok(true)
+    });
+    true
 }

@@ -1,8 +1,7 @@
 //! PAD messages in words (X.29 clause 4).
 
 use crate::parameters::parameter;
-use crate::prose::Prose;
-use std::alloc::AllocError;
+use crate::prose::{Prose, say_number};
 use x29_messages::message::{Message, MessageCode, read_message};
 
 /// What a message is for (X.29 Table 3).
@@ -21,33 +20,31 @@ fn name(code: MessageCode) -> &'static str {
 }
 
 /// A PAD message that is whole in these octets.
-pub fn message<P: Prose>(out: &mut P, octets: &[u8]) -> Result<(), AllocError> {
+pub fn message<P: Prose>(out: &mut P, octets: &[u8]) {
     match read_message(octets) {
         Ok(message) => say_message(out, &message),
         Err(_) => out.say("; a PAD message that can't be read"),
     }
 }
 
-fn say_message<P: Prose>(out: &mut P, message: &Message<'_>) -> Result<(), AllocError> {
-    out.say("; PAD message: ")?;
-    out.say(name(message.code))?;
+fn say_message<P: Prose>(out: &mut P, message: &Message<'_>) {
+    out.say("; PAD message: ");
+    out.say(name(message.code));
     match message.code {
         MessageCode::Indication | MessageCode::Set | MessageCode::Read | MessageCode::SetAndRead =>
             { say_pairs(out, message) }
-        _ => Ok(()),
+        _ => {}
     }
 }
 
 /// The standard pairs of a message; a read has no values.
-fn say_pairs<P: Prose>(out: &mut P, message: &Message<'_>) -> Result<(), AllocError> {
+fn say_pairs<P: Prose>(out: &mut P, message: &Message<'_>) {
     let read = message.code == MessageCode::Read;
     for pair in message.standard_pairs() {
-        out.say(", ")?;
-        parameter(out, pair.reference % 128)?;
+        out.say(", ");
+        parameter(out, pair.reference % 128);
         if !read {
-            out.say(" = ")?;
-            out.number(u64::from(pair.value))?;
+            say_number(out, " = ", u64::from(pair.value));
         }
     }
-    Ok(())
 }

@@ -4,11 +4,10 @@ use crate::calls::call;
 use crate::causes::{clearing_cause, resetting_cause, restarting_cause};
 use crate::diagnostics::diagnostic;
 use crate::names;
-use crate::prose::{Prose, count};
+use crate::prose::{Prose, bracketed, count, say_number};
 use line_model::interface::Interface;
 use line_model::packet::{DataHeader, Packet, PacketKind};
 use line_model::state::Side;
-use std::alloc::AllocError;
 
 /// A packet of a side, with its logical channel and its fields. `fast_before` says whether the call that is open on its
 /// channel asked fast select.
@@ -19,40 +18,35 @@ pub fn packet<P: Prose>(
     octets: &[u8],
     packet: &Packet,
     fast_before: bool,
-) -> Result<(), AllocError> {
+) {
     match packet {
         Packet::Channel { channel, kind } => {
-            out.say(names::side_on_channel(side))?;
-            out.number(u64::from(*channel))?;
-            out.say(": ")?;
-            out.say(names::packet(side, packet))?;
+            say_number(out, names::side_on_channel(side), u64::from(*channel));
+            out.say(": ");
+            out.say(names::packet(side, packet));
             channel_fields(out, interface, octets, kind, fast_before)
         }
         packet => {
-            out.say(names::side(side))?;
-            out.say(": ")?;
-            out.say(names::packet(side, packet))?;
+            out.say(names::side(side));
+            out.say(": ");
+            out.say(names::packet(side, packet));
             interface_fields(out, octets, packet)
         }
     }
 }
 
 /// The fields of a packet that is on no logical channel.
-fn interface_fields<P: Prose>(
-    out: &mut P,
-    octets: &[u8],
-    packet: &Packet,
-) -> Result<(), AllocError> {
+fn interface_fields<P: Prose>(out: &mut P, octets: &[u8], packet: &Packet) {
     match packet {
         Packet::Restart => match octets {
             [_, _, _, value, rest @ ..] => cause(out, *value, restarting_cause(*value), rest),
-            _ => Ok(()),
+            _ => {}
         },
         Packet::Diagnostic => match octets {
             [_, _, _, code, ..] => say_diagnostic(out, *code),
-            _ => Ok(()),
+            _ => {}
         },
-        _ => Ok(()),
+        _ => {}
     }
 }
 
@@ -63,16 +57,16 @@ fn channel_fields<P: Prose>(
     octets: &[u8],
     kind: &PacketKind,
     fast_before: bool,
-) -> Result<(), AllocError> {
+) {
     match kind {
         PacketKind::Call | PacketKind::Accepted => call(out, interface, octets, fast_before),
         PacketKind::Clear => match octets {
             [_, _, _, value, rest @ ..] => cause(out, *value, clearing_cause(*value), rest),
-            _ => Ok(()),
+            _ => {}
         },
         PacketKind::Reset => match octets {
             [_, _, _, value, rest @ ..] => cause(out, *value, resetting_cause(*value), rest),
-            _ => Ok(()),
+            _ => {}
         },
         PacketKind::Data(Some(header)) => data(out, interface, header, octets.len()),
         PacketKind::Rr(Some(number)) | PacketKind::Rnr(Some(number)) => receive_number(
@@ -82,71 +76,47 @@ fn channel_fields<P: Prose>(
             ", its header is cut",
         ),
         PacketKind::Interrupt => {
-            out.say(", ")?;
-            count(
-                out,
-                octets.len().saturating_sub(3) as u64,
-                " octet",
-                " octets",
-            )
+            count(out, ", ", octets.len().saturating_sub(3) as u64, " octet");
         }
-        _ => Ok(()),
+        _ => {}
     }
 }
 
 /// A cause by number and name, and the diagnostic code behind it, if there is one.
-fn cause<P: Prose>(out: &mut P, value: u8, name: &str, rest: &[u8]) -> Result<(), AllocError> {
-    out.say(", cause ")?;
-    out.number(u64::from(value))?;
-    out.say(" (")?;
-    out.say(name)?;
-    out.say(")")?;
+fn cause<P: Prose>(out: &mut P, value: u8, name: &str, rest: &[u8]) {
+    say_number(out, ", cause ", u64::from(value));
+    bracketed(out, name);
     match rest {
         [code, ..] => say_diagnostic(out, *code),
-        [] => Ok(()),
+        [] => {}
     }
 }
 
 /// A diagnostic code by number and name.
-fn say_diagnostic<P: Prose>(out: &mut P, code: u8) -> Result<(), AllocError> {
-    out.say(", diagnostic ")?;
-    out.number(u64::from(code))?;
-    out.say(" (")?;
-    out.say(diagnostic(code))?;
-    out.say(")")
+fn say_diagnostic<P: Prose>(out: &mut P, code: u8) {
+    say_number(out, ", diagnostic ", u64::from(code));
+    bracketed(out, diagnostic(code));
 }
 
 /// P(R).
-fn receive_number<P: Prose>(out: &mut P, number: u8) -> Result<(), AllocError> {
-    out.say(", P(R) ")?;
-    out.number(u64::from(number))
+fn receive_number<P: Prose>(out: &mut P, number: u8) {
+    say_number(out, ", P(R) ", u64::from(number));
 }
 
 /// A bit that is 1 by its name.
-fn bit<P: Prose>(out: &mut P, name: &str, is_set: bool) -> Result<(), AllocError> {
-    if is_set { out.say(name) } else { Ok(()) }
+fn bit<P: Prose>(out: &mut P, name: &str, is_set: bool) {
+    if is_set {
+        out.say(name);
+    }
 }
 
 /// The header of a data packet, and how much user data it has.
-fn data<P: Prose>(
-    out: &mut P,
-    interface: &Interface,
-    header: &DataHeader,
-    length: usize,
-) -> Result<(), AllocError> {
+fn data<P: Prose>(out: &mut P, interface: &Interface, header: &DataHeader, length: usize) {
     let before = if interface.modulus == 8 { 3 } else { 4 };
-    out.say(", P(S) ")?;
-    out.number(u64::from(header.send))?;
-    out.say(", P(R) ")?;
-    out.number(u64::from(header.receive))?;
-    bit(out, ", M", header.more)?;
-    bit(out, ", D", header.delivery)?;
-    bit(out, ", Q", header.qualified)?;
-    out.say(", ")?;
-    count(
-        out,
-        length.saturating_sub(before) as u64,
-        " octet",
-        " octets",
-    )
+    say_number(out, ", P(S) ", u64::from(header.send));
+    say_number(out, ", P(R) ", u64::from(header.receive));
+    bit(out, ", M", header.more);
+    bit(out, ", D", header.delivery);
+    bit(out, ", Q", header.qualified);
+    count(out, ", ", length.saturating_sub(before) as u64, " octet");
 }

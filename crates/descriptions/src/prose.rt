@@ -6,87 +6,133 @@ use line_model::address::Address;
 use line_model::device::Sink;
 use std::alloc::{AllocError, Allocator};
 
-/// What prose is written to: the comments of a row, the words of a mark, or the page of the closing comments, which refuses
-/// nothing.
+/// What prose is written to: the comments of a row, the words of a mark, or the page of the closing comments. It refuses
+/// nothing where something is said.
 pub trait Prose {
     /// Appends words.
-    fn say(&mut self, words: &str) -> Result<(), AllocError>;
+    fn say(&mut self, words: &str);
 
     /// Appends a number.
-    fn number(&mut self, number: u64) -> Result<(), AllocError>;
+    fn number(&mut self, number: u64);
 
     /// Appends octets in hex.
-    fn octets(&mut self, octets: &[u8]) -> Result<(), AllocError>;
+    fn octets(&mut self, octets: &[u8]);
 }
 
 /// What comments of several lines are written to.
 pub trait Page: Prose {
     /// Begins a further line.
-    fn next_line(&mut self) -> Result<(), AllocError>;
+    fn next_line(&mut self);
 }
 
-impl<A: Allocator + Copy> Page for Notes<A> {
-    fn next_line(&mut self) -> Result<(), AllocError> {
-        self.next().map_err(|_| AllocError)
+/// Notes or words that are said as long as there is memory for them. Where it is refused nothing is said from then on,
+/// and the answer tells it.
+#[derive(Drop)]
+pub struct Telling<'a, T> {
+    to: &'a mut T,
+    answer: Result<(), AllocError>,
+}
+
+impl<'a, T> Telling<'a, T> {
+    /// Nothing was said.
+    pub fn new(to: &'a mut T) -> Self {
+        Telling { to, answer: Ok(()) }
+    }
+
+    /// Whether there was memory for all that was said.
+    pub fn answer(&self) -> Result<(), AllocError> {
+        self.answer
     }
 }
 
-impl<A: Allocator + Copy> Prose for Notes<A> {
-    fn say(&mut self, words: &str) -> Result<(), AllocError> {
-        self.say(words).map_err(|_| AllocError)
-    }
-
-    fn number(&mut self, number: u64) -> Result<(), AllocError> {
-        self.number(number).map_err(|_| AllocError)
-    }
-
-    fn octets(&mut self, octets: &[u8]) -> Result<(), AllocError> {
-        self.octets(octets).map_err(|_| AllocError)
+impl<A: Allocator + Copy> Page for Telling<'_, Notes<A>> {
+    fn next_line(&mut self) {
+        if self.answer.is_ok() {
+            self.answer = self.to.next();
+        }
     }
 }
 
-impl<A: Allocator + Copy> Prose for Words<A> {
-    fn say(&mut self, words: &str) -> Result<(), AllocError> {
-        self.say(words).map_err(|_| AllocError)
+impl<A: Allocator + Copy> Prose for Telling<'_, Notes<A>> {
+    fn say(&mut self, words: &str) {
+        if self.answer.is_ok() {
+            self.answer = self.to.say(words);
+        }
     }
 
-    fn number(&mut self, number: u64) -> Result<(), AllocError> {
-        self.number(number).map_err(|_| AllocError)
+    fn number(&mut self, number: u64) {
+        if self.answer.is_ok() {
+            self.answer = self.to.number(number);
+        }
     }
 
-    fn octets(&mut self, octets: &[u8]) -> Result<(), AllocError> {
-        self.octets(octets).map_err(|_| AllocError)
+    fn octets(&mut self, octets: &[u8]) {
+        if self.answer.is_ok() {
+            self.answer = self.to.octets(octets);
+        }
+    }
+}
+
+impl<A: Allocator + Copy> Prose for Telling<'_, Words<A>> {
+    fn say(&mut self, words: &str) {
+        if self.answer.is_ok() {
+            self.answer = self.to.say(words);
+        }
+    }
+
+    fn number(&mut self, number: u64) {
+        if self.answer.is_ok() {
+            self.answer = self.to.number(number);
+        }
+    }
+
+    fn octets(&mut self, octets: &[u8]) {
+        if self.answer.is_ok() {
+            self.answer = self.to.octets(octets);
+        }
     }
 }
 
 impl<K: Sink, B: Origin> Page for ClosingPage<'_, K, B> {
-    fn next_line(&mut self) -> Result<(), AllocError> {
+    fn next_line(&mut self) {
         self.next();
-        Ok(())
     }
 }
 
 impl<K: Sink, B: Origin> Prose for ClosingPage<'_, K, B> {
-    fn say(&mut self, words: &str) -> Result<(), AllocError> {
+    fn say(&mut self, words: &str) {
         self.say(words);
-        Ok(())
     }
 
-    fn number(&mut self, number: u64) -> Result<(), AllocError> {
+    fn number(&mut self, number: u64) {
         self.number(number);
-        Ok(())
     }
 
-    fn octets(&mut self, octets: &[u8]) -> Result<(), AllocError> {
+    fn octets(&mut self, octets: &[u8]) {
         self.octets(octets);
-        Ok(())
     }
 }
 
-/// Appends a number with the name of what it counts, in the singular or the plural; each begins with a space.
-pub fn count<P: Prose>(out: &mut P, number: u64, one: &str, many: &str) -> Result<(), AllocError> {
-    out.number(number)?;
-    out.say(if number == 1 { one } else { many })
+/// Appends words and a number.
+pub fn say_number<P: Prose>(out: &mut P, words: &str, number: u64) {
+    out.say(words);
+    out.number(number);
+}
+
+/// Appends a name in brackets, which a space stands before.
+pub fn bracketed<P: Prose>(out: &mut P, name: &str) {
+    out.say(" (");
+    out.say(name);
+    out.say(")");
+}
+
+/// Appends words and a number with the name of what it counts, which begins with a space and stands in the plural but for 1.
+pub fn count<P: Prose>(out: &mut P, words: &str, number: u64, one: &str) {
+    say_number(out, words, number);
+    out.say(one);
+    if number != 1 {
+        out.say("s");
+    }
 }
 
 /// A digit of an address.
@@ -106,13 +152,13 @@ fn digit(byte: u8) -> &'static str {
 }
 
 /// Appends the digits of an address, `-` for none.
-pub fn address<P: Prose>(out: &mut P, address: &Address) -> Result<(), AllocError> {
+pub fn address<P: Prose>(out: &mut P, address: &Address) {
     let digits = address.as_bytes();
     if digits.is_empty() {
-        return out.say("-");
+        out.say("-");
+        return;
     }
     for byte in digits {
-        out.say(digit(*byte))?;
+        out.say(digit(*byte));
     }
-    Ok(())
 }

@@ -7,7 +7,7 @@ use annotated_trace::choice::Choice;
 use line_model::packet::Packet;
 
 /// Which rows are told of.
-#[derive(Clone, Copy, Debug, PartialEq, Eq)]
+#[derive(Clone, Copy)]
 pub enum Rows {
     /// All.
     All,
@@ -44,7 +44,10 @@ impl Rows {
     pub fn has_of_interface(self, packet: &Packet) -> bool {
         match packet {
             Packet::Channel { channel, .. } => self.has(*channel, 0, 0),
-            _ => self == Rows::All,
+            _ => match self {
+                Rows::All => true,
+                Rows::Chosen { .. } => false,
+            },
         }
     }
 }

@@ -7,9 +7,11 @@ ghost use Rattle.descriptions.specs.Rows.{choice_of};
 use crate::descriptions::Descriptions;
 use crate::rows::Rows;
 use annotated_trace::annotating::annotate as annotate_by;
+use channel_machine::channel::PackedChannel;
 use line_model::device::{Sink, Source};
 use line_model::fault::Fault;
 use line_model::totals::Summary;
+use live_report::live::Live;
 use std::alloc::Allocator;
 
 /// Writes a trace again with comments in words behind its rows, as `annotated_trace::annotating::annotate` does.
@@ -30,6 +32,7 @@ pub fn annotate<A: Allocator + Copy, S: Source, K: Sink>(
 {
     annotate_by(
         alloc,
+        Live::<A, PackedChannel<A>>::new(alloc),
         rows.choice(),
         Descriptions::new(alloc, rows),
         source,

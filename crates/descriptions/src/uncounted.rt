@@ -2,10 +2,9 @@
 
 use crate::effects::Passed;
 use crate::prose::{Page, count};
-use std::alloc::AllocError;
 
 /// Some packets and their octets of user data. More than a number can hold stays at the greatest.
-#[derive(Clone, Copy, Debug, PartialEq, Eq)]
+#[derive(Clone, Copy)]
 struct Amount {
     packets: u64,
     octets: u64,
@@ -23,22 +22,20 @@ impl Amount {
     }
 
     /// A line of this amount and its reason, where there is any.
-    fn say<P: Page>(&self, notes: &mut P, reason: &str) -> Result<(), AllocError> {
+    fn say<P: Page>(&self, notes: &mut P, reason: &str) {
         if self.packets == 0 {
-            return Ok(());
+            return;
         }
-        notes.next_line()?;
-        notes.say("Not counted (")?;
-        notes.say(reason)?;
-        notes.say("): ")?;
-        count(notes, self.packets, " data packet", " data packets")?;
-        notes.say(" with ")?;
-        count(notes, self.octets, " octet", " octets")
+        notes.next_line();
+        notes.say("Not counted (");
+        notes.say(reason);
+        count(notes, "): ", self.packets, " data packet");
+        count(notes, " with ", self.octets, " octet");
     }
 }
 
 /// The data packets that were not counted, by the reason.
-#[derive(Clone, Copy, Debug, PartialEq, Eq)]
+#[derive(Clone, Copy)]
 pub struct Uncounted {
     faulty: Amount,
     owed: Amount,
@@ -79,11 +76,11 @@ impl Uncounted {
     }
 
     /// A line for each reason.
-    pub fn say<P: Page>(&self, notes: &mut P) -> Result<(), AllocError> {
-        self.faulty.say(notes, "a finding")?;
-        self.owed.say(notes, Passed::Owed.reason())?;
-        self.discarded.say(notes, Passed::Discarded.reason())?;
-        self.unknown.say(notes, Passed::Unknown.reason())?;
-        self.restarting.say(notes, "a restart goes on")
+    pub fn say<P: Page>(&self, notes: &mut P) {
+        self.faulty.say(notes, "a finding");
+        self.owed.say(notes, Passed::Owed.reason());
+        self.discarded.say(notes, Passed::Discarded.reason());
+        self.unknown.say(notes, Passed::Unknown.reason());
+        self.restarting.say(notes, "a restart goes on");
     }
 }

@@ -36,7 +36,7 @@ struct Wordy {
 }
 
 impl<A: Allocator + Copy, W> Describer<A, W> for Wordy {
-    fn describe(&mut self, _trace: &W, _notes: &mut Notes<A>) -> Result<bool, Fault> {
+    fn describe(&mut self, _trace: &W, _notes: &mut Notes<A>) -> Result<bool, AllocError> {
         Ok(false)
     }
 
@@ -45,7 +45,7 @@ impl<A: Allocator + Copy, W> Describer<A, W> for Wordy {
         _trace: &W,
         _finding: &Finding,
         _words: &mut Words<A>,
-    ) -> Result<(), Fault> {
+    ) -> Result<(), AllocError> {
         Ok(())
     }
 

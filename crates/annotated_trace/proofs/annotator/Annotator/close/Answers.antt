@@ -1,21 +1,43 @@
-use Rattle.std.proofs.Common.{ap}
-use Rattle.line_model.specs.basics.Records.{Report}
-use Rattle.line_model.specs.text.Text.{ended_lines}
-use Rattle.annotated_trace.proofs.EndOfText.{all_annotated, first_annotated, part_annotated}
-use Rattle.annotated_trace.proofs.PassedLemmas.{sent_all}
+use Rattle.std.proofs.Common.{refl}
+use Rattle.annotated_trace.proofs.EndOfText.{all_closed, close_refused, first_closed}
+use Rattle.annotated_trace.proofs.StopLemmas.{no_other, no_write, text_kind, write_cause, write_kind, write_refused}
+use Rattle.line_model.specs.declared.fault.Fault.TheVariants.{Write}
 use Rattle.annotated_trace.proofs.annotator.Annotator.close.Goals as goal
 
-pub returns-in-Err-send_held-clause-taken : goal.returns-in-Err-send_held-clause-taken
-returns-in-Err-send_held-clause-taken g c text before s none h w =
-    let part = c.in-Err-send_held.ensures.part in
-    part_annotated c.args.self.choice text before (g.K.Sink.taken c.args.sink.now) (g.K.Sink.taken c.send_held.new.sink) c.args.self.held.items part.0 part.1 none h part.2 part.3
+pub returns-in-Ok-clause-annotated : goal.returns-in-Ok-clause-annotated
+returns-in-Ok-clause-annotated g c text before s none h =
+    all_closed c.args.self.choice text before (g.K.Sink.taken c.args.sink.now) (g.K.Sink.taken c.send_closing.new.sink) c.args.self.held.items c.in-Ok.report c.send_closing.result none h (c.in-Ok.ensures.told text s.trace) c.send_closing.ensures.ok c.send_closing.ensures.sums
 
-pub returns-in-Ok-write_closing-clause-annotated : goal.returns-in-Ok-write_closing-clause-annotated
-returns-in-Ok-write_closing-clause-annotated g c text before s none h =
-    let sent = sent_all c.args.self.choice before (g.K.Sink.taken c.args.sink.now) (g.K.Sink.taken c.send_held.new.sink) c.args.self.held.items (ended_lines text) h c.in-Ok-send_held.ensures.ok in
-    all_annotated c.args.self.choice text before (g.K.Sink.taken c.send_held.new.sink) (g.K.Sink.taken c.write_closing.new.sink) c.in-Ok.report _ none sent c.in-Ok-write_closing.ensures.ok (c.in-Ok.ensures.told text s.trace) (ap (λ (r : Report). r.summary) c.report.view_is)
+pub returns-in-Ok-clause-refused : goal.returns-in-Ok-clause-refused
+returns-in-Ok-clause-refused g c text s = write_refused c.send_closing.result text (c.in-Ok.ensures.told text s.trace).sound c.send_closing.ensures.write
+
+pub returns-in-Ok-clause-taken : goal.returns-in-Ok-clause-taken
+returns-in-Ok-clause-taken g c text before s none h w =
+    first_closed c.args.self.choice text before (g.K.Sink.taken c.args.sink.now) (g.K.Sink.taken c.send_closing.new.sink) c.args.self.held.items none h (write_cause c.send_closing.result Write _ c.send_closing.ensures.part w)
+
+pub returns-in-Ok-clause-not_written : goal.returns-in-Ok-clause-not_written
+returns-in-Ok-clause-not_written g c = no_other c.send_closing.result _ c.send_closing.ensures.write
+
+pub returns-in-Ok-clause-kinds : goal.returns-in-Ok-clause-kinds
+returns-in-Ok-clause-kinds g c = write_kind c.send_closing.result c.send_closing.ensures.write
+
+pub returns-in-Ok-clause-write_failed : goal.returns-in-Ok-clause-write_failed
+returns-in-Ok-clause-write_failed g c w = write_cause c.send_closing.result Write _ c.send_closing.ensures.cause w
+
+pub returns-clause-annotated : goal.returns-clause-annotated
+returns-clause-annotated g c text before s none h = tt
+
+pub returns-clause-refused : goal.returns-clause-refused
+returns-clause-refused g c text s = close_refused text c.in-Err.fault (c.in-Err.ensures.refused text s.trace)
 
 pub returns-clause-taken : goal.returns-clause-taken
-returns-clause-taken g c text before s none h w =
-    let sent = sent_all c.args.self.choice before (g.K.Sink.taken c.args.sink.now) (g.K.Sink.taken c.send_held.new.sink) c.args.self.held.items (ended_lines text) h c.in-Ok-send_held.ensures.ok in
-    first_annotated c.args.self.choice text before (g.K.Sink.taken c.send_held.new.sink) (g.K.Sink.taken c.write_closing.new.sink) none sent c.in-Err-write_closing.ensures.part
+returns-clause-taken g c text before s none h w = absurd (no_write c.in-Err.fault c.in-Err.ensures.kinds w)
+
+pub returns-clause-not_written : goal.returns-clause-not_written
+returns-clause-not_written g c other = refl
+
+pub returns-clause-kinds : goal.returns-clause-kinds
+returns-clause-kinds g c = text_kind c.in-Err.fault c.in-Err.ensures.kinds
+
+pub returns-clause-write_failed : goal.returns-clause-write_failed
+returns-clause-write_failed g c w = absurd (no_write c.in-Err.fault c.in-Err.ensures.kinds w)

@@ -2,7 +2,8 @@ use Rattle.std.proofs.Common.{◌∙◌, ◌++◌, ◌∷◌, [], List, ℕ, sym
 use Rattle.line_model.specs.text.Text.{begun_line}
 use Rattle.line_model.proofs.TextLemmas.{begun-lf}
 use Rattle.annotated_trace.specs.Annotators.{HasFirstOf}
-use Rattle.annotated_trace.proofs.EndOfText.{ended_annotated, ended_refused, last_held, lf_refused, same_first, some_bytes}
+use Rattle.annotated_trace.proofs.EndOfText.{ended_annotated, ended_refused, last_held, lf_refused, none_begun, same_first, some_bytes, whole_refused}
+use Rattle.annotated_trace.proofs.StopLemmas.{no_write, text_kind}
 use Rattle.annotated_trace.proofs.annotator.Annotator.end.Goals as goal
 
 pub close-requires-in-Ok : goal.close-requires-in-Ok
@@ -38,3 +39,50 @@ pub returns-in-Err-clause-refused : goal.returns-in-Err-clause-refused
 returns-in-Err-clause-refused g c text s =
     let some = some_bytes c.args.self.begun.len (length (begun_line text)) (sym c.is_empty.ensures ∙ c.if-is_empty.false) (c.args.self.begun.ok.0 ∙ ap (λ (b : List ℕ). length b) s.begun) in
     lf_refused text c.in-Err.fault some (g.met.W.Watcher.sound c.args.self.trace text s.trace) (c.in-Err.ensures.refused text s)
+
+pub close-requires : goal.close-requires
+close-requires g c =
+    let x = c.requires.fed.0 in
+    (x, c.requires.fed.1, none_begun c.args.self.begun.len c.args.self.begun.items x (sym c.is_empty.ensures ∙ c.if-is_empty.true) c.args.self.begun.ok.0 c.requires.fed.1.begun)
+
+pub returns-then-is_empty-clause-annotated : goal.returns-then-is_empty-clause-annotated
+returns-then-is_empty-clause-annotated g c text before s h = c.close.ensures.annotated text before s (none_begun c.args.self.begun.len c.args.self.begun.items text (sym c.is_empty.ensures ∙ c.if-is_empty.true) c.args.self.begun.ok.0 s.begun) h
+
+pub returns-then-is_empty-clause-refused : goal.returns-then-is_empty-clause-refused
+returns-then-is_empty-clause-refused g c text s = whole_refused text c.close.result (c.close.ensures.refused text s)
+
+pub returns-then-is_empty-clause-taken : goal.returns-then-is_empty-clause-taken
+returns-then-is_empty-clause-taken g c text before s h w = c.close.ensures.taken text before s (none_begun c.args.self.begun.len c.args.self.begun.items text (sym c.is_empty.ensures ∙ c.if-is_empty.true) c.args.self.begun.ok.0 s.begun) h w
+
+pub returns-then-is_empty-clause-not_written : goal.returns-then-is_empty-clause-not_written
+returns-then-is_empty-clause-not_written g c = c.close.ensures.not_written
+
+pub returns-then-is_empty-clause-kinds : goal.returns-then-is_empty-clause-kinds
+returns-then-is_empty-clause-kinds g c = c.close.ensures.kinds
+
+pub returns-then-is_empty-clause-write_failed : goal.returns-then-is_empty-clause-write_failed
+returns-then-is_empty-clause-write_failed g c = c.close.ensures.write_failed
+
+pub returns-in-Ok-clause-not_written : goal.returns-in-Ok-clause-not_written
+returns-in-Ok-clause-not_written g c = c.close-in-Ok.ensures.not_written
+
+pub returns-in-Ok-clause-kinds : goal.returns-in-Ok-clause-kinds
+returns-in-Ok-clause-kinds g c = c.close-in-Ok.ensures.kinds
+
+pub returns-in-Ok-clause-write_failed : goal.returns-in-Ok-clause-write_failed
+returns-in-Ok-clause-write_failed g c = c.close-in-Ok.ensures.write_failed
+
+pub returns-in-Err-clause-annotated : goal.returns-in-Err-clause-annotated
+returns-in-Err-clause-annotated g c text before s h = tt
+
+pub returns-in-Err-clause-taken : goal.returns-in-Err-clause-taken
+returns-in-Err-clause-taken g c text before s h w = absurd (no_write c.in-Err.fault c.in-Err.ensures.kinds w)
+
+pub returns-in-Err-clause-not_written : goal.returns-in-Err-clause-not_written
+returns-in-Err-clause-not_written g c other = refl
+
+pub returns-in-Err-clause-kinds : goal.returns-in-Err-clause-kinds
+returns-in-Err-clause-kinds g c = text_kind c.in-Err.fault c.in-Err.ensures.kinds
+
+pub returns-in-Err-clause-write_failed : goal.returns-in-Err-clause-write_failed
+returns-in-Err-clause-write_failed g c w = absurd (no_write c.in-Err.fault c.in-Err.ensures.kinds w)

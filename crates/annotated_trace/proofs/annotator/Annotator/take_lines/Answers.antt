@@ -1,6 +1,9 @@
-use Rattle.std.proofs.Common.{◌+◌, sym, refl, length, take, [], ◌++◌, arith}
+use Rattle.std.proofs.Common.{◌+◌, sym, subst, refl, length, take, [], ◌++◌, arith}
+use Rattle.line_model.specs.text.Text.{early}
+use Rattle.annotated_trace.specs.Annotators.{IsAnnotatorFault, IsRefusalOf}
 use Rattle.annotated_trace.proofs.CommentLemmas.{always}
 use Rattle.annotated_trace.proofs.PassedLemmas.{line_end, line_passed, line_refusal, line_stopped, much_stopped, rest_annotated, rest_stopped}
+use Rattle.annotated_trace.proofs.StopLemmas.{no_write, text_kind}
 use Rattle.annotated_trace.proofs.annotator.Annotator.take_lines.Goals as goal
 use Rattle.line_model.proofs.DeviceLemmas.{with_more-nil}
 use Rattle.trace_text.proofs.FeedLemmas.{on_err}
@@ -63,3 +66,36 @@ returns-clause-stopped g c text before s h =
     on_err c.begin.result _ _ (c.begin.ensures.refused (text ++ p.fed) stands) (λ f fault.
     rest_stopped g.W.Watcher.stands_for c.args.self.now c.loop-front.self (g.K.Sink.taken c.args.sink.now) (g.K.Sink.taken c.loop-front.sink) before c.args.chunk.now c.loop-front.rest.now text c.begin.new.self.held.items f p c.in_default.ensures s
     (g.met.W.Watcher.sound c.loop-front.self.trace (text ++ p.fed) stands.trace) h c.begin.ensures.held fault)
+
+pub returns-in-Err-clause-stands : goal.returns-in-Err-clause-stands
+returns-in-Err-clause-stands g c text s = tt
+
+pub returns-in-Err-clause-annotated : goal.returns-in-Err-clause-annotated
+returns-in-Err-clause-annotated g c text before s h = tt
+
+pub returns-in-Err-clause-kinds : goal.returns-in-Err-clause-kinds
+returns-in-Err-clause-kinds g c = text_kind c.in-Err.fault c.in-Err.ensures.kinds
+
+pub returns-in-Err-clause-write_failed : goal.returns-in-Err-clause-write_failed
+returns-in-Err-clause-write_failed g c w = absurd (no_write c.in-Err.fault c.in-Err.ensures.kinds w)
+
+pub returns-in-Err-clause-rising : goal.returns-in-Err-clause-rising
+returns-in-Err-clause-rising g c = c.loop-front.invariant.rising
+
+pub returns-in-Err-send_much-clause-stands : goal.returns-in-Err-send_much-clause-stands
+returns-in-Err-send_much-clause-stands g c text s = tt
+
+pub returns-in-Err-send_much-clause-annotated : goal.returns-in-Err-send_much-clause-annotated
+returns-in-Err-send_much-clause-annotated g c text before s h = tt
+
+pub returns-in-Err-send_much-clause-rising : goal.returns-in-Err-send_much-clause-rising
+returns-in-Err-send_much-clause-rising g c = omega (arith, c.loop-front.invariant.rising, c.send_much.ensures.rising)
+
+pub returns-in-Err-send_much-clause-kinds : goal.returns-in-Err-send_much-clause-kinds
+returns-in-Err-send_much-clause-kinds g c = subst IsAnnotatorFault (sym c.in-Err-send_much.ensures.write) tt
+
+pub returns-in-Err-send_much-clause-refused : goal.returns-in-Err-send_much-clause-refused
+returns-in-Err-send_much-clause-refused g c text s = subst (IsRefusalOf (early (text ++ c.args.chunk.now))) (sym c.in-Err-send_much.ensures.write) tt
+
+pub returns-clause-rising : goal.returns-clause-rising
+returns-clause-rising g c = c.loop-front.invariant.rising

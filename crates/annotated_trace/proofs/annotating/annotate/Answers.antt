@@ -3,7 +3,7 @@ use Rattle.line_model.specs.text.Text.{ended_lines}
 use Rattle.annotated_trace.specs.Annotating.{Stops}
 use Rattle.annotated_trace.specs.Annotators.{HasAnnotated}
 use Rattle.annotated_trace.proofs.ReadingLemmas.{end_annotates, end_stops, fed_held}
-use Rattle.annotated_trace.proofs.annotating.annotate_with.Goals as goal
+use Rattle.annotated_trace.proofs.annotating.annotate.Goals as goal
 
 pub returns-in-Ok-clause-annotated : goal.returns-in-Ok-clause-annotated
 returns-in-Ok-clause-annotated g c =
