@@ -16,7 +16,6 @@ use Rattle.annotated_trace.proofs.LinesOfText.{text_append}
 use Rattle.annotated_trace.proofs.MarkLemmas.{marks_in-append}
 use Rattle.annotated_trace.proofs.MarkingLemmas.{both_comments}
 use Rattle.annotated_trace.proofs.WordingLemmas.{notes_are_comments, notes_mark_nothing}
-use Rattle.trace_text.proofs.FeedLemmas.{on_err, on_ok}
 
 pub always : {T E : Type 0} (r : Result T E) (P : Type 0) → P → OnOk r P
 always (Ok x) P h = h

@@ -1,12 +1,10 @@
 -- An annotation says the same as its text.
 use Rattle.std.proofs.Common.{◌≡◌, ◌∙◌, sym, ap, subst, refl, ℕ, ◌+◌, ◌≤◌, true, List, [], ◌∷◌, ◌++◌, length, Option, Some, None, drop, arith, append_assoc, append-nil}
-use Rattle.std.specs.Prelude.{not}
 use Rattle.std.specs.List.{AllByRecursion, filter_map}
-use Rattle.std.specs.Option.{option_or, option_map}
+use Rattle.std.specs.Option.{option_or}
 use Rattle.std.proofs.lemmas.Bool.Decides.{nat_tests}
-use Rattle.std.proofs.lemmas.List.Elements.{filter-append}
 use Rattle.line_model.specs.observer.Report.{report}
-use Rattle.line_model.specs.text.Text.{Line, begun_kind, begun_line, content_of, contents_kind, end_kind, ended_lines, fault, first_fault, form_kind, good_lines, has_header, head, head_in, head_of, is_comment, is_some_line, last_number, last_or, line_kind, line_or_none, lines_of, row_number, rows, rows_in, size_kind, size_of}
+use Rattle.line_model.specs.text.Text.{Line, begun_kind, begun_line, content_of, contents_kind, end_kind, ended_lines, fault, first_fault, form_kind, has_header, head, head_in, head_of, is_comment, is_some_line, last_number, last_or, line_kind, line_or_none, lines_of, row_number, rows, rows_in, size_kind, size_of}
 use Rattle.line_model.specs.text.RowLine.{row_of}
 use Rattle.line_model.specs.traces.Traces.{text}
 use Rattle.line_model.specs.declared.fault.Kind.{Kind}

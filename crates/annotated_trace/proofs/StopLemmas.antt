@@ -1,5 +1,5 @@
 -- What the fault of a refusal says.
-use Rattle.std.proofs.Common.{◌≡◌, ◌≢◌, sym, subst, ℕ, List, Option, None, Result, Ok, Err, OnErr, IfErr}
+use Rattle.std.proofs.Common.{◌≡◌, ◌≢◌, sym, subst, ℕ, List, None, Result, Ok, Err, OnErr, IfErr}
 use Rattle.line_model.specs.text.Text.{fault}
 use Rattle.line_model.specs.declared.fault.Fault.{Fault}
 use Rattle.line_model.specs.declared.fault.Fault.TheVariants.{Memory, Trace, Write}

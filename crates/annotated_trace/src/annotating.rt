@@ -24,8 +24,11 @@ fn feed_all<A: Allocator + Copy, W: Watcher<A>, D: Describer<A, W>, S: Source, K
 ) -> Result<(), Fault>
     requires nothing { StandsFor W.stands_for annotator.old [] }
     requires none_held { annotator.old.held.items ≡ [] }
-    ensures whole { OnOk result (HasFed W.stands_for (S.left source.old) (S.left source.new) (K.taken sink.old) (K.taken sink.new) annotator.old.choice annotator.new) }
-    ensures stopped { IfErr result (Stops annotator.old.choice (S.left source.old) (S.left source.new) (K.taken sink.old) (K.taken sink.new) (K.failures sink.new ≡ K.failures sink.old)) }
+    ensures whole { OnOk result (HasFed W.stands_for (S.left source.old) (S.left source.new)
+        (K.taken sink.old) (K.taken sink.new) annotator.old.choice annotator.new) }
+    ensures stopped { IfErr result (Stops annotator.old.choice (S.left source.old)
+        (S.left source.new) (K.taken sink.old) (K.taken sink.new) (K.failures sink.new
+        ≡ K.failures sink.old)) }
     ensures choice { annotator.new.choice ≡ annotator.old.choice }
     ensures kinds { IfErr result IsAnnotatingFault }
     ensures read_failed { result ≡ Err Fault.Read → S.failures source.old < S.failures source.new }
@@ -59,9 +62,11 @@ pub fn annotate<A: Allocator + Copy, W: Watcher<A>, D: Describer<A, W>, S: Sourc
 ) -> Result<Summary, Fault>
     requires fresh { W.stands_for trace [] }
     // The source gave a text without a fault, and the sink took an annotation of it.
-    ensures annotated { IfOk result (Annotates choice (S.left source.old) (S.left source.new) (K.taken sink.old) (K.taken sink.new)) }
+    ensures annotated { IfOk result (Annotates choice (S.left source.old) (S.left source.new)
+        (K.taken sink.old) (K.taken sink.new)) }
     // A refusal is by the bytes that were given, and the sink has a first part of their annotation.
-    ensures stopped { IfErr result (Stops choice (S.left source.old) (S.left source.new) (K.taken sink.old) (K.taken sink.new) (K.failures sink.new ≡ K.failures sink.old)) }
+    ensures stopped { IfErr result (Stops choice (S.left source.old) (S.left source.new)
+        (K.taken sink.old) (K.taken sink.new) (K.failures sink.new ≡ K.failures sink.old)) }
     ensures kinds { IfErr result IsAnnotatingFault }
     ensures read_failed { result ≡ Err Fault.Read → S.failures source.old < S.failures source.new }
     ensures write_failed { result ≡ Err Fault.Write → K.failures sink.old < K.failures sink.new }

@@ -72,10 +72,18 @@ impl<A: Allocator + Copy, W: Watcher<A>, D: Describer<A, W>> Annotator<A, W, D> 
     /// Takes the end of a line with its LF, and holds the line and its comments.
     fn take_line(&mut self, end: &[u8]) -> Result<(), Fault>
         requires { (text : List ℕ) × StandsFor W.stands_for self.old text }
-        ensures stands { (text front : List ℕ) → StandsFor W.stands_for self.old text → end.now ≡ front ++ 10 ∷ [] → OnOk result (StandsFor W.stands_for self.new (text ++ end.now)) }
-        ensures held { (text front sent : List ℕ) → StandsFor W.stands_for self.old text → end.now ≡ front ++ 10 ∷ [] → IsOneLine front → IsAnnotationOf self.old.choice (ended_lines text) (sent ++ self.old.held.items) → OnOk result (IsAnnotationOf self.old.choice (ended_lines (text ++ end.now)) (sent ++ self.new.held.items)) }
-        ensures refused { (text : List ℕ) → StandsFor W.stands_for self.old text → IfErr result (IsFaultOf (early (text ++ end.now))) }
-        ensures not_held { IfErr result (λ fault. fault ≢ Memory → self.new.held.items ≡ self.old.held.items) }
+        ensures stands { (text front : List ℕ) → StandsFor W.stands_for self.old text
+            → end.now ≡ front ++ 10 ∷ [] → OnOk result (StandsFor W.stands_for self.new (text
+            ++ end.now)) }
+        ensures held { (text front sent : List ℕ) → StandsFor W.stands_for self.old text
+            → end.now ≡ front ++ 10 ∷ [] → IsOneLine front
+            → IsAnnotationOf self.old.choice (ended_lines text) (sent ++ self.old.held.items)
+            → OnOk result (IsAnnotationOf self.old.choice (ended_lines (text ++ end.now)) (sent
+            ++ self.new.held.items)) }
+        ensures refused { (text : List ℕ) → StandsFor W.stands_for self.old text
+            → IfErr result (IsFaultOf (early (text ++ end.now))) }
+        ensures not_held { IfErr result (λ fault. fault ≢ Memory
+            → self.new.held.items ≡ self.old.held.items) }
         ensures choice { self.new.choice ≡ self.old.choice }
         ensures kinds { IfErr result IsTextFault }
     {
@@ -99,8 +107,10 @@ impl<A: Allocator + Copy, W: Watcher<A>, D: Describer<A, W>> Annotator<A, W, D> 
     /// Takes bytes without an LF.
     fn begin(&mut self, more: &[u8]) -> Result<(), Fault>
         requires { (text : List ℕ) × StandsFor W.stands_for self.old text }
-        ensures stands { (text : List ℕ) → StandsFor W.stands_for self.old text → IsOneLine more.now → OnOk result (StandsFor W.stands_for self.new (text ++ more.now)) }
-        ensures refused { (text : List ℕ) → StandsFor W.stands_for self.old text → IfErr result (IsFaultOf (early (text ++ more.now))) }
+        ensures stands { (text : List ℕ) → StandsFor W.stands_for self.old text → IsOneLine more.now
+            → OnOk result (StandsFor W.stands_for self.new (text ++ more.now)) }
+        ensures refused { (text : List ℕ) → StandsFor W.stands_for self.old text
+            → IfErr result (IsFaultOf (early (text ++ more.now))) }
         ensures held { self.new.held.items ≡ self.old.held.items }
         ensures choice { self.new.choice ≡ self.old.choice }
         ensures kinds { IfErr result IsTextFault }
@@ -116,14 +126,26 @@ impl<A: Allocator + Copy, W: Watcher<A>, D: Describer<A, W>> Annotator<A, W, D> 
     /// Takes a chunk, and holds its lines and their comments, of which the sink is given what is much.
     fn take_lines<K: Sink>(&mut self, chunk: &[u8], sink: &mut K) -> Result<(), Fault>
         requires { (text : List ℕ) × StandsFor W.stands_for self.old text }
-        ensures stands { (text : List ℕ) → StandsFor W.stands_for self.old text → OnOk result (StandsFor W.stands_for self.new (text ++ chunk.now)) }
-        ensures annotated { (text : List ℕ) (before : Option (List ℕ)) → StandsFor W.stands_for self.old text → HasAnnotated self.old.choice before (K.taken sink.old) self.old.held.items (ended_lines text) → OnOk result (HasAnnotated self.old.choice before (K.taken sink.new) self.new.held.items (ended_lines (text ++ chunk.now))) }
-        ensures refused { (text : List ℕ) → StandsFor W.stands_for self.old text → IfErr result (IsRefusalOf (early (text ++ chunk.now))) }
-        ensures stopped { (text : List ℕ) (before : Option (List ℕ)) → StandsFor W.stands_for self.old text → HasAnnotated self.old.choice before (K.taken sink.old) self.old.held.items (ended_lines text) → IfErr result (IsStoppedAt self.old.choice before (K.taken sink.new) self.new.held.items (ended_lines (text ++ chunk.now))) }
+        ensures stands { (text : List ℕ) → StandsFor W.stands_for self.old text
+            → OnOk result (StandsFor W.stands_for self.new (text ++ chunk.now)) }
+        ensures annotated { (text : List ℕ) (before : Option (List ℕ))
+            → StandsFor W.stands_for self.old text
+            → HasAnnotated self.old.choice before (K.taken sink.old) self.old.held.items
+            (ended_lines text) → OnOk result (HasAnnotated self.old.choice before
+            (K.taken sink.new) self.new.held.items (ended_lines (text ++ chunk.now))) }
+        ensures refused { (text : List ℕ) → StandsFor W.stands_for self.old text
+            → IfErr result (IsRefusalOf (early (text ++ chunk.now))) }
+        ensures stopped { (text : List ℕ) (before : Option (List ℕ))
+            → StandsFor W.stands_for self.old text
+            → HasAnnotated self.old.choice before (K.taken sink.old) self.old.held.items
+            (ended_lines text) → IfErr result
+            (IsStoppedAt self.old.choice before (K.taken sink.new) self.new.held.items
+            (ended_lines (text ++ chunk.now))) }
         ensures choice { self.new.choice ≡ self.old.choice }
         ensures kinds { IfErr result IsAnnotatorFault }
         ensures rising { K.failures sink.old ≤ K.failures sink.new }
-        ensures write_failed { result ≡ Err Fault.Write → K.failures sink.old < K.failures sink.new }
+        ensures write_failed { result ≡ Err Fault.Write
+            → K.failures sink.old < K.failures sink.new }
     {
         let mut rest = chunk;
         while let Some((front, back)) = split_at_byte(rest, b'\n') {
@@ -145,18 +167,34 @@ impl<A: Allocator + Copy, W: Watcher<A>, D: Describer<A, W>> Annotator<A, W, D> 
     pub fn feed<K: Sink>(&mut self, chunk: &[u8], sink: &mut K) -> Result<(), Fault>
         requires fed { (text : List ℕ) × StandsFor W.stands_for self.old text }
         // Of any text that it was fed: it was fed that text with the chunk.
-        ensures stands { (text : List ℕ) → StandsFor W.stands_for self.old text → OnOk result (StandsFor W.stands_for self.new (text ++ chunk.now)) }
+        ensures stands { (text : List ℕ) → StandsFor W.stands_for self.old text
+            → OnOk result (StandsFor W.stands_for self.new (text ++ chunk.now)) }
         // A sink that has the annotation of the lines that ended has that of the text with the chunk, and nothing is held.
-        ensures annotated { (text : List ℕ) (before : Option (List ℕ)) → StandsFor W.stands_for self.old text → HasAnnotated self.old.choice before (K.taken sink.old) self.old.held.items (ended_lines text) → OnOk result (HasAnnotated self.old.choice before (K.taken sink.new) [] (ended_lines (text ++ chunk.now))) }
+        ensures annotated { (text : List ℕ) (before : Option (List ℕ))
+            → StandsFor W.stands_for self.old text
+            → HasAnnotated self.old.choice before (K.taken sink.old) self.old.held.items
+            (ended_lines text) → OnOk result (HasAnnotated self.old.choice before
+            (K.taken sink.new) [] (ended_lines (text ++ chunk.now))) }
         ensures none_held { OnOk result (self.new.held.items ≡ []) }
-        ensures refused { (text : List ℕ) → StandsFor W.stands_for self.old text → IfErr result (IsRefusalOf (early (text ++ chunk.now))) }
+        ensures refused { (text : List ℕ) → StandsFor W.stands_for self.old text
+            → IfErr result (IsRefusalOf (early (text ++ chunk.now))) }
         // At a refusal it has a first part, at a faulty line the annotation of all lines before it, if it did not fail.
-        ensures taken { (text : List ℕ) (before : Option (List ℕ)) → StandsFor W.stands_for self.old text → HasAnnotated self.old.choice before (K.taken sink.old) self.old.held.items (ended_lines text) → IfErr result (λ fault. HasFirst self.old.choice before (K.taken sink.new) (ended_lines (text ++ chunk.now))) }
-        ensures at_line { (text : List ℕ) (before : Option (List ℕ)) → StandsFor W.stands_for self.old text → HasAnnotated self.old.choice before (K.taken sink.old) self.old.held.items (ended_lines text) → K.failures sink.new ≡ K.failures sink.old → IfErr result (HasLinesBefore self.old.choice before (K.taken sink.new) (ended_lines (text ++ chunk.now))) }
+        ensures taken { (text : List ℕ) (before : Option (List ℕ))
+            → StandsFor W.stands_for self.old text
+            → HasAnnotated self.old.choice before (K.taken sink.old) self.old.held.items
+            (ended_lines text) → IfErr result (λ fault.
+            HasFirst self.old.choice before (K.taken sink.new) (ended_lines (text ++ chunk.now))) }
+        ensures at_line { (text : List ℕ) (before : Option (List ℕ))
+            → StandsFor W.stands_for self.old text
+            → HasAnnotated self.old.choice before (K.taken sink.old) self.old.held.items
+            (ended_lines text) → K.failures sink.new ≡ K.failures sink.old
+            → IfErr result (HasLinesBefore self.old.choice before (K.taken sink.new)
+            (ended_lines (text ++ chunk.now))) }
         ensures choice { self.new.choice ≡ self.old.choice }
         ensures kinds { IfErr result IsAnnotatorFault }
         ensures rising { K.failures sink.old ≤ K.failures sink.new }
-        ensures write_failed { result ≡ Err Fault.Write → K.failures sink.old < K.failures sink.new }
+        ensures write_failed { result ≡ Err Fault.Write
+            → K.failures sink.old < K.failures sink.new }
     {
         match self.take_lines(chunk, sink) {
             Ok(()) => send_held(&mut self.held, sink),
@@ -175,12 +213,20 @@ impl<A: Allocator + Copy, W: Watcher<A>, D: Describer<A, W>> Annotator<A, W, D> 
     /// Writes the comments behind a text that an LF ended.
     fn close<K: Sink>(self, sink: &mut K) -> Result<Summary, Fault>
         requires { (text : List ℕ) × StandsFor W.stands_for self text × (begun_line text ≡ []) }
-        ensures annotated { (text : List ℕ) (before : Option (List ℕ)) → StandsFor W.stands_for self text → begun_line text ≡ [] → HasAnnotated self.choice before (K.taken sink.old) self.held.items (ended_lines text) → IfOk result (IsAnnotated self.choice text before (K.taken sink.new)) }
-        ensures refused { (text : List ℕ) → StandsFor W.stands_for self text → IfErr result (IsCloseRefusal text) }
-        ensures taken { (text : List ℕ) (before : Option (List ℕ)) → StandsFor W.stands_for self text → begun_line text ≡ [] → HasAnnotated self.choice before (K.taken sink.old) self.held.items (ended_lines text) → result ≡ Err Fault.Write → HasFirstOf self.choice text before (K.taken sink.new) }
+        ensures annotated { (text : List ℕ) (before : Option (List ℕ))
+            → StandsFor W.stands_for self text → begun_line text ≡ []
+            → HasAnnotated self.choice before (K.taken sink.old) self.held.items (ended_lines text)
+            → IfOk result (IsAnnotated self.choice text before (K.taken sink.new)) }
+        ensures refused { (text : List ℕ) → StandsFor W.stands_for self text
+            → IfErr result (IsCloseRefusal text) }
+        ensures taken { (text : List ℕ) (before : Option (List ℕ))
+            → StandsFor W.stands_for self text → begun_line text ≡ []
+            → HasAnnotated self.choice before (K.taken sink.old) self.held.items (ended_lines text)
+            → result ≡ Err Fault.Write → HasFirstOf self.choice text before (K.taken sink.new) }
         ensures not_written { IfErr result (λ fault. fault ≢ Fault.Write → sink.new ≡ sink.old) }
         ensures kinds { IfErr result IsAnnotatorFault }
-        ensures write_failed { result ≡ Err Fault.Write → K.failures sink.old < K.failures sink.new }
+        ensures write_failed { result ≡ Err Fault.Write
+            → K.failures sink.old < K.failures sink.new }
     {
         let Annotator {
             trace,
@@ -200,12 +246,20 @@ impl<A: Allocator + Copy, W: Watcher<A>, D: Describer<A, W>> Annotator<A, W, D> 
     pub fn end<K: Sink>(mut self, sink: &mut K) -> Result<Summary, Fault>
         requires fed { (text : List ℕ) × StandsFor W.stands_for self text }
         // A sink that has the annotation of the lines that ended has that of the text.
-        ensures annotated { (text : List ℕ) (before : Option (List ℕ)) → StandsFor W.stands_for self text → HasAnnotated self.choice before (K.taken sink.old) self.held.items (ended_lines text) → IfOk result (IsAnnotated self.choice text before (K.taken sink.new)) }
-        ensures refused { (text : List ℕ) → StandsFor W.stands_for self text → IfErr result (IsEndRefusal text) }
-        ensures taken { (text : List ℕ) (before : Option (List ℕ)) → StandsFor W.stands_for self text → HasAnnotated self.choice before (K.taken sink.old) self.held.items (ended_lines text) → result ≡ Err Fault.Write → HasFirstOf self.choice text before (K.taken sink.new) }
+        ensures annotated { (text : List ℕ) (before : Option (List ℕ))
+            → StandsFor W.stands_for self text
+            → HasAnnotated self.choice before (K.taken sink.old) self.held.items (ended_lines text)
+            → IfOk result (IsAnnotated self.choice text before (K.taken sink.new)) }
+        ensures refused { (text : List ℕ) → StandsFor W.stands_for self text
+            → IfErr result (IsEndRefusal text) }
+        ensures taken { (text : List ℕ) (before : Option (List ℕ))
+            → StandsFor W.stands_for self text
+            → HasAnnotated self.choice before (K.taken sink.old) self.held.items (ended_lines text)
+            → result ≡ Err Fault.Write → HasFirstOf self.choice text before (K.taken sink.new) }
         ensures not_written { IfErr result (λ fault. fault ≢ Fault.Write → sink.new ≡ sink.old) }
         ensures kinds { IfErr result IsAnnotatorFault }
-        ensures write_failed { result ≡ Err Fault.Write → K.failures sink.old < K.failures sink.new }
+        ensures write_failed { result ≡ Err Fault.Write
+            → K.failures sink.old < K.failures sink.new }
     {
         if self.begun.is_empty() {
             return self.close(sink);

@@ -63,9 +63,11 @@ pub fn send_closing<A: Allocator, W, D: Describer<A, W>, K: Sink>(
     held: &mut Vec<u8, A>,
     sink: &mut K,
 ) -> Result<Summary, Fault>
-    ensures ok { OnOk result (HasClosing (with_more (K.taken sink.old) held.old.items) (K.taken sink.new)) }
+    ensures ok { OnOk result (HasClosing (with_more (K.taken sink.old) held.old.items)
+        (K.taken sink.new)) }
     ensures sums { IfOk result (λ sums. sums ≡ report.now.summary) }
-    ensures part { OnErr result (StopsClosing held.old.items (K.taken sink.old) (K.taken sink.new)) }
+    ensures part { OnErr result (StopsClosing held.old.items (K.taken sink.old)
+        (K.taken sink.new)) }
     ensures cause { OnErr result (K.failures sink.old < K.failures sink.new) }
     ensures write { IfErr result (λ fault. fault ≡ Fault.Write) }
 {

@@ -53,7 +53,8 @@ pub fn append_comments<A: Allocator + Copy, W: Watcher<A>, D: Describer<A, W>>(
     scratch: &mut Scratch<A>,
     out: &mut Vec<u8, A>,
 ) -> Result<(), AllocError>
-    ensures { OnOk result (HasCommentsOf choice (W.last_found trace.now) out.old.items out.new.items) }
+    ensures { OnOk result (HasCommentsOf choice
+        (W.last_found trace.now) out.old.items out.new.items) }
 {
     scratch.notes.clear();
     let told = describer.describe(trace, &mut scratch.notes)?;

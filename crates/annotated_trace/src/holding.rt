@@ -15,7 +15,9 @@ const MUCH: usize = 1 << 18;
 pub fn send_held<A: Allocator, K: Sink>(held: &mut Vec<u8, A>, sink: &mut K) -> Result<(), Fault>
     ensures ok { OnOk result (K.taken sink.new ≡ with_more (K.taken sink.old) held.old.items) }
     ensures none_held { OnOk result (held.new.items ≡ []) }
-    ensures part { OnErr result ((front : List ℕ) × (rest : List ℕ) × (held.old.items ≡ front ++ rest) × (K.taken sink.new ≡ with_more (K.taken sink.old) front)) }
+    ensures part { OnErr result ((front : List ℕ) × (rest : List ℕ)
+        × (held.old.items ≡ front ++ rest) × (K.taken sink.new
+        ≡ with_more (K.taken sink.old) front)) }
     ensures rising { K.failures sink.old ≤ K.failures sink.new }
     ensures cause { OnErr result (K.failures sink.old < K.failures sink.new) }
     ensures write { IfErr result (λ fault. fault ≡ Fault.Write) }
@@ -31,9 +33,13 @@ pub fn send_held<A: Allocator, K: Sink>(held: &mut Vec<u8, A>, sink: &mut K) -> 
 
 /// Gives a sink what is held, if it is much; less than 2^18 bytes stay held.
 pub fn send_much<A: Allocator, K: Sink>(held: &mut Vec<u8, A>, sink: &mut K) -> Result<(), Fault>
-    ensures ok { OnOk result ((sent : List ℕ) × (K.taken sink.new ≡ with_more (K.taken sink.old) sent) × (sent ++ held.new.items ≡ held.old.items)) }
+    ensures ok { OnOk result ((sent : List ℕ)
+        × (K.taken sink.new ≡ with_more (K.taken sink.old) sent)
+        × (sent ++ held.new.items ≡ held.old.items)) }
     ensures little { OnOk result (length held.new.items < 2 ^ 18) }
-    ensures part { OnErr result ((front : List ℕ) × (rest : List ℕ) × (held.old.items ≡ front ++ rest) × (K.taken sink.new ≡ with_more (K.taken sink.old) front)) }
+    ensures part { OnErr result ((front : List ℕ) × (rest : List ℕ)
+        × (held.old.items ≡ front ++ rest) × (K.taken sink.new
+        ≡ with_more (K.taken sink.old) front)) }
     ensures rising { K.failures sink.old ≤ K.failures sink.new }
     ensures cause { OnErr result (K.failures sink.old < K.failures sink.new) }
     ensures write { IfErr result (λ fault. fault ≡ Fault.Write) }

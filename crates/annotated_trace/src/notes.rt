@@ -167,21 +167,30 @@ impl<A: Allocator + Copy> Notes<A> {
 
     /// Adds words to the last line. For want of memory a first part of them may be added.
     pub fn say(&mut self, words: &str) -> Result<(), AllocError>
-        ensures ok { OnOk result (self.new ≡ record self.old { line = with_words self.old.line words.now }) }
+        ensures ok { OnOk result (self.new ≡ record self.old {
+          line = with_words self.old.line
+              words.now;
+        }) }
     {
         self.line.say(words)
     }
 
     /// Adds a number in decimal digits, as `say` adds words.
     pub fn number(&mut self, number: u64) -> Result<(), AllocError>
-        ensures ok { OnOk result (self.new ≡ record self.old { line = with_words self.old.line (decimal number) }) }
+        ensures ok { OnOk result (self.new ≡ record self.old {
+          line = with_words self.old.line
+              (decimal number);
+        }) }
     {
         self.line.number(number)
     }
 
     /// Adds octets in hex digits, two for each, as `say` adds words.
     pub fn octets(&mut self, octets: &[u8]) -> Result<(), AllocError>
-        ensures ok { OnOk result (self.new ≡ record self.old { line = with_words self.old.line (encode_upper octets.now) }) }
+        ensures ok { OnOk result (self.new ≡ record self.old {
+          line = with_words self.old.line
+              (encode_upper octets.now);
+        }) }
     {
         self.line.octets(octets)
     }

@@ -62,7 +62,8 @@ fn digits(octet: u8) -> [u8; 2]
 
 /// Begins a line in which so much was said, unless it has begun.
 fn begin<K: Sink>(said: usize, chunk: &mut Chunk, sink: &mut K)
-    ensures { Puts (K.taken sink.old, K.failures sink.old) (K.taken sink.new, K.failures sink.new) chunk.old chunk.new (hash_of said) }
+    ensures { Puts (K.taken sink.old, K.failures sink.old)
+        (K.taken sink.new, K.failures sink.new) chunk.old chunk.new (hash_of said) }
 {
     let hash: &[u8] = if said == 0 { b"# " } else { b"" };
     chunk.put(sink, hash)
@@ -70,7 +71,8 @@ fn begin<K: Sink>(said: usize, chunk: &mut Chunk, sink: &mut K)
 
 /// Ends a line in which so much was said; one that says nothing has not begun.
 fn end<K: Sink>(said: usize, chunk: &mut Chunk, sink: &mut K)
-    ensures { Puts (K.taken sink.old, K.failures sink.old) (K.taken sink.new, K.failures sink.new) chunk.old chunk.new (feed_of said) }
+    ensures { Puts (K.taken sink.old, K.failures sink.old)
+        (K.taken sink.new, K.failures sink.new) chunk.old chunk.new (feed_of said) }
 {
     let feed: &[u8] = if said == 0 { b"" } else { b"\n" };
     chunk.put(sink, feed)
@@ -78,7 +80,8 @@ fn end<K: Sink>(said: usize, chunk: &mut Chunk, sink: &mut K)
 
 /// Puts words, a space in place of each LF.
 fn put_plain<K: Sink>(words: &[u8], chunk: &mut Chunk, sink: &mut K)
-    ensures { Puts (K.taken sink.old, K.failures sink.old) (K.taken sink.new, K.failures sink.new) chunk.old chunk.new (plain words.now) }
+    ensures { Puts (K.taken sink.old, K.failures sink.old)
+        (K.taken sink.new, K.failures sink.new) chunk.old chunk.new (plain words.now) }
 {
     let mut rest = words;
     while let Some((front, back)) = split_at_byte(rest, b'\n') {
@@ -112,7 +115,8 @@ impl<'a, K: Sink, B: Origin> ClosingPage<'a, K, B> {
     pub(crate) fn new(to: Lent<'a, K>) -> Self
         requires name { to.sink.ghost_name ≡ B.name }
         requires before { (K.taken to.sink.now, K.failures to.sink.now) ≡ B.before }
-        ensures nothing { HasNoted B.before (K.taken result.sink.now, K.failures result.sink.now) result.chunk result.said (record { lines = []; line = [] }) }
+        ensures nothing { HasNoted B.before (K.taken result.sink.now, K.failures result.sink.now)
+            result.chunk result.said (record { lines = []; line = [] }) }
     {
         let Lent { sink } = to;
         ClosingPage {
@@ -125,7 +129,10 @@ impl<'a, K: Sink, B: Origin> ClosingPage<'a, K, B> {
 
     /// Adds words to the last line: a space for each LF, and no more than the line has room for.
     fn add(&mut self, words: &[u8])
-        ensures said { (notes : Remarks) → HasNoted B.before (K.taken self.old.sink.now, K.failures self.old.sink.now) self.old.chunk self.old.said notes → HasNoted B.before (K.taken self.new.sink.now, K.failures self.new.sink.now) self.new.chunk self.new.said (record notes { line = with_words notes.line words.now }) }
+        ensures said { (notes : Remarks) → HasNoted B.before
+            (K.taken self.old.sink.now, K.failures self.old.sink.now) self.old.chunk self.old.said
+            notes → HasNoted B.before (K.taken self.new.sink.now, K.failures self.new.sink.now)
+            self.new.chunk self.new.said (record notes { line = with_words notes.line words.now }) }
     {
         let room = WORDS_LIMIT - self.said;
         let front = &words[..room.min(words.len())];
@@ -139,14 +146,23 @@ impl<'a, K: Sink, B: Origin> ClosingPage<'a, K, B> {
 
     /// Adds words to the last line, as `Notes::say`: the notes that a page says are those that `Notes` would hold.
     pub fn say(&mut self, words: &str)
-        ensures said { (notes : Remarks) → HasNoted B.before (K.taken self.old.sink.now, K.failures self.old.sink.now) self.old.chunk self.old.said notes → HasNoted B.before (K.taken self.new.sink.now, K.failures self.new.sink.now) self.new.chunk self.new.said (record notes { line = with_words notes.line words.now }) }
+        ensures said { (notes : Remarks) → HasNoted B.before
+            (K.taken self.old.sink.now, K.failures self.old.sink.now) self.old.chunk self.old.said
+            notes → HasNoted B.before (K.taken self.new.sink.now, K.failures self.new.sink.now)
+            self.new.chunk self.new.said (record notes { line = with_words notes.line words.now }) }
     {
         self.add(words.as_bytes())
     }
 
     /// Adds a number in decimal digits, as `say` adds words.
     pub fn number(&mut self, number: u64)
-        ensures said { (notes : Remarks) → HasNoted B.before (K.taken self.old.sink.now, K.failures self.old.sink.now) self.old.chunk self.old.said notes → HasNoted B.before (K.taken self.new.sink.now, K.failures self.new.sink.now) self.new.chunk self.new.said (record notes { line = with_words notes.line (decimal number) }) }
+        ensures said { (notes : Remarks) → HasNoted B.before
+            (K.taken self.old.sink.now, K.failures self.old.sink.now) self.old.chunk self.old.said
+            notes → HasNoted B.before (K.taken self.new.sink.now, K.failures self.new.sink.now)
+            self.new.chunk self.new.said (record notes {
+              line = with_words notes.line
+                  (decimal number);
+            }) }
     {
         let mut buffer = Buffer::new();
         self.add(buffer.format(number).as_bytes())
@@ -154,14 +170,26 @@ impl<'a, K: Sink, B: Origin> ClosingPage<'a, K, B> {
 
     /// Adds an octet in hex digits.
     fn octet(&mut self, octet: u8)
-        ensures said { (notes : Remarks) → HasNoted B.before (K.taken self.old.sink.now, K.failures self.old.sink.now) self.old.chunk self.old.said notes → HasNoted B.before (K.taken self.new.sink.now, K.failures self.new.sink.now) self.new.chunk self.new.said (record notes { line = with_words notes.line (encode_upper (octet ∷ [])) }) }
+        ensures said { (notes : Remarks) → HasNoted B.before
+            (K.taken self.old.sink.now, K.failures self.old.sink.now) self.old.chunk self.old.said
+            notes → HasNoted B.before (K.taken self.new.sink.now, K.failures self.new.sink.now)
+            self.new.chunk self.new.said (record notes {
+              line = with_words notes.line
+                  (encode_upper (octet ∷ []));
+            }) }
     {
         self.add(&digits(octet))
     }
 
     /// Adds octets in hex digits, two for each, as `say` adds words.
     pub fn octets(&mut self, octets: &[u8])
-        ensures said { (notes : Remarks) → HasNoted B.before (K.taken self.old.sink.now, K.failures self.old.sink.now) self.old.chunk self.old.said notes → HasNoted B.before (K.taken self.new.sink.now, K.failures self.new.sink.now) self.new.chunk self.new.said (record notes { line = with_words notes.line (encode_upper octets.now) }) }
+        ensures said { (notes : Remarks) → HasNoted B.before
+            (K.taken self.old.sink.now, K.failures self.old.sink.now) self.old.chunk self.old.said
+            notes → HasNoted B.before (K.taken self.new.sink.now, K.failures self.new.sink.now)
+            self.new.chunk self.new.said (record notes {
+              line = with_words notes.line
+                  (encode_upper octets.now);
+            }) }
     {
         for octet in octets {
             self.octet(*octet);
@@ -170,7 +198,10 @@ impl<'a, K: Sink, B: Origin> ClosingPage<'a, K, B> {
 
     /// Ends the last line, and begins a further one.
     pub fn next(&mut self)
-        ensures ended { (notes : Remarks) → HasNoted B.before (K.taken self.old.sink.now, K.failures self.old.sink.now) self.old.chunk self.old.said notes → HasNoted B.before (K.taken self.new.sink.now, K.failures self.new.sink.now) self.new.chunk self.new.said (ended_notes notes) }
+        ensures ended { (notes : Remarks) → HasNoted B.before
+            (K.taken self.old.sink.now, K.failures self.old.sink.now) self.old.chunk self.old.said
+            notes → HasNoted B.before (K.taken self.new.sink.now, K.failures self.new.sink.now)
+            self.new.chunk self.new.said (ended_notes notes) }
     {
         begin(self.said, &mut self.chunk, self.sink);
         self.chunk.put(self.sink, b"\n");
@@ -181,9 +212,18 @@ impl<'a, K: Sink, B: Origin> ClosingPage<'a, K, B> {
     /// first part of them.
     pub(crate) fn finish(self) -> Returned<'a, K>
         ensures name { result.sink.ghost_name ≡ B.name }
-        ensures ok { (notes : Remarks) → HasNoted B.before (K.taken self.entry.sink.now, K.failures self.entry.sink.now) self.entry.chunk self.entry.said notes → OnOk result.answer (K.taken result.sink.now ≡ with_more B.before.0 (text (notes_of notes))) }
-        ensures part { (notes : Remarks) → HasNoted B.before (K.taken self.entry.sink.now, K.failures self.entry.sink.now) self.entry.chunk self.entry.said notes → OnErr result.answer ((front : List ℕ) × (rest : List ℕ) × (text (notes_of notes) ≡ front ++ rest) × (K.taken result.sink.now ≡ with_more B.before.0 front)) }
-        ensures cause { (notes : Remarks) → HasNoted B.before (K.taken self.entry.sink.now, K.failures self.entry.sink.now) self.entry.chunk self.entry.said notes → OnErr result.answer (B.before.1 < K.failures result.sink.now) }
+        ensures ok { (notes : Remarks) → HasNoted B.before
+            (K.taken self.entry.sink.now, K.failures self.entry.sink.now) self.entry.chunk
+            self.entry.said notes → OnOk result.answer (K.taken result.sink.now
+            ≡ with_more B.before.0 (text (notes_of notes))) }
+        ensures part { (notes : Remarks) → HasNoted B.before
+            (K.taken self.entry.sink.now, K.failures self.entry.sink.now) self.entry.chunk
+            self.entry.said notes → OnErr result.answer ((front : List ℕ) × (rest : List ℕ)
+            × (text (notes_of notes) ≡ front ++ rest)
+            × (K.taken result.sink.now ≡ with_more B.before.0 front)) }
+        ensures cause { (notes : Remarks) → HasNoted B.before
+            (K.taken self.entry.sink.now, K.failures self.entry.sink.now) self.entry.chunk
+            self.entry.said notes → OnErr result.answer (B.before.1 < K.failures result.sink.now) }
         ensures write { IfErr result.answer (λ fault. fault ≡ Fault.Write) }
     {
         let ClosingPage {

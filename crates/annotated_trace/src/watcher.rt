@@ -27,9 +27,13 @@ pub trait Watcher<A: Allocator>: Drop {
     /// want of memory.
     fn feed(&mut self, chunk: &[u8]) -> Result<(), Fault>
         requires fed { (text : List ℕ) × stands_for self.old text }
-        ensures stands { (text : List ℕ) → stands_for self.old text → OnOk result (stands_for self.new (text ++ chunk.now)) }
-        ensures refused { (text : List ℕ) → stands_for self.old text → IfErr result (IsFaultOf (early (text ++ chunk.now))) }
-        ensures found { (text : List ℕ) → stands_for self.old text → OnOk result (found_in (ended_lines (text ++ chunk.now)) ≡ found_in (ended_lines text) ++ last_found self.new) }
+        ensures stands { (text : List ℕ) → stands_for self.old text
+            → OnOk result (stands_for self.new (text ++ chunk.now)) }
+        ensures refused { (text : List ℕ) → stands_for self.old text
+            → IfErr result (IsFaultOf (early (text ++ chunk.now))) }
+        ensures found { (text : List ℕ) → stands_for self.old text
+            → OnOk result (found_in (ended_lines (text ++ chunk.now)) ≡ found_in (ended_lines text)
+            ++ last_found self.new) }
         ensures kinds { IfErr result IsTextFault };
 
     /// What the rows of the last chunk found, in their order.
@@ -40,7 +44,8 @@ pub trait Watcher<A: Allocator>: Drop {
     fn whole(self) -> Result<Report<A>, Fault>
         requires fed { (text : List ℕ) × stands_for self text }
         ensures told { (text : List ℕ) → stands_for self text → IfOk result (IsReportOf text) }
-        ensures refused { (text : List ℕ) → stands_for self text → IfErr result (IsFaultOf (fault text)) }
+        ensures refused { (text : List ℕ) → stands_for self text
+            → IfErr result (IsFaultOf (fault text)) }
         ensures kinds { IfErr result IsTextFault };
 
     /// No line of what it was fed is known to be faulty.

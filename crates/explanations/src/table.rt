@@ -53,7 +53,8 @@ fn push_explanations(
     word: &str,
     found: &mut Vec<Explanation>,
 ) -> Result<(), AllocError>
-    ensures { OnOk result (found.new.items ≡ found.old.items ++ explanations_of word.now section.now) }
+    ensures { OnOk result (found.new.items ≡ found.old.items
+        ++ explanations_of word.now section.now) }
 {
     for explanation in section {
         if explains(alloc, explanation, word)? {

@@ -59,7 +59,8 @@ fn push_headings(
     section: &[Explanation],
     text: &mut String,
 ) -> Result<(), AllocError>
-    ensures { OnOk result (string_bytes text.new ≡ string_bytes text.old ++ headings_text section.now) }
+    ensures { OnOk result (string_bytes text.new ≡ string_bytes text.old
+        ++ headings_text section.now) }
 {
     for explanation in section {
         let line = heading(alloc, explanation)?;

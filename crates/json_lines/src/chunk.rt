@@ -19,7 +19,8 @@ fn send<W: Sink>(sink: &mut W, bytes: &[u8]) -> Result<(), ()>
     ensures ok { OnOk result (W.taken sink.new ≡ with_more (W.taken sink.old) bytes.now) }
     ensures rising { W.failures sink.old ≤ W.failures sink.new }
     ensures cause { OnErr result (W.failures sink.old < W.failures sink.new) }
-    ensures part { OnErr result ((front : List ℕ) × (rest : List ℕ) × (bytes.now ≡ front ++ rest) × (W.taken sink.new ≡ with_more (W.taken sink.old) front)) }
+    ensures part { OnErr result ((front : List ℕ) × (rest : List ℕ) × (bytes.now ≡ front ++ rest)
+        × (W.taken sink.new ≡ with_more (W.taken sink.old) front)) }
 {
     let mut rest = bytes;
     while !rest.is_empty() {
@@ -45,7 +46,9 @@ impl Chunk {
 
     /// Sends what is held.
     pub fn flush<W: Sink>(&mut self, sink: &mut W)
-        ensures sent { (before : Option (List ℕ) × ℕ) (text : List ℕ) → Writes before (W.taken sink.old, W.failures sink.old) self.old text → Writes before (W.taken sink.new, W.failures sink.new) self.new text }
+        ensures sent { (before : Option (List ℕ) × ℕ) (text : List ℕ)
+            → Writes before (W.taken sink.old, W.failures sink.old) self.old text
+            → Writes before (W.taken sink.new, W.failures sink.new) self.new text }
         ensures empty { self.new.bytes.items ≡ [] }
     {
         if self.failed {
@@ -71,7 +74,8 @@ impl Chunk {
     /// Sends bytes where nothing is held.
     fn pass<W: Sink>(&mut self, sink: &mut W, bytes: &[u8])
         requires { self.old.bytes.items ≡ [] }
-        ensures { Puts (W.taken sink.old, W.failures sink.old) (W.taken sink.new, W.failures sink.new) self.old self.new bytes.now }
+        ensures { Puts (W.taken sink.old, W.failures sink.old)
+            (W.taken sink.new, W.failures sink.new) self.old self.new bytes.now }
     {
         if self.failed {
             return;
@@ -84,7 +88,8 @@ impl Chunk {
 
     /// Puts bytes behind what is held, which is sent first.
     fn put_next<W: Sink>(&mut self, sink: &mut W, bytes: &[u8])
-        ensures { Puts (W.taken sink.old, W.failures sink.old) (W.taken sink.new, W.failures sink.new) self.old self.new bytes.now }
+        ensures { Puts (W.taken sink.old, W.failures sink.old)
+            (W.taken sink.new, W.failures sink.new) self.old self.new bytes.now }
     {
         self.flush(sink);
         match self.bytes.try_extend_from_slice(bytes) {
@@ -95,7 +100,8 @@ impl Chunk {
 
     /// Puts bytes behind what is held.
     pub fn put<W: Sink>(&mut self, sink: &mut W, bytes: &[u8])
-        ensures { Puts (W.taken sink.old, W.failures sink.old) (W.taken sink.new, W.failures sink.new) self.old self.new bytes.now }
+        ensures { Puts (W.taken sink.old, W.failures sink.old)
+            (W.taken sink.new, W.failures sink.new) self.old self.new bytes.now }
     {
         match self.bytes.try_extend_from_slice(bytes) {
             Ok(()) => {}

@@ -36,7 +36,9 @@ impl JsonLines {
 
     /// Takes a byte.
     fn take_byte<W: Sink>(&mut self, sink: &mut W, byte: u8)
-        ensures goes { (before : Option (List ℕ) × ℕ) → Goes before (W.taken sink.old, W.failures sink.old) self.old → Goes before (W.taken sink.new, W.failures sink.new) self.new }
+        ensures goes { (before : Option (List ℕ) × ℕ)
+            → Goes before (W.taken sink.old, W.failures sink.old) self.old
+            → Goes before (W.taken sink.new, W.failures sink.new) self.new }
         ensures told { self.new.told.bytes ≡ self.old.told.bytes ++ byte ∷ [] }
         ensures refused { self.new.refused.bytes ≡ self.old.refused.bytes }
     {
@@ -52,10 +54,14 @@ impl JsonLines {
     /// Takes bytes, and has a sink take the objects of the lines that end in them. Once the sink has failed it refuses
     /// all bytes; what was taken before the sink failed stays taken.
     pub fn take<W: Sink>(&mut self, sink: &mut W, bytes: &[u8]) -> Result<(), ()>
-        ensures stands { (before : Option (List ℕ) × ℕ) → Stands before (W.taken sink.old, W.failures sink.old) self.old → Stands before (W.taken sink.new, W.failures sink.new) self.new }
+        ensures stands { (before : Option (List ℕ) × ℕ)
+            → Stands before (W.taken sink.old, W.failures sink.old) self.old
+            → Stands before (W.taken sink.new, W.failures sink.new) self.new }
         ensures ok { OnOk result (self.new.told.bytes ≡ self.old.told.bytes ++ bytes.now) }
         ensures err { OnErr result (self.new.told.bytes ≡ self.old.told.bytes) }
-        ensures refused { length self.new.refused.bytes ≡ (if is_err result then length self.old.refused.bytes + 1 else length self.old.refused.bytes) }
+        ensures refused { length self.new.refused.bytes
+            ≡ (if is_err result then length self.old.refused.bytes + 1 else length
+            self.old.refused.bytes) }
     {
         if self.chunk.has_failed() {
             self.refused = History::with(&self.refused, &0);

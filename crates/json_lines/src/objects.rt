@@ -13,7 +13,8 @@ use line_model::device::Sink;
 impl Chunk {
     /// Puts a word between quotation marks. A word of a report needs no escape.
     fn quoted<W: Sink>(&mut self, sink: &mut W, word: &[u8])
-        ensures { Puts (W.taken sink.old, W.failures sink.old) (W.taken sink.new, W.failures sink.new) self.old self.new (quoted word.now) }
+        ensures { Puts (W.taken sink.old, W.failures sink.old)
+            (W.taken sink.new, W.failures sink.new) self.old self.new (quoted word.now) }
     {
         self.put(sink, b"\"");
         self.put(sink, word);
@@ -22,7 +23,8 @@ impl Chunk {
 
     /// Puts a word as a value.
     fn value<W: Sink>(&mut self, sink: &mut W, kind: Kind, word: &[u8])
-        ensures { Puts (W.taken sink.old, W.failures sink.old) (W.taken sink.new, W.failures sink.new) self.old self.new (value kind word.now) }
+        ensures { Puts (W.taken sink.old, W.failures sink.old)
+            (W.taken sink.new, W.failures sink.new) self.old self.new (value kind word.now) }
     {
         if word == b"-".as_slice() {
             self.put(sink, b"null");
@@ -36,7 +38,9 @@ impl Chunk {
 
     /// Puts a field behind others.
     fn member<W: Sink>(&mut self, sink: &mut W, field: &Field, word: &[u8])
-        ensures { Puts (W.taken sink.old, W.failures sink.old) (W.taken sink.new, W.failures sink.new) self.old self.new (member (field_shown field.now) word.now) }
+        ensures { Puts (W.taken sink.old, W.failures sink.old)
+            (W.taken sink.new, W.failures sink.new) self.old self.new
+            (member (field_shown field.now) word.now) }
     {
         self.put(sink, b",");
         self.quoted(sink, field.name.as_bytes());
@@ -46,7 +50,9 @@ impl Chunk {
 
     /// Puts fields, each with its word.
     fn members<W: Sink>(&mut self, sink: &mut W, fields: &[Field], mut words: Words<'_>)
-        ensures { Puts (W.taken sink.old, W.failures sink.old) (W.taken sink.new, W.failures sink.new) self.old self.new (members (map field_shown fields.now) words.entry) }
+        ensures { Puts (W.taken sink.old, W.failures sink.old)
+            (W.taken sink.new, W.failures sink.new) self.old self.new
+            (members (map field_shown fields.now) words.entry) }
     {
         for field in fields {
             let word = words.take();
@@ -56,7 +62,8 @@ impl Chunk {
 
     /// Puts an object up to its title.
     fn begin<W: Sink>(&mut self, sink: &mut W, title: &str)
-        ensures { Puts (W.taken sink.old, W.failures sink.old) (W.taken sink.new, W.failures sink.new) self.old self.new (beginning title.now) }
+        ensures { Puts (W.taken sink.old, W.failures sink.old)
+            (W.taken sink.new, W.failures sink.new) self.old self.new (beginning title.now) }
     {
         self.put(sink, b"{");
         self.quoted(sink, b"line");
@@ -66,7 +73,8 @@ impl Chunk {
 
     /// Puts the object of a line.
     pub fn object<W: Sink>(&mut self, sink: &mut W, line: &[u8])
-        ensures { Puts (W.taken sink.old, W.failures sink.old) (W.taken sink.new, W.failures sink.new) self.old self.new (json_line line.now) }
+        ensures { Puts (W.taken sink.old, W.failures sink.old)
+            (W.taken sink.new, W.failures sink.new) self.old self.new (json_line line.now) }
     {
         let mut words = Words::new(line);
         let form = form_of(words.take());

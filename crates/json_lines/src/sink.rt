@@ -80,10 +80,15 @@ impl<'a, K: Sink, B: Origin> JsonSink<'a, K, B> {
     /// a first part of them. A line that has not ended is not told.
     pub fn finish(self) -> Returned<'a, K>
         ensures name { result.sink.ghost_name ≡ B.name }
-        ensures ok { (text : List ℕ) → ⟦<JsonSink<'a, K, B> as Sink>⟧.taken self.entry ≡ Some text → OnOk result.answer (K.taken result.sink.now ≡ with_more B.before.0 (json_text text)) }
-        ensures part { (text : List ℕ) → ⟦<JsonSink<'a, K, B> as Sink>⟧.taken self.entry ≡ Some text → (front : List ℕ) × (rest : List ℕ) × (json_text text ≡ front ++ rest) × (K.taken result.sink.now ≡ with_more B.before.0 front) }
-        ensures failed { IfErr result.answer (λ fault. (fault ≡ Fault.Write) × (B.before.1 < K.failures result.sink.now)) }
-        ensures refused { 0 < ⟦<JsonSink<'a, K, B> as Sink>⟧.failures self.entry → result.answer ≡ Err Fault.Write }
+        ensures ok { (text : List ℕ) → ⟦<JsonSink<'a, K, B> as Sink>⟧.taken self.entry ≡ Some text
+            → OnOk result.answer (K.taken result.sink.now ≡ with_more B.before.0 (json_text text)) }
+        ensures part { (text : List ℕ) → ⟦<JsonSink<'a, K, B> as Sink>⟧.taken self.entry ≡ Some text
+            → (front : List ℕ) × (rest : List ℕ) × (json_text text ≡ front ++ rest)
+            × (K.taken result.sink.now ≡ with_more B.before.0 front) }
+        ensures failed { IfErr result.answer (λ fault. (fault ≡ Fault.Write)
+            × (B.before.1 < K.failures result.sink.now)) }
+        ensures refused { 0 < ⟦<JsonSink<'a, K, B> as Sink>⟧.failures self.entry
+            → result.answer ≡ Err Fault.Write }
     {
         let JsonSink { sink, lines, .. } = self;
         let answer = if lines.has_failed() {

@@ -15,9 +15,13 @@ fn write_to<'a, K: Sink, B: Origin>(text: &[u8], to: Lent<'a, K>) -> Returned<'a
     requires name { to.sink.ghost_name ≡ B.name }
     requires before { (K.taken to.sink.now, K.failures to.sink.now) ≡ B.before }
     ensures name { result.sink.ghost_name ≡ B.name }
-    ensures ok { OnOk result.answer (K.taken result.sink.now ≡ with_more B.before.0 (json_text text.now)) }
-    ensures part { OnErr result.answer ((front : List ℕ) × (rest : List ℕ) × (json_text text.now ≡ front ++ rest) × (K.taken result.sink.now ≡ with_more B.before.0 front)) }
-    ensures failed { IfErr result.answer (λ fault. (fault ≡ Fault.Write) × (B.before.1 < K.failures result.sink.now)) }
+    ensures ok { OnOk result.answer (K.taken result.sink.now
+        ≡ with_more B.before.0 (json_text text.now)) }
+    ensures part { OnErr result.answer ((front : List ℕ) × (rest : List ℕ)
+        × (json_text text.now ≡ front ++ rest)
+        × (K.taken result.sink.now ≡ with_more B.before.0 front)) }
+    ensures failed { IfErr result.answer (λ fault. (fault ≡ Fault.Write)
+        × (B.before.1 < K.failures result.sink.now)) }
 {
     let mut json = JsonSink::<K, B>::new(to);
     let written = write_all(&mut json, text);
@@ -38,9 +42,13 @@ fn take_back<K>(_sink: &mut K)
 
 /// Gives a sink the objects of the lines of a text. Where the sink fails it took a first part of them.
 pub fn write_json_lines<K: Sink>(text: &[u8], sink: &mut K) -> Result<(), Fault>
-    ensures ok { OnOk result (K.taken sink.new ≡ with_more (K.taken sink.old) (json_text text.now)) }
-    ensures part { OnErr result ((front : List ℕ) × (rest : List ℕ) × (json_text text.now ≡ front ++ rest) × (K.taken sink.new ≡ with_more (K.taken sink.old) front)) }
-    ensures failed { IfErr result (λ fault. (fault ≡ Fault.Write) × (K.failures sink.old < K.failures sink.new)) }
+    ensures ok { OnOk result (K.taken sink.new
+        ≡ with_more (K.taken sink.old) (json_text text.now)) }
+    ensures part { OnErr result ((front : List ℕ) × (rest : List ℕ)
+        × (json_text text.now ≡ front ++ rest)
+        × (K.taken sink.new ≡ with_more (K.taken sink.old) front)) }
+    ensures failed { IfErr result (λ fault. (fault ≡ Fault.Write)
+        × (K.failures sink.old < K.failures sink.new)) }
 {
     let Returned { sink, answer } = write_to::<K, Brand>(text, Lent { sink });
     take_back(sink);

@@ -39,7 +39,8 @@ impl<'a> Words<'a> {
 
     /// The next word, which may be empty, if one is left.
     fn next(&mut self) -> Option<&'a [u8]>
-        ensures { MatchOption result ((self.old ≡ []) × (self.new ≡ [])) (λ word. self.old ≡ word.now ∷ self.new) }
+        ensures { MatchOption result ((self.old ≡ [])
+            × (self.new ≡ [])) (λ word. self.old ≡ word.now ∷ self.new) }
     {
         let text = self.rest?;
         match split_at_byte(text, b' ') {

@@ -60,9 +60,11 @@ impl LastBytes {
 
     /// Keeps bytes that were given.
     pub fn keep(&mut self, bytes: &[u8])
-        ensures end { (given : List ℕ) → IsEndOf given self.old → IsEndOf (given ++ bytes.now) self.new }
+        ensures end { (given : List ℕ) → IsEndOf given self.old
+            → IsEndOf (given ++ bytes.now) self.new }
         // While there are few, it has them all; or memory was refused.
-        ensures few { self.old.whole ≡ true → size_of self.old + length bytes.now ≤ 2 ^ 16 → IsWholeOrEmpty self.new }
+        ensures few { self.old.whole ≡ true → size_of self.old + length bytes.now ≤ 2 ^ 16
+            → IsWholeOrEmpty self.new }
     {
         if self.latest.len().saturating_add(bytes.len()) > STRETCH {
             self.turn();
@@ -74,7 +76,8 @@ impl LastBytes {
 
     /// What it has of the bytes that were given, their end.
     pub fn text(&self, alloc: Global) -> Result<Vec<u8>, AllocError>
-        ensures { IfOk result (λ text. text.items ≡ self.now.before.items ++ self.now.latest.items) }
+        ensures { IfOk result (λ text. text.items ≡ self.now.before.items
+            ++ self.now.latest.items) }
     {
         let mut text = Vec::new(alloc);
         text.extend_from_slice(self.before.as_slice())?;

@@ -9,8 +9,10 @@ use line_model::fault::Fault;
 /// Gives a sink all of some bytes. Where the sink fails it took a first part of them.
 pub fn write_all<K: Sink>(sink: &mut K, bytes: &[u8]) -> Result<(), Fault>
     ensures ok { OnOk result (K.taken sink.new ≡ with_more (K.taken sink.old) bytes.now) }
-    ensures failed { IfErr result (λ fault. (fault ≡ Fault.Write) × (K.failures sink.old < K.failures sink.new)) }
-    ensures part { OnErr result ((n : ℕ) × (K.taken sink.new ≡ with_more (K.taken sink.old) (take n bytes.now))) }
+    ensures failed { IfErr result (λ fault. (fault ≡ Fault.Write)
+        × (K.failures sink.old < K.failures sink.new)) }
+    ensures part { OnErr result ((n : ℕ) × (K.taken sink.new
+        ≡ with_more (K.taken sink.old) (take n bytes.now))) }
 {
     let mut rest = bytes;
     while !rest.is_empty() {

@@ -52,7 +52,8 @@ impl Model for Defaults {
 
 /// The number behind the next word, which must be this name.
 fn next_number(words: &mut Words<'_>, name: &[u8]) -> Option<u32>
-    ensures { MatchOption result (named name.now words.old ≡ None) (λ n. named name.now words.old ≡ Some (n, words.new)) }
+    ensures { MatchOption result (named name.now words.old ≡ None) (λ n. named name.now words.old
+        ≡ Some (n, words.new)) }
 {
     let word = words.next()?;
     let number = words.next()?;
@@ -64,7 +65,8 @@ fn next_number(words: &mut Words<'_>, name: &[u8]) -> Option<u32>
 
 /// What both forms say first.
 fn next_defaults(words: &mut Words<'_>) -> Option<Defaults>
-    ensures { MatchOption result (defaults_in words.old ≡ None) (λ d. defaults_in words.old ≡ Some (d, words.new)) }
+    ensures { MatchOption result (defaults_in words.old ≡ None) (λ d. defaults_in words.old
+        ≡ Some (d, words.new)) }
 {
     let modulus = next_number(words, b"MOD")?;
     let window = next_number(words, b"WIN")?;
@@ -214,7 +216,8 @@ fn interface_with_numbers(numbers: Numbers) -> Option<Interface>
 /// The interface that a header line sets up, or the rule that it breaks.
 #[tactic(auto, unfolding(line_model::specs::text::Text::header_kind, line_model::specs::text::Header::interface_of))]
 pub fn read_header(line: &[u8]) -> Result<Interface, Kind>
-    ensures { MatchResult result (λ interface. (header_kind line.now ≡ None) × (interface_of line.now ≡ Some interface)) (λ kind. header_kind line.now ≡ Some kind) }
+    ensures { MatchResult result (λ interface. (header_kind line.now ≡ None)
+        × (interface_of line.now ≡ Some interface)) (λ kind. header_kind line.now ≡ Some kind) }
 {
     match read_numbers(line) {
         Some(numbers) => match interface_with_numbers(numbers) {

@@ -126,7 +126,8 @@ impl<A: Allocator> Lines<A> {
 
     /// How many lines an LF has ended.
     pub fn ended_lines(&self) -> u32
-        ensures lines { (text : List ℕ) → StandsFor self.now text → result ≡ length (lines_ended text) }
+        ensures lines { (text : List ℕ) → StandsFor self.now text
+            → result ≡ length (lines_ended text) }
         ensures kept { result ≡ self.now.ended }
     {
         self.ended
@@ -134,11 +135,16 @@ impl<A: Allocator> Lines<A> {
 
     /// What the text says up to its last LF, if it ended there: its header, or that it has none.
     pub fn ended_header(&self) -> Result<Interface, Fault>
-        ensures ok { (text : List ℕ) → StandsFor self.now text → IfOk result (λ interface. (fault (ended_part text) ≡ None) × (head (ended_part text) ≡ Some interface)) }
-        ensures refused { (text : List ℕ) → StandsFor self.now text → IfErr result (IsFaultOf (fault (ended_part text))) }
-        ensures missing { (text : List ℕ) → StandsFor self.now text → IfErr result (λ f. f ≡ Trace (length (lines_ended text) + 1) HeaderMissing) }
+        ensures ok { (text : List ℕ) → StandsFor self.now text
+            → IfOk result (λ interface. (fault (ended_part text) ≡ None)
+            × (head (ended_part text) ≡ Some interface)) }
+        ensures refused { (text : List ℕ) → StandsFor self.now text
+            → IfErr result (IsFaultOf (fault (ended_part text))) }
+        ensures missing { (text : List ℕ) → StandsFor self.now text
+            → IfErr result (λ f. f ≡ Trace (length (lines_ended text) + 1) HeaderMissing) }
         // The rows that were told are those of that text.
-        ensures rows { (text : List ℕ) → StandsFor self.now text → rows_of_text (ended_part text) ≡ early_rows text }
+        ensures rows { (text : List ℕ) → StandsFor self.now text
+            → rows_of_text (ended_part text) ≡ early_rows text }
         ensures again { (fault : Fault) → self.now.refused ≡ Some fault → result ≡ Err fault }
     {
         if let Some(fault) = self.refused {
@@ -153,8 +159,11 @@ impl<A: Allocator> Lines<A> {
     /// Takes bytes without an LF.
     fn begin(&mut self, more: &[u8]) -> Result<(), Fault>
         ensures ok { OnOk result (self.new ≡ with_more self.old more.now) }
-        ensures sound { OnOk result (size_kind self.old.start 0 (length self.old.begun + length more.now) ≡ None) }
-        ensures refused { IfErr result (RefusedBy (size_kind self.old.start 0 (length self.old.begun + length more.now)) (self.old.ended + 1)) }
+        ensures sound { OnOk result (size_kind self.old.start 0
+            (length self.old.begun + length more.now) ≡ None) }
+        ensures refused { IfErr result (RefusedBy
+            (size_kind self.old.start 0 (length self.old.begun + length more.now))
+            (self.old.ended + 1)) }
         ensures same { OnErr result (self.new ≡ self.old) }
     {
         match size_fault(self.start, 0, self.begun.len() + more.len()) {
@@ -169,8 +178,11 @@ impl<A: Allocator> Lines<A> {
     /// What a line says that ends here; `lf` is 1 where an LF ends it. A row is put in the place of another.
     fn read(&self, line: &[u8], lf: usize, row: &mut Row<A>) -> Result<Content, Fault>
         requires { lf ≤ 1 }
-        ensures reads { IfOk result (λ content. (ended_kind lf (record self.now { begun = line.now }) ≡ None) × ReadsAs (is_some self.now.interface) self.now.last line.now content row.new) }
-        ensures refused { IfErr result (RefusedBy (ended_kind lf (record self.now { begun = line.now })) (self.now.ended + 1)) }
+        ensures reads { IfOk result (λ content.
+            (ended_kind lf (record self.now { begun = line.now }) ≡ None)
+            × ReadsAs (is_some self.now.interface) self.now.last line.now content row.new) }
+        ensures refused { IfErr result (RefusedBy
+            (ended_kind lf (record self.now { begun = line.now })) (self.now.ended + 1)) }
     {
         if let Some(kind) = size_fault(self.start, lf, line.len()) {
             return Err(Fault::Trace(self.ended + 1, kind));
@@ -214,7 +226,8 @@ impl<A: Allocator> Lines<A> {
     /// another.
     fn end_line(&mut self, front: &[u8], row: &mut Row<A>) -> Result<bool, Fault>
         ensures ok { IfOk result (EndsLine (with_more self.old front.now) self.new row.new) }
-        ensures refused { IfErr result (RefusedBy (ended_kind 1 (with_more self.old front.now)) (self.old.ended + 1)) }
+        ensures refused { IfErr result (RefusedBy (ended_kind 1 (with_more self.old front.now))
+            (self.old.ended + 1)) }
         ensures kept { OnErr result (self.new.interface ≡ self.old.interface) }
     {
         if self.begun.is_empty() {
@@ -236,13 +249,21 @@ impl<A: Allocator> Lines<A> {
 
     /// Takes lines up to the first row, or the whole chunk.
     fn find_row<'a>(&mut self, chunk: &'a [u8], row: &mut Row<A>) -> Result<Option<&'a [u8]>, Fault>
-        ensures ok { IfOk result (λ next. MatchOption next (ReadsChunk self.old self.new chunk.now) (λ rest. TakesRow self.old self.new chunk.now rest.now row.new)) }
-        ensures shorter { IfOk result (λ next. IfSome next (λ rest. length rest.now < length chunk.now)) }
-        ensures headed { IfOk result (λ next. IfSome next (λ rest. is_some self.new.interface ≡ true)) }
-        ensures refused { (text : List ℕ) → StandsFor self.old text → IfErr result (IsFaultOf (early (text ++ chunk.now))) }
-        ensures known { (text : List ℕ) → StandsFor self.old text → IfErr result (AreKnown (early_rows text) (early_rows (text ++ chunk.now))) }
-        ensures header { (text : List ℕ) → StandsFor self.old text → IsHeadKept result self.new.interface (early_head (text ++ chunk.now)) }
-        ensures size { IfOk result (λ next. MatchOption next (bytes_fed self.new ≡ bytes_fed self.old + length chunk.now) (λ rest. bytes_fed self.new + length rest.now ≡ bytes_fed self.old + length chunk.now)) }
+        ensures ok { IfOk result (λ next. MatchOption next (ReadsChunk self.old self.new chunk.now)
+            (λ rest. TakesRow self.old self.new chunk.now rest.now row.new)) }
+        ensures shorter { IfOk result (λ next.
+            IfSome next (λ rest. length rest.now < length chunk.now)) }
+        ensures headed { IfOk result (λ next.
+            IfSome next (λ rest. is_some self.new.interface ≡ true)) }
+        ensures refused { (text : List ℕ) → StandsFor self.old text
+            → IfErr result (IsFaultOf (early (text ++ chunk.now))) }
+        ensures known { (text : List ℕ) → StandsFor self.old text
+            → IfErr result (AreKnown (early_rows text) (early_rows (text ++ chunk.now))) }
+        ensures header { (text : List ℕ) → StandsFor self.old text
+            → IsHeadKept result self.new.interface (early_head (text ++ chunk.now)) }
+        ensures size { IfOk result (λ next. MatchOption next (bytes_fed self.new
+            ≡ bytes_fed self.old + length chunk.now) (λ rest. bytes_fed self.new + length rest.now
+            ≡ bytes_fed self.old + length chunk.now)) }
         ensures kinds { IfErr result IsTextFault }
     {
         let mut rest = chunk;
@@ -277,21 +298,30 @@ impl<A: Allocator> Lines<A> {
         row: &mut Row<A>,
     ) -> Result<Option<&'a [u8]>, Fault>
         // Of any text that it stands for: it stands for the text with what was taken, which has that row more, or none.
-        ensures ok { IfOk result (λ next. MatchOption next (ReadsChunk self.old self.new chunk.now) (λ rest. TakesRow self.old self.new chunk.now rest.now row.new)) }
-        ensures shorter { IfOk result (λ next. IfSome next (λ rest. length rest.now < length chunk.now)) }
-        ensures headed { IfOk result (λ next. IfSome next (λ rest. is_some self.new.interface ≡ true)) }
+        ensures ok { IfOk result (λ next. MatchOption next (ReadsChunk self.old self.new chunk.now)
+            (λ rest. TakesRow self.old self.new chunk.now rest.now row.new)) }
+        ensures shorter { IfOk result (λ next.
+            IfSome next (λ rest. length rest.now < length chunk.now)) }
+        ensures headed { IfOk result (λ next.
+            IfSome next (λ rest. is_some self.new.interface ≡ true)) }
         // Else it answers the fault of the first line that is faulty however the text goes on, or want of memory.
-        ensures refused { (text : List ℕ) → StandsFor self.old text → IfErr result (IsFaultOf (early (text ++ chunk.now))) }
-        ensures known { (text : List ℕ) → StandsFor self.old text → IfErr result (AreKnown (early_rows text) (early_rows (text ++ chunk.now))) }
-        ensures header { (text : List ℕ) → StandsFor self.old text → IsHeadKept result self.new.interface (early_head (text ++ chunk.now)) }
+        ensures refused { (text : List ℕ) → StandsFor self.old text
+            → IfErr result (IsFaultOf (early (text ++ chunk.now))) }
+        ensures known { (text : List ℕ) → StandsFor self.old text
+            → IfErr result (AreKnown (early_rows text) (early_rows (text ++ chunk.now))) }
+        ensures header { (text : List ℕ) → StandsFor self.old text
+            → IsHeadKept result self.new.interface (early_head (text ++ chunk.now)) }
 
         // It was fed at most 2^30 bytes.
-        ensures size { IfOk result (λ next. MatchOption next (bytes_fed self.new ≡ bytes_fed self.old + length chunk.now) (λ rest. bytes_fed self.new + length rest.now ≡ bytes_fed self.old + length chunk.now)) }
+        ensures size { IfOk result (λ next. MatchOption next (bytes_fed self.new
+            ≡ bytes_fed self.old + length chunk.now) (λ rest. bytes_fed self.new + length rest.now
+            ≡ bytes_fed self.old + length chunk.now)) }
         ensures limit { bytes_fed self.new ≤ 2 ^ 30 }
         ensures kinds { IfErr result IsTextFault }
         // From a refusal on it answers the same.
         ensures refuses { IfErr result (λ fault. self.new.refused ≡ Some fault) }
-        ensures again { (fault : Fault) → self.old.refused ≡ Some fault → (result ≡ Err fault) × (self.new ≡ self.old) × (row.new ≡ row.old) }
+        ensures again { (fault : Fault) → self.old.refused ≡ Some fault → (result ≡ Err fault)
+            × (self.new ≡ self.old) × (row.new ≡ row.old) }
     {
         if let Some(fault) = self.refused {
             return Err(fault);
@@ -304,10 +334,14 @@ impl<A: Allocator> Lines<A> {
     /// Ends the text, whose last line may lack its LF. Counts its lines, and tells whether the last one is a row, which
     /// then is put in the place of another.
     fn end_begun(&mut self, row: &mut Row<A>) -> Result<(u32, bool), Fault>
-        ensures ok { (text : List ℕ) → StandsFor self.old text → IfOk result (λ end. EndsText self.new end.0 text) }
+        ensures ok { (text : List ℕ) → StandsFor self.old text
+            → IfOk result (λ end. EndsText self.new end.0 text) }
         ensures few { IfOk result (λ end. end.0 ≤ 2 ^ 30 + 1) }
-        ensures row { (text : List ℕ) → StandsFor self.old text → IfOk result (λ end. rows_in (lines_of text) ≡ early_rows text ++ last_row end.1 row.new) }
-        ensures refused { (text : List ℕ) → StandsFor self.old text → IfErr result (IsFaultOf (fault text)) }
+        ensures row { (text : List ℕ) → StandsFor self.old text
+            → IfOk result (λ end. rows_in (lines_of text) ≡ early_rows text
+            ++ last_row end.1 row.new) }
+        ensures refused { (text : List ℕ) → StandsFor self.old text
+            → IfErr result (IsFaultOf (fault text)) }
         ensures kinds { IfErr result IsTextFault }
     {
         if self.begun.is_empty() {
@@ -325,12 +359,18 @@ impl<A: Allocator> Lines<A> {
     /// The text has ended: its header, and whether a last line that no LF ended writes a row, which then is put in the
     /// place of another.
     pub fn end_row(mut self, row: &mut Row<A>) -> Result<TextEnd, Fault>
-        ensures ok { (text : List ℕ) → StandsFor self text → IfOk result (λ end. (fault text ≡ None) × (head text ≡ Some end.interface)) }
-        ensures row { (text : List ℕ) → StandsFor self text → IfOk result (λ end. rows_of_text text ≡ early_rows text ++ last_row end.has_row row.new) }
-        ensures refused { (text : List ℕ) → StandsFor self text → IfErr result (IsFaultOf (fault text)) }
-        ensures known { (text : List ℕ) → StandsFor self text → IfErr result (AreKnown (early_rows text) (rows_of_text text)) }
+        ensures ok { (text : List ℕ) → StandsFor self text
+            → IfOk result (λ end. (fault text ≡ None) × (head text ≡ Some end.interface)) }
+        ensures row { (text : List ℕ) → StandsFor self text
+            → IfOk result (λ end. rows_of_text text ≡ early_rows text
+            ++ last_row end.has_row row.new) }
+        ensures refused { (text : List ℕ) → StandsFor self text
+            → IfErr result (IsFaultOf (fault text)) }
+        ensures known { (text : List ℕ) → StandsFor self text
+            → IfErr result (AreKnown (early_rows text) (rows_of_text text)) }
         ensures kinds { IfErr result IsTextFault }
-        ensures again { (fault : Fault) → self.refused ≡ Some fault → (result ≡ Err fault) × (row.new ≡ row.old) }
+        ensures again { (fault : Fault) → self.refused ≡ Some fault → (result ≡ Err fault)
+            × (row.new ≡ row.old) }
     {
         if let Some(fault) = self.refused {
             return Err(fault);
@@ -356,10 +396,15 @@ impl<A: Allocator + Clone> Lines<A> {
 
     /// Appends the rows of a chunk.
     fn feed_rows(&mut self, chunk: &[u8], out: &mut Vec<Row<A>, A>) -> Result<(), Fault>
-        ensures ok { OnOk result ((text : List ℕ) → StandsFor self.old text → StandsFor self.new (text ++ chunk.now)) }
-        ensures refused { (text : List ℕ) → StandsFor self.old text → IfErr result (IsFaultOf (early (text ++ chunk.now))) }
-        ensures appended { (text : List ℕ) → StandsFor self.old text → IsAppended result out.old.items out.new.items (early_rows text) (early_rows (text ++ chunk.now)) }
-        ensures header { (text : List ℕ) → StandsFor self.old text → IsHeadKept result self.new.interface (early_head (text ++ chunk.now)) }
+        ensures ok { OnOk result ((text : List ℕ) → StandsFor self.old text
+            → StandsFor self.new (text ++ chunk.now)) }
+        ensures refused { (text : List ℕ) → StandsFor self.old text
+            → IfErr result (IsFaultOf (early (text ++ chunk.now))) }
+        ensures appended { (text : List ℕ) → StandsFor self.old text
+            → IsAppended result out.old.items out.new.items (early_rows text) (early_rows (text
+            ++ chunk.now)) }
+        ensures header { (text : List ℕ) → StandsFor self.old text
+            → IsHeadKept result self.new.interface (early_head (text ++ chunk.now)) }
         ensures size { OnOk result (bytes_fed self.new ≡ bytes_fed self.old + length chunk.now) }
         ensures kinds { IfErr result IsTextFault }
     {
@@ -383,14 +428,21 @@ impl<A: Allocator + Clone> Lines<A> {
     /// Takes the next chunk of the text, and appends the rows of the lines that an LF of it ends.
     pub fn feed(&mut self, chunk: &[u8], out: &mut Vec<Row<A>, A>) -> Result<(), Fault>
         // Of any text that it stands for: it stands for the text with the chunk, where no line of that is faulty so far.
-        ensures ok { OnOk result ((text : List ℕ) → StandsFor self.old text → StandsFor self.new (text ++ chunk.now)) }
+        ensures ok { OnOk result ((text : List ℕ) → StandsFor self.old text
+            → StandsFor self.new (text ++ chunk.now)) }
         // Else it answers the fault of the first line that is faulty however the text goes on, or want of memory.
-        ensures refused { (text : List ℕ) → StandsFor self.old text → IfErr result (IsFaultOf (early (text ++ chunk.now))) }
+        ensures refused { (text : List ℕ) → StandsFor self.old text
+            → IfErr result (IsFaultOf (early (text ++ chunk.now))) }
         // Whatever the list held: the rows that came are appended, at a faulty line those before it, for want of memory
         // some first ones.
-        ensures appended { (text : List ℕ) → StandsFor self.old text → IsAppended result out.old.items out.new.items (early_rows text) (early_rows (text ++ chunk.now)) }
-        ensures told { (text : List ℕ) (rows : List records.Row) → StandsFor self.old text → out.old.items ≡ rows ++ early_rows text → IsTold result out.new.items rows (early_rows (text ++ chunk.now)) }
-        ensures header { (text : List ℕ) → StandsFor self.old text → IsHeadKept result self.new.interface (early_head (text ++ chunk.now)) }
+        ensures appended { (text : List ℕ) → StandsFor self.old text
+            → IsAppended result out.old.items out.new.items (early_rows text) (early_rows (text
+            ++ chunk.now)) }
+        ensures told { (text : List ℕ) (rows : List records.Row) → StandsFor self.old text
+            → out.old.items ≡ rows ++ early_rows text
+            → IsTold result out.new.items rows (early_rows (text ++ chunk.now)) }
+        ensures header { (text : List ℕ) → StandsFor self.old text
+            → IsHeadKept result self.new.interface (early_head (text ++ chunk.now)) }
 
         // It was fed at most 2^30 bytes.
         ensures size { OnOk result (bytes_fed self.new ≡ bytes_fed self.old + length chunk.now) }
@@ -398,7 +450,8 @@ impl<A: Allocator + Clone> Lines<A> {
         ensures kinds { IfErr result IsTextFault }
         // From a refusal on it answers the same.
         ensures refuses { IfErr result (λ fault. self.new.refused ≡ Some fault) }
-        ensures again { (fault : Fault) → self.old.refused ≡ Some fault → (result ≡ Err fault) × (self.new ≡ self.old) × (out.new.items ≡ out.old.items) }
+        ensures again { (fault : Fault) → self.old.refused ≡ Some fault → (result ≡ Err fault)
+            × (self.new ≡ self.old) × (out.new.items ≡ out.old.items) }
     {
         if let Some(fault) = self.refused {
             return Err(fault);
@@ -414,12 +467,18 @@ impl<A: Allocator + Clone> Lines<A> {
 
     /// The text has ended: its header, and the row of a last line that no LF ended.
     pub fn end(self, out: &mut Vec<Row<A>, A>) -> Result<Interface, Fault>
-        ensures ok { (text : List ℕ) → StandsFor self text → IfOk result (λ interface. (fault text ≡ None) × (head text ≡ Some interface)) }
-        ensures refused { (text : List ℕ) → StandsFor self text → IfErr result (IsFaultOf (fault text)) }
-        ensures appended { (text : List ℕ) → StandsFor self text → IsAppended result out.old.items out.new.items (early_rows text) (rows_of_text text) }
-        ensures told { (text : List ℕ) (rows : List records.Row) → StandsFor self text → out.old.items ≡ rows ++ early_rows text → IsTold result out.new.items rows (rows_of_text text) }
+        ensures ok { (text : List ℕ) → StandsFor self text
+            → IfOk result (λ interface. (fault text ≡ None) × (head text ≡ Some interface)) }
+        ensures refused { (text : List ℕ) → StandsFor self text
+            → IfErr result (IsFaultOf (fault text)) }
+        ensures appended { (text : List ℕ) → StandsFor self text
+            → IsAppended result out.old.items out.new.items (early_rows text) (rows_of_text text) }
+        ensures told { (text : List ℕ) (rows : List records.Row) → StandsFor self text
+            → out.old.items ≡ rows ++ early_rows text
+            → IsTold result out.new.items rows (rows_of_text text) }
         ensures kinds { IfErr result IsTextFault }
-        ensures again { (fault : Fault) → self.refused ≡ Some fault → (result ≡ Err fault) × (out.new.items ≡ out.old.items) }
+        ensures again { (fault : Fault) → self.refused ≡ Some fault → (result ≡ Err fault)
+            × (out.new.items ≡ out.old.items) }
     {
         if let Some(fault) = self.refused {
             return Err(fault);

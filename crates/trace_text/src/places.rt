@@ -105,7 +105,12 @@ pub trait RowPlace {
 
     /// Gives the row a number and a side.
     fn name(&mut self, number: u32, side: Side)
-        ensures { held self.new ≡ record { number = number; side = side; octets = (held self.old).octets } };
+        ensures { held self.new ≡ record {
+          number = number;
+          side = side;
+          octets =
+              (held self.old).octets;
+        } };
 
     /// Drops its octets.
     fn clear(&mut self)

@@ -76,7 +76,8 @@ fn read_side(word: &[u8]) -> Option<Side>
 /// Puts the octets that hex digits write, or `-` for none, in the place of what was in a list.
 #[tactic(auto, unfolding(line_model::specs::text::RowLine::octets_of))]
 fn read_octets<P: RowPlace>(word: &[u8], row: &mut P) -> Result<(), LineFault>
-    ensures { MatchResult result (λ _. octets_of word.now ≡ Some (P.held row.new).octets) (λ fault. (fault ≡ Memory) ⊎ ((fault ≡ Broken Hex) × (octets_of word.now ≡ None))) }
+    ensures { MatchResult result (λ _. octets_of word.now ≡ Some (P.held row.new).octets) (λ fault.
+        (fault ≡ Memory) ⊎ ((fault ≡ Broken Hex) × (octets_of word.now ≡ None))) }
 {
     if word == b"-".as_slice() {
         row.clear();
@@ -110,7 +111,8 @@ fn split_usual(last: u32, line: &[u8]) -> Option<(u32, Side, &[u8])>
 
 /// Puts the row of the usual line in the place of another. A line that has no octets, or breaks a rule, is another.
 fn read_usual<P: RowPlace>(last: u32, line: &[u8], row: &mut P) -> Result<bool, LineFault>
-    ensures { MatchResult result (λ is_usual. OnTrue is_usual ((row_kind last line.now ≡ None) × (row_of line.now ≡ Some (P.held row.new)))) (λ fault. fault ≡ Memory) }
+    ensures { MatchResult result (λ is_usual. OnTrue is_usual ((row_kind last line.now ≡ None)
+        × (row_of line.now ≡ Some (P.held row.new)))) (λ fault. fault ≡ Memory) }
 {
     let Some((number, side, digits)) = split_usual(last, line) else {
         return Ok(false);
@@ -131,7 +133,8 @@ fn read_usual<P: RowPlace>(last: u32, line: &[u8], row: &mut P) -> Result<bool, 
 /// Puts the row of any line in the place of another, or tells the rule that the line breaks.
 #[tactic(auto, unfolding(line_model::specs::text::RowLine::row_kind, line_model::specs::text::RowLine::row_of))]
 fn read_any<P: RowPlace>(last: u32, line: &[u8], row: &mut P) -> Result<(), LineFault>
-    ensures { MatchResult result (λ _. (row_kind last line.now ≡ None) × (row_of line.now ≡ Some (P.held row.new))) (Breaks (row_kind last line.now)) }
+    ensures { MatchResult result (λ _. (row_kind last line.now ≡ None)
+        × (row_of line.now ≡ Some (P.held row.new))) (Breaks (row_kind last line.now)) }
 {
     let Some(fields) = split_fields(line) else {
         return Err(LineFault::Broken(Kind::LineForm));
@@ -150,7 +153,8 @@ fn read_any<P: RowPlace>(last: u32, line: &[u8], row: &mut P) -> Result<(), Line
 /// Puts the row that a line writes after one of the number `last` in the place of another, or tells the rule that the
 /// line breaks; then the row has no meaning.
 pub fn read_row<P: RowPlace>(last: u32, line: &[u8], row: &mut P) -> Result<(), LineFault>
-    ensures { MatchResult result (λ _. (row_kind last line.now ≡ None) × (row_of line.now ≡ Some (P.held row.new))) (Breaks (row_kind last line.now)) }
+    ensures { MatchResult result (λ _. (row_kind last line.now ≡ None)
+        × (row_of line.now ≡ Some (P.held row.new))) (Breaks (row_kind last line.now)) }
 {
     match read_usual(last, line, row) {
         Ok(true) => Ok(()),

@@ -73,7 +73,8 @@ impl Share {
 
     /// What a line says that an LF ends. A row is put in the place of another.
     fn read<P: RowPlace>(&self, line: &[u8], row: &mut P) -> Result<Content, ShareFault>
-        ensures reads { IfOk result (λ content. (share_kind self.now line.now ≡ None) × ReadsAs true self.now.last line.now content (P.held row.new)) }
+        ensures reads { IfOk result (λ content. (share_kind self.now line.now ≡ None)
+            × ReadsAs true self.now.last line.now content (P.held row.new)) }
         ensures refused { IfErr result (BrokenBy (share_kind self.now line.now)) }
     {
         if size_fault(self.size + 1, 1, line.len()).is_some() {
@@ -138,10 +139,13 @@ impl Share {
         row: &mut P,
     ) -> Result<Option<&'a [u8]>, ShareFault>
         // Of any share that it stands for: it stands for the share with what was taken, which has that row more, or none.
-        ensures ok { IfOk result (λ next. MatchOption next (ReadsShare self.old self.new chunk.now) (λ rest. TakesShareRow self.old self.new chunk.now rest.now (P.held row.new))) }
-        ensures shorter { IfOk result (λ next. IfSome next (λ rest. length rest.now < length chunk.now)) }
+        ensures ok { IfOk result (λ next. MatchOption next (ReadsShare self.old self.new chunk.now)
+            (λ rest. TakesShareRow self.old self.new chunk.now rest.now (P.held row.new))) }
+        ensures shorter { IfOk result (λ next.
+            IfSome next (λ rest. length rest.now < length chunk.now)) }
         // Else the share with the chunk is not to be read by itself, or memory ran out.
-        ensures refused { (bytes : List ℕ) → IsShare self.old bytes → IfErr result (IsShareFault (bytes ++ chunk.now)) }
+        ensures refused { (bytes : List ℕ) → IsShare self.old bytes
+            → IfErr result (IsShareFault (bytes ++ chunk.now)) }
     {
         let mut rest = chunk;
         while let Some((line, back)) = split_at_byte(rest, b'\n') {

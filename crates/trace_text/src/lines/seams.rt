@@ -27,7 +27,8 @@ impl<A: Allocator> Lines<A> {
 
     /// Whether no line is begun: an LF ended the last one, or there is none.
     pub fn is_between_lines(&self) -> bool
-        ensures begun { (text : List ℕ) → StandsFor self.now text → result ≡ (length (begun_line text) == 0) }
+        ensures begun { (text : List ℕ) → StandsFor self.now text
+            → result ≡ (length (begun_line text) == 0) }
         ensures kept { result ≡ (length self.now.begun == 0) }
     {
         self.begun.is_empty()
@@ -67,11 +68,15 @@ impl<A: Allocator> Lines<A> {
     /// ```
     pub fn pass(&mut self, share: &Share) -> bool
         ensures judged { result ≡ follows self.old share.now }
-        ensures stands { (text bytes : List ℕ) → StandsFor self.old text → IsShare share.now bytes → OnTrue result (StandsFor self.new (text ++ bytes)) }
-        ensures rows { (text bytes : List ℕ) → StandsFor self.old text → IsShare share.now bytes → OnTrue result (early_rows (text ++ bytes) ≡ early_rows text ++ share_rows bytes) }
+        ensures stands { (text bytes : List ℕ) → StandsFor self.old text → IsShare share.now bytes
+            → OnTrue result (StandsFor self.new (text ++ bytes)) }
+        ensures rows { (text bytes : List ℕ) → StandsFor self.old text → IsShare share.now bytes
+            → OnTrue result (early_rows (text ++ bytes) ≡ early_rows text ++ share_rows bytes) }
         ensures same { OnFalse result (self.new ≡ self.old) }
         // Behind the header and between lines a share is kept from passing by a fault of the text alone.
-        ensures needed { (text bytes : List ℕ) → StandsFor self.old text → IsShare share.now bytes → is_some self.old.interface ≡ true → self.old.begun ≡ [] → OnFalse result (early (text ++ bytes) ≢ None) }
+        ensures needed { (text bytes : List ℕ) → StandsFor self.old text → IsShare share.now bytes
+            → is_some self.old.interface ≡ true → self.old.begun ≡ []
+            → OnFalse result (early (text ++ bytes) ≢ None) }
         ensures header { self.new.interface ≡ self.old.interface }
         ensures refusal { self.new.refused ≡ self.old.refused }
         ensures size { OnTrue result (bytes_fed self.new ≡ bytes_fed self.old + share.now.size) }
