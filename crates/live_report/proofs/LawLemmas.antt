@@ -1,5 +1,5 @@
 -- What was found so far stands first in what is found of each text that goes on, and in its report.
-use Rattle.std.proofs.Common.{◌≡◌, ◌∙◌, sym, ap, subst, refl, ℕ, ◌+◌, ◌-◌, ◌≤◌, List, [], ◌∷◌, ◌++◌, length, Option, Some, None, take, arith, append-nil, append_assoc, length-append}
+use Rattle.std.proofs.Common.{◌≡◌, ◌∙◌, sym, ap, refl, ℕ, ◌+◌, ◌-◌, ◌≤◌, List, [], ◌∷◌, ◌++◌, length, Option, Some, None, take, arith, append-nil, append_assoc, length-append}
 use Rattle.std.specs.Option.{option_or, option_map}
 use Rattle.std.proofs.lemmas.Grind.{flat_map-append}
 use Rattle.std.proofs.lemmas.List.{take-append-le}
@@ -10,8 +10,6 @@ use Rattle.line_model.specs.basics.Records.{Report}
 use Rattle.line_model.specs.observer.Report.{finding_line, report, report_of}
 use Rattle.line_model.specs.text.Text.{Line, begun_kind, begun_line, early, early_head, early_rows, end_kind, ended_lines, fault, first_fault, good_lines, head, head_of, line_kind, rows, rows_in, size_kind, size_of}
 use Rattle.line_model.specs.traces.Traces.{trace_report}
-use Rattle.line_model.proofs.LineLemmas.{size_kind-zero}
-use Rattle.line_model.proofs.TextLemmas.{size_kind-none, size_of-append}
 use Rattle.report_merge.specs.Parts.{findings_text, rest_text}
 use Rattle.report_merge.proofs.WrittenLemmas.{two_parts}
 use Rattle.line_model.proofs.FinalFaults.{early-append, no_size_fault, small_lines, both_none}

@@ -1,6 +1,5 @@
 -- The report of a text, from the observer of its rows.
-use Rattle.std.proofs.Common.{◌≡◌, ◌∙◌, sym, ap, subst, ℕ, List, [], ◌++◌, length, take, Option, Some, None, Result, Ok, Err, IfOk, IfErr, append-nil}
-use Rattle.std.proofs.Math.Seq.{take-append_seam}
+use Rattle.std.proofs.Common.{◌≡◌, ◌∙◌, sym, ap, subst, ℕ, List, [], ◌++◌, length, Option, Some, None, Result, Ok, Err, IfOk, IfErr, append-nil}
 use Rattle.line_model.specs.basics.Device.{with_more}
 use Rattle.line_model.specs.basics.Records.{Report, Row}
 use Rattle.line_model.specs.observer.Report.{no_summary, report, report_of, text_of}

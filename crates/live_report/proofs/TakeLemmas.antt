@@ -1,11 +1,11 @@
 -- What an observer holds after one more row, by the route of the row.
-use Rattle.std.proofs.Common.{◌≡◌, ◌∙◌, sym, ap, subst, refl, ℕ, ◌+◌, true, List, [], ◌∷◌, ◌++◌, map, length, Option, Some, arith, append-nil, inl, suc}
+use Rattle.std.proofs.Common.{◌≡◌, ◌∙◌, sym, ap, subst, refl, ℕ, ◌+◌, true, List, [], ◌∷◌, ◌++◌, map, length, Option, Some, arith, append-nil, inl}
 use Rattle.line_model.specs.declared.interface.Interface.{Interface}
 use Rattle.line_model.specs.declared.finding.Finding.{Finding}
 use Rattle.line_model.specs.declared.packet.Packet.{Packet}
 use Rattle.line_model.specs.declared.state.Side.{Side}
 use Rattle.line_model.specs.declared.verdict.Route.TheVariants.{Leave, Enter}
-use Rattle.line_model.specs.basics.Records.{Row, Item, Piece}
+use Rattle.line_model.specs.basics.Records.{Row, Item}
 use Rattle.line_model.specs.channels.Channels.{Channel}
 use Rattle.line_model.specs.packets.Classes.{packet_of, packet_class}
 use Rattle.line_model.specs.basics.Octets.{channel_of}
