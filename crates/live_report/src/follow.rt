@@ -54,7 +54,8 @@ impl<A: Allocator + Copy, C: Channel<A>> Follower<A, C> {
         ensures limit { OnOk result (bytes_fed self.new.live.lines ≤ 2 ^ 30) }
         ensures kinds { IfErr result IsReportFault }
         ensures rising { K.failures sink.old ≤ K.failures sink.new }
-        ensures write_failed { result ≡ Err Fault.Write → K.failures sink.old < K.failures sink.new }
+        ensures write_failed { result ≡ Err Fault.Write
+            → K.failures sink.old < K.failures sink.new }
     {
         let read = self.live.feed(chunk);
         let found = self.live.found();

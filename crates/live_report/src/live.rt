@@ -96,7 +96,8 @@ impl<A: Allocator + Copy, C: Channel<A>> Live<A, C> {
             IsFoundBy result self.old.found.items self.new.found.items
             (found text) (found (text ++ chunk.now))) }
         ensures few { length self.new.found.items ≤ length self.old.found.items + length chunk.now }
-        ensures size { OnOk result (bytes_fed self.new.lines ≡ bytes_fed self.old.lines + length chunk.now) }
+        ensures size { OnOk result (bytes_fed self.new.lines
+            ≡ bytes_fed self.old.lines + length chunk.now) }
         ensures limit { OnOk result (bytes_fed self.new.lines ≤ 2 ^ 30) }
         ensures kinds { IfErr result IsTextFault }
     {
@@ -146,7 +147,8 @@ impl<A: Allocator + Copy, C: Channel<A>> Live<A, C> {
         ensures found { OfFed C.Channel self.old (λ text.
             IsFoundBy result [] self.new.found.items (found text) (found (text ++ chunk.now))) }
         ensures few { self.old.refused ≡ None → length self.new.found.items ≤ length chunk.now }
-        ensures size { OnOk result (bytes_fed self.new.lines ≡ bytes_fed self.old.lines + length chunk.now) }
+        ensures size { OnOk result (bytes_fed self.new.lines
+            ≡ bytes_fed self.old.lines + length chunk.now) }
         ensures limit { OnOk result (bytes_fed self.new.lines ≤ 2 ^ 30) }
         ensures kinds { IfErr result IsTextFault }
         ensures refuses { IfErr result (λ fault. self.new.refused ≡ Some fault) }
@@ -200,7 +202,8 @@ impl<A: Allocator + Copy, C: Channel<A>> Live<A, C> {
         ensures missing { OfFed C.Channel self.now (λ text.
             IfErr result (IsMissing (length (ended_lines text) + 1))) }
         ensures kinds { IfErr result IsReportFault }
-        ensures write_failed { result ≡ Err Fault.Write → K.failures sink.old < K.failures sink.new }
+        ensures write_failed { result ≡ Err Fault.Write
+            → K.failures sink.old < K.failures sink.new }
         ensures unwritten { IfErr result (λ fault. fault ≢ Fault.Write → sink.new ≡ sink.old) }
         ensures taken { OfFed C.Channel self.now (λ text.
             IfErr result
@@ -254,7 +257,8 @@ impl<A: Allocator + Copy, C: Channel<A>> Live<A, C> {
             IfOk result (IsReported text (K.taken sink.old) (K.taken sink.new))) }
         ensures refused { OfFed C.Channel self (λ text. IfErr result (IsRefusal text)) }
         ensures kinds { IfErr result IsReportFault }
-        ensures write_failed { result ≡ Err Fault.Write → K.failures sink.old < K.failures sink.new }
+        ensures write_failed { result ≡ Err Fault.Write
+            → K.failures sink.old < K.failures sink.new }
         ensures unwritten { IfErr result (λ fault. fault ≢ Fault.Write → sink.new ≡ sink.old) }
         ensures taken { OfFed C.Channel self (λ text.
             IfErr result (IsTaken (K.taken sink.old) (K.taken sink.new) (trace_report text))) }

@@ -28,7 +28,8 @@ fn seen_ids<A: Allocator + Clone>(
     pieces: u32,
 ) -> Result<Vec<bool, A>, Fault>
     requires known { stranger pieces (ids_of reports.now) ≡ None }
-    ensures seen { IfOk result (λ v. (k : ℕ) → slice_index_or v.items k false ≡ is_among k (ids_of reports.now)) }
+    ensures seen { IfOk result (λ v. (k : ℕ) → slice_index_or v.items k false
+        ≡ is_among k (ids_of reports.now)) }
     ensures len { IfOk result (λ v. vec_len v ≡ pieces) }
     ensures once { OnOk result (double (ids_of reports.now) ≡ None) }
     ensures few { OnOk result (length reports.now ≤ pieces) }
