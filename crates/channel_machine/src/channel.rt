@@ -1,15 +1,14 @@
 //! One channel of an interface, and what every change of its state does.
 
-ghost use Rattle.std.specs.Prelude.{◌≡◌, ◌+◌, ◌<◌, ◌≤◌, vec_len, vec_capacity, IfOk, IfErr, OnErr};
-ghost use Rattle.line_model.specs.declared.fault.Fault.TheVariants.{Memory};
+ghost use Rattle.std.specs.Prelude.{◌≡◌, ◌+◌, ◌<◌, ◌≤◌, vec_len, vec_capacity};
 ghost use Rattle.line_model.specs.channels.Channels.{Channel};
 ghost use Rattle.line_model.specs.channels.ChannelStep.{entering, ending, failing, after_error};
 ghost use Rattle.channel_machine.specs.Messages.{SettingsStand};
 ghost use Rattle.channel_machine.specs.Agreed.{agreed_of};
 ghost use Rattle.channel_machine.specs.TermsStand.{TermsStand};
-ghost use Rattle.channel_machine.specs.Channels.{Stands, Does};
+ghost use Rattle.channel_machine.specs.Channels.{Stands, Does, Comes, IsUnchanged, IsMemory};
 
-use crate::events::Stamp;
+use crate::events::{Place, Stamp};
 use crate::messages::BothSettings;
 use crate::packed::PackedStatus;
 use crate::plain::PlainStatus;
@@ -84,19 +83,18 @@ impl<A: Allocator + Clone, S: StatusStore> StatusChannel<A, S> {
         }
     }
 
-    /// Tells an error in a state: one of the DTE has the DCE clear or reset, one of the DCE changes nothing.
+    /// Tells an error at a place: one of the DTE has the DCE clear or reset, one of the DCE changes nothing.
     pub(crate) fn fail(
         &mut self,
-        stamp: Stamp,
-        side: Side,
-        state: StateName,
+        place: Place,
         code: u8,
         events: &mut Vec<Event, A>,
     ) -> Result<(), Fault>
-        ensures does { (c : Channel) → Stands self.old c → IfOk result (λ _. Does stamp self.old self.new events.old.items events.new.items (failing side state code c)) }
-        ensures unchanged { OnErr result ((self.new ≡ self.old) × (events.new.items ≡ events.old.items)) }
-        ensures memory { IfErr result (λ fault. fault ≡ Memory) }
+        ensures does { Comes result place.stamp self.old self.new events.old.items events.new.items (failing place.side place.state code) }
+        ensures unchanged { IsUnchanged result self.old self.new events.old.items events.new.items }
+        ensures memory { IsMemory result }
     {
+        let Place { stamp, side, state } = place;
         events.reserve(2)?;
         events.push_reserved(stamp.event(error(side, state, code)));
         match side {
