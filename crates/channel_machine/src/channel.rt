@@ -50,7 +50,9 @@ impl<A: Allocator + Clone, S: StatusStore> StatusChannel<A, S> {
     pub(crate) fn enter(&mut self, to: StateName, owed: bool, terms: &Terms)
         ensures interface { self.new.terms.interface ≡ terms.now.interface }
         ensures channel { self.new.channel ≡ self.old.channel }
-        ensures stands { (c : Channel) → TermsStand (agreed_of terms.now) c → SettingsStand self.old.transfer.settings c.told → Stands self.new (entering to owed c) }
+        ensures stands { (c : Channel) → TermsStand (agreed_of terms.now) c
+            → SettingsStand self.old.transfer.settings c.told
+            → Stands self.new (entering to owed c) }
     {
         let Values { size_t, size_n, .. } = terms.values;
         self.assembler.renew(size_t, size_n);
@@ -70,7 +72,9 @@ impl<A: Allocator + Clone, S: StatusStore> StatusChannel<A, S> {
         ensures interface { self.new.terms.interface ≡ self.old.terms.interface }
         ensures capacity { vec_capacity events.new ≡ vec_capacity events.old }
         ensures len { vec_len events.new ≤ vec_len events.old + 1 }
-        ensures does { (c : Channel) → Stands self.old c → Does stamp self.old self.new events.old.items events.new.items (ending how (entering to owed c)) }
+        ensures does { (c : Channel) → Stands self.old c
+            → Does stamp self.old self.new events.old.items events.new.items
+            (ending how (entering to owed c)) }
     {
         let terms = self.status.terms();
         match terms.call {
@@ -90,7 +94,8 @@ impl<A: Allocator + Clone, S: StatusStore> StatusChannel<A, S> {
         code: u8,
         events: &mut Vec<Event, A>,
     ) -> Result<(), Fault>
-        ensures does { Comes result place.stamp self.old self.new events.old.items events.new.items (failing place.side place.state code) }
+        ensures does { Comes result place.stamp self.old self.new events.old.items events.new.items
+            (failing place.side place.state code) }
         ensures unchanged { IsUnchanged result self.old self.new events.old.items events.new.items }
         ensures memory { IsMemory result }
     {
@@ -107,7 +112,8 @@ impl<A: Allocator + Clone, S: StatusStore> StatusChannel<A, S> {
     /// Has the DCE clear or reset after an error of the DTE.
     fn give_up(&mut self, stamp: Stamp, state: StateName, events: &mut Vec<Event, A>)
         requires room { vec_len events.old < vec_capacity events.old }
-        ensures { (c : Channel) → Stands self.old c → Does stamp self.old self.new events.old.items events.new.items (after_error state c) }
+        ensures { (c : Channel) → Stands self.old c
+            → Does stamp self.old self.new events.old.items events.new.items (after_error state c) }
     {
         let terms = self.status.terms();
         match state {

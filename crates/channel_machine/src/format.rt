@@ -28,7 +28,9 @@ impl<A: Allocator + Clone, S: StatusStore> StatusChannel<A, S> {
         octets: &'a [u8],
     ) -> Result<Contents<'a>, u8>
         requires packet { packet.now ≡ packet_of self.now.terms.interface octets.now }
-        ensures fault { (c : Channel) → Stands self.now c → result_err result ≡ packet_fault self.now.terms.interface self.now.channel c side (class_of self.now.terms.interface octets.now) octets.now }
+        ensures fault { (c : Channel) → Stands self.now c
+            → result_err result ≡ packet_fault self.now.terms.interface self.now.channel c side
+            (class_of self.now.terms.interface octets.now) octets.now }
         ensures contents { IfOk result (λ r. AreOf r self.now.terms.interface octets.now) }
         ensures usable { IfOk result (λ r. AreUsable r self.now.terms.interface largest_size) }
     {
@@ -64,7 +66,8 @@ impl<A: Allocator + Clone, S: StatusStore> StatusChannel<A, S> {
     /// What is in force for the packets of a side.
     #[tactic(auto, using(crate::proofs::InForce::size_stands, crate::proofs::InForce::fast_stands))]
     fn in_force(&self, side: Side) -> InForce
-        ensures { (c : Channel) → Stands self.now c → AreInForce self.now.terms.interface c side result }
+        ensures { (c : Channel) → Stands self.now c
+            → AreInForce self.now.terms.interface c side result }
     {
         InForce {
             fast: was_fast(self.status.call()),

@@ -46,7 +46,8 @@ pub(crate) fn judged(
     owed: bool,
     class: Class,
 ) -> (StateName, Action)
-    ensures { record { state = result.0; entry = result.1 } ≡ judged permanent side state owed class }
+    ensures { record { state = result.0; entry = result.1 }
+        ≡ judged permanent side state owed class }
 {
     match state {
         ChannelState::Setup(state) => (state.name(), entry(side, state.name(), owed, class)),
@@ -98,7 +99,8 @@ fn is_call_or_clear(class: Class) -> bool
 
 /// What a packet comes to, by the entry and by what was read of it.
 pub(crate) fn weigh<'a>(entry: Action, read: Result<Contents<'a>, u8>) -> Decision<'a>
-    ensures verdict { (s : StateName) → verdict_in s result ≡ verdict (record { state = s; entry = entry }) (result_err read.entry) }
+    ensures verdict { (s : StateName) → verdict_in s result
+        ≡ verdict (record { state = s; entry = entry }) (result_err read.entry) }
     ensures contents { HandsOn result read.entry }
 {
     match entry {

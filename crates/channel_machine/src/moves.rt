@@ -39,7 +39,8 @@ pub(crate) enum Change<'a> {
 
 /// What a move by a packet does to the call.
 pub(crate) fn change_of<'a>(side: Side, contents: Contents<'a>, to: StateName) -> Change<'a>
-    ensures change { (i : Interface) (xs : List ℕ) → AreOf contents.entry i xs → IsChange result (call_change side (class_of i xs) to) xs }
+    ensures change { (i : Interface) (xs : List ℕ) → AreOf contents.entry i xs
+        → IsChange result (call_change side (class_of i xs) to) xs }
     ensures usable { (i : Interface) (n : ℕ) → AreUsable contents.entry i n → TakesUsable result i }
 {
     match contents {
@@ -81,7 +82,10 @@ impl<A: Allocator + Clone, S: StatusStore> StatusChannel<A, S> {
         events: &mut Vec<Event, A>,
     ) -> Result<(), Fault>
         requires usable { IsUsable self.old.terms.interface fields.now }
-        ensures does { (c : Channel) (xs : List ℕ) → shown fields.now ≡ fields_of xs → IfNone c.opening (c.accepting ≡ None) → Stands self.old c → IfOk result (λ _. Does stamp self.old self.new events.old.items events.new.items (changing xs (Opens out) (entering to false c))) }
+        ensures does { (c : Channel) (xs : List ℕ) → shown fields.now ≡ fields_of xs
+            → IfNone c.opening (c.accepting ≡ None) → Stands self.old c
+            → IfOk result (λ _. Does stamp self.old self.new events.old.items events.new.items
+            (changing xs (Opens out) (entering to false c))) }
         ensures unchanged { IsUnchanged result self.old self.new events.old.items events.new.items }
         ensures memory { IsMemory result }
     {
@@ -107,7 +111,10 @@ impl<A: Allocator + Clone, S: StatusStore> StatusChannel<A, S> {
         events: &mut Vec<Event, A>,
     ) -> Result<(), Fault>
         requires usable { IsUsable self.old.terms.interface fields.now }
-        ensures does { (c : Channel) (xs : List ℕ) → shown fields.now ≡ fields_of xs → IsUnanswered c → Stands self.old c → IfOk result (λ _. Does stamp self.old self.new events.old.items events.new.items (changing xs GoesUp (entering to false c))) }
+        ensures does { (c : Channel) (xs : List ℕ) → shown fields.now ≡ fields_of xs
+            → IsUnanswered c → Stands self.old c
+            → IfOk result (λ _. Does stamp self.old self.new events.old.items events.new.items
+            (changing xs GoesUp (entering to false c))) }
         ensures unchanged { IsUnchanged result self.old self.new events.old.items events.new.items }
         ensures memory { IsMemory result }
     {

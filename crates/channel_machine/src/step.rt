@@ -34,7 +34,10 @@ impl<A: Allocator + Clone, S: StatusStore> StatusChannel<A, S> {
         events: &mut Vec<Event, A>,
     ) -> Result<(), Fault>
         requires short { length user_data.now ≤ largest_size }
-        ensures does { (xs : List ℕ) → data_header self.old.terms.interface xs ≡ Some header.now → user_data.now ≡ drop (header_length self.old.terms.interface) xs → Comes result place.stamp self.old self.new events.old.items events.new.items (transferring self.old.terms.interface place.side place.state Class.Data xs) }
+        ensures does { (xs : List ℕ) → data_header self.old.terms.interface xs ≡ Some header.now
+            → user_data.now ≡ drop (header_length self.old.terms.interface) xs
+            → Comes result place.stamp self.old self.new events.old.items events.new.items
+            (transferring self.old.terms.interface place.side place.state Class.Data xs) }
         ensures unchanged { IsUnchanged result self.old self.new events.old.items events.new.items }
         ensures memory { IsMemory result }
     {
@@ -46,7 +49,8 @@ impl<A: Allocator + Clone, S: StatusStore> StatusChannel<A, S> {
 
     /// Takes an interrupt without fault of format.
     fn take_interrupt(&mut self, place: Place, events: &mut Vec<Event, A>) -> Result<(), Fault>
-        ensures does { Comes result place.stamp self.old self.new events.old.items events.new.items (λ c. counting place.side place.state (count_interrupt (counts_of c) place.side) c) }
+        ensures does { Comes result place.stamp self.old self.new events.old.items events.new.items
+            (λ c. counting place.side place.state (count_interrupt (counts_of c) place.side) c) }
         ensures unchanged { IsUnchanged result self.old self.new events.old.items events.new.items }
         ensures memory { IsMemory result }
     {
@@ -58,7 +62,8 @@ impl<A: Allocator + Clone, S: StatusStore> StatusChannel<A, S> {
 
     /// Takes an interrupt confirmation without fault of format.
     fn take_confirmation(&mut self, place: Place, events: &mut Vec<Event, A>) -> Result<(), Fault>
-        ensures does { Comes result place.stamp self.old self.new events.old.items events.new.items (λ c. counting place.side place.state (count_confirm (counts_of c) place.side) c) }
+        ensures does { Comes result place.stamp self.old self.new events.old.items events.new.items
+            (λ c. counting place.side place.state (count_confirm (counts_of c) place.side) c) }
         ensures unchanged { IsUnchanged result self.old self.new events.old.items events.new.items }
         ensures memory { IsMemory result }
     {
@@ -75,7 +80,9 @@ impl<A: Allocator + Clone, S: StatusStore> StatusChannel<A, S> {
         receive: u8,
         events: &mut Vec<Event, A>,
     ) -> Result<(), Fault>
-        ensures does { Comes result place.stamp self.old self.new events.old.items events.new.items (λ c. counting place.side place.state (count_receive self.old.terms.interface.modulus (counts_of c) place.side receive) c) }
+        ensures does { Comes result place.stamp self.old self.new events.old.items events.new.items
+            (λ c. counting place.side place.state
+            (count_receive self.old.terms.interface.modulus (counts_of c) place.side receive) c) }
         ensures unchanged { IsUnchanged result self.old self.new events.old.items events.new.items }
         ensures memory { IsMemory result }
     {
@@ -94,7 +101,12 @@ impl<A: Allocator + Clone, S: StatusStore> StatusChannel<A, S> {
         events: &mut Vec<Event, A>,
     ) -> Result<(), Fault>
         requires usable { AreUsable contents self.old.terms.interface largest_size }
-        ensures does { (c : Channel) (xs : List ℕ) → AreOf contents.entry self.old.terms.interface xs → IsReached c → is_from (call_change place.side (class_of self.old.terms.interface xs) to) to c.state ≡ true → Stands self.old c → IfOk result (λ _. Does place.stamp self.old self.new events.old.items events.new.items (moving place.side (class_of self.old.terms.interface xs) xs to c)) }
+        ensures does { (c : Channel) (xs : List ℕ)
+            → AreOf contents.entry self.old.terms.interface xs → IsReached c
+            → is_from (call_change place.side (class_of self.old.terms.interface xs) to) to c.state
+            ≡ true → Stands self.old c → IfOk result (λ _.
+            Does place.stamp self.old self.new events.old.items events.new.items
+            (moving place.side (class_of self.old.terms.interface xs) xs to c)) }
         ensures unchanged { IsUnchanged result self.old self.new events.old.items events.new.items }
         ensures memory { IsMemory result }
     {
@@ -125,7 +137,10 @@ impl<A: Allocator + Clone, S: StatusStore> StatusChannel<A, S> {
     ) -> Result<(), Fault>
         requires carried { is_transfer contents ≡ true }
         requires usable { AreUsable contents self.old.terms.interface largest_size }
-        ensures does { (xs : List ℕ) → AreOf contents.entry self.old.terms.interface xs → Comes result place.stamp self.old self.new events.old.items events.new.items (transferring self.old.terms.interface place.side place.state (class_of self.old.terms.interface xs) xs) }
+        ensures does { (xs : List ℕ) → AreOf contents.entry self.old.terms.interface xs
+            → Comes result place.stamp self.old self.new events.old.items events.new.items
+            (transferring self.old.terms.interface place.side place.state
+            (class_of self.old.terms.interface xs) xs) }
         ensures unchanged { IsUnchanged result self.old self.new events.old.items events.new.items }
         ensures memory { IsMemory result }
     {
@@ -145,8 +160,14 @@ impl<A: Allocator + Clone, S: StatusStore> StatusChannel<A, S> {
         requires packet { packet.now ≡ packet_of self.now.terms.interface octets.now }
         ensures read { IsRead result.1 self.now.terms.interface octets.now }
         ensures usable { CanBeTaken result.1 self.now.terms.interface }
-        ensures from { IsFrom (verdict_in result.0 result.1) side (class_of self.now.terms.interface octets.now) self.now.state }
-        ensures decided { (c : Channel) → Stands self.now c → IsDecided result.0 (verdict_in result.0 result.1) (judged (is_permanent self.now.terms.interface self.now.channel) side c.state c.owed (class_of self.now.terms.interface octets.now)) (packet_fault self.now.terms.interface self.now.channel c side (class_of self.now.terms.interface octets.now) octets.now) }
+        ensures from { IsFrom (verdict_in result.0 result.1) side
+            (class_of self.now.terms.interface octets.now) self.now.state }
+        ensures decided { (c : Channel) → Stands self.now c
+            → IsDecided result.0 (verdict_in result.0 result.1)
+            (judged (is_permanent self.now.terms.interface self.now.channel) side c.state c.owed
+            (class_of self.now.terms.interface octets.now))
+            (packet_fault self.now.terms.interface self.now.channel c side
+            (class_of self.now.terms.interface octets.now) octets.now) }
     {
         let (state, entry) = judged(
             self.status.interface().is_permanent(self.channel),
@@ -167,7 +188,13 @@ impl<A: Allocator + Clone, S: StatusStore> StatusChannel<A, S> {
         events: &mut Vec<Event, A>,
     ) -> Result<(), Fault>
         requires usable { CanBeTaken decision self.old.terms.interface }
-        ensures does { (c : Channel) (xs : List ℕ) → IsRead decision.entry self.old.terms.interface xs → IsReached c → IsFrom (verdict_in place.state decision.entry) place.side (class_of self.old.terms.interface xs) c.state → Stands self.old c → IfOk result (λ _. Does place.stamp self.old self.new events.old.items events.new.items (verdict_step self.old.terms.interface place.side place.state (class_of self.old.terms.interface xs) xs (verdict_in place.state decision.entry) c)) }
+        ensures does { (c : Channel) (xs : List ℕ)
+            → IsRead decision.entry self.old.terms.interface xs → IsReached c
+            → IsFrom (verdict_in place.state decision.entry) place.side
+            (class_of self.old.terms.interface xs) c.state → Stands self.old c
+            → IfOk result (λ _. Does place.stamp self.old self.new events.old.items events.new.items
+            (verdict_step self.old.terms.interface place.side place.state
+            (class_of self.old.terms.interface xs) xs (verdict_in place.state decision.entry) c)) }
         ensures unchanged { IsUnchanged result self.old self.new events.old.items events.new.items }
         ensures memory { IsMemory result }
     {
@@ -193,7 +220,10 @@ impl<A: Allocator + Clone, S: StatusStore> StatusChannel<A, S> {
         events: &mut Vec<Event, A>,
     ) -> Result<(), Fault>
         requires packet { packet.now ≡ packet_of self.old.terms.interface octets.now }
-        ensures does { (c : Channel) → IsReached c → Stands self.old c → IfOk result (λ _. Does stamp self.old self.new events.old.items events.new.items (channel_step self.old.terms.interface self.old.channel c (record { number = stamp.packet; side = side; octets = octets.now }))) }
+        ensures does { (c : Channel) → IsReached c → Stands self.old c
+            → IfOk result (λ _. Does stamp self.old self.new events.old.items events.new.items
+            (channel_step self.old.terms.interface self.old.channel c
+            (record { number = stamp.packet; side = side; octets = octets.now }))) }
         ensures unchanged { IsUnchanged result self.old self.new events.old.items events.new.items }
         ensures memory { IsMemory result }
     {

@@ -32,8 +32,14 @@ impl<A: Allocator + Clone, S: StatusStore> StatusChannel<A, S> {
     ) -> Result<Option<u8>, Fault>
         requires short { length user_data.now ≤ largest_size }
         ensures rest { self.new ≡ record self.old { transfer = self.new.transfer } }
-        ensures heard { (c : Channel) → Stands self.old c → IfOk result (λ o. IsHeard o self.old.terms.interface stamp self.old.transfer self.new.transfer events.old.items events.new.items side (packet side header.now user_data.now) (counted_in_force self.old.terms.interface side header.now.send header.now.receive c) c) }
-        ensures faulted { IfOk result (λ o. OnSome o ((self.new ≡ self.old) × (events.new.items ≡ events.old.items))) }
+        ensures heard { (c : Channel) → Stands self.old c
+            → IfOk result (λ o. IsHeard o self.old.terms.interface stamp self.old.transfer
+            self.new.transfer events.old.items events.new.items side
+            (packet side header.now user_data.now)
+            (counted_in_force self.old.terms.interface side header.now.send
+            header.now.receive c) c) }
+        ensures faulted { IfOk result (λ o. OnSome o ((self.new ≡ self.old)
+            × (events.new.items ≡ events.old.items))) }
         ensures unchanged { IsUnchanged result self.old self.new events.old.items events.new.items }
         ensures memory { IsMemory result }
     {

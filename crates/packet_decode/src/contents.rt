@@ -120,7 +120,8 @@ fn ready(interface: &Interface, receive: Option<u8>, octets: &[u8]) -> Result<Co
     requires octets { 3 ≤ length octets.now }
     requires receive { receive ≡ receive_number interface.now octets.now }
     ensures fault { result_err result ≡ ready_fault interface.now octets.now }
-    ensures contents { (k : Class) → IsReady k → IfOk result (λ r. Says r interface.now k octets.now) }
+    ensures contents { (k : Class) → IsReady k
+        → IfOk result (λ r. Says r interface.now k octets.now) }
     ensures usable { (n : ℕ) → IfOk result (λ r. AreUsable r interface.now n) }
 {
     match receive {
@@ -136,7 +137,8 @@ fn read_kind<'a>(
     octets: &'a [u8],
     in_force: InForce,
 ) -> Result<Contents<'a>, u8>
-    requires kind { kind.now ≡ kind_of interface.now octets.now (class_of interface.now octets.now) }
+    requires kind { kind.now ≡ kind_of interface.now octets.now
+        (class_of interface.now octets.now) }
     requires class { class_of interface.now octets.now ≡ kind_class kind.now }
     ensures fault { IsFormatFault (result_err result) interface.now in_force octets.now }
     ensures contents { IfOk result (λ r. AreOf r interface.now octets.now) }
