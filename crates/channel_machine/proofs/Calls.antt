@@ -1,5 +1,5 @@
 -- The call of a channel.
-use Rattle.std.proofs.Common.{◌≡◌, ℕ, Bool, true, false, true≢false, refl, sym, ◌∙◌, ap, subst, List, [], ◌∷◌, Option, Some, None}
+use Rattle.std.proofs.Common.{◌≡◌, Bool, true, false, true≢false, refl, sym, ◌∙◌, ap, List, [], ◌∷◌, Option, Some, None}
 use Rattle.std.specs.Prelude.{option_map, is_none, IfNone}
 use Rattle.line_model.specs.declared.event.How.{How}
 use Rattle.line_model.specs.declared.event.Event.{Event}

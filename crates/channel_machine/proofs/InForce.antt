@@ -1,6 +1,6 @@
 -- The values in force of terms, and those of a channel.
-use Rattle.std.proofs.Common.{◌≡◌, ℕ, Bool, true, false, true≢false, refl, sym, ◌∙◌, ap, List, [], Option, Some, None}
-use Rattle.std.specs.Prelude.{◌==◌, IfNone, is_some, option_map, option_and_then}
+use Rattle.std.proofs.Common.{◌≡◌, ℕ, Bool, true, false, true≢false, refl, sym, ◌∙◌, ap, List, Option, Some, None}
+use Rattle.std.specs.Prelude.{◌==◌, is_some, option_map}
 use Rattle.std.specs.Option.{option_map_or}
 use Rattle.line_model.specs.packets.Facilities.{CallFields, fields_of}
 use Rattle.line_model.specs.basics.Octets.{octet}
@@ -9,7 +9,6 @@ use Rattle.line_model.specs.declared.state.Side.{Side}
 use Rattle.line_model.specs.declared.state.Side.TheVariants.{T, N}
 use Rattle.line_model.specs.channels.Channels.{Channel, Opening}
 use Rattle.line_model.specs.packets.Formats.{was_fast, is_pad_call, size_in_force, or_other, for_side}
-use Rattle.channel_machine.specs.declared.terms.Opened.{Opened}
 use Rattle.channel_machine.specs.TermsStand.{Agreed, TermsStand, is_fast, is_pad, opened_of, size_of, values_of, with_asked, values_in_force, is_out_of}
 
 fast_by : (o : Option Opening) → option_map_or (λ v. v.fast) (option_map opened_of o) false ≡ option_map_or (λ f. f.fast) (option_map (λ v. fields_of v.packet) o) false

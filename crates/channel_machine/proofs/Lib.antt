@@ -16,3 +16,5 @@ pub mod Usable
 pub mod PackedLemmas
 pub mod DataCounts
 pub mod LiveLemmas
+pub mod Changes
+pub mod Reading

@@ -1,10 +1,8 @@
 -- The fields of a status in a word.
-use Rattle.std.proofs.Common.{◌≡◌, ◌<◌, ◌+◌, ◌-◌, ◌*◌, ◌/◌, ◌%◌, ◌^◌, ◌==◌, ℕ, Bool, true, false, refl, sym, ◌∙◌, ap, subst, arith, Option}
+use Rattle.std.proofs.Common.{◌≡◌, ◌<◌, ◌+◌, ◌*◌, ◌/◌, ◌%◌, ◌^◌, ◌==◌, ℕ, Bool, true, false, refl, sym, ◌∙◌, ap, subst, arith}
 use mir.Val.{bool_byte}
-use Rattle.line_model.specs.channels.Channels.{Sides}
 use Rattle.window_check.specs.FlowResidues.{FlowResidues}
 use Rattle.line_model.specs.declared.interface.Interface.{Interface}
-use Rattle.line_model.specs.declared.state.ChannelState.{ChannelState}
 use Rattle.window_check.specs.Packed.{Packed}
 use Rattle.channel_machine.specs.declared.terms.Values.{Values}
 use Rattle.channel_machine.specs.Terms.{AreUsable}

@@ -1,5 +1,5 @@
 -- A channel stays one that was heard from its beginning.
-use Rattle.std.proofs.Common.{◌≡◌, ℕ, Bool, true, false, true≢false, refl, sym, ◌∙◌, ap, subst, List, [], ◌∷◌, Option, Some, None, Result, Ok, Err}
+use Rattle.std.proofs.Common.{◌≡◌, ℕ, Bool, true, false, true≢false, refl, sym, ◌∙◌, ap, subst, List, Option, Some, None, Result, Ok, Err}
 use Rattle.std.specs.Prelude.{IfNone, is_some, not, ◌&&◌, ◌||◌, unwrap_or}
 use Rattle.line_model.specs.declared.diagnostic.TheConstants.{INCONSISTENT_Q_BIT_SETTING}
 use Rattle.line_model.specs.declared.interface.Interface.{Interface}
@@ -24,7 +24,7 @@ use Rattle.line_model.specs.packets.Formats.{packet_fault}
 use Rattle.line_model.specs.channels.Sequences.{is_alike, begun}
 use Rattle.line_model.specs.packets.Formats.{size_in_force, window_in_force}
 use Rattle.line_model.specs.channels.FlowControl.{count_data, count_receive, count_interrupt, count_confirm}
-use Rattle.line_model.specs.channels.ChannelStep.{judged, verdict, verdict_step, channel_step, moving, changing, entering, ending, ending_open, opening, failing, after_error, transferring, data_step, data_counted, data_alike, counting, counts_of, heard_of, call_change, state_named}
+use Rattle.line_model.specs.channels.ChannelStep.{judged, verdict, verdict_step, channel_step, changing, entering, ending, ending_open, failing, after_error, transferring, data_step, data_counted, data_alike, counting, counts_of, heard_of, call_change, state_named}
 use Rattle.channel_machine.specs.Reached.{IsReached, IsUnanswered, IsFrom, is_from, is_waiting}
 use Rattle.line_model.specs.packets.Classes.{receive_number}
 use Rattle.channel_machine.proofs.Carried.{from_of}

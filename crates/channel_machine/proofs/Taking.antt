@@ -11,9 +11,9 @@ use Rattle.line_model.specs.declared.state.StateName.{StateName}
 use Rattle.line_model.specs.channels.Channels.{Channel}
 use Rattle.line_model.specs.packets.Classes.{data_header}
 use Rattle.line_model.specs.channels.FlowControl.{Counts}
-use Rattle.line_model.specs.channels.ChannelStep.{Outcome, counting, data_step, heard_of, hearing, transferring}
+use Rattle.line_model.specs.channels.ChannelStep.{Outcome, counting, data_step, failing, heard_of, hearing, transferring}
 use Rattle.channel_machine.specs.declared.events.Stamp.{Stamp}
-use Rattle.channel_machine.specs.Transfers.{Transfer, StandsFor, IsHeard, counted_in_force, packet}
+use Rattle.channel_machine.specs.Transfers.{StandsFor, IsHeard, counted_in_force, packet}
 use Rattle.channel_machine.specs.Channels.{Known, Stands, Does}
 
 -- a fault that left the channel as it was, and what its failing does
@@ -66,3 +66,19 @@ heard_by s old new before after x q xs ys h c rest stands header same k none hea
       stands = record { state = stands.state; owed = stands.owed; terms = record { call = stands.terms.call; values = stands.terms.values }; transfer = transfer };
       reports = reports;
     }))
+
+-- a data packet with a fault of its numbers or its Q bit
+pub refused_by : {U : Type 0} (r : Result U Fault) (s : Stamp) (old mid new : Known) (before between after : List Event) (x : Side) (q : StateName) (xs ys : List ℕ)
+    (h : DataHeader) (c : Channel) → Stands old c → data_header old.terms.interface xs ≡ Some h → packet x h ys ≡ heard_of old.terms.interface x xs h →
+    (k : Option ℕ) (n : ℕ) → k ≡ Some n →
+    IsHeard k old.terms.interface s old.transfer mid.transfer before between x (packet x h ys) (counted_in_force old.terms.interface x h.send h.receive c) c →
+    mid ≡ old → between ≡ before →
+    ((d : Channel) → Stands mid d → IfOk r (λ _. Does s mid new between after (failing x q n d))) →
+    IfOk r (λ _. Does s old new before after (transferring old.terms.interface x q Data xs c))
+refused_by r s old mid new before between after x q xs ys h c stands header same k n some heard mid_is between_is does =
+    let i : Interface = old.terms.interface in
+    let told = subst (λ p. IsHeard (Some n) i s old.transfer mid.transfer before between x p (counted_in_force i x h.send h.receive c) c) same
+    (subst (λ j. IsHeard j i s old.transfer mid.transfer before between x (packet x h ys) (counted_in_force i x h.send h.receive c) c) some heard) in
+    let whole : failing x q n c ≡ transferring i x q Data xs c = sym (ap (λ d. data_step i x q xs d c) header ∙ told.0 q) in
+    refusing r s old mid new before after c (failing x q n) (transferring i x q Data xs c) mid_is whole stands
+    (λ d st. subst (λ l. IfOk r (λ _. Does s mid new l after (failing x q n d))) between_is (does d st))

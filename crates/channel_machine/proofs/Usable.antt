@@ -1,5 +1,5 @@
 -- Values that can be in force.
-use Rattle.std.proofs.Common.{◌≡◌, ◌≤◌, ◌<◌, ℕ, Bool, true, false, true≢false, sym, arith, Option, Some, None}
+use Rattle.std.proofs.Common.{◌≤◌, ◌<◌, ℕ, Bool, true, false, arith, Option, Some, None}
 use Rattle.std.specs.Prelude.{IfSome, IsTrue, ◌&&◌, ◌==◌}
 use Rattle.std.specs.List.{list_any}
 use Rattle.line_model.specs.declared.interface.Interface.{Interface}

@@ -1,12 +1,10 @@
 -- A channel, and what it stands for (X.25 Annexes B and C).
-use Rattle.std.specs.Prelude.{ℕ, Bool, ◌≡◌, List}
+use Rattle.std.specs.Prelude.{ℕ, Bool, ◌≡◌, List, Result, IfOk, IfErr, OnErr}
 use Rattle.line_model.specs.declared.interface.Interface.{Interface}
 use Rattle.line_model.specs.declared.state.ChannelState.{ChannelState}
 use Rattle.line_model.specs.declared.event.Event.{Event}
-use Rattle.line_model.specs.declared.packet.Class.{Class}
-use Rattle.line_model.specs.declared.packet.Class.TheVariants.{Call, Accepted}
-use Rattle.line_model.specs.declared.verdict.CallChange.{CallChange}
-use Rattle.line_model.specs.declared.verdict.CallChange.TheVariants.{Opens, GoesUp}
+use Rattle.line_model.specs.declared.fault.Fault.{Fault}
+use Rattle.line_model.specs.declared.fault.Fault.TheVariants.{Memory}
 use Rattle.line_model.specs.channels.ChannelStep.{Outcome}
 use Rattle.line_model.specs.channels.Channels.{Channel}
 use Rattle.mbit_assembly.specs.Sequences.{Assembly}
@@ -62,8 +60,14 @@ pub record Does (s : Stamp) (old new : Known) (before after : List Event) (o : O
   pub stands : Stands new o.after
   pub reports : Reports s before after o.reported
 
--- the class whose moves change the call so
-abbrev pub IsChange : CallChange → Class → Type 0
-IsChange (Opens out) k = k ≡ Call
-IsChange GoesUp k = k ≡ Accepted
-IsChange _ k = Unit {0}
+-- the same of a function that may want memory, on each channel that it stands for
+abbrev pub Comes : {U : Type 0} → Result U Fault → Stamp → (old new : Known) → (before after : List Event) → (Channel → Outcome) → Type 0
+Comes r s old new before after f = (c : Channel) → Stands old c → IfOk r (λ _. Does s old new before after (f c))
+
+-- after a fault the channel and its events are as they were
+abbrev pub IsUnchanged : {U : Type 0} → Result U Fault → (old new : Known) → (before after : List Event) → Type 0
+IsUnchanged r old new before after = OnErr r ((new ≡ old) × (after ≡ before))
+
+-- want of memory is the only fault
+abbrev pub IsMemory : {U : Type 0} → Result U Fault → Type 0
+IsMemory r = IfErr r (λ fault. fault ≡ Memory)

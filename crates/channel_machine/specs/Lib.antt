@@ -1,3 +1,4 @@
+pub mod Sizes
 pub mod Terms
 pub mod TermsStand
 pub mod Agreed
@@ -8,6 +9,7 @@ pub mod Status
 pub mod Reached
 pub mod PackedStatus
 pub mod Channels
+pub mod Moves
 pub mod Decisions
 pub mod Run
 pub mod Counted

@@ -1,5 +1,5 @@
 -- What is known of a channel beside its sequences and its settings.
-use Rattle.std.specs.Prelude.{Bool, ◌≡◌, OnErr, Result, ℕ}
+use Rattle.std.specs.Prelude.{Bool, ◌≡◌, ℕ}
 use Rattle.line_model.specs.declared.state.ChannelState.{ChannelState}
 use Rattle.line_model.specs.channels.Channels.{Sides}
 use Rattle.line_model.specs.channels.FlowControl.{no_counts}

@@ -1,15 +1,14 @@
 //! One channel of an interface, and what every change of its state does.
 
-ghost use Rattle.std.specs.Prelude.{◌≡◌, ◌+◌, ◌<◌, ◌≤◌, vec_len, vec_capacity, IfOk, IfErr, OnErr};
-ghost use Rattle.line_model.specs.declared.fault.Fault.TheVariants.{Memory};
+ghost use Rattle.std.specs.Prelude.{◌≡◌, ◌+◌, ◌<◌, ◌≤◌, vec_len, vec_capacity};
 ghost use Rattle.line_model.specs.channels.Channels.{Channel};
 ghost use Rattle.line_model.specs.channels.ChannelStep.{entering, ending, failing, after_error};
 ghost use Rattle.channel_machine.specs.Messages.{SettingsStand};
 ghost use Rattle.channel_machine.specs.Agreed.{agreed_of};
 ghost use Rattle.channel_machine.specs.TermsStand.{TermsStand};
-ghost use Rattle.channel_machine.specs.Channels.{Stands, Does};
+ghost use Rattle.channel_machine.specs.Channels.{Stands, Does, Comes, IsUnchanged, IsMemory};
 
-use crate::events::Stamp;
+use crate::events::{Place, Stamp};
 use crate::messages::BothSettings;
 use crate::packed::PackedStatus;
 use crate::plain::PlainStatus;
@@ -51,7 +50,9 @@ impl<A: Allocator + Clone, S: StatusStore> StatusChannel<A, S> {
     pub(crate) fn enter(&mut self, to: StateName, owed: bool, terms: &Terms)
         ensures interface { self.new.terms.interface ≡ terms.now.interface }
         ensures channel { self.new.channel ≡ self.old.channel }
-        ensures stands { (c : Channel) → TermsStand (agreed_of terms.now) c → SettingsStand self.old.transfer.settings c.told → Stands self.new (entering to owed c) }
+        ensures stands { (c : Channel) → TermsStand (agreed_of terms.now) c
+            → SettingsStand self.old.transfer.settings c.told
+            → Stands self.new (entering to owed c) }
     {
         let Values { size_t, size_n, .. } = terms.values;
         self.assembler.renew(size_t, size_n);
@@ -71,7 +72,9 @@ impl<A: Allocator + Clone, S: StatusStore> StatusChannel<A, S> {
         ensures interface { self.new.terms.interface ≡ self.old.terms.interface }
         ensures capacity { vec_capacity events.new ≡ vec_capacity events.old }
         ensures len { vec_len events.new ≤ vec_len events.old + 1 }
-        ensures does { (c : Channel) → Stands self.old c → Does stamp self.old self.new events.old.items events.new.items (ending how (entering to owed c)) }
+        ensures does { (c : Channel) → Stands self.old c
+            → Does stamp self.old self.new events.old.items events.new.items
+            (ending how (entering to owed c)) }
     {
         let terms = self.status.terms();
         match terms.call {
@@ -84,19 +87,19 @@ impl<A: Allocator + Clone, S: StatusStore> StatusChannel<A, S> {
         }
     }
 
-    /// Tells an error in a state: one of the DTE has the DCE clear or reset, one of the DCE changes nothing.
+    /// Tells an error at a place: one of the DTE has the DCE clear or reset, one of the DCE changes nothing.
     pub(crate) fn fail(
         &mut self,
-        stamp: Stamp,
-        side: Side,
-        state: StateName,
+        place: Place,
         code: u8,
         events: &mut Vec<Event, A>,
     ) -> Result<(), Fault>
-        ensures does { (c : Channel) → Stands self.old c → IfOk result (λ _. Does stamp self.old self.new events.old.items events.new.items (failing side state code c)) }
-        ensures unchanged { OnErr result ((self.new ≡ self.old) × (events.new.items ≡ events.old.items)) }
-        ensures memory { IfErr result (λ fault. fault ≡ Memory) }
+        ensures does { Comes result place.stamp self.old self.new events.old.items events.new.items
+            (failing place.side place.state code) }
+        ensures unchanged { IsUnchanged result self.old self.new events.old.items events.new.items }
+        ensures memory { IsMemory result }
     {
+        let Place { stamp, side, state } = place;
         events.reserve(2)?;
         events.push_reserved(stamp.event(error(side, state, code)));
         match side {
@@ -109,7 +112,8 @@ impl<A: Allocator + Clone, S: StatusStore> StatusChannel<A, S> {
     /// Has the DCE clear or reset after an error of the DTE.
     fn give_up(&mut self, stamp: Stamp, state: StateName, events: &mut Vec<Event, A>)
         requires room { vec_len events.old < vec_capacity events.old }
-        ensures { (c : Channel) → Stands self.old c → Does stamp self.old self.new events.old.items events.new.items (after_error state c) }
+        ensures { (c : Channel) → Stands self.old c
+            → Does stamp self.old self.new events.old.items events.new.items (after_error state c) }
     {
         let terms = self.status.terms();
         match state {

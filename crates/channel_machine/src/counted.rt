@@ -33,7 +33,8 @@ pub(crate) struct Counted<A: Allocator> {
 impl<A: Allocator + Clone> Counted<A> {
     /// Nothing was heard. It takes no memory, but for that of a clone of the allocator.
     pub(crate) fn new(alloc: A) -> Result<Self, Fault>
-        ensures none { IfOk result (λ counted. (epoch channel : ℕ) → Counts counted epoch channel []) }
+        ensures none { IfOk result (λ counted. (epoch channel : ℕ)
+            → Counts counted epoch channel []) }
         ensures memory { IfErr result (λ fault. fault ≡ Memory) }
     {
         Ok(Counted {
@@ -46,15 +47,19 @@ impl<A: Allocator + Clone> Counted<A> {
 
     /// The findings so far.
     pub(crate) fn findings(&self) -> &[Finding]
-        ensures { (epoch channel : ℕ) (es : List Event) → Counts self.now epoch channel es → result.now ≡ findings_of es }
+        ensures { (epoch channel : ℕ) (es : List Event) → Counts self.now epoch channel es
+            → result.now ≡ findings_of es }
     {
         self.findings.as_slice()
     }
 
     /// Hears the next event. It answers `Memory` alone; then it stands for nothing any more.
     pub(crate) fn hear(&mut self, event: &Event) -> Result<(), Fault>
-        ensures heard { (epoch channel : ℕ) (es : List Event) → Counts self.old epoch channel es → IsOf epoch channel event.now → IsCountable (es ++ event.now ∷ []) → OnOk result (Counts self.new epoch channel (es ++ event.now ∷ [])) }
-        ensures findings { OnOk result (self.new.findings.items ≡ self.old.findings.items ++ findings_of (event.now ∷ [])) }
+        ensures heard { (epoch channel : ℕ) (es : List Event) → Counts self.old epoch channel es
+            → IsOf epoch channel event.now → IsCountable (es ++ event.now ∷ [])
+            → OnOk result (Counts self.new epoch channel (es ++ event.now ∷ [])) }
+        ensures findings { OnOk result (self.new.findings.items ≡ self.old.findings.items
+            ++ findings_of (event.now ∷ [])) }
         ensures memory { IfErr result (λ fault. fault ≡ Memory) }
     {
         push_finding(event, &mut self.findings)?;
@@ -67,7 +72,9 @@ impl<A: Allocator + Clone> Counted<A> {
     /// Hears the next events, and answers the first finding among them. It answers `Memory` alone; then it stands for
     /// nothing any more.
     pub(crate) fn hear_all(&mut self, events: &[Event]) -> Result<Option<Finding>, Fault>
-        ensures heard { (epoch channel : ℕ) (es : List Event) → Counts self.old epoch channel es → AllByRecursion (IsOf epoch channel) events.now → IsCountable (es ++ events.now) → OnOk result (Counts self.new epoch channel (es ++ events.now)) }
+        ensures heard { (epoch channel : ℕ) (es : List Event) → Counts self.old epoch channel es
+            → AllByRecursion (IsOf epoch channel) events.now → IsCountable (es ++ events.now)
+            → OnOk result (Counts self.new epoch channel (es ++ events.now)) }
         ensures found { IfOk result (λ found. found ≡ slice_get (findings_of events.now) 0) }
         ensures memory { IfErr result (λ fault. fault ≡ Memory) }
     {
@@ -87,7 +94,8 @@ impl<A: Allocator + Clone> Counted<A> {
         channel: u16,
     ) -> Result<PieceReport<A>, Fault>
         requires within { (es : List Event) × Counts self.now epoch channel es × IsWithin es }
-        ensures worth { IfOk result (λ report. (es : List Event) → Counts self.now epoch channel es → report ≡ worth id epoch channel es) }
+        ensures worth { IfOk result (λ report. (es : List Event) → Counts self.now epoch channel es
+            → report ≡ worth id epoch channel es) }
         ensures memory { IfErr result (λ fault. fault ≡ Memory) }
     {
         Ok(PieceReport {
@@ -104,7 +112,8 @@ impl<A: Allocator + Clone> Counted<A> {
     /// What the channel is worth when no more events come. It answers `Memory` alone.
     pub(crate) fn finish(self, id: u32, epoch: u32, channel: u16) -> Result<PieceReport<A>, Fault>
         requires within { (es : List Event) × Counts self epoch channel es × IsWithin es }
-        ensures worth { IfOk result (λ report. (es : List Event) → Counts self epoch channel es → report ≡ worth id epoch channel es) }
+        ensures worth { IfOk result (λ report. (es : List Event) → Counts self epoch channel es
+            → report ≡ worth id epoch channel es) }
         ensures memory { IfErr result (λ fault. fault ≡ Memory) }
     {
         let calls = self.calls.finish()?;
@@ -122,7 +131,8 @@ impl<A: Allocator + Clone> Counted<A> {
 
 /// Adds the finding of an event, if it is one.
 fn push_finding<A: Allocator>(event: &Event, findings: &mut Vec<Finding, A>) -> Result<(), Fault>
-    ensures finding { OnOk result (findings.new.items ≡ findings.old.items ++ findings_of (event.now ∷ [])) }
+    ensures finding { OnOk result (findings.new.items ≡ findings.old.items
+        ++ findings_of (event.now ∷ [])) }
     ensures memory { IfErr result (λ fault. fault ≡ Memory) }
 {
     match event.what {

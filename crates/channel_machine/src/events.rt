@@ -3,6 +3,7 @@
 ghost use Rattle.std.specs.Prelude.{◌≡◌};
 
 use line_model::event::{Event, What};
+use line_model::state::{Side, StateName};
 
 /// What all events of a row on a channel share.
 #[derive(Clone, Copy)]
@@ -10,6 +11,14 @@ pub(crate) struct Stamp {
     pub(crate) epoch: u32,
     pub(crate) channel: u16,
     pub(crate) packet: u32,
+}
+
+/// Where a packet stands on its channel: its row, its side, and the state in whose column it was judged.
+#[derive(Clone, Copy)]
+pub(crate) struct Place {
+    pub(crate) stamp: Stamp,
+    pub(crate) side: Side,
+    pub(crate) state: StateName,
 }
 
 impl Stamp {

@@ -1,13 +1,31 @@
-//! What a packet comes to on its channel, by the state tables and its fault of format.
+//! What a packet comes to on its channel, by the state tables and by what was read of it.
 
 ghost use Rattle.std.specs.Prelude.{◌≡◌};
 ghost use Rattle.line_model.specs.channels.Tables.{action};
 ghost use Rattle.line_model.specs.channels.ChannelStep.{judged, verdict, joining, is_reset, is_call_or_clear};
+ghost use Rattle.line_model.specs.declared.state.StateName.{StateName};
+ghost use Rattle.std.specs.Result.{result_err};
+ghost use Rattle.channel_machine.specs.Decisions.{HandsOn, verdict_in};
 
 use line_model::packet::Class;
 use line_model::state::{ChannelState, Side, StateName};
 use line_model::table::{Action, table_n, table_t};
-use line_model::verdict::Verdict;
+use packet_decode::contents::Contents;
+
+/// What a packet comes to on its channel, with what was read of it.
+#[derive(Drop)]
+pub(crate) enum Decision<'a> {
+    /// An error, by its code.
+    Fails(u8),
+    /// The channel enters a state.
+    Moves(StateName, Contents<'a>),
+    /// A packet of data transfer, to be judged by the windows.
+    Transfers(Contents<'a>),
+    /// The indication that was owed has come.
+    EndsOwed,
+    /// Nothing happens.
+    Nothing,
+}
 
 /// The entry of a side's table.
 fn entry(side: Side, state: StateName, owed: bool, class: Class) -> Action
@@ -28,7 +46,8 @@ pub(crate) fn judged(
     owed: bool,
     class: Class,
 ) -> (StateName, Action)
-    ensures { record { state = result.0; entry = result.1 } ≡ judged permanent side state owed class }
+    ensures { record { state = result.0; entry = result.1 }
+        ≡ judged permanent side state owed class }
 {
     match state {
         ChannelState::Setup(state) => (state.name(), entry(side, state.name(), owed, class)),
@@ -78,21 +97,23 @@ fn is_call_or_clear(class: Class) -> bool
     matches!(class, Class::Call | Class::Clear)
 }
 
-/// What a packet comes to, by the entry and the fault of its format.
-pub(crate) fn verdict_of(state: StateName, entry: Action, fault: Option<u8>) -> Verdict
-    ensures { result ≡ verdict (record { state = state; entry = entry }) fault }
+/// What a packet comes to, by the entry and by what was read of it.
+pub(crate) fn weigh<'a>(entry: Action, read: Result<Contents<'a>, u8>) -> Decision<'a>
+    ensures verdict { (s : StateName) → verdict_in s result
+        ≡ verdict (record { state = s; entry = entry }) (result_err read.entry) }
+    ensures contents { HandsOn result read.entry }
 {
     match entry {
-        Action::Move(to) => match fault {
-            Some(code) => Verdict::Fails(state, code),
-            None => Verdict::Moves(to),
+        Action::Move(to) => match read {
+            Ok(contents) => Decision::Moves(to, contents),
+            Err(code) => Decision::Fails(code),
         },
-        Action::Normal => match fault {
-            Some(code) => Verdict::Fails(state, code),
-            None => Verdict::Transfers,
+        Action::Normal => match read {
+            Ok(contents) => Decision::Transfers(contents),
+            Err(code) => Decision::Fails(code),
         },
-        Action::Error(code) => Verdict::Fails(state, code),
-        Action::Ends => Verdict::EndsOwed,
-        _ => Verdict::Nothing,
+        Action::Error(code) => Decision::Fails(code),
+        Action::Ends => Decision::EndsOwed,
+        _ => Decision::Nothing,
     }
 }

@@ -35,7 +35,9 @@ impl<A: Allocator + Clone, C: Channel<A>> LiveChannel<A, C> {
     /// A fresh channel of an epoch, of which no row was taken. It takes no memory, but for that of clones of the
     /// allocator.
     pub fn fresh(alloc: A, interface: &Interface, channel: u16, epoch: u32) -> Result<Self, Fault>
-        ensures stands { IfOk result (λ live. (p : Piece) → p.interface ≡ interface.now → p.channel ≡ channel → p.epoch ≡ epoch → p.items ≡ [] → StandsFor C.interface_of C.number_of C.stands_for live p) }
+        ensures stands { IfOk result (λ live. (p : Piece) → p.interface ≡ interface.now
+            → p.channel ≡ channel → p.epoch ≡ epoch → p.items ≡ []
+            → StandsFor C.interface_of C.number_of C.stands_for live p) }
         ensures memory { IfErr result (λ fault. fault ≡ Memory) }
     {
         Ok(LiveChannel {
@@ -55,10 +57,20 @@ impl<A: Allocator + Clone, C: Channel<A>> LiveChannel<A, C> {
         packet: &Packet,
         events: &mut Vec<Event, A>,
     ) -> Result<Option<Finding>, Fault>
-        requires room { (p : Piece) × StandsFor C.interface_of C.number_of C.stands_for self.old p × IsPiece p.interface p.channel (p.items ++ record { row = row.now; packet = packet.now } ∷ []) }
-        ensures stands { (p : Piece) → StandsFor C.interface_of C.number_of C.stands_for self.old p → IsPiece p.interface p.channel (p.items ++ record { row = row.now; packet = packet.now } ∷ []) → OnOk result (StandsFor C.interface_of C.number_of C.stands_for self.new (with_item p (record { row = row.now; packet = packet.now }))) }
-        ensures events { (p : Piece) → StandsFor C.interface_of C.number_of C.stands_for self.old p → OnOk result (events.new.items ≡ row_events p.interface p.epoch p.channel (channel_so_far p) row.now) }
-        ensures finding { (p : Piece) → StandsFor C.interface_of C.number_of C.stands_for self.old p → IfOk result (λ found. option_to_list found ≡ findings_of (row_events p.interface p.epoch p.channel (channel_so_far p) row.now)) }
+        requires room { (p : Piece) × StandsFor C.interface_of C.number_of C.stands_for self.old p
+            × IsPiece p.interface p.channel (p.items
+            ++ record { row = row.now; packet = packet.now } ∷ []) }
+        ensures stands { (p : Piece) → StandsFor C.interface_of C.number_of C.stands_for self.old p
+            → IsPiece p.interface p.channel (p.items
+            ++ record { row = row.now; packet = packet.now } ∷ [])
+            → OnOk result (StandsFor C.interface_of C.number_of C.stands_for self.new
+            (with_item p (record { row = row.now; packet = packet.now }))) }
+        ensures events { (p : Piece) → StandsFor C.interface_of C.number_of C.stands_for self.old p
+            → OnOk result (events.new.items ≡ row_events p.interface p.epoch p.channel
+            (channel_so_far p) row.now) }
+        ensures finding { (p : Piece) → StandsFor C.interface_of C.number_of C.stands_for self.old p
+            → IfOk result (λ found. option_to_list found
+            ≡ findings_of (row_events p.interface p.epoch p.channel (channel_so_far p) row.now)) }
         ensures memory { IfErr result (λ fault. fault ≡ Memory) }
     {
         events.clear();
@@ -69,22 +81,27 @@ impl<A: Allocator + Clone, C: Channel<A>> LiveChannel<A, C> {
 
     /// What is known of the channel after the rows so far.
     pub fn view(&self) -> View
-        ensures { (p : Piece) → StandsFor C.interface_of C.number_of C.stands_for self.now p → IsViewOf p.interface (channel_so_far p) result }
+        ensures { (p : Piece) → StandsFor C.interface_of C.number_of C.stands_for self.now p
+            → IsViewOf p.interface (channel_so_far p) result }
     {
         self.machine.view()
     }
 
     /// The findings so far.
     pub fn findings(&self) -> &[Finding]
-        ensures { (p : Piece) → StandsFor C.interface_of C.number_of C.stands_for self.now p → result.now ≡ (value (so_far p)).findings }
+        ensures { (p : Piece) → StandsFor C.interface_of C.number_of C.stands_for self.now p
+            → result.now ≡ (value (so_far p)).findings }
     {
         self.counted.findings()
     }
 
     /// What the piece is worth so far, by a copy: the channel goes on. It answers `Memory` alone.
     pub fn report(&self, alloc: A, id: u32) -> Result<PieceReport<A>, Fault>
-        requires stands { (p : Piece) × StandsFor C.interface_of C.number_of C.stands_for self.now p }
-        ensures value { IfOk result (λ report. (p : Piece) → StandsFor C.interface_of C.number_of C.stands_for self.now p → report ≡ value (record p { id = id; end = None })) }
+        requires stands { (p : Piece) × StandsFor C.interface_of C.number_of
+            C.stands_for self.now p }
+        ensures value { IfOk result (λ report. (p : Piece)
+            → StandsFor C.interface_of C.number_of C.stands_for self.now p
+            → report ≡ value (record p { id = id; end = None })) }
         ensures memory { IfErr result (λ fault. fault ≡ Memory) }
     {
         self.counted.report(alloc, id, self.epoch, self.channel)
@@ -94,7 +111,9 @@ impl<A: Allocator + Clone, C: Channel<A>> LiveChannel<A, C> {
     /// with it. It answers `Memory` alone.
     pub fn end(mut self, id: u32, end: Option<u32>) -> Result<PieceReport<A>, Fault>
         requires stands { (p : Piece) × StandsFor C.interface_of C.number_of C.stands_for self p }
-        ensures value { IfOk result (λ report. (p : Piece) → StandsFor C.interface_of C.number_of C.stands_for self p → report ≡ value (record p { id = id; end = end })) }
+        ensures value { IfOk result (λ report. (p : Piece)
+            → StandsFor C.interface_of C.number_of C.stands_for self p
+            → report ≡ value (record p { id = id; end = end })) }
         ensures memory { IfErr result (λ fault. fault ≡ Memory) }
     {
         self.close(end)?;
@@ -103,8 +122,11 @@ impl<A: Allocator + Clone, C: Channel<A>> LiveChannel<A, C> {
 
     /// The call that is open ends with the row of a restart, where one ended the epoch.
     fn close(&mut self, end: Option<u32>) -> Result<(), Fault>
-        ensures place { OnOk result ((self.new.epoch ≡ self.old.epoch) × (self.new.channel ≡ self.old.channel)) }
-        ensures counted { (p : Piece) → StandsFor C.interface_of C.number_of C.stands_for self.old p → OnOk result (Counts self.new.counted p.epoch p.channel (piece_events (record p { end = end }))) }
+        ensures place { OnOk result ((self.new.epoch ≡ self.old.epoch)
+            × (self.new.channel ≡ self.old.channel)) }
+        ensures counted { (p : Piece) → StandsFor C.interface_of C.number_of C.stands_for self.old p
+            → OnOk result (Counts self.new.counted p.epoch p.channel
+            (piece_events (record p { end = end }))) }
         ensures memory { IfErr result (λ fault. fault ≡ Memory) }
     {
         let Some(packet) = end else {

@@ -53,8 +53,12 @@ impl BothSettings {
         events: &mut Vec<Event, A>,
     )
         requires room { vec_len events.old + 514 ≤ vec_capacity events.old }
-        ensures reports { (m : List ℕ) (ts : List Told) → octets.now ≡ take 1025 m → SettingsStand self.old ts → Reports stamp events.old.items events.new.items (told_reports from size ts m) }
-        ensures stands { (m : List ℕ) (ts : List Told) → octets.now ≡ take 1025 m → SettingsStand self.old ts → SettingsStand self.new (ts ++ record { from = from; message = m } ∷ []) }
+        ensures reports { (m : List ℕ) (ts : List Told) → octets.now ≡ take 1025 m
+            → SettingsStand self.old ts → Reports stamp events.old.items events.new.items
+            (told_reports from size ts m) }
+        ensures stands { (m : List ℕ) (ts : List Told) → octets.now ≡ take 1025 m
+            → SettingsStand self.old ts → SettingsStand self.new (ts
+            ++ record { from = from; message = m } ∷ []) }
     {
         match read_message(octets) {
             Err(fault) => {
@@ -76,8 +80,11 @@ impl BothSettings {
     )
         requires room { vec_len events.old + 514 ≤ vec_capacity events.old }
         requires short { length message.now.pairs.now < 1024 }
-        ensures reports { (ts : List Told) → SettingsStand self.old ts → Reports stamp events.old.items events.new.items (told_reports from size ts (told from message.now).message) }
-        ensures stands { (ts : List Told) → SettingsStand self.old ts → SettingsStand self.new (ts ++ told from message.now ∷ []) }
+        ensures reports { (ts : List Told) → SettingsStand self.old ts
+            → Reports stamp events.old.items events.new.items
+            (told_reports from size ts (told from message.now).message) }
+        ensures stands { (ts : List Told) → SettingsStand self.old ts
+            → SettingsStand self.new (ts ++ told from message.now ∷ []) }
     {
         let fault = self.read(from, message);
         report_fault(stamp, from, fault, events);
@@ -88,8 +95,10 @@ impl BothSettings {
     /// Hands a message to the settings of both PADs, and tells its fault.
     #[tactic(auto, using(crate::proofs::Faults::both))]
     fn read(&mut self, from: Side, message: &Message<'_>) -> Option<Xcode>
-        ensures fault { (ts : List Told) → SettingsStand self.old ts → result ≡ message_fault from ts (told from message.now).message }
-        ensures stands { (ts : List Told) → SettingsStand self.old ts → SettingsStand self.new (ts ++ told from message.now ∷ []) }
+        ensures fault { (ts : List Told) → SettingsStand self.old ts
+            → result ≡ message_fault from ts (told from message.now).message }
+        ensures stands { (ts : List Told) → SettingsStand self.old ts
+            → SettingsStand self.new (ts ++ told from message.now ∷ []) }
     {
         let of_t = self.of_t.apply(message, from);
         let of_n = self.of_n.apply(message, from);
@@ -115,7 +124,8 @@ fn report_fault<A: Allocator>(
     events: &mut Vec<Event, A>,
 )
     requires room { vec_len events.old < vec_capacity events.old }
-    ensures reports { Reports stamp events.old.items events.new.items (option_to_list (option_found from fault)) }
+    ensures reports { Reports stamp events.old.items events.new.items
+        (option_to_list (option_found from fault)) }
     ensures capacity { vec_capacity events.new ≡ vec_capacity events.old }
     ensures len { vec_len events.new ≤ vec_len events.old + 1 }
 {
@@ -145,7 +155,8 @@ fn report_after<A: Allocator>(
 )
     requires room { vec_len events.old + 512 ≤ vec_capacity events.old }
     requires short { length message.now.pairs.now < 1024 }
-    ensures { Reports stamp events.old.items events.new.items (settings_after fault from (octets_of message.now.code message.now.pairs.now)) }
+    ensures { Reports stamp events.old.items events.new.items
+        (settings_after fault from (octets_of message.now.code message.now.pairs.now)) }
 {
     match fault {
         None => report_settings(stamp, from, message, events),
@@ -163,7 +174,8 @@ fn report_settings<A: Allocator>(
 )
     requires room { vec_len events.old + 512 ≤ vec_capacity events.old }
     requires short { length message.now.pairs.now < 1024 }
-    ensures { Reports stamp events.old.items events.new.items (settings_of from (octets_of message.now.code message.now.pairs.now)) }
+    ensures { Reports stamp events.old.items events.new.items
+        (settings_of from (octets_of message.now.code message.now.pairs.now)) }
 {
     match message.code {
         MessageCode::Indication => {
@@ -196,7 +208,8 @@ fn report_indicated<A: Allocator>(
     events: &mut Vec<Event, A>,
 )
     requires room { vec_len events.old + length pairs ≤ vec_capacity events.old }
-    ensures { Reports stamp events.old.items events.new.items (flat_map (indicated_one pad) pairs.entry) }
+    ensures { Reports stamp events.old.items events.new.items
+        (flat_map (indicated_one pad) pairs.entry) }
 {
     for pair in pairs {
         report_indicated_one(stamp, pad, pair, events);
@@ -211,7 +224,8 @@ fn report_indicated_one<A: Allocator>(
     events: &mut Vec<Event, A>,
 )
     requires room { vec_len events.old < vec_capacity events.old }
-    ensures reports { Reports stamp events.old.items events.new.items (indicated_one pad (shown pair)) }
+    ensures reports { Reports stamp events.old.items events.new.items
+        (indicated_one pad (shown pair)) }
     ensures capacity { vec_capacity events.new ≡ vec_capacity events.old }
     ensures len { vec_len events.new ≤ vec_len events.old + 1 }
 {
@@ -233,7 +247,8 @@ fn report_indicated_one<A: Allocator>(
 /// Reports what the pairs of a set ask.
 fn report_asked<A: Allocator>(stamp: Stamp, pad: Side, pairs: Pairs<'_>, events: &mut Vec<Event, A>)
     requires room { vec_len events.old + length pairs ≤ vec_capacity events.old }
-    ensures { Reports stamp events.old.items events.new.items (flat_map (asked_one pad) pairs.entry) }
+    ensures { Reports stamp events.old.items events.new.items
+        (flat_map (asked_one pad) pairs.entry) }
 {
     for pair in pairs {
         report_asked_one(stamp, pad, pair, events);

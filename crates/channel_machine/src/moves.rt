@@ -1,13 +1,17 @@
 //! The moves of a channel through the states, and what they do to its call.
 
-ghost use Rattle.std.specs.Prelude.{◌≡◌, ◌+◌, ◌<◌, List, ℕ, None, IfOk, IfNone, false, true, IfErr, OnErr};
-ghost use Rattle.line_model.specs.declared.fault.Fault.TheVariants.{Memory};
+ghost use Rattle.std.specs.Prelude.{◌≡◌, List, ℕ, None, IfOk, IfNone, false};
 ghost use Rattle.line_model.specs.channels.Channels.{Channel};
 ghost use Rattle.line_model.specs.packets.Facilities.{fields_of};
-ghost use Rattle.line_model.specs.channels.ChannelStep.{entering, opening, changing, call_change};
+ghost use Rattle.line_model.specs.channels.ChannelStep.{entering, changing, call_change};
+ghost use Rattle.line_model.specs.declared.verdict.CallChange.TheVariants.{Opens, GoesUp};
 ghost use Rattle.packet_decode.specs.Shown.{shown, IsUsable};
 ghost use Rattle.channel_machine.specs.Reached.{IsUnanswered};
-ghost use Rattle.channel_machine.specs.Channels.{Stands, Does, IsChange};
+ghost use Rattle.packet_decode.specs.Contents.{AreOf, AreUsable};
+ghost use Rattle.line_model.specs.packets.Classes.{class_of};
+ghost use Rattle.line_model.specs.declared.interface.Interface.{Interface};
+ghost use Rattle.channel_machine.specs.Channels.{Stands, Does, IsUnchanged, IsMemory};
+ghost use Rattle.channel_machine.specs.Moves.{IsChange, TakesUsable, leaving};
 
 use crate::channel::StatusChannel;
 use crate::events::Stamp;
@@ -15,37 +19,55 @@ use crate::status::StatusStore;
 use crate::terms::Terms;
 use line_model::event::{Event, How, What};
 use line_model::fault::Fault;
-use line_model::packet::Class;
 use line_model::state::{Side, StateName};
-use line_model::verdict::CallChange;
+use packet_decode::contents::Contents;
 use packet_decode::fields::CallFields;
 use std::alloc::Allocator;
 
-/// What a move of a class does to the call.
-pub(crate) fn change_of(side: Side, class: Class, to: StateName) -> CallChange
-    ensures change { result ≡ call_change side class to }
-    ensures class { IsChange result class }
+/// What a move does to the call of its channel, with the fields that it takes.
+#[derive(Drop)]
+pub(crate) enum Change<'a> {
+    /// A call is opened, outgoing or not.
+    Opens(bool, CallFields<'a>),
+    /// The call comes into p4.
+    GoesUp(CallFields<'a>),
+    /// The call ends.
+    Ends(How),
+    /// The call stays as it is.
+    Keeps,
+}
+
+/// What a move by a packet does to the call.
+pub(crate) fn change_of<'a>(side: Side, contents: Contents<'a>, to: StateName) -> Change<'a>
+    ensures change { (i : Interface) (xs : List ℕ) → AreOf contents.entry i xs
+        → IsChange result (call_change side (class_of i xs) to) xs }
+    ensures usable { (i : Interface) (n : ℕ) → AreUsable contents.entry i n → TakesUsable result i }
 {
-    match class {
-        Class::Call => match side {
-            Side::T => return CallChange::Opens(true),
-            Side::N => {
-                if to == StateName::P3 {
-                    return CallChange::Opens(false);
-                }
-            }
+    match contents {
+        Contents::Call(fields) => match side {
+            Side::T => Change::Opens(true, fields),
+            Side::N => match to {
+                StateName::P3 => Change::Opens(false, fields),
+                _ => leaving(to),
+            },
         },
-        Class::Accepted => {
-            if to == StateName::P4 {
-                return CallChange::GoesUp;
-            }
-        }
-        _ => {}
+        Contents::Accepted(fields) => match to {
+            StateName::P4 => Change::GoesUp(fields),
+            _ => leaving(to),
+        },
+        _ => leaving(to),
     }
+}
+
+/// What a move does to the call by its state alone.
+fn leaving(to: StateName) -> Change<'static>
+    ensures change { (xs : List ℕ) → IsChange result (leaving to) xs }
+    ensures usable { (i : Interface) → TakesUsable result i }
+{
     match to {
-        StateName::P6 => CallChange::Ends(How::T),
-        StateName::P7 => CallChange::Ends(How::N),
-        _ => CallChange::Keeps,
+        StateName::P6 => Change::Ends(How::T),
+        StateName::P7 => Change::Ends(How::N),
+        _ => Change::Keeps,
     }
 }
 
@@ -60,9 +82,12 @@ impl<A: Allocator + Clone, S: StatusStore> StatusChannel<A, S> {
         events: &mut Vec<Event, A>,
     ) -> Result<(), Fault>
         requires usable { IsUsable self.old.terms.interface fields.now }
-        ensures does { (c : Channel) (xs : List ℕ) → shown fields.now ≡ fields_of xs → IfNone c.opening (c.accepting ≡ None) → Stands self.old c → IfOk result (λ _. Does stamp self.old self.new events.old.items events.new.items (changing xs (CallChange.Opens out) (entering to false c))) }
-        ensures unchanged { OnErr result ((self.new ≡ self.old) × (events.new.items ≡ events.old.items)) }
-        ensures memory { IfErr result (λ fault. fault ≡ Memory) }
+        ensures does { (c : Channel) (xs : List ℕ) → shown fields.now ≡ fields_of xs
+            → IfNone c.opening (c.accepting ≡ None) → Stands self.old c
+            → IfOk result (λ _. Does stamp self.old self.new events.old.items events.new.items
+            (changing xs (Opens out) (entering to false c))) }
+        ensures unchanged { IsUnchanged result self.old self.new events.old.items events.new.items }
+        ensures memory { IsMemory result }
     {
         events.reserve(2)?;
         self.end(stamp, How::Collision, to, false, events);
@@ -86,9 +111,12 @@ impl<A: Allocator + Clone, S: StatusStore> StatusChannel<A, S> {
         events: &mut Vec<Event, A>,
     ) -> Result<(), Fault>
         requires usable { IsUsable self.old.terms.interface fields.now }
-        ensures does { (c : Channel) (xs : List ℕ) → shown fields.now ≡ fields_of xs → IsUnanswered c → Stands self.old c → IfOk result (λ _. Does stamp self.old self.new events.old.items events.new.items (changing xs CallChange.GoesUp (entering to false c))) }
-        ensures unchanged { OnErr result ((self.new ≡ self.old) × (events.new.items ≡ events.old.items)) }
-        ensures memory { IfErr result (λ fault. fault ≡ Memory) }
+        ensures does { (c : Channel) (xs : List ℕ) → shown fields.now ≡ fields_of xs
+            → IsUnanswered c → Stands self.old c
+            → IfOk result (λ _. Does stamp self.old self.new events.old.items events.new.items
+            (changing xs GoesUp (entering to false c))) }
+        ensures unchanged { IsUnchanged result self.old self.new events.old.items events.new.items }
+        ensures memory { IsMemory result }
     {
         events.reserve(1)?;
         events.push_reserved(stamp.event(What::Up));

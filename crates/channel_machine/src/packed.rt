@@ -162,7 +162,8 @@ fn state_bits(permanent: bool, state: ChannelState) -> u32
 /// The bits of a state of data transfer.
 fn transfer_bits(state: DState) -> u32
     ensures below { result < 25 }
-    ensures state { (p : ℕ) → p < 8 → state_by ((p + result) % 8) ((p + result) / 8 % 4) ≡ ChannelState.Transfer state }
+    ensures state { (p : ℕ) → p < 8 → state_by ((p + result) % 8) ((p + result) / 8 % 4)
+        ≡ ChannelState.Transfer state }
 {
     match state {
         DState::D1 => 8,

@@ -67,7 +67,8 @@ pub trait Channel<A: Allocator>: Drop {
 
     /// What is known of the channel.
     fn view(&self) -> View
-        ensures { (c : channels.Channel) → stands_for self.now c → IsViewOf (interface_of self.now) c result };
+        ensures { (c : channels.Channel) → stands_for self.now c
+            → IsViewOf (interface_of self.now) c result };
 
     /// Whether a call is open.
     fn is_open(&self) -> bool
@@ -82,12 +83,20 @@ pub trait Channel<A: Allocator>: Drop {
         packet: &Packet,
         events: &mut Vec<Event, A>,
     ) -> Result<(), Fault>
-        requires item { IsItem (interface_of self.old) (number_of self.old) (record { row = row.now; packet = packet.now }) }
-        ensures interface { (c : channels.Channel) → stands_for self.old c → IfOk result (λ _. interface_of self.new ≡ interface_of self.old) }
-        ensures number { (c : channels.Channel) → stands_for self.old c → IfOk result (λ _. number_of self.new ≡ number_of self.old) }
-        ensures stands { (c : channels.Channel) → stands_for self.old c → IfOk result (λ _. stands_for self.new (channel_step (interface_of self.old) (number_of self.old) c row.now).after) }
-        ensures events { (c : channels.Channel) → stands_for self.old c → IfOk result (λ _. events.new.items ≡ events.old.items ++ row_events (interface_of self.old) epoch (number_of self.old) c row.now) }
-        ensures unchanged { OnErr result ((self.new ≡ self.old) × (events.new.items ≡ events.old.items)) }
+        requires item { IsItem (interface_of self.old) (number_of self.old)
+            (record { row = row.now; packet = packet.now }) }
+        ensures interface { (c : channels.Channel) → stands_for self.old c
+            → IfOk result (λ _. interface_of self.new ≡ interface_of self.old) }
+        ensures number { (c : channels.Channel) → stands_for self.old c
+            → IfOk result (λ _. number_of self.new ≡ number_of self.old) }
+        ensures stands { (c : channels.Channel) → stands_for self.old c
+            → IfOk result (λ _. stands_for self.new
+            (channel_step (interface_of self.old) (number_of self.old) c row.now).after) }
+        ensures events { (c : channels.Channel) → stands_for self.old c
+            → IfOk result (λ _. events.new.items ≡ events.old.items
+            ++ row_events (interface_of self.old) epoch (number_of self.old) c row.now) }
+        ensures unchanged { OnErr result ((self.new ≡ self.old)
+            × (events.new.items ≡ events.old.items)) }
         ensures memory { IfErr result (λ fault. fault ≡ Memory) };
 }
 

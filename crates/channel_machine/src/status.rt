@@ -59,23 +59,32 @@ pub trait StatusStore: Copy {
     fn data(&mut self, side: Side, send: u8, receive: u8) -> Result<(), u8>
         ensures rest { CountsAlone (status self.old) (status self.new) }
         ensures unchanged { OnErr result (status self.new ≡ status self.old) }
-        ensures counts { (c : Counts) → windows.Stands (status self.old).flow c → windows.Answers result (status self.old).flow (status self.new).flow (count_data (status self.old).flow.modulus (of_side side (status self.old).flow.windows) c side send receive) };
+        ensures counts { (c : Counts) → windows.Stands (status self.old).flow c
+            → windows.Answers result (status self.old).flow (status self.new).flow
+            (count_data (status self.old).flow.modulus
+            (of_side side (status self.old).flow.windows) c side send receive) };
 
     /// Judges the P(R) of a side, as `Flow::ack`.
     fn ack(&mut self, side: Side, receive: u8) -> Result<(), u8>
         ensures rest { CountsAlone (status self.old) (status self.new) }
         ensures unchanged { OnErr result (status self.new ≡ status self.old) }
-        ensures counts { (c : Counts) → windows.Stands (status self.old).flow c → windows.Answers result (status self.old).flow (status self.new).flow (count_receive (status self.old).flow.modulus c side receive) };
+        ensures counts { (c : Counts) → windows.Stands (status self.old).flow c
+            → windows.Answers result (status self.old).flow (status self.new).flow
+            (count_receive (status self.old).flow.modulus c side receive) };
 
     /// Judges an interrupt of a side, as `Flow::interrupt`.
     fn interrupt(&mut self, side: Side) -> Result<(), u8>
         ensures rest { CountsAlone (status self.old) (status self.new) }
         ensures unchanged { OnErr result (status self.new ≡ status self.old) }
-        ensures counts { (c : Counts) → windows.Stands (status self.old).flow c → windows.Answers result (status self.old).flow (status self.new).flow (count_interrupt c side) };
+        ensures counts { (c : Counts) → windows.Stands (status self.old).flow c
+            → windows.Answers result (status self.old).flow (status self.new).flow
+            (count_interrupt c side) };
 
     /// Judges an interrupt confirmation of a side, as `Flow::confirm`.
     fn confirm(&mut self, side: Side) -> Result<(), u8>
         ensures rest { CountsAlone (status self.old) (status self.new) }
         ensures unchanged { OnErr result (status self.new ≡ status self.old) }
-        ensures counts { (c : Counts) → windows.Stands (status self.old).flow c → windows.Answers result (status self.old).flow (status self.new).flow (count_confirm c side) };
+        ensures counts { (c : Counts) → windows.Stands (status self.old).flow c
+            → windows.Answers result (status self.old).flow (status self.new).flow
+            (count_confirm c side) };
 }

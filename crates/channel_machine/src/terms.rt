@@ -54,7 +54,12 @@ impl Values {
 
     /// With packet sizes for data from the called and from the calling DTE.
     fn with_sizes(self, out: bool, sizes: Option<(u16, u16)>) -> Values
-        ensures { result ≡ record self { size_t = option_map_or (for_side out T) sizes self.size_t; size_n = option_map_or (for_side out N) sizes self.size_n } }
+        ensures { result ≡ record self {
+          size_t = option_map_or
+              (for_side out T) sizes self.size_t;
+          size_n = option_map_or
+              (for_side out N) sizes self.size_n;
+        } }
     {
         match sizes {
             Some((called, calling)) => Values {
@@ -68,7 +73,12 @@ impl Values {
 
     /// With windows for data from the called and from the calling DTE.
     fn with_windows(self, out: bool, windows: Option<(u8, u8)>) -> Values
-        ensures { result ≡ record self { window_t = option_map_or (for_side out T) windows self.window_t; window_n = option_map_or (for_side out N) windows self.window_n } }
+        ensures { result ≡ record self {
+          window_t = option_map_or
+              (for_side out T) windows self.window_t;
+          window_n = option_map_or
+              (for_side out N) windows self.window_n;
+        } }
     {
         match windows {
             Some((called, calling)) => Values {
@@ -108,8 +118,10 @@ impl Terms {
     pub(crate) fn opened(interface: Interface, out: bool, fields: &CallFields<'_>) -> Terms
         requires usable { IsUsable interface fields.now }
         ensures interface { result.interface ≡ interface }
-        ensures call { (xs : List ℕ) → shown fields.now ≡ fields_of xs → result.call ≡ Some (opened_of (record { out = out; packet = xs })) }
-        ensures values { result.values ≡ with_asked out fields.now.sizes fields.now.windows (values_of interface) }
+        ensures call { (xs : List ℕ) → shown fields.now ≡ fields_of xs
+            → result.call ≡ Some (opened_of (record { out = out; packet = xs })) }
+        ensures values { result.values ≡ with_asked out fields.now.sizes fields.now.windows
+            (values_of interface) }
     {
         Terms {
             interface,
@@ -127,7 +139,8 @@ impl Terms {
         requires usable { IsUsable self.interface fields.now }
         ensures interface { result.interface ≡ self.interface }
         ensures call { result.call ≡ self.call }
-        ensures values { result.values ≡ with_asked (is_out_of self.call) fields.now.sizes fields.now.windows self.values }
+        ensures values { result.values ≡ with_asked
+            (is_out_of self.call) fields.now.sizes fields.now.windows self.values }
     {
         Terms {
             interface: self.interface,

@@ -133,8 +133,10 @@ fn add_item<A: Allocator + Copy>(
     line: &Line,
     items: &mut Items<A>,
 ) -> Result<(), Fail>
-    ensures of_channel { All (IsItem interface.now channel) items.old → OnOk result (All (IsItem interface.now channel) items.new) }
-    ensures short { all_octets items.old ≤ 4200 * length items.old → OnOk result (all_octets items.new ≤ 4200 * length items.new) }
+    ensures of_channel { All (IsItem interface.now channel) items.old
+        → OnOk result (All (IsItem interface.now channel) items.new) }
+    ensures short { all_octets items.old ≤ 4200 * length items.old
+        → OnOk result (all_octets items.new ≤ 4200 * length items.new) }
     ensures few { OnOk result (length items.new ≤ length items.old + 1) }
 {
     let (number, side, digits) = line;

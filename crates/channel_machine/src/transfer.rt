@@ -1,11 +1,11 @@
 //! A data packet on a channel: its numbers, the sequence that it belongs to, and the message that it may complete.
 
-ghost use Rattle.std.specs.Prelude.{◌^◌, ◌≡◌, ◌≤◌, ◌&&◌, length, IfOk, IfErr, OnErr, OnSome};
+ghost use Rattle.std.specs.Prelude.{◌≡◌, ◌≤◌, ◌&&◌, length, IfOk, OnSome};
 ghost use Rattle.line_model.specs.declared.interface.Interface.{Interface};
 ghost use Rattle.line_model.specs.channels.Channels.{Channel};
-ghost use Rattle.line_model.specs.declared.fault.Fault.TheVariants.{Memory};
 ghost use Rattle.channel_machine.specs.Transfers.{IsHeard, counted_in_force, packet};
-ghost use Rattle.channel_machine.specs.Channels.{Stands};
+ghost use Rattle.channel_machine.specs.Channels.{Stands, IsUnchanged, IsMemory};
+ghost use Rattle.channel_machine.specs.Sizes.{largest_size};
 
 use crate::channel::StatusChannel;
 use crate::events::Stamp;
@@ -30,12 +30,18 @@ impl<A: Allocator + Clone, S: StatusStore> StatusChannel<A, S> {
         user_data: &[u8],
         events: &mut Vec<Event, A>,
     ) -> Result<Option<u8>, Fault>
-        requires short { length user_data.now ≤ 2 ^ 31 }
+        requires short { length user_data.now ≤ largest_size }
         ensures rest { self.new ≡ record self.old { transfer = self.new.transfer } }
-        ensures heard { (c : Channel) → Stands self.old c → IfOk result (λ o. IsHeard o self.old.terms.interface stamp self.old.transfer self.new.transfer events.old.items events.new.items side (packet side header.now user_data.now) (counted_in_force self.old.terms.interface side header.now.send header.now.receive c) c) }
-        ensures faulted { IfOk result (λ o. OnSome o ((self.new ≡ self.old) × (events.new.items ≡ events.old.items))) }
-        ensures unchanged { OnErr result ((self.new ≡ self.old) × (events.new.items ≡ events.old.items)) }
-        ensures memory { IfErr result (λ fault. fault ≡ Memory) }
+        ensures heard { (c : Channel) → Stands self.old c
+            → IfOk result (λ o. IsHeard o self.old.terms.interface stamp self.old.transfer
+            self.new.transfer events.old.items events.new.items side
+            (packet side header.now user_data.now)
+            (counted_in_force self.old.terms.interface side header.now.send
+            header.now.receive c) c) }
+        ensures faulted { IfOk result (λ o. OnSome o ((self.new ≡ self.old)
+            × (events.new.items ≡ events.old.items))) }
+        ensures unchanged { IsUnchanged result self.old self.new events.old.items events.new.items }
+        ensures memory { IsMemory result }
     {
         let mut status = self.status;
         if let Err(code) = status.data(side, header.send, header.receive) {

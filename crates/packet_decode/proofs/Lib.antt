@@ -2,3 +2,4 @@ pub mod OctetLemmas
 pub mod FacilityLemmas
 pub mod AskedLemmas
 pub mod CallTypes
+pub mod ContentsLemmas

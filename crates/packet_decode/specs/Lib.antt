@@ -3,3 +3,4 @@ pub mod Reading
 pub mod CallFaults
 pub mod Blocks
 pub mod Shown
+pub mod Contents

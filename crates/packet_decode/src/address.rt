@@ -25,8 +25,10 @@ pub(crate) fn address(octets: &[u8], from: usize, count: usize) -> Option<Addres
     requires within { from + count ≤ 2 * length octets.now }
     requires start { from ≤ 15 }
     requires few { count ≤ 15 }
-    ensures none { IfNone result (list_any (λ d. nat_lt 9 d) (half_octets from count octets.now) ≡ true) }
-    ensures digits { IfSome result (λ a. list_any (λ d. nat_lt 9 d) (half_octets from count octets.now) ≡ false) }
+    ensures none { IfNone result (list_any (λ d.
+        nat_lt 9 d) (half_octets from count octets.now) ≡ true) }
+    ensures digits { IfSome result (λ a. list_any (λ d.
+        nat_lt 9 d) (half_octets from count octets.now) ≡ false) }
     ensures written { IfSome result (λ a. a ≡ ascii_digits (half_octets from count octets.now)) }
 {
     let mut address = Address::absent();

@@ -72,7 +72,8 @@ fn read(interface: &Interface, octets: &[u8]) -> Option<Asked>
 
 /// What the facilities ask, `None` where one is cut.
 pub(crate) fn facilities(interface: &Interface, octets: &[u8]) -> Option<Asked>
-    ensures reads { MatchOption result (is_none (facilities_of (length octets.now) octets.now) ≡ true) (λ a. ReadsAs interface.now octets.now a) }
+    ensures reads { MatchOption result (is_none (facilities_of (length octets.now) octets.now)
+        ≡ true) (λ a. ReadsAs interface.now octets.now a) }
     ensures in_range { IfSome result (λ a. IsInRange interface.now a) }
 {
     read(interface, octets)

@@ -47,7 +47,9 @@ struct Tail<'a> {
 
 /// The facilities and the user data, `None` where the facility length is over 109 or past the packet.
 fn split_tail(octets: &[u8]) -> Option<(&[u8], &[u8])>
-    ensures { MatchOption result (is_field_cut octets.now ≡ true) (λ p. (is_field_cut octets.now ≡ false) × (p.0.now ≡ facility_field octets.now) × (p.1.now ≡ drop (1 + octet 1 octets.now) octets.now)) }
+    ensures { MatchOption result (is_field_cut octets.now ≡ true) (λ p.
+        (is_field_cut octets.now ≡ false) × (p.0.now ≡ facility_field octets.now)
+        × (p.1.now ≡ drop (1 + octet 1 octets.now) octets.now)) }
 {
     match octets {
         [] => Some((octets, octets)),
@@ -66,8 +68,10 @@ fn read_tail<'a>(interface: &Interface, octets: &'a [u8], fast_before: bool) -> 
     ensures reads { IfOk result (λ t. ReadsAs interface.now (facility_field octets.now) t.asked) }
     ensures in_range { IfOk result (λ t. IsInRange interface.now t.asked) }
     ensures usable { IfOk result (λ t. t.asked.out_of_range ≡ false) }
-    ensures user_data { IfOk result (λ t. t.user_data.now ≡ drop (1 + octet 1 octets.now) octets.now) }
-    ensures fault { MatchResult result (λ _. tail_fault interface.now fast_before octets.now ≡ None) (λ code. tail_fault interface.now fast_before octets.now ≡ Some code) }
+    ensures user_data { IfOk result (λ t. t.user_data.now
+        ≡ drop (1 + octet 1 octets.now) octets.now) }
+    ensures fault { MatchResult result (λ _. tail_fault interface.now fast_before octets.now
+        ≡ None) (λ code. tail_fault interface.now fast_before octets.now ≡ Some code) }
 {
     let Some((field, user_data)) = split_tail(octets) else {
         return Err(INVALID_FACILITY_OR_REGISTRATION_LENGTH);
@@ -123,7 +127,8 @@ struct Addresses<'a> {
 fn read_addresses(octets: &[u8]) -> Result<Addresses<'_>, u8>
     requires { 4 ≤ length octets.now }
     ensures addresses { IfOk result (λ a. AreAddresses a octets.now) }
-    ensures fault { MatchResult result (λ _. address_fault octets.now ≡ None) (λ code. address_fault octets.now ≡ Some code) }
+    ensures fault { MatchResult result (λ _. address_fault octets.now ≡ None) (λ code.
+        address_fault octets.now ≡ Some code) }
 {
     let called_length = usize::from(octets[3] % 16);
     let calling_length = usize::from(octets[3] / 16);
@@ -155,7 +160,8 @@ fn block_fields<'a>(
     requires read { has_a_bit octets.now ≡ false }
     ensures fields { IfOk result (λ f. shown f ≡ fields_of octets.now) }
     ensures usable { IfOk result (λ f. IsUsable interface.now f) }
-    ensures fault { MatchResult result (λ _. block_fault interface.now fast_before octets.now ≡ None) (λ code. block_fault interface.now fast_before octets.now ≡ Some code) }
+    ensures fault { MatchResult result (λ _. block_fault interface.now fast_before octets.now
+        ≡ None) (λ code. block_fault interface.now fast_before octets.now ≡ Some code) }
 {
     let Addresses {
         called,
@@ -192,7 +198,8 @@ fn opening_fields<'a>(interface: &Interface, octets: &'a [u8]) -> Result<CallFie
     requires { 3 ≤ length octets.now }
     ensures fields { IfOk result (λ f. shown f ≡ fields_of octets.now) }
     ensures usable { IfOk result (λ f. IsUsable interface.now f) }
-    ensures fault { MatchResult result (λ _. call_fault interface.now octets.now ≡ None) (λ code. call_fault interface.now octets.now ≡ Some code) }
+    ensures fault { MatchResult result (λ _. call_fault interface.now octets.now ≡ None) (λ code.
+        call_fault interface.now octets.now ≡ Some code) }
 {
     if octets[0] >= 128 {
         return Ok(no_fields());
@@ -212,7 +219,8 @@ fn accepting_fields<'a>(
     requires { 3 ≤ length octets.now }
     ensures fields { IfOk result (λ f. shown f ≡ fields_of octets.now) }
     ensures usable { IfOk result (λ f. IsUsable interface.now f) }
-    ensures fault { MatchResult result (λ _. accepted_fault interface.now fast_before octets.now ≡ None) (λ code. accepted_fault interface.now fast_before octets.now ≡ Some code) }
+    ensures fault { MatchResult result (λ _. accepted_fault interface.now fast_before octets.now
+        ≡ None) (λ code. accepted_fault interface.now fast_before octets.now ≡ Some code) }
 {
     if octets[0] >= 128 || octets.len() == 3 {
         return Ok(no_fields());
@@ -241,7 +249,8 @@ pub fn call_fields<'a>(
     requires { IsCallPacket (class_of interface.now octets.now) }
     ensures fields { IfOk result (λ f. shown f ≡ fields_of octets.now) }
     ensures usable { IfOk result (λ f. IsUsable interface.now f) }
-    ensures fault { MatchResult result (λ _. call_packet_fault interface.now fast_before octets.now ≡ None) (λ code. call_packet_fault interface.now fast_before octets.now ≡ Some code) }
+    ensures fault { MatchResult result (λ _. call_packet_fault interface.now fast_before octets.now
+        ≡ None) (λ code. call_packet_fault interface.now fast_before octets.now ≡ Some code) }
 {
     if octets[2] == 0x0b {
         opening_fields(interface, octets)

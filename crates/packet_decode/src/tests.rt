@@ -1,5 +1,6 @@
 //! Packets written octet by octet, and what they are.
 
+use crate::contents::{Contents, InForce, read_contents};
 use crate::decode::{class_of, decode};
 use crate::fields::{CallFields, call_fields};
 use line_model::interface::Interface;
@@ -211,4 +212,90 @@ fn fast_select_of_either_packet_gives_room(rt: HostRuntime) {
     assert_eq!(rt; fault(asking, false), None);
     let call = b"\x10\x01\x0b\x00\x00\0\0\0\0\0\0\0\0\0\0\0\0\0\0\0\0\0";
     assert_eq!(rt; fault(call, true), Some(39));
+}
+
+/// What a packet at modulo 8 says on a channel with packet size 16 whose call asked fast select or not.
+fn read(octets: &[u8], fast: bool) -> Result<Contents<'_>, u8> {
+    let packet = decode(&MODULO_8, octets);
+    read_contents(&MODULO_8, &packet, octets, InForce { fast, size: 16 })
+}
+
+/// The code of a packet's fault of format.
+fn format_fault(octets: &[u8], fast: bool) -> Option<u8> {
+    match read(octets, fast) {
+        Ok(_) => None,
+        Err(code) => Some(code),
+    }
+}
+
+#[test]
+fn data_has_its_header_and_the_octets_behind_it(rt: HostRuntime) {
+    match read(b"\x10\x01\x56\xaa\xbb", false) {
+        Ok(Contents::Data { header, user_data }) => {
+            assert_eq!(rt; header.send, 3);
+            assert_eq!(rt; header.receive, 2);
+            assert!(rt; header.more);
+            assert_eq!(rt; user_data, b"\xaa\xbb".as_slice());
+        }
+        _ => assert!(rt; false),
+    }
+}
+
+#[test]
+fn flow_control_and_interrupts_are_told_apart(rt: HostRuntime) {
+    assert!(rt; matches!(read(b"\x10\x01\xe1", false), Ok(Contents::Receive(7))));
+    assert!(rt; matches!(read(b"\x10\x01\xa5", false), Ok(Contents::Receive(5))));
+    assert!(rt; matches!(read(b"\x10\x01\x23\x00", false), Ok(Contents::Interrupt)));
+    assert!(rt; matches!(read(b"\x10\x01\x27", false), Ok(Contents::InterruptConfirm)));
+    assert!(rt; matches!(read(b"\x10\x01\x13\x00", false), Ok(Contents::Other)));
+}
+
+#[test]
+fn call_packets_have_their_fields(rt: HostRuntime) {
+    match read(b"\x10\x01\x0b\x32\x12\x34\x50\x02\x01\x01", false) {
+        Ok(Contents::Call(fields)) => assert_eq!(rt; fields.called.as_bytes(), b"12".as_slice()),
+        _ => assert!(rt; false),
+    }
+    match read(b"\x10\x01\x0f\x11\x12", false) {
+        Ok(Contents::Accepted(fields)) => {
+            assert_eq!(rt; fields.calling.as_bytes(), b"2".as_slice());
+        }
+        _ => assert!(rt; false),
+    }
+}
+
+#[test]
+fn lengths_out_of_bounds_have_their_codes(rt: HostRuntime) {
+    let cases: [(&[u8], u8); 7] = [
+        (b"\x10\x01\x00\0\0\0\0\0\0\0\0\0\0\0\0\0\0\0\0\0", 39),
+        (b"\x10\x01\x13", 38),
+        (b"\x10\x01\x1b", 38),
+        (b"\x10\x01\x1b\x00\x00\x00", 39),
+        (b"\x10\x01\x23", 38),
+        (b"\x10\x01\x27\x00", 39),
+        (b"\x10\x01\xe1\x00", 39),
+    ];
+    for (octets, code) in cases {
+        assert_eq!(rt; format_fault(octets, false), Some(code), "for {octets:?}");
+    }
+    let long = b"\x10\x01\x0f\x00\x00\0\0\0\0\0\0\0\0\0\0\0\0\0\0\0\0\0";
+    assert_eq!(rt; format_fault(long, false), Some(39));
+    assert_eq!(rt; format_fault(long, true), None);
+}
+
+#[test]
+fn cut_headers_are_too_short(rt: HostRuntime) {
+    let cut: [&[u8]; 3] = [b"\x20\x01\x7e", b"\x20\x01\x01", b"\x20\x01\x05"];
+    for octets in cut {
+        let packet = decode(&MODULO_128, octets);
+        let in_force = InForce {
+            fast: false,
+            size: 128,
+        };
+        let code = match read_contents(&MODULO_128, &packet, octets, in_force) {
+            Ok(_) => None,
+            Err(code) => Some(code),
+        };
+        assert_eq!(rt; code, Some(38), "for {octets:?}");
+    }
 }

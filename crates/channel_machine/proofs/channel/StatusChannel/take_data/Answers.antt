@@ -1,19 +1,22 @@
-use Rattle.std.proofs.Common.{sym, ◌∙◌, ap, drop}
-use Rattle.line_model.specs.packets.Classes.{header_length}
+use Rattle.std.proofs.Common.{ap}
 use Rattle.channel_machine.specs.Transfers.{packet}
-use Rattle.channel_machine.specs.Channels.{Known}
-use Rattle.channel_machine.proofs.Taking.{unchanged_between, heard_by}
+use Rattle.channel_machine.proofs.Taking.{unchanged_between, heard_by, refused_by}
 use Rattle.channel_machine.proofs.channel.StatusChannel.take_data.Goals as goal
 
-pub returns-in-Some-2-clause-unchanged : goal.returns-in-Some-2-clause-unchanged
-returns-in-Some-2-clause-unchanged g c =
+pub returns-in-Some-clause-unchanged : goal.returns-in-Some-clause-unchanged
+returns-in-Some-clause-unchanged g c =
     unchanged_between c.fail.result c.args.self.now c.hear.new.self c.fail.new.self c.args.events.now.items c.hear.new.events.items c.fail.new.events.items
-    (rw c.in-Some-2.is at c.in_ok-code.ensures.faulted) c.fail.ensures.unchanged
+    (rw c.in-Some.is at c.in_ok-code.ensures.faulted) c.fail.ensures.unchanged
+
+pub returns-in-Some-clause-does : goal.returns-in-Some-clause-does
+returns-in-Some-clause-does g c xs header field k s =
+    refused_by c.fail.result c.args.place.stamp c.args.self.now c.hear.new.self c.fail.new.self c.args.events.now.items c.hear.new.events.items c.fail.new.events.items
+    c.args.place.side c.args.place.state xs c.args.user_data.now c.args.header.now k s header (ap (λ l. packet c.args.place.side c.args.header.now l) field)
+    _ c.in-Some.code c.in-Some.is (c.in_ok-code.ensures.heard k s)
+    (rw c.in-Some.is at c.in_ok-code.ensures.faulted).0 (rw c.in-Some.is at c.in_ok-code.ensures.faulted).1 c.fail.ensures.does
 
 pub returns-in-None-clause-does : goal.returns-in-None-clause-does
-returns-in-None-clause-does g c k s =
-    heard_by c.args.stamp c.args.self.now c.hear.new.self c.args.events.now.items c.hear.new.events.items c.args.side c.args.state c.args.octets.now c.user_data-field.result.now c.in-Some.header k
-    c.in_ok-code.ensures.rest s (sym c.requires.header ∙ c.in-Some.is)
-    (ap (λ l. packet c.args.side c.in-Some.header l) (c.user_data-field.ensures.data
-    ∙ ap (λ j. drop (header_length j) c.args.octets.now) (c.interface.ensures ∙ ap (λ (o : Known). o.terms.interface) c.self.view_is)))
+returns-in-None-clause-does g c xs header field k s =
+    heard_by c.args.place.stamp c.args.self.now c.hear.new.self c.args.events.now.items c.hear.new.events.items c.args.place.side c.args.place.state xs c.args.user_data.now c.args.header.now k
+    c.in_ok-code.ensures.rest s header (ap (λ l. packet c.args.place.side c.args.header.now l) field)
     _ c.in-None.is (c.in_ok-code.ensures.heard k s)

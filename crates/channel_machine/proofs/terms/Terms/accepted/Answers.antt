@@ -1,7 +1,6 @@
-use Rattle.std.proofs.Common.{sym, ◌∙◌, ap, subst}
+use Rattle.std.proofs.Common.{sym, subst}
 use Rattle.channel_machine.specs.Terms.{AreUsable}
-use Rattle.channel_machine.specs.TermsStand.{values_of, with_asked}
-use Rattle.channel_machine.proofs.Usable.{usable_of, usable_asked}
+use Rattle.channel_machine.proofs.Usable.{usable_asked}
 use Rattle.channel_machine.proofs.terms.Terms.accepted.Goals as goal
 
 pub invariant_of-result : goal.invariant_of-result
