@@ -18,7 +18,7 @@ pub first_fault_is : (i : Interface) (n : ℕ) (c : Channel) (x : Side) (k : Cla
     a ≡ direction_fault i n x k → b ≡ format_fault i c x k xs → or_other a b ≡ packet_fault i n c x k xs
 first_fault_is i n c x k xs a b d f = λ j. or_other (d j) (f j)
 
--- what was judged and weighed decides
+-- what was judged and read decides
 pub decided : (s : StateName) (a : Action) (v : Verdict) (f : Option ℕ) (j : Judged) (fault : Option ℕ) →
     record { state = s; entry = a } ≡ j → f ≡ fault → v ≡ verdict (record { state = s; entry = a }) f → IsDecided s v j fault
 decided s a v f j fault judged_is fault_is verdict_is = record {

@@ -98,7 +98,7 @@ fn is_call_or_clear(class: Class) -> bool
 }
 
 /// What a packet comes to, by the entry and by what was read of it.
-pub(crate) fn weigh<'a>(entry: Action, read: Result<Contents<'a>, u8>) -> Decision<'a>
+pub(crate) fn decision_of<'a>(entry: Action, read: Result<Contents<'a>, u8>) -> Decision<'a>
     ensures verdict { (s : StateName) → verdict_in s result
         ≡ verdict (record { state = s; entry = entry }) (result_err read.entry) }
     ensures contents { HandsOn result read.entry }

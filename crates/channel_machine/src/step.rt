@@ -14,7 +14,7 @@ ghost use Rattle.channel_machine.specs.Sizes.{largest_size};
 
 use crate::channel::StatusChannel;
 use crate::events::{Place, Stamp};
-use crate::judging::{Decision, judged, weigh};
+use crate::judging::{Decision, decision_of, judged};
 use crate::moves::{Change, change_of};
 use crate::status::StatusStore;
 use line_model::event::Event;
@@ -177,7 +177,7 @@ impl<A: Allocator + Clone, S: StatusStore> StatusChannel<A, S> {
             packet.class(),
         );
         let read = self.read(side, packet, octets);
-        (state, weigh(entry, read))
+        (state, decision_of(entry, read))
     }
 
     /// Does what a packet comes to.
