@@ -1,14 +1,10 @@
 -- The comments behind a line.
-use Rattle.std.proofs.Common.{◌≡◌, ◌∙◌, sym, ap, subst, refl, ℕ, List, [], ◌++◌, Option, Result, Ok, Err, OnOk, OnErr, IfErr, append_assoc, append-nil, inl, inr}
+use Rattle.std.proofs.Common.{◌≡◌, ◌∙◌, sym, ap, subst, refl, ℕ, List, [], ◌++◌, Result, Ok, Err, OnOk, OnErr, IfErr, append_assoc, append-nil, inl, inr}
 use Rattle.line_model.specs.text.Text.{Line}
 use Rattle.line_model.specs.traces.Traces.{text}
-use Rattle.line_model.specs.declared.fault.Fault.{Fault}
-use Rattle.line_model.specs.declared.fault.Fault.TheVariants.{Memory}
-use Rattle.line_model.specs.declared.fault.Kind.{Kind}
 use Rattle.line_model.specs.declared.finding.Finding.{Finding}
 use Rattle.annotated_trace.specs.Annotation.{AreMarksOf, marks_in}
 use Rattle.annotated_trace.specs.Marking.{AreMarksBehind, HasCommentsOf, HasMarksOf}
-use Rattle.trace_text.specs.StandsFor.{IsFaultOf, IsTextFault}
 use Rattle.annotated_trace.specs.Wording.{AreNotes}
 use Rattle.annotated_trace.specs.declared.choice.Choice.{Choice}
 use Rattle.annotated_trace.specs.declared.choice.Choice.TheVariants.{EveryRow, ChosenRows}
@@ -20,12 +16,6 @@ use Rattle.annotated_trace.proofs.WordingLemmas.{notes_are_comments, notes_mark_
 pub always : {T E : Type 0} (r : Result T E) (P : Type 0) → P → OnOk r P
 always (Ok x) P h = h
 always (Err e) P h = tt
-
-pub memory_of : (at : Option (ℕ × Kind)) (f : Fault) → f ≡ Memory → IsFaultOf at f
-memory_of at f h = subst (IsFaultOf at) (sym h) tt
-
-pub memory_text : (f : Fault) → f ≡ Memory → IsTextFault f
-memory_text f h = subst IsTextFault (sym h) tt
 
 behind_of : (choice : Choice) (findings : List Finding) (marks : List Line) → AreMarksOf findings marks → AreMarksBehind choice findings marks
 behind_of EveryRow findings marks h = h

@@ -74,11 +74,6 @@ line_passed S a0 a a1 a2 taken0 taken taken2 chunk rest front back end sent p e 
 }
 
 -- the rest of the chunk, without an LF
-pub rest_stands : {A W D : Type 0} → (S : W → List ℕ → Type 0) (a0 a a1 : Annotator A W D) (taken0 taken : Option (List ℕ)) (chunk rest x : List ℕ) → Passed S a0 a taken0 taken chunk rest → StandsFor S a0 x
-    → ((x : List ℕ) → StandsFor S a x → StandsFor S a1 (x ++ rest)) → StandsFor S a1 (x ++ chunk)
-rest_stands S a0 a a1 taken0 taken chunk rest x p s step =
-    subst (StandsFor S a1) (append_assoc x p.fed rest ∙ ap (λ xs. x ++ xs) (sym p.whole)) (step (x ++ p.fed) (p.stands x s))
-
 -- ---- where a line is refused
 
 chunk_behind : (x fed end back chunk : List ℕ) → chunk ≡ (fed ++ end) ++ back → x ++ chunk ≡ ((x ++ fed) ++ end) ++ back

@@ -1,11 +1,10 @@
 -- Texts that a sink takes in parts.
-use Rattle.std.proofs.Common.{◌≡◌, ℕ, ◌-◌, true, false, ◌<◌, ◌≤◌, List, [], ◌++◌, length, take, drop, refl, sym, ap, ◌∙◌, arith, Option, Some, None, append_assoc}
-use Rattle.std.proofs.lemmas.List.{append-nil, take-append-drop}
-use Rattle.std.proofs.lemmas.Grind.{common_steps}
+use Rattle.std.proofs.Common.{◌≡◌, ℕ, true, false, ◌<◌, ◌≤◌, List, [], ◌++◌, sym, ap, ◌∙◌, arith, Option, append_assoc}
+use Rattle.std.proofs.lemmas.List.{append-nil}
 use Rattle.line_model.specs.basics.Device.{with_more}
 use Rattle.json_lines.specs.declared.chunk.Chunk.{Chunk}
 use Rattle.json_lines.specs.Written.{Writes}
-use Rattle.line_model.proofs.DeviceLemmas.{with_more-append, with_more-nil, split_rest}
+use Rattle.line_model.proofs.DeviceLemmas.{with_more-append}
 
 -- what is held is sent, all of it or a first part, and nothing is held then
 pub flushed : (before taken after : Option (List ℕ) × ℕ) (c d : Chunk) (text front rest : List ℕ) → Writes before taken c text → c.failed ≡ false → c.bytes.items ≡ front ++ rest → after.0 ≡ with_more taken.0 front

@@ -1,5 +1,5 @@
 -- A text that goes on keeps what its ended lines say, where none of them is faulty.
-use Rattle.std.proofs.Common.{◌≡◌, ◌∙◌, sym, ap, ℕ, ◌+◌, ◌-◌, ◌<◌, ◌≤◌, List, [], ◌∷◌, ◌++◌, length, Option, Some, None, take, drop, arith, append_assoc, length-append}
+use Rattle.std.proofs.Common.{◌≡◌, ◌∙◌, sym, ap, ℕ, ◌+◌, ◌-◌, ◌≤◌, List, [], ◌∷◌, ◌++◌, length, Option, Some, None, take, drop, arith, append_assoc, length-append}
 use Rattle.std.specs.Prelude.{is_some, not}
 use Rattle.std.specs.List.{filter_map}
 use Rattle.std.specs.Option.{option_map}
@@ -7,9 +7,8 @@ use Rattle.std.proofs.Math.Seq.{take-append-add}
 use Rattle.line_model.specs.basics.Records.{Row}
 use Rattle.line_model.specs.declared.interface.Interface.{Interface}
 use Rattle.line_model.specs.declared.fault.Kind.{Kind}
-use Rattle.line_model.specs.declared.fault.Kind.TheVariants.{HeaderMissing}
 use Rattle.line_model.specs.text.RowLine.{row_of}
-use Rattle.line_model.specs.text.Text.{Line, is_comment, content_of, begun_kind, begun_line, early, early_head, early_rows, end_kind, ended_lines, fault, first_fault, good_lines, head, head_in, head_of, line_kind, line_or_none, lines_of, rows, rows_in}
+use Rattle.line_model.specs.text.Text.{Line, is_comment, content_of, begun_kind, begun_line, early, early_head, early_rows, end_kind, ended_lines, fault, first_fault, good_lines, head, head_in, head_of, line_or_none, lines_of, rows, rows_in}
 use Rattle.line_model.proofs.LineLemmas.{no_content}
 use Rattle.line_model.proofs.TextLemmas.{first_fault-append}
 use Rattle.trace_text.specs.Progress.{Progress}

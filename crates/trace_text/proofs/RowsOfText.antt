@@ -3,7 +3,7 @@ use Rattle.std.proofs.Common.{◌≡◌, sym, ap, subst, refl, ℕ, ◌+◌, ◌
 use Rattle.std.specs.Prelude.{All, sum_by, codes, nat_le, nat_lt, is_none, if◌then◌else◌}
 use Rattle.std.specs.List.{join_with_byte}
 use Rattle.std.specs.List.Sorted.{IsStrictlyIncreasing}
-use Rattle.std.specs.Option.{option_or, option_and_then, option_map}
+use Rattle.std.specs.Option.{option_and_then}
 use Rattle.std.specs.Result.{result_ok}
 use Rattle.std.specs.Str.{bytes_eq}
 use Rattle.std.specs.Str.Parse.{digits_value, AllDigits}
@@ -19,7 +19,7 @@ use Rattle.line_model.specs.declared.fault.Kind.TheVariants.{LineForm, Number, S
 use Rattle.line_model.specs.text.Header.{is_number, number_of, words_of}
 use Rattle.line_model.specs.basics.Records.{Row}
 use Rattle.line_model.specs.text.RowLine.{RowWords, is_row_words, row_words_in, row_words, rising_number, side_of, octets_of, words_kind, row_kind, row_of}
-use Rattle.line_model.specs.text.Text.{Line, is_comment, has_header, last_number, rows_in, size_of, size_kind, contents_kind, header_kind, form_kind, line_kind, first_fault, begun_kind, end_kind, ended_lines, begun_line, line_or_none, lines_of, good_lines, early, early_rows, fault, rows}
+use Rattle.line_model.specs.text.Text.{Line, is_comment, has_header, last_number, rows_in, size_of, size_kind, contents_kind, header_kind, form_kind, line_kind, first_fault, begun_kind, end_kind, ended_lines, begun_line, line_or_none, lines_of, early, early_rows, fault, rows}
 use Rattle.line_model.proofs.LineLemmas.{last_number-comment, rows_in-comment, last_number-first, rows_in-first, last_number-later, rows_in-later}
 use Rattle.line_model.proofs.TextLemmas.{size_of-append, size_kind-none}
 use Rattle.line_model.proofs.RowsSoFar.{RowsTo, rows_none, rows_push, rows_rise, rows_below}
