@@ -21,7 +21,7 @@ CONSTANT = re.compile(r"pub const (\w+): &str =\s+" + TEXT + ";", re.DOTALL)
 FLAG = re.compile(r"flag\(\s*alloc,\s*" + TEXT + r",\s*" + TEXT + r",?\s*\)")
 ARGUMENT = re.compile(r"Arg::new\(alloc, " + TEXT + r"\)(.*?)\n\}", re.DOTALL)
 CALL = re.compile(r"\.(\w+)\((.*?)\)\n")
-ORDER = re.compile(r"\.arg\((\w+)")
+ORDER = re.compile(r"\.arg\((?:flag\(\s*alloc,\s*" + TEXT + r"|(\w+))")
 STATUS = re.compile(r"^  (\d+) +(.*)$", re.MULTILINE)
 
 
@@ -56,7 +56,7 @@ def arguments():
         calls = {call: words.strip('"') for call, words in CALL.findall(body)}
         if "help" in calls:
             found[name] = Argument(name, plain(calls["help"]), calls.get("value_name", ""), calls.get("default_value", ""), "long" in calls, "num_args" in calls)
-    order = ORDER.findall(source)
+    order = [flag or function for flag, function in ORDER.findall(source)]
     return sorted(found.values(), key=lambda it: order.index(it.name))
 
 
