@@ -1,44 +1,40 @@
 -- A source that is read while the pieces of its trace are fed.
-use Rattle.std.proofs.Common.{◌≡◌, ◌∙◌, sym, ap, subst, refl, ℕ, ◌<◌, List, [], ◌++◌, Option, Some, None, Result, Ok, Err, append_assoc, append-nil, inl, inr}
+use Rattle.std.proofs.Common.{◌≡◌, ◌∙◌, sym, ap, subst, refl, ℕ, ◌<◌, List, [], ◌++◌, length, Option, Some, None, Result, Ok, Err, append_assoc, append-nil, inl, inr}
 use Rattle.std.specs.Prelude.{IfOk, IfErr, IfSome}
 use Rattle.std.specs.Option.{option_map}
 use Rattle.line_model.specs.work.Book.{KnownPlan}
 use Rattle.line_model.specs.basics.Device.{Gives}
-use Rattle.line_model.specs.text.Text.{early, early_head, fault, head_of, size_kind}
+use Rattle.line_model.specs.basics.Records.{Piece}
+use Rattle.line_model.specs.text.Text.{early, fault}
 use Rattle.line_model.specs.traces.Traces.{trace_plan}
 use Rattle.line_model.specs.declared.fault.Fault.{Fault}
 use Rattle.line_model.specs.declared.fault.Fault.TheVariants.{Memory, Trace, Read as ReadFailed}
 use Rattle.line_model.proofs.TextLemmas.{early_rows-nothing}
-use Rattle.trace_text.specs.Progress.{Progress}
-use Rattle.trace_text.specs.StandsFor.{StandsFor, IsFaultOf, IsTextFault}
+use Rattle.trace_text.specs.StandsFor.{IsFaultOf, IsTextFault}
 use Rattle.piece_queue.specs.declared.rule.Record.{Record}
 use Rattle.workers.specs.Workers.{HasFed}
-use Rattle.piece_feed.specs.Fronts.{IsFedTo, IsPlanOf}
+use Rattle.piece_feed.specs.TextCuts.{HasTaken, IsFedTo, IsPlanOf}
 use Rattle.piece_feed.specs.Readings.{HasRead, IsReadOf, IsReadingFault, IsRefusal}
 use Rattle.piece_feed.specs.declared.reading.Read.{Read}
-use Rattle.piece_feed.specs.declared.taking.Front.{Front}
+use Rattle.piece_feed.specs.declared.text_cutter.TextCutter.{TextCutter}
+use Rattle.piece_feed.proofs.Firsts.{none_known}
 
 -- where a source tells its bytes it gave these, and has the others
 abbrev pub Gave : (before after : Option (List ℕ)) → List ℕ → Type 0
 Gave before after text = IfSome before (λ all. (rest : List ℕ) × (all ≡ text ++ rest) × (after ≡ Some rest))
 
--- the text was read, and its rows went through the front
-pub record Course {A : Type 0} (before after : Option (List ℕ)) (lines : Progress) (fed : ℕ) (front : Option (Front A)) : Type 0 where
+-- the text was read and cut, and its pieces that are known whole were fed
+pub record Course {A : Type 0} (before after : Option (List ℕ)) (c : TextCutter A) (n : ℕ) : Type 0 where
   pub text : List ℕ
-  pub reader : StandsFor lines text
-  pub cut : IsFedTo text fed front
+  pub fed : IsFedTo text n c
   pub source : Gave before after text
 
 gave_none : (before : Option (List ℕ)) → Gave before before []
 gave_none None = tt
 gave_none (Some all) = (all, refl, refl)
 
-early_head-nothing : early_head [] ≡ None
-unfolding early_head early size_kind head_of
-early_head-nothing = refl
-
-pub course_begun : {A : Type 0} (before : Option (List ℕ)) (lines : Progress) (fed : ℕ) → StandsFor lines [] → fed ≡ 0 → Course {A = A} before before lines fed None
-course_begun before lines fed s none = record { text = []; reader = s; cut = (early_head-nothing, early_rows-nothing, none); source = gave_none before }
+pub course_begun : {A : Type 0} (before : Option (List ℕ)) (c : TextCutter A) (n : ℕ) → HasTaken [] c → n ≡ 0 → Course before before c n
+course_begun before c n taken none = record { text = []; fed = record { taken = taken; all = none ∙ sym (ap (λ (ps : List Piece). length ps) (none_known [] early_rows-nothing)) }; source = gave_none before }
 
 pub gave_more : (before now next : Option (List ℕ)) (text bytes : List ℕ) (room : ℕ) → Gave before now text → Gives now next bytes room → Gave before next (text ++ bytes)
 gave_more None now next text bytes room h more = tt

@@ -1,3 +1,2 @@
-pub mod Batches
-pub mod Fronts
 pub mod Readings
+pub mod TextCuts

@@ -1,6 +1,6 @@
 //! A source that is read to its end while the pieces of its trace are fed.
 
-ghost use Rattle.std.specs.Prelude.{◌≡◌, ℕ, ◌+◌, ◌<◌, ◌≤◌, ◌^◌, List, IfErr, IfOk, IfSome};
+ghost use Rattle.std.specs.Prelude.{◌≡◌, ℕ, ◌+◌, ◌<◌, ◌≤◌, ◌^◌, List, IfErr, IfOk, IfSome, length};
 ghost use Rattle.std.specs.Option.{option_map};
 ghost use Rattle.std.specs.Thread.{IsSync};
 ghost use Rattle.line_model.specs.text.Text.{fault};
@@ -8,13 +8,13 @@ ghost use Rattle.line_model.specs.traces.Traces.{trace_plan};
 ghost use Rattle.line_model.specs.declared.fault.Fault.TheVariants.{Memory};
 ghost use Rattle.line_model.specs.pieces.Plans.{plan};
 ghost use Rattle.line_model.specs.basics.Records as records;
-ghost use Rattle.trace_text.specs.StandsFor.{StandsFor, IsFaultOf, IsTextFault};
+ghost use Rattle.restart_epochs.specs.Cutting.{given_of};
+ghost use Rattle.trace_text.specs.StandsFor.{IsFaultOf, IsTextFault};
 ghost use Rattle.workers.specs.Workers.{HasFed};
-ghost use Rattle.piece_feed.specs.Fronts.{HasCut, IsFedTo, IsEndReady};
+ghost use Rattle.piece_feed.specs.TextCuts.{HasCut, IsFedTo};
 ghost use Rattle.piece_feed.specs.Readings.{HasRead, IsCutOf, IsOutcome, IsReadOf};
 
-use crate::batch::Batch;
-use crate::taking::{Front, front_of, take_bytes, take_items};
+use crate::text_cutter::{Front, TextCutter};
 use line_model::device::Source;
 use line_model::fault::Fault;
 use line_model::finding::Finding;
@@ -26,7 +26,6 @@ use std::alloc::{Allocator, Global};
 use std::sync::Wait;
 use std::thread::Threads;
 use std::time::Clock;
-use trace_text::lines::Lines;
 use workers::{Feed, feed_pieces};
 
 /// The bytes that are asked for at once.
@@ -50,31 +49,30 @@ fn end_front<P: Plan, A: Allocator + Copy, R: Wait + Clock>(
 ) -> Result<Read<A>, Fault>
     requires queue { pass.old.queue ≡ work.now.queue }
     requires open { pass.old.record_of.ends ≡ 0 }
-    requires ready { (rows : List records.Row) × HasCut rows pass.old.record_of.fed front
+    requires ready { (rows : List records.Row) × HasCut rows front
+        × (pass.old.record_of.fed ≡ length (given_of front.interface rows))
         × IfSome P.pieces (λ ps. ps ≡ plan front.interface rows) }
     ensures queue { pass.new.queue ≡ pass.old.queue }
     ensures kept { HasFed pass.old.record_of pass.new.record_of }
-    ensures cut { (rows : List records.Row) → HasCut rows pass.old.record_of.fed front
+    ensures cut { (rows : List records.Row) → HasCut rows front
+        → pass.old.record_of.fed ≡ length (given_of front.interface rows)
         → IfOk result (IsCutOf front.interface rows pass.new.record_of.fed) }
     ensures memory { IfErr result (λ fault. fault ≡ Memory) }
 {
-    let Front {
-        interface,
-        cutter,
-        fed,
-    } = front;
+    let Front { interface, cutter } = front;
+    let given = cutter.given();
     let Cut {
         pieces,
         line,
         packets,
     } = cutter.end()?;
-    let fed = fed + pieces.len() as u32;
+    let all = given + pieces.len() as u32;
     feed_pieces(rt, work, pieces, pass);
     Ok(Read {
         interface,
         line,
         packets,
-        pieces: fed,
+        pieces: all,
     })
 }
 
@@ -82,33 +80,28 @@ fn end_front<P: Plan, A: Allocator + Copy, R: Wait + Clock>(
 fn finish<P: Plan, A: Allocator + Copy, R: Wait + Clock>(
     rt: &R,
     alloc: A,
-    lines: Lines<A>,
-    mut batch: Batch<A>,
-    front: Option<Front<A>>,
+    text: TextCutter<A>,
     work: &Work<P, A>,
     pass: &mut FeederPass<A>,
 ) -> Result<Read<A>, Fault>
     requires queue { pass.old.queue ≡ work.now.queue }
     requires open { pass.old.record_of.ends ≡ 0 }
-    requires ready { (text : List ℕ) × IsEndReady P.pieces text lines pass.old.record_of.fed front }
+    requires ready { (given : List ℕ) × IsFedTo given pass.old.record_of.fed text
+        × IfSome P.pieces (λ ps. ps ≡ trace_plan given) }
     ensures queue { pass.new.queue ≡ pass.old.queue }
     ensures kept { HasFed pass.old.record_of pass.new.record_of }
-    ensures read { (text : List ℕ) → StandsFor lines text
-        → IsFedTo text pass.old.record_of.fed front
-        → IfOk result (IsReadOf text pass.new.record_of.fed) }
-    ensures refused { (text : List ℕ) → StandsFor lines text
-        → IfErr result (IsFaultOf (fault text)) }
+    ensures read { (given : List ℕ) → IsFedTo given pass.old.record_of.fed text
+        → IfOk result (IsReadOf given pass.new.record_of.fed) }
+    ensures refused { (given : List ℕ) → IsFedTo given pass.old.record_of.fed text
+        → IfErr result (IsFaultOf (fault given)) }
     ensures kinds { IfErr result IsTextFault }
 {
-    let interface = match batch.end(lines) {
-        Ok(interface) => interface,
-        Err(fault) => return Err(fault),
-    };
-    let front = front_of(alloc, &interface, front);
-    let front = match take_items(rt, alloc, &batch.items, front, work, pass) {
+    let mut pieces = Vec::new(alloc);
+    let front = match text.end(&mut pieces) {
         Ok(front) => front,
         Err(fault) => return Err(fault),
     };
+    feed_pieces(rt, work, pieces, pass);
     end_front(rt, front, work, pass)
 }
 
@@ -130,23 +123,12 @@ fn read_all<P: Plan, A: Allocator + Copy, S: Source, R: Wait + Clock>(
     ensures asked { S.calls source.new ≤ S.calls source.old + (2 ^ 30 + 1) }
 {
     let mut buffer = [0; CHUNK];
-    let mut lines = Lines::new(alloc);
-    let mut batch = Batch::new(alloc);
-    let mut front = None;
+    let mut text = TextCutter::new(alloc);
     loop {
         match source.read(&mut buffer) {
-            Ok(0) => return finish(rt, alloc, lines, batch, front, work, pass),
-            Ok(n) => match take_bytes(
-                rt,
-                alloc,
-                &buffer[..n],
-                &mut lines,
-                &mut batch,
-                front,
-                work,
-                pass,
-            ) {
-                Ok(more) => front = more,
+            Ok(0) => return finish(rt, alloc, text, work, pass),
+            Ok(n) => match text.take(&buffer[..n]) {
+                Ok(pieces) => feed_pieces(rt, work, pieces, pass),
                 Err(fault) => return Err(fault),
             },
             Err(()) => return Err(Fault::Read),

@@ -252,6 +252,13 @@ impl<A: Allocator + Copy> Cutter<A> {
         )
     }
 
+    /// How many pieces were given out: those of the epochs that have ended.
+    pub fn given(&self) -> u32
+        ensures { OfCut self.now (λ i rows. result ≡ length (given_of i rows)) }
+    {
+        self.given
+    }
+
     /// The findings of the restart machine so far.
     pub fn line(&self) -> &[Finding]
         ensures { OfCut self.now (λ i rows. result.now ≡ line_findings i rows) }

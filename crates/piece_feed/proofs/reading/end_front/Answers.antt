@@ -1,26 +1,38 @@
-use Rattle.std.proofs.Common.{◌∙◌, ap, sym, refl, List, length, arith, length-append}
+use Rattle.std.proofs.Common.{◌∙◌, ◌+◌, ◌<◌, ◌^◌, ap, sym, refl, List, length, arith, length-append}
 use Rattle.line_model.specs.basics.Records.{Piece}
 use Rattle.restart_epochs.specs.Cutting.{given_of}
 use Rattle.piece_feed.proofs.Nexts.{last_next}
+use Rattle.piece_feed.proofs.reading.end_front.Given.{Over}
 use Rattle.piece_feed.proofs.reading.end_front.Goals as goal
+
+-- no more pieces than rows
+few : (g : Over) (c : goal.After-len g) → c.given-given.result + c.len.result < 2 ^ 32
+few g c =
+    let ready = c.requires.ready in
+    let few = c.in_ok-pieces.ensures.few c.args.front.interface ready.0 ready.1.stands in
+    omega (arith, few, c.given-given.ensures c.args.front.interface ready.0 ready.1.stands, c.len.ensures, c.in_ok-pieces.field-0.pieces.ok.0)
+
+pub overflow_cast-all : goal.overflow_cast-all
+overflow_cast-all g c = let least = few g c in omega (arith, least)
+
+pub overflow_add-all : goal.overflow_add-all
+overflow_add-all g c = let least = few g c in omega (arith, least)
 
 pub feed_pieces-requires-clause-next : goal.feed_pieces-requires-clause-next
 feed_pieces-requires-clause-next g c =
     let rows = c.requires.ready.0 in
-    let cut = c.requires.ready.1 in
+    let ready = c.requires.ready in
     let i = c.args.front.interface in
-    last_next g.P.Plan.pieces i rows (given_of i rows) c.in_ok-pieces.field-0.pieces.items c.args.pass.now.record_of.fed cut.all (c.in_ok-pieces.ensures.pieces i rows cut.stands) c.requires.ready.2
+    last_next g.P.Plan.pieces i rows (given_of i rows) c.in_ok-pieces.field-0.pieces.items c.args.pass.now.record_of.fed ready.2 (c.in_ok-pieces.ensures.pieces i rows ready.1.stands) ready.3
 
 pub returns-clause-cut : goal.returns-clause-cut
-returns-clause-cut g c rows h =
+returns-clause-cut g c rows h all =
     let i = c.args.front.interface in
     let whole = sym (length-append (given_of i rows) c.in_ok-pieces.field-0.pieces.items) ∙ ap (λ (l : List Piece). length l) (c.in_ok-pieces.ensures.pieces i rows h.stands) in
-    let all = h.all in
-    let count = h.count in
     record {
       interface = refl;
       all = omega (arith, whole, all, c.in_ok-pieces.field-0.pieces.ok.0, c.feed_pieces.ensures.fed);
       line = c.in_ok-pieces.ensures.line i rows h.stands;
       packets = c.in_ok-pieces.ensures.packets i rows h.stands;
-      pieces = omega (arith, c.len.ensures, c.in_ok-pieces.field-0.pieces.ok.0, c.feed_pieces.ensures.fed, count);
+      pieces = omega (arith, c.len.ensures, c.in_ok-pieces.field-0.pieces.ok.0, c.feed_pieces.ensures.fed, c.given-given.ensures i rows h.stands, all);
     }
