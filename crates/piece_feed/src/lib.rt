@@ -6,5 +6,5 @@ mod text_cutter;
 
 pub use reading::{Read, Reading};
 
-
-
+#[cfg(test)]
+mod tests;
