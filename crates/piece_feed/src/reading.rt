@@ -66,13 +66,13 @@ fn end_front<P: Plan, A: Allocator + Copy, R: Wait + Clock>(
         line,
         packets,
     } = cutter.end()?;
-    let all = given + pieces.len() as u32;
+    let all = given + pieces.len();
     feed_pieces(rt, work, pieces, pass);
     Ok(Read {
         interface,
         line,
         packets,
-        pieces: all,
+        pieces: all as u32,
     })
 }
 

@@ -253,10 +253,10 @@ impl<A: Allocator + Copy> Cutter<A> {
     }
 
     /// How many pieces were given out: those of the epochs that have ended.
-    pub fn given(&self) -> u32
+    pub fn given(&self) -> usize
         ensures { OfCut self.now (λ i rows. result ≡ length (given_of i rows)) }
     {
-        self.given
+        self.given as usize
     }
 
     /// The findings of the restart machine so far.

@@ -270,6 +270,7 @@ fn row_that_leaves_r1_gives_out_its_epoch(rt: HostRuntime) -> Result<(), Fail> {
     ] {
         push(&mut cutter, side, octets, &mut out)?;
         assert_eq!(rt; out.len(), given, "{octets:?}");
+        assert_eq!(rt; cutter.given(), given, "{octets:?}");
     }
     let [first, second] = out.as_slice() else {
         return Err("the first epoch has two pieces")?;

@@ -12,11 +12,14 @@ few g c =
     let few = c.in_ok-pieces.ensures.few c.args.front.interface ready.0 ready.1.stands in
     omega (arith, few, c.given-given.ensures c.args.front.interface ready.0 ready.1.stands, c.len.ensures, c.in_ok-pieces.field-0.pieces.ok.0)
 
-pub overflow_cast-all : goal.overflow_cast-all
-overflow_cast-all g c = let least = few g c in omega (arith, least)
-
 pub overflow_add-all : goal.overflow_add-all
 overflow_add-all g c = let least = few g c in omega (arith, least)
+
+pub overflow_cast-result : goal.overflow_cast-result
+overflow_cast-result g c =
+    let ready = c.requires.ready in
+    let few = c.in_ok-pieces.ensures.few c.args.front.interface ready.0 ready.1.stands in
+    omega (arith, few, c.given-given.ensures c.args.front.interface ready.0 ready.1.stands, c.len.ensures, c.in_ok-pieces.field-0.pieces.ok.0)
 
 pub feed_pieces-requires-clause-next : goal.feed_pieces-requires-clause-next
 feed_pieces-requires-clause-next g c =
