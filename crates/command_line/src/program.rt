@@ -38,7 +38,7 @@ pub const USAGE: u8 = 64;
 pub const OTHER_FAULT: u8 = 3;
 
 /// How many pieces wait for the workers at the most.
-const WAITING: usize = 64;
+const WAITING: usize = 1024;
 
 /// Tells a fault, as far as it can be told.
 fn tell_fault<E: Sink>(alloc: Global, errors: &mut E, fault: Fault) {
