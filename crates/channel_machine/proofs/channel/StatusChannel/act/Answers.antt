@@ -1,4 +1,4 @@
-use Rattle.std.proofs.Common.{◌≡◌, ◌∙◌, ap, sym, subst, true}
+use Rattle.std.proofs.Common.{◌∙◌, ap, sym, subst}
 use Rattle.std.specs.Prelude.{IfOk}
 use Rattle.line_model.specs.packets.Classes.{class_of}
 use Rattle.line_model.specs.declared.table.Action.TheVariants.{Move}

@@ -1,4 +1,4 @@
-use Rattle.std.proofs.Common.{◌≡◌, ◌∙◌, ap, sym, subst, true}
+use Rattle.std.proofs.Common.{◌≡◌, ◌∙◌, ap, subst, true}
 use Rattle.line_model.specs.channels.Channels.{is_permanent}
 use Rattle.line_model.specs.channels.ChannelStep.{judged}
 use Rattle.channel_machine.specs.Channels.{Known}

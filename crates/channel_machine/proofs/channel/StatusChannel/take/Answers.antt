@@ -2,7 +2,6 @@ use Rattle.std.proofs.Common.{◌≡◌, ◌∙◌, ap, sym, subst, true}
 use Rattle.std.specs.Prelude.{IfOk}
 use Rattle.line_model.specs.channels.Channels.{is_permanent}
 use Rattle.line_model.specs.channels.ChannelStep.{judged}
-use Rattle.line_model.specs.packets.Classes.{class_of}
 use Rattle.line_model.proofs.PacketClass.{class_is}
 use Rattle.channel_machine.specs.Channels.{Does}
 use Rattle.channel_machine.specs.Entries.{entry_step, is_entry}
