@@ -31,7 +31,7 @@ impl<A: Allocator + Clone, S: StatusStore> StatusChannel<A, S> {
     /// Takes a data packet without fault of format.
     fn take_data(
         &mut self,
-        place: Place,
+        place: &Place,
         header: &DataHeader,
         user_data: &[u8],
         events: &mut Vec<Event, A>,
@@ -39,8 +39,8 @@ impl<A: Allocator + Clone, S: StatusStore> StatusChannel<A, S> {
         requires short { length user_data.now ≤ largest_size }
         ensures does { (xs : List ℕ) → data_header self.old.terms.interface xs ≡ Some header.now
             → user_data.now ≡ drop (header_length self.old.terms.interface) xs
-            → Comes result place.stamp self.old self.new events.old.items events.new.items
-            (transferring self.old.terms.interface place.side place.state Class.Data xs) }
+            → Comes result place.now.stamp self.old self.new events.old.items events.new.items
+            (transferring self.old.terms.interface place.now.side place.now.state Class.Data xs) }
         ensures unchanged { IsUnchanged result self.old self.new events.old.items events.new.items }
         ensures memory { IsMemory result }
     {
@@ -51,9 +51,11 @@ impl<A: Allocator + Clone, S: StatusStore> StatusChannel<A, S> {
     }
 
     /// Takes an interrupt without fault of format.
-    fn take_interrupt(&mut self, place: Place, events: &mut Vec<Event, A>) -> Result<(), Fault>
-        ensures does { Comes result place.stamp self.old self.new events.old.items events.new.items
-            (λ c. counting place.side place.state (count_interrupt (counts_of c) place.side) c) }
+    fn take_interrupt(&mut self, place: &Place, events: &mut Vec<Event, A>) -> Result<(), Fault>
+        ensures does { Comes result place.now.stamp self.old self.new
+            events.old.items events.new.items
+            (λ c. counting place.now.side place.now.state
+            (count_interrupt (counts_of c) place.now.side) c) }
         ensures unchanged { IsUnchanged result self.old self.new events.old.items events.new.items }
         ensures memory { IsMemory result }
     {
@@ -64,9 +66,11 @@ impl<A: Allocator + Clone, S: StatusStore> StatusChannel<A, S> {
     }
 
     /// Takes an interrupt confirmation without fault of format.
-    fn take_confirmation(&mut self, place: Place, events: &mut Vec<Event, A>) -> Result<(), Fault>
-        ensures does { Comes result place.stamp self.old self.new events.old.items events.new.items
-            (λ c. counting place.side place.state (count_confirm (counts_of c) place.side) c) }
+    fn take_confirmation(&mut self, place: &Place, events: &mut Vec<Event, A>) -> Result<(), Fault>
+        ensures does { Comes result place.now.stamp self.old self.new
+            events.old.items events.new.items
+            (λ c. counting place.now.side place.now.state
+            (count_confirm (counts_of c) place.now.side) c) }
         ensures unchanged { IsUnchanged result self.old self.new events.old.items events.new.items }
         ensures memory { IsMemory result }
     {
@@ -79,13 +83,15 @@ impl<A: Allocator + Clone, S: StatusStore> StatusChannel<A, S> {
     /// Takes the P(R) of a packet without fault of format.
     fn take_ready(
         &mut self,
-        place: Place,
+        place: &Place,
         receive: u8,
         events: &mut Vec<Event, A>,
     ) -> Result<(), Fault>
-        ensures does { Comes result place.stamp self.old self.new events.old.items events.new.items
-            (λ c. counting place.side place.state
-            (count_receive self.old.terms.interface.modulus (counts_of c) place.side receive) c) }
+        ensures does { Comes result place.now.stamp self.old self.new
+            events.old.items events.new.items
+            (λ c. counting place.now.side place.now.state
+            (count_receive self.old.terms.interface.modulus (counts_of c)
+            place.now.side receive) c) }
         ensures unchanged { IsUnchanged result self.old self.new events.old.items events.new.items }
         ensures memory { IsMemory result }
     {
@@ -98,7 +104,7 @@ impl<A: Allocator + Clone, S: StatusStore> StatusChannel<A, S> {
     /// Moves to a state.
     fn go(
         &mut self,
-        place: Place,
+        place: &Place,
         to: StateName,
         contents: Contents<'_>,
         events: &mut Vec<Event, A>,
@@ -106,10 +112,10 @@ impl<A: Allocator + Clone, S: StatusStore> StatusChannel<A, S> {
         requires usable { AreUsable contents self.old.terms.interface largest_size }
         ensures does { (c : Channel) (xs : List ℕ)
             → AreOf contents.entry self.old.terms.interface xs → IsReached c
-            → is_from (call_change place.side (class_of self.old.terms.interface xs) to) to c.state
-            ≡ true → Stands self.old c → IfOk result (λ _.
-            Does place.stamp self.old self.new events.old.items events.new.items
-            (moving place.side (class_of self.old.terms.interface xs) xs to c)) }
+            → is_from (call_change place.now.side (class_of self.old.terms.interface xs) to) to
+            c.state ≡ true → Stands self.old c → IfOk result (λ _.
+            Does place.now.stamp self.old self.new events.old.items events.new.items
+            (moving place.now.side (class_of self.old.terms.interface xs) xs to c)) }
         ensures unchanged { IsUnchanged result self.old self.new events.old.items events.new.items }
         ensures memory { IsMemory result }
     {
@@ -133,7 +139,7 @@ impl<A: Allocator + Clone, S: StatusStore> StatusChannel<A, S> {
     /// Takes a packet whose entry is a move.
     fn take_move(
         &mut self,
-        place: Place,
+        place: &Place,
         to: StateName,
         packet: &Packet,
         octets: &[u8],
@@ -141,11 +147,11 @@ impl<A: Allocator + Clone, S: StatusStore> StatusChannel<A, S> {
     ) -> Result<(), Fault>
         requires packet { packet.now ≡ packet_of self.old.terms.interface octets.now }
         ensures does { (c : Channel) → IsReached c
-            → is_from (call_change place.side (class_of self.old.terms.interface octets.now) to) to
-            c.state ≡ true → Stands self.old c → IfOk result (λ _.
-            Does place.stamp self.old self.new events.old.items events.new.items
-            (entry_step self.old.terms.interface self.old.channel place.side
-            (record { state = place.state; entry = Move to }) octets.now c)) }
+            → is_from (call_change place.now.side (class_of self.old.terms.interface octets.now) to)
+            to c.state ≡ true → Stands self.old c → IfOk result (λ _.
+            Does place.now.stamp self.old self.new events.old.items events.new.items
+            (entry_step self.old.terms.interface self.old.channel place.now.side
+            (record { state = place.now.state; entry = Move to }) octets.now c)) }
         ensures unchanged { IsUnchanged result self.old self.new events.old.items events.new.items }
         ensures memory { IsMemory result }
     {
@@ -159,14 +165,14 @@ impl<A: Allocator + Clone, S: StatusStore> StatusChannel<A, S> {
     #[tactic(auto, using(crate::proofs::Reading::ready_is))]
     fn carry(
         &mut self,
-        place: Place,
+        place: &Place,
         contents: TransferContents<'_>,
         events: &mut Vec<Event, A>,
     ) -> Result<(), Fault>
         requires short { IsShort contents largest_size }
         ensures does { (xs : List ℕ) → AreTransferOf contents.entry self.old.terms.interface xs
-            → Comes result place.stamp self.old self.new events.old.items events.new.items
-            (transferring self.old.terms.interface place.side place.state
+            → Comes result place.now.stamp self.old self.new events.old.items events.new.items
+            (transferring self.old.terms.interface place.now.side place.now.state
             (class_of self.old.terms.interface xs) xs) }
         ensures unchanged { IsUnchanged result self.old self.new events.old.items events.new.items }
         ensures memory { IsMemory result }
@@ -184,16 +190,17 @@ impl<A: Allocator + Clone, S: StatusStore> StatusChannel<A, S> {
     /// Takes a packet of data transfer.
     fn take_transfer(
         &mut self,
-        place: Place,
+        place: &Place,
         packet: &Packet,
         octets: &[u8],
         events: &mut Vec<Event, A>,
     ) -> Result<(), Fault>
         requires packet { packet.now ≡ packet_of self.old.terms.interface octets.now }
         requires transfer { is_transfer (class_of self.old.terms.interface octets.now) ≡ true }
-        ensures does { Comes result place.stamp self.old self.new events.old.items events.new.items
-            (entry_step self.old.terms.interface self.old.channel place.side
-            (record { state = place.state; entry = Normal }) octets.now) }
+        ensures does { Comes result place.now.stamp self.old self.new
+            events.old.items events.new.items
+            (entry_step self.old.terms.interface self.old.channel place.now.side
+            (record { state = place.now.state; entry = Normal }) octets.now) }
         ensures unchanged { IsUnchanged result self.old self.new events.old.items events.new.items }
         ensures memory { IsMemory result }
     {
@@ -223,19 +230,19 @@ impl<A: Allocator + Clone, S: StatusStore> StatusChannel<A, S> {
     /// Does what the entry of a packet says.
     fn act(
         &mut self,
-        place: Place,
+        place: &Place,
         entry: Action,
         packet: &Packet,
         octets: &[u8],
         events: &mut Vec<Event, A>,
     ) -> Result<(), Fault>
         requires packet { packet.now ≡ packet_of self.old.terms.interface octets.now }
-        requires fits { is_entry entry place.side (class_of self.old.terms.interface octets.now)
+        requires fits { is_entry entry place.now.side (class_of self.old.terms.interface octets.now)
             self.old.state ≡ true }
         ensures does { (c : Channel) → IsReached c → Stands self.old c → IfOk result (λ _.
-            Does place.stamp self.old self.new events.old.items events.new.items
-            (entry_step self.old.terms.interface self.old.channel place.side
-            (record { state = place.state; entry = entry }) octets.now c)) }
+            Does place.now.stamp self.old self.new events.old.items events.new.items
+            (entry_step self.old.terms.interface self.old.channel place.now.side
+            (record { state = place.now.state; entry = entry }) octets.now c)) }
         ensures unchanged { IsUnchanged result self.old self.new events.old.items events.new.items }
         ensures memory { IsMemory result }
     {
@@ -269,6 +276,6 @@ impl<A: Allocator + Clone, S: StatusStore> StatusChannel<A, S> {
         ensures memory { IsMemory result }
     {
         let (state, entry) = self.judge(side, packet.class());
-        self.act(Place { stamp, side, state }, entry, packet, octets, events)
+        self.act(&Place { stamp, side, state }, entry, packet, octets, events)
     }
 }

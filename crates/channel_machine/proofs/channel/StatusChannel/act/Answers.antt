@@ -9,17 +9,17 @@ use Rattle.channel_machine.proofs.channel.StatusChannel.act.Goals as goal
 pub take_transfer-requires-clause-transfer : goal.take_transfer-requires-clause-transfer
 take_transfer-requires-clause-transfer g c =
     let old = c.args.self.now in
-    ap (λ a. is_entry a c.args.place.side (class_of old.terms.interface c.args.octets.now) old.state) (sym c.in-Normal.is) ∙ c.requires.fits
+    ap (λ a. is_entry a c.args.place.now.side (class_of old.terms.interface c.args.octets.now) old.state) (sym c.in-Normal.is) ∙ c.requires.fits
 
 pub returns-in-Move-clause-does : goal.returns-in-Move-clause-does
 returns-in-Move-clause-does g c k reached s =
     let old = c.args.self.now in
     let i = old.terms.interface in
     let xs = c.args.octets.now in
-    let x = c.args.place.side in
+    let x = c.args.place.now.side in
     let to = c.in-Move.to in
-    subst (λ a. IfOk c.take_move.result (λ _. Does c.args.place.stamp old c.take_move.new.self c.args.events.now.items c.take_move.new.events.items
-    (entry_step i old.channel x (record { state = c.args.place.state; entry = a }) xs k)))
+    subst (λ a. IfOk c.take_move.result (λ _. Does c.args.place.now.stamp old c.take_move.new.self c.args.events.now.items c.take_move.new.events.items
+    (entry_step i old.channel x (record { state = c.args.place.now.state; entry = a }) xs k)))
     (sym c.in-Move.is)
     (c.take_move.ensures.does k reached
     (ap (λ t. is_entry (Move to) x (class_of i xs) t) (sym s.state) ∙ ap (λ a. is_entry a x (class_of i xs) old.state) (sym c.in-Move.is) ∙ c.requires.fits) s)

@@ -188,8 +188,7 @@ returns-in-Mixed-clause-rest g c =
 
 pub returns-in-Mixed-clause-faulted : goal.returns-in-Mixed-clause-faulted
 returns-in-Mixed-clause-faulted g c =
-    let i = c.self.inside in
-    (
+    let i = c.self.inside in (
       ap (λ a. known i.channel (g.S.StatusStore.status i.status) a i.settings) (subst (λ q. OnMixed q (c.put.new.self ≡ i.assembler)) c.in-Mixed.is c.in_ok-put.ensures.mixed) ∙ c.self.view_is,
       c.in_ok-reserve.ensures.items,
     )

@@ -13,7 +13,7 @@ returns-in-Ok-clause-does g c k s =
     let old = c.args.self.now in
     let i = old.terms.interface in
     let xs = c.args.octets.now in
-    let place = c.args.place in
+    let place = c.args.place.now in
     subst (λ f. IfOk c.carry.result (λ _. Does place.stamp old c.carry.new.self c.args.events.now.items c.carry.new.events.items
     (verdict_step i place.side place.state (class_of i xs) xs (verdict (record { state = place.state; entry = Normal }) f) k)))
     (ap result_err (sym c.in-Ok.is) ∙ c.read_transfer.ensures.fault k s)
@@ -24,7 +24,7 @@ returns-in-Err-clause-does g c k s =
     let old = c.args.self.now in
     let i = old.terms.interface in
     let xs = c.args.octets.now in
-    let place = c.args.place in
+    let place = c.args.place.now in
     subst (λ f. IfOk c.fail.result (λ _. Does place.stamp old c.fail.new.self c.args.events.now.items c.fail.new.events.items
     (verdict_step i place.side place.state (class_of i xs) xs (verdict (record { state = place.state; entry = Normal }) f) k)))
     (ap result_err (sym c.in-Err.is) ∙ c.read_transfer.ensures.fault k s)
