@@ -106,12 +106,12 @@ impl<A: Allocator + Clone, S: StatusStore> StatusChannel<A, S> {
         &mut self,
         place: &Place,
         to: StateName,
-        contents: Contents<'_>,
+        contents: &Contents<'_>,
         events: &mut Vec<Event, A>,
     ) -> Result<(), Fault>
-        requires usable { AreUsable contents self.old.terms.interface largest_size }
+        requires usable { AreUsable contents.now self.old.terms.interface largest_size }
         ensures does { (c : Channel) (xs : List ℕ)
-            → AreOf contents.entry self.old.terms.interface xs → IsReached c
+            → AreOf contents.now self.old.terms.interface xs → IsReached c
             → is_from (call_change place.now.side (class_of self.old.terms.interface xs) to) to
             c.state ≡ true → Stands self.old c → IfOk result (λ _.
             Does place.now.stamp self.old self.new events.old.items events.new.items
@@ -121,8 +121,8 @@ impl<A: Allocator + Clone, S: StatusStore> StatusChannel<A, S> {
     {
         let stamp = place.stamp;
         match change_of(place.side, contents, to) {
-            Change::Opens(out, fields) => self.open(stamp, out, &fields, to, events),
-            Change::GoesUp(fields) => self.go_up(stamp, &fields, to, events),
+            Change::Opens(out, fields) => self.open(stamp, out, fields, to, events),
+            Change::GoesUp(fields) => self.go_up(stamp, fields, to, events),
             Change::Ends(how) => {
                 events.reserve(1)?;
                 self.end(stamp, how, to, false, events);
@@ -156,7 +156,7 @@ impl<A: Allocator + Clone, S: StatusStore> StatusChannel<A, S> {
         ensures memory { IsMemory result }
     {
         match self.read(place.side, packet, octets) {
-            Ok(contents) => self.go(place, to, contents, events),
+            Ok(contents) => self.go(place, to, &contents, events),
             Err(code) => self.fail(place, code, events),
         }
     }
