@@ -12,6 +12,9 @@ use Rattle.line_model.specs.packets.Classes.{class_of}
 use Rattle.packet_decode.specs.Contents.{AreOf, is_bare}
 use Rattle.packet_decode.specs.declared.contents.Contents.{Contents}
 use Rattle.packet_decode.specs.declared.contents.Contents as contents
+use Rattle.packet_decode.specs.Transfers.{AreTransferOf}
+use Rattle.packet_decode.specs.declared.transfer.TransferContents.{TransferContents}
+use Rattle.packet_decode.specs.declared.transfer.TransferContents as transfer
 use Rattle.packet_decode.specs.declared.fields.CallFields.{CallFields}
 use Rattle.channel_machine.specs.Moves.{leaving}
 
@@ -81,19 +84,23 @@ confirm_leaves N to = refl
 at : (k j : Class) (x : Side) (to : StateName) → j ≡ k → Leaves k → call_change x j to ≡ leaving to
 at k j x to e leaves = ap (λ v. call_change x v to) e ∙ leaves x to
 
+-- a packet of data transfer
+transfer_leaves : (r : TransferContents) (i : Interface) (xs : List ℕ) (x : Side) (to : StateName) → AreTransferOf r i xs → call_change x (class_of i xs) to ≡ leaving to
+transfer_leaves (transfer.TheVariants.Data h d) i xs x to of = at Data (class_of i xs) x to of.0 data_leaves
+transfer_leaves (transfer.TheVariants.Receive n) i xs x to of = elim of.0 [
+  | inl e ↦ at Rr (class_of i xs) x to e rr_leaves
+  | inr e ↦ at Rnr (class_of i xs) x to e rnr_leaves
+]
+transfer_leaves transfer.TheVariants.Interrupt i xs x to of = at Interrupt (class_of i xs) x to of interrupt_leaves
+transfer_leaves transfer.TheVariants.InterruptConfirm i xs x to of = at InterruptConfirm (class_of i xs) x to of confirm_leaves
+
 -- contents that are not those of a call packet
 pub other_leaves : (r : Contents) (i : Interface) (xs : List ℕ) (x : Side) (to : StateName) →
     ((f : CallFields) → r ≡ contents.TheVariants.Call f → ⊥) → ((f : CallFields) → r ≡ contents.TheVariants.Accepted f → ⊥) →
     AreOf r i xs → call_change x (class_of i xs) to ≡ leaving to
 other_leaves (contents.TheVariants.Call f) i xs x to a b of = absurd (a f refl)
 other_leaves (contents.TheVariants.Accepted f) i xs x to a b of = absurd (b f refl)
-other_leaves (contents.TheVariants.Data h d) i xs x to a b of = at Data (class_of i xs) x to of.0 data_leaves
-other_leaves (contents.TheVariants.Receive n) i xs x to a b of = elim of.0 [
-  | inl e ↦ at Rr (class_of i xs) x to e rr_leaves
-  | inr e ↦ at Rnr (class_of i xs) x to e rnr_leaves
-]
-other_leaves contents.TheVariants.Interrupt i xs x to a b of = at Interrupt (class_of i xs) x to of interrupt_leaves
-other_leaves contents.TheVariants.InterruptConfirm i xs x to a b of = at InterruptConfirm (class_of i xs) x to of confirm_leaves
+other_leaves (contents.TheVariants.Transfer t) i xs x to a b of = transfer_leaves t i xs x to of
 other_leaves contents.TheVariants.Other i xs x to a b of = bare_leaves x (class_of i xs) to of
 
 -- an incoming call that opens no call

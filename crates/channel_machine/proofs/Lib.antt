@@ -7,10 +7,10 @@ pub mod Kept
 pub mod PairCounts
 pub mod Reporting
 pub mod Settings
-pub mod Steps
+pub mod FirstFault
 pub mod Taking
 pub mod Machines
-pub mod Carried
+pub mod Entries
 pub mod Reached
 pub mod Usable
 pub mod PackedLemmas

@@ -14,8 +14,8 @@ use Rattle.line_model.specs.declared.state.StateName.{StateName}
 use Rattle.line_model.specs.declared.state.StateName.TheVariants.{Dash, R1, R2, R3, P1, P2, P3, P4, P5, P6, P7, D1, D2, D3}
 use Rattle.line_model.specs.declared.verdict.CallChange.{CallChange}
 use Rattle.line_model.specs.declared.verdict.CallChange.TheVariants.{Opens, GoesUp, Ends, Keeps}
-use Rattle.line_model.specs.declared.verdict.Verdict.{Verdict}
-use Rattle.line_model.specs.declared.verdict.Verdict.TheVariants.{Fails, Moves, Transfers, EndsOwed, Nothing}
+use Rattle.line_model.specs.declared.table.Action.{Action}
+use Rattle.line_model.specs.declared.table.Action.TheVariants.{Move, Normal, Error, Discard, Pass, Ends as EndsIndication, Below, ToChannel}
 use Rattle.line_model.specs.basics.Records.{Row}
 use Rattle.line_model.specs.channels.Channels.{Channel, Opening, AcceptedData, fresh, fresh_state, is_joined, is_permanent, channel_in}
 use Rattle.line_model.specs.channels.FlowControl.{Counts}
@@ -25,9 +25,10 @@ use Rattle.line_model.specs.channels.Sequences.{is_alike, begun}
 use Rattle.line_model.specs.packets.Formats.{size_in_force, window_in_force}
 use Rattle.line_model.specs.channels.FlowControl.{count_data, count_receive, count_interrupt, count_confirm}
 use Rattle.line_model.specs.channels.ChannelStep.{judged, verdict, verdict_step, channel_step, changing, entering, ending, ending_open, failing, after_error, transferring, data_step, data_counted, data_alike, counting, counts_of, heard_of, call_change, state_named}
-use Rattle.channel_machine.specs.Reached.{IsReached, IsUnanswered, IsFrom, is_from, is_waiting}
+use Rattle.channel_machine.specs.Reached.{IsReached, IsUnanswered, is_from, is_waiting}
+use Rattle.channel_machine.specs.Entries.{is_entry}
 use Rattle.line_model.specs.packets.Classes.{receive_number}
-use Rattle.channel_machine.proofs.Carried.{from_of}
+use Rattle.channel_machine.proofs.Entries.{fits}
 use Rattle.channel_machine.proofs.Calls.{bare_after}
 
 -- a channel with the same state and call
@@ -157,13 +158,18 @@ transferred i x s Rnr xs c r = counts_alone x s (count_receive i.modulus (counts
 transferred i x s Rej xs c r = counts_alone x s (count_receive i.modulus (counts_of c) x (unwrap_or (receive_number i xs) 0)) c r
 transferred i x s Undefined xs c r = counts_alone x s (count_receive i.modulus (counts_of c) x (unwrap_or (receive_number i xs) 0)) c r
 
-by_verdict : (i : Interface) (x : Side) (s : StateName) (k : Class) (xs : List ℕ) (v : Verdict) (c : Channel) → IsFrom v x k c.state → IsReached c →
-    IsReached (verdict_step i x s k xs v c).after
-by_verdict i x s k xs (Fails t n) c from r = failed x t n c r
-by_verdict i x s k xs (Moves t) c from r = moved (call_change x k t) t xs c from r
-by_verdict i x s k xs Transfers c from r = transferred i x s k xs c r
-by_verdict i x s k xs EndsOwed c from r = same c (record c { owed = false }) refl refl refl r
-by_verdict i x s k xs Nothing c from r = r
+by_entry : (i : Interface) (x : Side) (s : StateName) (k : Class) (xs : List ℕ) (a : Action) (f : Option ℕ) (c : Channel) → is_entry a x k c.state ≡ true → IsReached c →
+    IsReached (verdict_step i x s k xs (verdict (record { state = s; entry = a }) f) c).after
+by_entry i x s k xs (Move t) None c e r = moved (call_change x k t) t xs c e r
+by_entry i x s k xs (Move t) (Some n) c e r = failed x s n c r
+by_entry i x s k xs Normal None c e r = transferred i x s k xs c r
+by_entry i x s k xs Normal (Some n) c e r = failed x s n c r
+by_entry i x s k xs (Error n) f c e r = failed x s n c r
+by_entry i x s k xs EndsIndication f c e r = same c (record c { owed = false }) refl refl refl r
+by_entry i x s k xs Discard f c e r = r
+by_entry i x s k xs Pass f c e r = r
+by_entry i x s k xs Below f c e r = r
+by_entry i x s k xs ToChannel f c e r = r
 
 -- a row
 pub reached_step : (i : Interface) (n : ℕ) (c : Channel) (r : Row) → IsReached c → IsReached (channel_step i n c r).after
@@ -171,7 +177,7 @@ reached_step i n c r reached =
     let k : Class = class_of i r.octets in
     let j = judged (is_permanent i n) r.side c.state c.owed k in
     let f : Option ℕ = packet_fault i n c r.side k r.octets in
-    by_verdict i r.side j.state k r.octets (verdict j f) c (from_of (is_permanent i n) r.side c.state c.owed k f) reached
+    by_entry i r.side j.state k r.octets j.entry f c (fits (is_permanent i n) r.side c.state c.owed k) reached
 
 -- a fresh channel
 pub reached_fresh : (i : Interface) (e n : ℕ) → IsReached (fresh i e n)

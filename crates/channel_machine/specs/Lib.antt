@@ -10,7 +10,7 @@ pub mod Reached
 pub mod PackedStatus
 pub mod Channels
 pub mod Moves
-pub mod Decisions
+pub mod Entries
 pub mod Run
 pub mod Counted
 pub mod Live

@@ -19,13 +19,13 @@ leaving s = call.TheVariants.Keeps
 
 -- this is what a move by a packet does to the call, with the fields of that packet
 abbrev pub IsChange : Change → CallChange → List ℕ → Type 0
-IsChange (Opens out f) v xs = (v ≡ call.TheVariants.Opens out) × (shown f ≡ fields_of xs)
-IsChange (GoesUp f) v xs = (v ≡ call.TheVariants.GoesUp) × (shown f ≡ fields_of xs)
+IsChange (Opens out f) v xs = (v ≡ call.TheVariants.Opens out) × (shown f.now ≡ fields_of xs)
+IsChange (GoesUp f) v xs = (v ≡ call.TheVariants.GoesUp) × (shown f.now ≡ fields_of xs)
 IsChange (Ends h) v xs = v ≡ call.TheVariants.Ends h
 IsChange Keeps v xs = v ≡ call.TheVariants.Keeps
 
 -- the sizes and windows that it takes can be in force
 abbrev pub TakesUsable : Change → Interface → Type 0
-TakesUsable (Opens out f) i = IsUsable i f
-TakesUsable (GoesUp f) i = IsUsable i f
+TakesUsable (Opens out f) i = IsUsable i f.now
+TakesUsable (GoesUp f) i = IsUsable i f.now
 TakesUsable _ i = Unit {0}

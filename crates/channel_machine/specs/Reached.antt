@@ -4,13 +4,9 @@ use Rattle.line_model.specs.declared.state.ChannelState.{ChannelState}
 use Rattle.line_model.specs.declared.state.ChannelState.TheVariants.{Setup}
 use Rattle.line_model.specs.declared.state.PState.TheVariants.{P2, P3, P5}
 use Rattle.line_model.specs.declared.state.StateName.{StateName}
-use Rattle.line_model.specs.declared.state.Side.{Side}
-use Rattle.line_model.specs.declared.packet.Class.{Class}
 use Rattle.line_model.specs.declared.verdict.CallChange.{CallChange}
 use Rattle.line_model.specs.declared.verdict.CallChange.TheVariants.{Opens, GoesUp, Ends, Keeps}
-use Rattle.line_model.specs.declared.verdict.Verdict.{Verdict}
-use Rattle.line_model.specs.declared.verdict.Verdict.TheVariants.{Moves}
-use Rattle.line_model.specs.channels.ChannelStep.{state_named, call_change}
+use Rattle.line_model.specs.channels.ChannelStep.{state_named}
 use Rattle.line_model.specs.channels.Channels.{Channel}
 
 -- the states in which a call was asked for and not answered yet
@@ -36,8 +32,3 @@ is_from (Opens out) to s = true
 is_from GoesUp to s = is_waiting s && not (is_waiting (state_named to))
 is_from (Ends h) to s = not (is_waiting (state_named to))
 is_from Keeps to s = not (is_waiting (state_named to)) || is_waiting s
-
--- a move that the tables have in a state
-abbrev pub IsFrom : Verdict → Side → Class → ChannelState → Type 0
-IsFrom (Moves to) x k s = is_from (call_change x k to) to s ≡ true
-IsFrom _ x k s = Unit {0}

@@ -90,16 +90,17 @@ impl<A: Allocator + Clone, S: StatusStore> StatusChannel<A, S> {
     /// Tells an error at a place: one of the DTE has the DCE clear or reset, one of the DCE changes nothing.
     pub(crate) fn fail(
         &mut self,
-        place: Place,
+        place: &Place,
         code: u8,
         events: &mut Vec<Event, A>,
     ) -> Result<(), Fault>
-        ensures does { Comes result place.stamp self.old self.new events.old.items events.new.items
-            (failing place.side place.state code) }
+        ensures does { Comes result place.now.stamp self.old self.new
+            events.old.items events.new.items
+            (failing place.now.side place.now.state code) }
         ensures unchanged { IsUnchanged result self.old self.new events.old.items events.new.items }
         ensures memory { IsMemory result }
     {
-        let Place { stamp, side, state } = place;
+        let Place { stamp, side, state } = *place;
         events.reserve(2)?;
         events.push_reserved(stamp.event(error(side, state, code)));
         match side {

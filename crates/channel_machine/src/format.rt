@@ -1,11 +1,12 @@
 //! What is read of the packets of a channel, and their first faults (X.25 clause 5).
 
-ghost use Rattle.std.specs.Prelude.{◌≡◌, IfOk};
+ghost use Rattle.std.specs.Prelude.{◌≡◌, true, IfOk};
 ghost use Rattle.std.specs.Result.{result_err};
 ghost use Rattle.line_model.specs.channels.Channels.{Channel};
 ghost use Rattle.line_model.specs.packets.Classes.{class_of, packet_of};
 ghost use Rattle.line_model.specs.packets.Formats.{direction_fault, packet_fault};
 ghost use Rattle.packet_decode.specs.Contents.{AreInForce, AreOf, AreUsable};
+ghost use Rattle.packet_decode.specs.Transfers.{AreTransferOf, IsShort, is_transfer};
 ghost use Rattle.channel_machine.specs.Channels.{Stands};
 ghost use Rattle.channel_machine.specs.Sizes.{largest_size};
 
@@ -16,6 +17,7 @@ use line_model::diagnostic::CALL_ON_ONE_WAY_LOGICAL_CHANNEL;
 use line_model::packet::{Class, Packet};
 use line_model::state::Side;
 use packet_decode::contents::{Contents, InForce, read_contents};
+use packet_decode::transfer::{TransferContents, read_transfer};
 use std::alloc::Allocator;
 
 impl<A: Allocator + Clone, S: StatusStore> StatusChannel<A, S> {
@@ -45,6 +47,29 @@ impl<A: Allocator + Clone, S: StatusStore> StatusChannel<A, S> {
                 )
             }
         }
+    }
+
+    /// What a packet of data transfer says, or the first fault of its format. No direction is against it.
+    pub(crate) fn read_transfer<'a>(
+        &self,
+        side: Side,
+        packet: &Packet,
+        octets: &'a [u8],
+    ) -> Result<TransferContents<'a>, u8>
+        requires packet { packet.now ≡ packet_of self.now.terms.interface octets.now }
+        requires transfer { is_transfer (class_of self.now.terms.interface octets.now) ≡ true }
+        ensures fault { (c : Channel) → Stands self.now c
+            → result_err result ≡ packet_fault self.now.terms.interface self.now.channel c side
+            (class_of self.now.terms.interface octets.now) octets.now }
+        ensures contents { IfOk result (λ r. AreTransferOf r self.now.terms.interface octets.now) }
+        ensures usable { IfOk result (λ r. IsShort r largest_size) }
+    {
+        read_transfer(
+            &self.status.interface(),
+            packet,
+            octets,
+            self.status.size(side),
+        )
     }
 
     /// The fault of a call against the direction of a one-way channel.

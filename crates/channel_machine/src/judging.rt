@@ -1,31 +1,12 @@
-//! What a packet comes to on its channel, by the state tables and by what was read of it.
+//! Where a packet stands in the state tables.
 
 ghost use Rattle.std.specs.Prelude.{◌≡◌};
 ghost use Rattle.line_model.specs.channels.Tables.{action};
-ghost use Rattle.line_model.specs.channels.ChannelStep.{judged, verdict, joining, is_reset, is_call_or_clear};
-ghost use Rattle.line_model.specs.declared.state.StateName.{StateName};
-ghost use Rattle.std.specs.Result.{result_err};
-ghost use Rattle.channel_machine.specs.Decisions.{HandsOn, verdict_in};
+ghost use Rattle.line_model.specs.channels.ChannelStep.{judged, joining, is_reset, is_call_or_clear};
 
 use line_model::packet::Class;
 use line_model::state::{ChannelState, Side, StateName};
 use line_model::table::{Action, table_n, table_t};
-use packet_decode::contents::Contents;
-
-/// What a packet comes to on its channel, with what was read of it.
-#[derive(Drop)]
-pub(crate) enum Decision<'a> {
-    /// An error, by its code.
-    Fails(u8),
-    /// The channel enters a state.
-    Moves(StateName, Contents<'a>),
-    /// A packet of data transfer, to be judged by the windows.
-    Transfers(Contents<'a>),
-    /// The indication that was owed has come.
-    EndsOwed,
-    /// Nothing happens.
-    Nothing,
-}
 
 /// The entry of a side's table.
 fn entry(side: Side, state: StateName, owed: bool, class: Class) -> Action
@@ -95,25 +76,4 @@ fn is_call_or_clear(class: Class) -> bool
     ensures { result ≡ is_call_or_clear class }
 {
     matches!(class, Class::Call | Class::Clear)
-}
-
-/// What a packet comes to, by the entry and by what was read of it.
-pub(crate) fn decision_of<'a>(entry: Action, read: Result<Contents<'a>, u8>) -> Decision<'a>
-    ensures verdict { (s : StateName) → verdict_in s result
-        ≡ verdict (record { state = s; entry = entry }) (result_err read.entry) }
-    ensures contents { HandsOn result read.entry }
-{
-    match entry {
-        Action::Move(to) => match read {
-            Ok(contents) => Decision::Moves(to, contents),
-            Err(code) => Decision::Fails(code),
-        },
-        Action::Normal => match read {
-            Ok(contents) => Decision::Transfers(contents),
-            Err(code) => Decision::Fails(code),
-        },
-        Action::Error(code) => Decision::Fails(code),
-        Action::Ends => Decision::EndsOwed,
-        _ => Decision::Nothing,
-    }
 }

@@ -24,13 +24,13 @@ use packet_decode::contents::Contents;
 use packet_decode::fields::CallFields;
 use std::alloc::Allocator;
 
-/// What a move does to the call of its channel, with the fields that it takes.
-#[derive(Drop)]
-pub(crate) enum Change<'a> {
+/// What a move does to the call of its channel, with the fields that it takes, where they were read.
+#[derive(Clone, Copy)]
+pub(crate) enum Change<'a, 'o> {
     /// A call is opened, outgoing or not.
-    Opens(bool, CallFields<'a>),
+    Opens(bool, &'a CallFields<'o>),
     /// The call comes into p4.
-    GoesUp(CallFields<'a>),
+    GoesUp(&'a CallFields<'o>),
     /// The call ends.
     Ends(How),
     /// The call stays as it is.
@@ -38,10 +38,14 @@ pub(crate) enum Change<'a> {
 }
 
 /// What a move by a packet does to the call.
-pub(crate) fn change_of<'a>(side: Side, contents: Contents<'a>, to: StateName) -> Change<'a>
-    ensures change { (i : Interface) (xs : List ℕ) → AreOf contents.entry i xs
+pub(crate) fn change_of<'a, 'o>(
+    side: Side,
+    contents: &'a Contents<'o>,
+    to: StateName,
+) -> Change<'a, 'o>
+    ensures change { (i : Interface) (xs : List ℕ) → AreOf contents.now i xs
         → IsChange result (call_change side (class_of i xs) to) xs }
-    ensures usable { (i : Interface) (n : ℕ) → AreUsable contents.entry i n → TakesUsable result i }
+    ensures usable { (i : Interface) (n : ℕ) → AreUsable contents.now i n → TakesUsable result i }
 {
     match contents {
         Contents::Call(fields) => match side {
@@ -60,7 +64,7 @@ pub(crate) fn change_of<'a>(side: Side, contents: Contents<'a>, to: StateName) -
 }
 
 /// What a move does to the call by its state alone.
-fn leaving(to: StateName) -> Change<'static>
+fn leaving(to: StateName) -> Change<'static, 'static>
     ensures change { (xs : List ℕ) → IsChange result (leaving to) xs }
     ensures usable { (i : Interface) → TakesUsable result i }
 {

@@ -4,31 +4,34 @@ ghost use Rattle.std.specs.Prelude.{◌≡◌, ◌≤◌, length, drop, true, So
 ghost use Rattle.line_model.specs.channels.Channels.{Channel, is_permanent};
 ghost use Rattle.line_model.specs.channels.FlowControl.{count_confirm, count_interrupt, count_receive};
 ghost use Rattle.line_model.specs.packets.Classes.{class_of, packet_of, data_header, header_length};
-ghost use Rattle.line_model.specs.packets.Formats.{packet_fault};
-ghost use Rattle.line_model.specs.channels.ChannelStep.{call_change, changing, channel_step, counting, counts_of, entering, judged, moving, transferring, verdict_step};
+ghost use Rattle.line_model.specs.channels.ChannelStep.{call_change, channel_step, counting, counts_of, judged, moving, transferring};
+ghost use Rattle.line_model.specs.declared.table.Action.TheVariants.{Move, Normal};
 ghost use Rattle.packet_decode.specs.Contents.{AreOf, AreUsable};
+ghost use Rattle.packet_decode.specs.Transfers.{AreTransferOf, IsShort, is_transfer};
 ghost use Rattle.channel_machine.specs.Channels.{Stands, Does, Comes, IsUnchanged, IsMemory};
-ghost use Rattle.channel_machine.specs.Reached.{IsReached, IsFrom, is_from};
-ghost use Rattle.channel_machine.specs.Decisions.{CanBeTaken, IsDecided, IsRead, is_transfer, verdict_in};
+ghost use Rattle.channel_machine.specs.Reached.{IsReached, is_from};
+ghost use Rattle.channel_machine.specs.Entries.{entry_step, is_entry};
 ghost use Rattle.channel_machine.specs.Sizes.{largest_size};
 
 use crate::channel::StatusChannel;
 use crate::events::{Place, Stamp};
-use crate::judging::{Decision, decision_of, judged};
+use crate::judging::judged;
 use crate::moves::{Change, change_of};
 use crate::status::StatusStore;
 use line_model::event::Event;
 use line_model::fault::Fault;
 use line_model::packet::{Class, DataHeader, Packet};
 use line_model::state::{Side, StateName};
+use line_model::table::Action;
 use packet_decode::contents::Contents;
+use packet_decode::transfer::TransferContents;
 use std::alloc::Allocator;
 
 impl<A: Allocator + Clone, S: StatusStore> StatusChannel<A, S> {
     /// Takes a data packet without fault of format.
     fn take_data(
         &mut self,
-        place: Place,
+        place: &Place,
         header: &DataHeader,
         user_data: &[u8],
         events: &mut Vec<Event, A>,
@@ -36,8 +39,8 @@ impl<A: Allocator + Clone, S: StatusStore> StatusChannel<A, S> {
         requires short { length user_data.now ≤ largest_size }
         ensures does { (xs : List ℕ) → data_header self.old.terms.interface xs ≡ Some header.now
             → user_data.now ≡ drop (header_length self.old.terms.interface) xs
-            → Comes result place.stamp self.old self.new events.old.items events.new.items
-            (transferring self.old.terms.interface place.side place.state Class.Data xs) }
+            → Comes result place.now.stamp self.old self.new events.old.items events.new.items
+            (transferring self.old.terms.interface place.now.side place.now.state Class.Data xs) }
         ensures unchanged { IsUnchanged result self.old self.new events.old.items events.new.items }
         ensures memory { IsMemory result }
     {
@@ -48,9 +51,11 @@ impl<A: Allocator + Clone, S: StatusStore> StatusChannel<A, S> {
     }
 
     /// Takes an interrupt without fault of format.
-    fn take_interrupt(&mut self, place: Place, events: &mut Vec<Event, A>) -> Result<(), Fault>
-        ensures does { Comes result place.stamp self.old self.new events.old.items events.new.items
-            (λ c. counting place.side place.state (count_interrupt (counts_of c) place.side) c) }
+    fn take_interrupt(&mut self, place: &Place, events: &mut Vec<Event, A>) -> Result<(), Fault>
+        ensures does { Comes result place.now.stamp self.old self.new
+            events.old.items events.new.items
+            (λ c. counting place.now.side place.now.state
+            (count_interrupt (counts_of c) place.now.side) c) }
         ensures unchanged { IsUnchanged result self.old self.new events.old.items events.new.items }
         ensures memory { IsMemory result }
     {
@@ -61,9 +66,11 @@ impl<A: Allocator + Clone, S: StatusStore> StatusChannel<A, S> {
     }
 
     /// Takes an interrupt confirmation without fault of format.
-    fn take_confirmation(&mut self, place: Place, events: &mut Vec<Event, A>) -> Result<(), Fault>
-        ensures does { Comes result place.stamp self.old self.new events.old.items events.new.items
-            (λ c. counting place.side place.state (count_confirm (counts_of c) place.side) c) }
+    fn take_confirmation(&mut self, place: &Place, events: &mut Vec<Event, A>) -> Result<(), Fault>
+        ensures does { Comes result place.now.stamp self.old self.new
+            events.old.items events.new.items
+            (λ c. counting place.now.side place.now.state
+            (count_confirm (counts_of c) place.now.side) c) }
         ensures unchanged { IsUnchanged result self.old self.new events.old.items events.new.items }
         ensures memory { IsMemory result }
     {
@@ -76,13 +83,15 @@ impl<A: Allocator + Clone, S: StatusStore> StatusChannel<A, S> {
     /// Takes the P(R) of a packet without fault of format.
     fn take_ready(
         &mut self,
-        place: Place,
+        place: &Place,
         receive: u8,
         events: &mut Vec<Event, A>,
     ) -> Result<(), Fault>
-        ensures does { Comes result place.stamp self.old self.new events.old.items events.new.items
-            (λ c. counting place.side place.state
-            (count_receive self.old.terms.interface.modulus (counts_of c) place.side receive) c) }
+        ensures does { Comes result place.now.stamp self.old self.new
+            events.old.items events.new.items
+            (λ c. counting place.now.side place.now.state
+            (count_receive self.old.terms.interface.modulus (counts_of c)
+            place.now.side receive) c) }
         ensures unchanged { IsUnchanged result self.old self.new events.old.items events.new.items }
         ensures memory { IsMemory result }
     {
@@ -95,25 +104,25 @@ impl<A: Allocator + Clone, S: StatusStore> StatusChannel<A, S> {
     /// Moves to a state.
     fn go(
         &mut self,
-        place: Place,
+        place: &Place,
         to: StateName,
-        contents: Contents<'_>,
+        contents: &Contents<'_>,
         events: &mut Vec<Event, A>,
     ) -> Result<(), Fault>
-        requires usable { AreUsable contents self.old.terms.interface largest_size }
+        requires usable { AreUsable contents.now self.old.terms.interface largest_size }
         ensures does { (c : Channel) (xs : List ℕ)
-            → AreOf contents.entry self.old.terms.interface xs → IsReached c
-            → is_from (call_change place.side (class_of self.old.terms.interface xs) to) to c.state
-            ≡ true → Stands self.old c → IfOk result (λ _.
-            Does place.stamp self.old self.new events.old.items events.new.items
-            (moving place.side (class_of self.old.terms.interface xs) xs to c)) }
+            → AreOf contents.now self.old.terms.interface xs → IsReached c
+            → is_from (call_change place.now.side (class_of self.old.terms.interface xs) to) to
+            c.state ≡ true → Stands self.old c → IfOk result (λ _.
+            Does place.now.stamp self.old self.new events.old.items events.new.items
+            (moving place.now.side (class_of self.old.terms.interface xs) xs to c)) }
         ensures unchanged { IsUnchanged result self.old self.new events.old.items events.new.items }
         ensures memory { IsMemory result }
     {
         let stamp = place.stamp;
         match change_of(place.side, contents, to) {
-            Change::Opens(out, fields) => self.open(stamp, out, &fields, to, events),
-            Change::GoesUp(fields) => self.go_up(stamp, &fields, to, events),
+            Change::Opens(out, fields) => self.open(stamp, out, fields, to, events),
+            Change::GoesUp(fields) => self.go_up(stamp, fields, to, events),
             Change::Ends(how) => {
                 events.reserve(1)?;
                 self.end(stamp, how, to, false, events);
@@ -127,86 +136,125 @@ impl<A: Allocator + Clone, S: StatusStore> StatusChannel<A, S> {
         }
     }
 
+    /// Takes a packet whose entry is a move.
+    fn take_move(
+        &mut self,
+        place: &Place,
+        to: StateName,
+        packet: &Packet,
+        octets: &[u8],
+        events: &mut Vec<Event, A>,
+    ) -> Result<(), Fault>
+        requires packet { packet.now ≡ packet_of self.old.terms.interface octets.now }
+        ensures does { (c : Channel) → IsReached c
+            → is_from (call_change place.now.side (class_of self.old.terms.interface octets.now) to)
+            to c.state ≡ true → Stands self.old c → IfOk result (λ _.
+            Does place.now.stamp self.old self.new events.old.items events.new.items
+            (entry_step self.old.terms.interface self.old.channel place.now.side
+            (record { state = place.now.state; entry = Move to }) octets.now c)) }
+        ensures unchanged { IsUnchanged result self.old self.new events.old.items events.new.items }
+        ensures memory { IsMemory result }
+    {
+        match self.read(place.side, packet, octets) {
+            Ok(contents) => self.go(place, to, &contents, events),
+            Err(code) => self.fail(place, code, events),
+        }
+    }
+
     /// Takes a packet of data transfer without fault of format.
     #[tactic(auto, using(crate::proofs::Reading::ready_is))]
     fn carry(
         &mut self,
-        place: Place,
-        contents: Contents<'_>,
+        place: &Place,
+        contents: TransferContents<'_>,
         events: &mut Vec<Event, A>,
     ) -> Result<(), Fault>
-        requires carried { is_transfer contents ≡ true }
-        requires usable { AreUsable contents self.old.terms.interface largest_size }
-        ensures does { (xs : List ℕ) → AreOf contents.entry self.old.terms.interface xs
-            → Comes result place.stamp self.old self.new events.old.items events.new.items
-            (transferring self.old.terms.interface place.side place.state
+        requires short { IsShort contents largest_size }
+        ensures does { (xs : List ℕ) → AreTransferOf contents.entry self.old.terms.interface xs
+            → Comes result place.now.stamp self.old self.new events.old.items events.new.items
+            (transferring self.old.terms.interface place.now.side place.now.state
             (class_of self.old.terms.interface xs) xs) }
         ensures unchanged { IsUnchanged result self.old self.new events.old.items events.new.items }
         ensures memory { IsMemory result }
     {
         match contents {
-            Contents::Data { header, user_data } => {
+            TransferContents::Data { header, user_data } => {
                 self.take_data(place, &header, user_data, events)
             }
-            Contents::Interrupt => self.take_interrupt(place, events),
-            Contents::InterruptConfirm => self.take_confirmation(place, events),
-            Contents::Receive(receive) => self.take_ready(place, receive, events),
-            _ => unreachable!(),
+            TransferContents::Receive(receive) => self.take_ready(place, receive, events),
+            TransferContents::Interrupt => self.take_interrupt(place, events),
+            TransferContents::InterruptConfirm => self.take_confirmation(place, events),
         }
     }
 
-    /// The state in whose column a packet stands, and what the packet comes to.
-    fn decide<'a>(&self, side: Side, packet: &Packet, octets: &'a [u8]) -> (StateName, Decision<'a>)
-        requires packet { packet.now ≡ packet_of self.now.terms.interface octets.now }
-        ensures read { IsRead result.1 self.now.terms.interface octets.now }
-        ensures usable { CanBeTaken result.1 self.now.terms.interface }
-        ensures from { IsFrom (verdict_in result.0 result.1) side
-            (class_of self.now.terms.interface octets.now) self.now.state }
-        ensures decided { (c : Channel) → Stands self.now c
-            → IsDecided result.0 (verdict_in result.0 result.1)
-            (judged (is_permanent self.now.terms.interface self.now.channel) side c.state c.owed
-            (class_of self.now.terms.interface octets.now))
-            (packet_fault self.now.terms.interface self.now.channel c side
-            (class_of self.now.terms.interface octets.now) octets.now) }
+    /// Takes a packet of data transfer.
+    fn take_transfer(
+        &mut self,
+        place: &Place,
+        packet: &Packet,
+        octets: &[u8],
+        events: &mut Vec<Event, A>,
+    ) -> Result<(), Fault>
+        requires packet { packet.now ≡ packet_of self.old.terms.interface octets.now }
+        requires transfer { is_transfer (class_of self.old.terms.interface octets.now) ≡ true }
+        ensures does { Comes result place.now.stamp self.old self.new
+            events.old.items events.new.items
+            (entry_step self.old.terms.interface self.old.channel place.now.side
+            (record { state = place.now.state; entry = Normal }) octets.now) }
+        ensures unchanged { IsUnchanged result self.old self.new events.old.items events.new.items }
+        ensures memory { IsMemory result }
     {
-        let (state, entry) = judged(
+        match self.read_transfer(place.side, packet, octets) {
+            Ok(contents) => self.carry(place, contents, events),
+            Err(code) => self.fail(place, code, events),
+        }
+    }
+
+    /// The state in whose column a packet stands, and the entry there.
+    fn judge(&self, side: Side, class: Class) -> (StateName, Action)
+        ensures judged { (c : Channel) → Stands self.now c
+            → record { state = result.0; entry = result.1 }
+            ≡ judged (is_permanent self.now.terms.interface self.now.channel) side
+            c.state c.owed class }
+        ensures fits { is_entry result.1 side class self.now.state ≡ true }
+    {
+        judged(
             self.status.interface().is_permanent(self.channel),
             side,
             self.status.state(),
             self.status.is_owed(),
-            packet.class(),
-        );
-        let read = self.read(side, packet, octets);
-        (state, decision_of(entry, read))
+            class,
+        )
     }
 
-    /// Does what a packet comes to.
+    /// Does what the entry of a packet says.
     fn act(
         &mut self,
-        place: Place,
-        decision: Decision<'_>,
+        place: &Place,
+        entry: Action,
+        packet: &Packet,
+        octets: &[u8],
         events: &mut Vec<Event, A>,
     ) -> Result<(), Fault>
-        requires usable { CanBeTaken decision self.old.terms.interface }
-        ensures does { (c : Channel) (xs : List ℕ)
-            → IsRead decision.entry self.old.terms.interface xs → IsReached c
-            → IsFrom (verdict_in place.state decision.entry) place.side
-            (class_of self.old.terms.interface xs) c.state → Stands self.old c
-            → IfOk result (λ _. Does place.stamp self.old self.new events.old.items events.new.items
-            (verdict_step self.old.terms.interface place.side place.state
-            (class_of self.old.terms.interface xs) xs (verdict_in place.state decision.entry) c)) }
+        requires packet { packet.now ≡ packet_of self.old.terms.interface octets.now }
+        requires fits { is_entry entry place.now.side (class_of self.old.terms.interface octets.now)
+            self.old.state ≡ true }
+        ensures does { (c : Channel) → IsReached c → Stands self.old c → IfOk result (λ _.
+            Does place.now.stamp self.old self.new events.old.items events.new.items
+            (entry_step self.old.terms.interface self.old.channel place.now.side
+            (record { state = place.now.state; entry = entry }) octets.now c)) }
         ensures unchanged { IsUnchanged result self.old self.new events.old.items events.new.items }
         ensures memory { IsMemory result }
     {
-        match decision {
-            Decision::Fails(code) => self.fail(place, code, events),
-            Decision::Moves(to, contents) => self.go(place, to, contents, events),
-            Decision::Transfers(contents) => self.carry(place, contents, events),
-            Decision::EndsOwed => {
+        match entry {
+            Action::Move(to) => self.take_move(place, to, packet, octets, events),
+            Action::Normal => self.take_transfer(place, packet, octets, events),
+            Action::Error(code) => self.fail(place, code, events),
+            Action::Ends => {
                 self.status.settle();
                 Ok(())
             }
-            Decision::Nothing => Ok(()),
+            _ => Ok(()),
         }
     }
 
@@ -227,7 +275,7 @@ impl<A: Allocator + Clone, S: StatusStore> StatusChannel<A, S> {
         ensures unchanged { IsUnchanged result self.old self.new events.old.items events.new.items }
         ensures memory { IsMemory result }
     {
-        let (state, decision) = self.decide(side, packet, octets);
-        self.act(Place { stamp, side, state }, decision, events)
+        let (state, entry) = self.judge(side, packet.class());
+        self.act(&Place { stamp, side, state }, entry, packet, octets, events)
     }
 }

@@ -6,5 +6,7 @@ pub mod contents;
 pub mod decode;
 mod facility;
 pub mod fields;
+mod lengths;
 #[cfg(test)]
 mod tests;
+pub mod transfer;

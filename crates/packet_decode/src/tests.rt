@@ -3,6 +3,7 @@
 use crate::contents::{Contents, InForce, read_contents};
 use crate::decode::{class_of, decode};
 use crate::fields::{CallFields, call_fields};
+use crate::transfer::{TransferContents, read_transfer};
 use line_model::interface::Interface;
 use line_model::packet::{Class, DataHeader, Packet, PacketKind};
 use std::test::Fail;
@@ -228,13 +229,31 @@ fn format_fault(octets: &[u8], fast: bool) -> Option<u8> {
     }
 }
 
+/// What a packet of data transfer says there, 0 for octets that are none.
+fn transfer(octets: &[u8]) -> Result<TransferContents<'_>, u8> {
+    let packet = decode(&MODULO_8, octets);
+    match class_of(&MODULO_8, octets) {
+        Class::Data | Class::Interrupt | Class::InterruptConfirm | Class::Rr | Class::Rnr => {
+            read_transfer(&MODULO_8, &packet, octets, 16)
+        }
+        _ => Err(0),
+    }
+}
+
 #[test]
 fn data_has_its_header_and_the_octets_behind_it(rt: HostRuntime) {
-    match read(b"\x10\x01\x56\xaa\xbb", false) {
-        Ok(Contents::Data { header, user_data }) => {
+    match transfer(b"\x10\x01\x56\xaa\xbb") {
+        Ok(TransferContents::Data { header, user_data }) => {
             assert_eq!(rt; header.send, 3);
             assert_eq!(rt; header.receive, 2);
             assert!(rt; header.more);
+            assert_eq!(rt; user_data, b"\xaa\xbb".as_slice());
+        }
+        _ => assert!(rt; false),
+    }
+    match read(b"\x10\x01\x56\xaa\xbb", false) {
+        Ok(Contents::Transfer(TransferContents::Data { header, user_data })) => {
+            assert_eq!(rt; header.send, 3);
             assert_eq!(rt; user_data, b"\xaa\xbb".as_slice());
         }
         _ => assert!(rt; false),
@@ -243,11 +262,55 @@ fn data_has_its_header_and_the_octets_behind_it(rt: HostRuntime) {
 
 #[test]
 fn flow_control_and_interrupts_are_told_apart(rt: HostRuntime) {
-    assert!(rt; matches!(read(b"\x10\x01\xe1", false), Ok(Contents::Receive(7))));
-    assert!(rt; matches!(read(b"\x10\x01\xa5", false), Ok(Contents::Receive(5))));
-    assert!(rt; matches!(read(b"\x10\x01\x23\x00", false), Ok(Contents::Interrupt)));
-    assert!(rt; matches!(read(b"\x10\x01\x27", false), Ok(Contents::InterruptConfirm)));
+    use TransferContents::{Interrupt, InterruptConfirm, Receive};
+    assert!(rt; matches!(transfer(b"\x10\x01\xe1"), Ok(Receive(7))));
+    assert!(rt; matches!(transfer(b"\x10\x01\xa5"), Ok(Receive(5))));
+    assert!(rt; matches!(transfer(b"\x10\x01\x23\x00"), Ok(Interrupt)));
+    assert!(rt; matches!(transfer(b"\x10\x01\x27"), Ok(InterruptConfirm)));
+    assert!(rt;
+        matches!(
+            read(b"\x10\x01\xe1", false),
+            Ok(Contents::Transfer(Receive(7)))
+        )
+    );
+    assert!(rt;
+        matches!(
+            read(b"\x10\x01\x27", false),
+            Ok(Contents::Transfer(InterruptConfirm))
+        )
+    );
     assert!(rt; matches!(read(b"\x10\x01\x13\x00", false), Ok(Contents::Other)));
+}
+
+/// The code of the fault of a packet of data transfer.
+fn transfer_fault(octets: &[u8]) -> Option<u8> {
+    match transfer(octets) {
+        Ok(_) => None,
+        Err(code) => Some(code),
+    }
+}
+
+#[test]
+fn packets_of_data_transfer_have_bounds(rt: HostRuntime) {
+    let cases: [(&[u8], Option<u8>); 8] = [
+        (b"\x10\x01\x00\0\0\0\0\0\0\0\0\0\0\0\0\0\0\0\0", None),
+        (b"\x10\x01\x00\0\0\0\0\0\0\0\0\0\0\0\0\0\0\0\0\0", Some(39)),
+        (b"\x10\x01\x23", Some(38)),
+        (
+            b"\x10\x01\x23\0\0\0\0\0\0\0\0\0\0\0\0\0\0\0\0\0\0\0\0\0\0\0\0\0\0\0\0\0\0\0\0",
+            None,
+        ),
+        (
+            b"\x10\x01\x23\0\0\0\0\0\0\0\0\0\0\0\0\0\0\0\0\0\0\0\0\0\0\0\0\0\0\0\0\0\0\0\0\0",
+            Some(39),
+        ),
+        (b"\x10\x01\x27\x00", Some(39)),
+        (b"\x10\x01\xe1\x00", Some(39)),
+        (b"\x10\x01\xe5\x00", Some(39)),
+    ];
+    for (octets, code) in cases {
+        assert_eq!(rt; transfer_fault(octets), code, "for {octets:?}");
+    }
 }
 
 #[test]

@@ -28,7 +28,7 @@ returns-in_default-to-2 c = record {
 pub returns-in_default : goal.returns-in_default
 returns-in_default c = record {
   change = λ i xs of. subst (λ v. IsChange c.leaving-in_default.result v xs)
-      (sym (other_leaves c.args.contents i xs c.args.side c.args.to c.in_default.not-Call c.in_default.not-Accepted of))
+      (sym (other_leaves c.args.contents.now i xs c.args.side c.args.to c.in_default.not-Call c.in_default.not-Accepted of))
       (c.leaving-in_default.ensures.change xs);
   usable = λ i n u. c.leaving-in_default.ensures.usable i;
 }

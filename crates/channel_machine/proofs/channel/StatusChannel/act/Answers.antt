@@ -1,17 +1,25 @@
-use Rattle.std.proofs.Common.{sym, subst}
+use Rattle.std.proofs.Common.{◌∙◌, ap, sym, subst}
 use Rattle.std.specs.Prelude.{IfOk}
 use Rattle.line_model.specs.packets.Classes.{class_of}
-use Rattle.line_model.specs.channels.ChannelStep.{verdict_step}
+use Rattle.line_model.specs.declared.table.Action.TheVariants.{Move}
 use Rattle.channel_machine.specs.Channels.{Does}
-use Rattle.channel_machine.specs.Decisions.{IsRead, verdict_in}
-use Rattle.channel_machine.specs.Reached.{IsFrom}
+use Rattle.channel_machine.specs.Entries.{entry_step, is_entry}
 use Rattle.channel_machine.proofs.channel.StatusChannel.act.Goals as goal
 
-pub returns-in-Moves-clause-does : goal.returns-in-Moves-clause-does
-returns-in-Moves-clause-does g c k xs of reached from s =
-    let i = c.args.self.now.terms.interface in
-    subst (λ d. IfOk c.go.result (λ _. Does c.args.place.stamp c.args.self.now c.go.new.self c.args.events.now.items c.go.new.events.items
-    (verdict_step i c.args.place.side c.args.place.state (class_of i xs) xs (verdict_in c.args.place.state d) k)))
-    (sym c.in-Moves.is)
-    (c.go.ensures.does k xs (subst (λ d. IsRead d i xs) c.in-Moves.is of) reached
-    (subst (λ d. IsFrom (verdict_in c.args.place.state d) c.args.place.side (class_of i xs) k.state) c.in-Moves.is from) s)
+pub take_transfer-requires-clause-transfer : goal.take_transfer-requires-clause-transfer
+take_transfer-requires-clause-transfer g c =
+    let old = c.args.self.now in
+    ap (λ a. is_entry a c.args.place.now.side (class_of old.terms.interface c.args.octets.now) old.state) (sym c.in-Normal.is) ∙ c.requires.fits
+
+pub returns-in-Move-clause-does : goal.returns-in-Move-clause-does
+returns-in-Move-clause-does g c k reached s =
+    let old = c.args.self.now in
+    let i = old.terms.interface in
+    let xs = c.args.octets.now in
+    let x = c.args.place.now.side in
+    let to = c.in-Move.to in
+    subst (λ a. IfOk c.take_move.result (λ _. Does c.args.place.now.stamp old c.take_move.new.self c.args.events.now.items c.take_move.new.events.items
+    (entry_step i old.channel x (record { state = c.args.place.now.state; entry = a }) xs k)))
+    (sym c.in-Move.is)
+    (c.take_move.ensures.does k reached
+    (ap (λ t. is_entry (Move to) x (class_of i xs) t) (sym s.state) ∙ ap (λ a. is_entry a x (class_of i xs) old.state) (sym c.in-Move.is) ∙ c.requires.fits) s)

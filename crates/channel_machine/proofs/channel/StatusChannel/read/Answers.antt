@@ -6,7 +6,7 @@ use Rattle.line_model.specs.packets.Formats.{direction_fault}
 use Rattle.line_model.proofs.PacketClass.{class_is}
 use Rattle.packet_decode.specs.Contents.{AreOf, IsFormatFault}
 use Rattle.channel_machine.specs.Channels.{Known}
-use Rattle.channel_machine.proofs.Steps.{first_fault_is}
+use Rattle.channel_machine.proofs.FirstFault.{first_fault_is}
 use Rattle.channel_machine.proofs.channel.StatusChannel.read.Goals as goal
 
 pub returns-in-None-clause-fault : goal.returns-in-None-clause-fault

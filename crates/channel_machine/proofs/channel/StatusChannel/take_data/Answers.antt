@@ -10,13 +10,13 @@ returns-in-Some-clause-unchanged g c =
 
 pub returns-in-Some-clause-does : goal.returns-in-Some-clause-does
 returns-in-Some-clause-does g c xs header field k s =
-    refused_by c.fail.result c.args.place.stamp c.args.self.now c.hear.new.self c.fail.new.self c.args.events.now.items c.hear.new.events.items c.fail.new.events.items
-    c.args.place.side c.args.place.state xs c.args.user_data.now c.args.header.now k s header (ap (λ l. packet c.args.place.side c.args.header.now l) field)
+    refused_by c.fail.result c.args.place.now.stamp c.args.self.now c.hear.new.self c.fail.new.self c.args.events.now.items c.hear.new.events.items c.fail.new.events.items
+    c.args.place.now.side c.args.place.now.state xs c.args.user_data.now c.args.header.now k s header (ap (λ l. packet c.args.place.now.side c.args.header.now l) field)
     _ c.in-Some.code c.in-Some.is (c.in_ok-code.ensures.heard k s)
     (rw c.in-Some.is at c.in_ok-code.ensures.faulted).0 (rw c.in-Some.is at c.in_ok-code.ensures.faulted).1 c.fail.ensures.does
 
 pub returns-in-None-clause-does : goal.returns-in-None-clause-does
 returns-in-None-clause-does g c xs header field k s =
-    heard_by c.args.place.stamp c.args.self.now c.hear.new.self c.args.events.now.items c.hear.new.events.items c.args.place.side c.args.place.state xs c.args.user_data.now c.args.header.now k
-    c.in_ok-code.ensures.rest s header (ap (λ l. packet c.args.place.side c.args.header.now l) field)
+    heard_by c.args.place.now.stamp c.args.self.now c.hear.new.self c.args.events.now.items c.hear.new.events.items c.args.place.now.side c.args.place.now.state xs c.args.user_data.now c.args.header.now k
+    c.in_ok-code.ensures.rest s header (ap (λ l. packet c.args.place.now.side c.args.header.now l) field)
     _ c.in-None.is (c.in_ok-code.ensures.heard k s)
