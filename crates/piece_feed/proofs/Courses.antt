@@ -11,6 +11,8 @@ use Rattle.line_model.specs.declared.fault.Fault.TheVariants.{Memory, Trace, Rea
 use Rattle.line_model.proofs.TextLemmas.{early_rows-nothing}
 use Rattle.trace_text.specs.Progress.{Progress}
 use Rattle.trace_text.specs.StandsFor.{StandsFor, IsFaultOf, IsTextFault}
+use Rattle.line_model.specs.basics.Records.{Piece}
+use Rattle.piece_queue.specs.Passes.{PassView}
 use Rattle.piece_queue.specs.declared.rule.Record.{Record}
 use Rattle.workers.specs.Workers.{HasFed}
 use Rattle.piece_feed.specs.Fronts.{IsFedTo, IsPlanOf}
@@ -23,7 +25,7 @@ abbrev pub Gave : (before after : Option (List ℕ)) → List ℕ → Type 0
 Gave before after text = IfSome before (λ all. (rest : List ℕ) × (all ≡ text ++ rest) × (after ≡ Some rest))
 
 -- the text was read, and its rows went through the front
-pub record Course {A : Type 0} (before after : Option (List ℕ)) (lines : Progress) (fed : ℕ) (front : Option (Front A)) : Type 0 where
+pub record Course {A : Type 0} (before after : Option (List ℕ)) (lines : Progress) (fed : PassView) (front : Option (Front A)) : Type 0 where
   pub text : List ℕ
   pub reader : StandsFor lines text
   pub cut : IsFedTo text fed front
@@ -37,8 +39,8 @@ early_head-nothing : early_head [] ≡ None
 unfolding early_head early size_kind head_of
 early_head-nothing = refl
 
-pub course_begun : {A : Type 0} (before : Option (List ℕ)) (lines : Progress) (fed : ℕ) → StandsFor lines [] → fed ≡ 0 → Course {A = A} before before lines fed None
-course_begun before lines fed s none = record { text = []; reader = s; cut = (early_head-nothing, early_rows-nothing, none); source = gave_none before }
+pub course_begun : {A : Type 0} (before : Option (List ℕ)) (lines : Progress) (fed : PassView) → StandsFor lines [] → (fed.record_of.fed ≡ 0) × (fed.pieces ≡ []) → Course {A = A} before before lines fed None
+course_begun before lines fed s none = record { text = []; reader = s; cut = (early_head-nothing, early_rows-nothing, none.0, none.1); source = gave_none before }
 
 pub gave_more : (before now next : Option (List ℕ)) (text bytes : List ℕ) (room : ℕ) → Gave before now text → Gives now next bytes room → Gave before next (text ++ bytes)
 gave_more None now next text bytes room h more = tt
@@ -91,7 +93,7 @@ on_the_way given rest _ h = absurd h
 gave_this : (before : Option (List ℕ)) (text : List ℕ) (P : List ℕ → Type 0) → before ≡ Some text → IfSome before P → P text
 gave_this before text P e h = subst (λ o. IfSome o P) e h
 
-pub has_read : {A : Type 0} (before after : Option (List ℕ)) (failed : Type 0) (text : List ℕ) (fed : ℕ) (r : Result (Read A) Fault) → IfSome before (λ all. (all ≡ text) × (after ≡ Some []))
+pub has_read : {A : Type 0} (before after : Option (List ℕ)) (failed : Type 0) (text : List ℕ) (fed : List Piece) (r : Result (Read A) Fault) → IfSome before (λ all. (all ≡ text) × (after ≡ Some []))
     → IfOk r (IsReadOf text fed) → IfErr r (IsFaultOf (fault text)) → IfErr r IsTextFault → HasRead before after failed fed r
 has_read before after failed text fed (Ok read) source ok refused kinds = record {
   told = λ all e. let at = gave_this before all _ e source in (subst (λ t. IsReadOf t fed read) (sym at.0) ok, at.1);
@@ -110,7 +112,7 @@ has_read before after failed text fed (Err f) source ok refused kinds = record {
   read_failed = λ e. let same : f ≡ ReadFailed = cc in absurd (no_read_fault f kinds same);
 }
 
-pub has_refused : {A : Type 0} (before after : Option (List ℕ)) (failed : Type 0) (text : List ℕ) (fed : ℕ) (f : Fault) → Gave before after text → IsFaultOf (early text) f → IsTextFault f → HasRead {A = A} before after failed fed (Err f)
+pub has_refused : {A : Type 0} (before after : Option (List ℕ)) (failed : Type 0) (text : List ℕ) (fed : List Piece) (f : Fault) → Gave before after text → IsFaultOf (early text) f → IsTextFault f → HasRead {A = A} before after failed fed (Err f)
 has_refused before after failed text fed f source refused kinds = record {
   told = λ all e. tt;
   of_text = tt;
@@ -121,7 +123,7 @@ has_refused before after failed text fed f source refused kinds = record {
   read_failed = λ e. let same : f ≡ ReadFailed = cc in absurd (no_read_fault f kinds same);
 }
 
-pub has_failed : {A : Type 0} (before after : Option (List ℕ)) (failed : Type 0) (text : List ℕ) (fed : ℕ) → Gave before after text → early text ≡ None → failed → HasRead {A = A} before after failed fed (Err ReadFailed)
+pub has_failed : {A : Type 0} (before after : Option (List ℕ)) (failed : Type 0) (text : List ℕ) (fed : List Piece) → Gave before after text → early text ≡ None → failed → HasRead {A = A} before after failed fed (Err ReadFailed)
 has_failed before after failed text fed source sound fails = record {
   told = λ all e. tt;
   of_text = tt;

@@ -12,6 +12,7 @@ use Rattle.line_model.specs.text.Text.{early, early_head, early_rows, fault, hea
 use Rattle.line_model.specs.traces.Traces.{trace_plan}
 use Rattle.restart_epochs.specs.Cutting.{given_of}
 use Rattle.restart_epochs.proofs.Heads.{given_first}
+use Rattle.piece_queue.specs.Passes.{PassView}
 use Rattle.trace_text.specs.Progress.{Progress}
 use Rattle.trace_text.specs.StandsFor.{StandsFor, IsFaultOf}
 use Rattle.trace_text.proofs.Grows.{early_head_stays, head_stays, no_rows, rows_first}
@@ -37,9 +38,9 @@ pub whole_head : (text : List ℕ) (i : Interface) → early text ≡ None → h
 whole_head text i sound e = known_head (early_head text) i (λ j h. sym (ap head (sym (append-nil text)) ∙ head_stays text [] j sound h) ∙ e)
 
 -- nothing was cut before the header
-pub no_front : {A : Type 0} (v : Progress) (text more : List ℕ) (fed : ℕ) (front : Option (Front A)) → early text ≡ None → StandsFor v (text ++ more) → v.interface ≡ None → early_head (text ++ more) ≡ None
-    → IsFedTo text fed front → (early_head (text ++ more) ≡ None) × (early_rows (text ++ more) ≡ []) × (fed ≡ 0)
-no_front v text more fed None sound s none head h = (head, no_rows v (text ++ more) s none, h.2)
+pub no_front : {A : Type 0} (v : Progress) (text more : List ℕ) (fed : PassView) (front : Option (Front A)) → early text ≡ None → StandsFor v (text ++ more) → v.interface ≡ None → early_head (text ++ more) ≡ None
+    → IsFedTo text fed front → (early_head (text ++ more) ≡ None) × (early_rows (text ++ more) ≡ []) × (fed.record_of.fed ≡ 0) × (fed.pieces ≡ [])
+no_front v text more fed None sound s none head h = (head, no_rows v (text ++ more) s none, h.2, h.3)
 no_front v text more fed (Some f) sound s none head h =
     let there : Some f.interface ≡ None = sym (early_head_stays text more f.interface sound h.0) ∙ head in
     absurd (cc)
@@ -65,7 +66,7 @@ stands_first (Some ps) i given rs sound e same h =
     let first = given_first i rs all.0 in
     (first.0, first.1 ∙ ap (λ l. plan i (l ++ all.0)) (sym same) ∙ ap (plan i) (sym all.1) ∙ sym (plan_of_head (given ++ h.0) i (head_stays given h.0 i sound e)) ∙ sym h.1)
 
-pub ready_on : {A : Type 0} (known : KnownPlan) (v : Progress) (text more : List ℕ) (i : Interface) (rs : List Row) (fed : ℕ) (f : Front A) → StandsFor v (text ++ more) → early_head (text ++ more) ≡ Some i → f.interface ≡ i
+pub ready_on : {A : Type 0} (known : KnownPlan) (v : Progress) (text more : List ℕ) (i : Interface) (rs : List Row) (fed : PassView) (f : Front A) → StandsFor v (text ++ more) → early_head (text ++ more) ≡ Some i → f.interface ≡ i
     → HasCut (early_rows text) fed f → early_rows (text ++ more) ≡ early_rows text ++ rs → IsPlanOf known (text ++ more) → IsReady known (early_rows text) rs fed f
 ready_on known v text more i rs fed f s e same cut told planned = record {
   cut = cut;
@@ -79,7 +80,7 @@ ends_with (Some ps) i text rs e same h =
     let first = given_first i rs [] in
     (first.0, first.1 ∙ ap (plan i) (append-nil rs) ∙ ap (plan i) (sym same) ∙ sym (plan_of_head text i e) ∙ sym h)
 
-pub ready_end : {A : Type 0} (known : KnownPlan) (text : List ℕ) (i : Interface) (rs : List Row) (fed : ℕ) (f : Front A) → fault text ≡ None → head text ≡ Some i → f.interface ≡ i
+pub ready_end : {A : Type 0} (known : KnownPlan) (text : List ℕ) (i : Interface) (rs : List Row) (fed : PassView) (f : Front A) → fault text ≡ None → head text ≡ Some i → f.interface ≡ i
     → HasCut (early_rows text) fed f → rows text ≡ early_rows text ++ rs → IfSome known (λ ps. ps ≡ trace_plan text) → IsReady known (early_rows text) rs fed f
 ready_end known text i rs fed f sound e same cut told planned = record {
   cut = cut;
@@ -93,7 +94,7 @@ plan_is (Some ps) text i j rs e same told h = h ∙ plan_of_head text i e ∙ (�
 
 -- ---- what was read
 
-pub read_of : {A : Type 0} (text : List ℕ) (i j : Interface) (rs : List Row) (fed : ℕ) (r : Read A) → fault text ≡ None → head text ≡ Some i → j ≡ i → rows text ≡ rs → IsCutOf j rs fed r → IsReadOf text fed r
+pub read_of : {A : Type 0} (text : List ℕ) (i j : Interface) (rs : List Row) (fed : List Piece) (r : Read A) → fault text ≡ None → head text ≡ Some i → j ≡ i → rows text ≡ rs → IsCutOf j rs fed r → IsReadOf text fed r
 read_of text i j rs fed r sound e same told cut =
     let here : j ≡ r.interface = sym cut.interface in
     record {
@@ -101,7 +102,7 @@ read_of text i j rs fed r sound e same told cut =
       header = e ∙ ap Some (sym same ∙ here);
       cut = record {
         interface = refl;
-        all = cut.all ∙ (λ k. length (plan (here k) (sym told k)));
+        all = cut.all ∙ (λ k. plan (here k) (sym told k));
         line = cut.line ∙ (λ k. line_findings (here k) (sym told k));
         packets = cut.packets ∙ ap (λ (l : List Row). length l) (sym told);
         pieces = cut.pieces;

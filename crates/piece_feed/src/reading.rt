@@ -1,6 +1,6 @@
 //! A source that is read to its end while the pieces of its trace are fed.
 
-ghost use Rattle.std.specs.Prelude.{◌≡◌, ℕ, ◌+◌, ◌<◌, ◌≤◌, ◌^◌, List, IfErr, IfOk, IfSome};
+ghost use Rattle.std.specs.Prelude.{◌≡◌, ℕ, ◌+◌, ◌<◌, ◌≤◌, ◌^◌, [], List, IfErr, IfOk, IfSome};
 ghost use Rattle.std.specs.Option.{option_map};
 ghost use Rattle.std.specs.Thread.{IsSync};
 ghost use Rattle.line_model.specs.text.Text.{fault};
@@ -50,12 +50,12 @@ fn end_front<P: Plan, A: Allocator + Copy, R: Wait + Clock>(
 ) -> Result<Read<A>, Fault>
     requires queue { pass.old.queue ≡ work.now.queue }
     requires open { pass.old.record_of.ends ≡ 0 }
-    requires ready { (rows : List records.Row) × HasCut rows pass.old.record_of.fed front
+    requires ready { (rows : List records.Row) × HasCut rows pass.old front
         × IfSome P.pieces (λ ps. ps ≡ plan front.interface rows) }
     ensures queue { pass.new.queue ≡ pass.old.queue }
     ensures kept { HasFed pass.old.record_of pass.new.record_of }
-    ensures cut { (rows : List records.Row) → HasCut rows pass.old.record_of.fed front
-        → IfOk result (IsCutOf front.interface rows pass.new.record_of.fed) }
+    ensures cut { (rows : List records.Row) → HasCut rows pass.old front
+        → IfOk result (IsCutOf front.interface rows pass.new.pieces) }
     ensures memory { IfErr result (λ fault. fault ≡ Memory) }
 {
     let Front {
@@ -90,12 +90,12 @@ fn finish<P: Plan, A: Allocator + Copy, R: Wait + Clock>(
 ) -> Result<Read<A>, Fault>
     requires queue { pass.old.queue ≡ work.now.queue }
     requires open { pass.old.record_of.ends ≡ 0 }
-    requires ready { (text : List ℕ) × IsEndReady P.pieces text lines pass.old.record_of.fed front }
+    requires ready { (text : List ℕ) × IsEndReady P.pieces text lines pass.old front }
     ensures queue { pass.new.queue ≡ pass.old.queue }
     ensures kept { HasFed pass.old.record_of pass.new.record_of }
     ensures read { (text : List ℕ) → StandsFor lines text
-        → IsFedTo text pass.old.record_of.fed front
-        → IfOk result (IsReadOf text pass.new.record_of.fed) }
+        → IsFedTo text pass.old front
+        → IfOk result (IsReadOf text pass.new.pieces) }
     ensures refused { (text : List ℕ) → StandsFor lines text
         → IfErr result (IsFaultOf (fault text)) }
     ensures kinds { IfErr result IsTextFault }
@@ -122,11 +122,12 @@ fn read_all<P: Plan, A: Allocator + Copy, S: Source, R: Wait + Clock>(
 ) -> Result<Read<A>, Fault>
     requires queue { pass.old.queue ≡ work.now.queue }
     requires first { (pass.old.record_of.fed ≡ 0) × (pass.old.record_of.ends ≡ 0) }
+    requires none { pass.old.pieces ≡ [] }
     requires plan { P.pieces ≡ option_map trace_plan (S.left source.old) }
     ensures queue { pass.new.queue ≡ pass.old.queue }
     ensures kept { HasFed pass.old.record_of pass.new.record_of }
     ensures read { HasRead (S.left source.old) (S.left source.new) (S.failures source.old
-        < S.failures source.new) pass.new.record_of.fed result }
+        < S.failures source.new) pass.new.pieces result }
     ensures asked { S.calls source.new ≤ S.calls source.old + (2 ^ 30 + 1) }
 {
     let mut buffer = [0; CHUNK];

@@ -8,6 +8,7 @@ ghost use Rattle.line_model.specs.declared.fault.Fault.TheVariants.{Memory};
 ghost use Rattle.trace_text.specs.Progress.{bytes_fed};
 ghost use Rattle.trace_text.specs.StandsFor.{StandsFor, IsFaultOf, IsTextFault};
 ghost use Rattle.restart_epochs.specs.Cutting.{StandsFor as IsCutterOf, given_of};
+ghost use Rattle.piece_queue.specs.Passes.{PassView};
 ghost use Rattle.workers.specs.Workers.{HasFed};
 ghost use Rattle.piece_feed.specs.Batches.{HasPacket, rows_in};
 ghost use Rattle.piece_feed.specs.Fronts.{CanFollow, HasCut, IsReady, IsTextReady, IsFrontOf, IsFedTo, IsCounting};
@@ -39,10 +40,10 @@ pub fn front_of<A: Allocator + Copy>(
     interface: &Interface,
     front: Option<Front<A>>,
 ) -> Front<A>
-    ensures cut { (was : Option AnyInterface) (before : List records.Row) (fed : ℕ)
+    ensures cut { (was : Option AnyInterface) (before : List records.Row) (fed : PassView)
         → IsFrontOf was before fed front → IfSome was (λ i. i ≡ interface.now)
         → HasCut before fed result }
-    ensures interface { (was : Option AnyInterface) (before : List records.Row) (fed : ℕ)
+    ensures interface { (was : Option AnyInterface) (before : List records.Row) (fed : PassView)
         → IsFrontOf was before fed front → IfSome was (λ i. i ≡ interface.now)
         → result.interface ≡ interface.now }
 {
@@ -93,12 +94,12 @@ pub fn take_items<P: Plan, A: Allocator + Copy, R: Wait + Clock>(
     requires queue { pass.old.queue ≡ work.now.queue }
     requires open { pass.old.record_of.ends ≡ 0 }
     requires ready { (before : List records.Row)
-        × IsReady P.pieces before (rows_in items.now) pass.old.record_of.fed front }
+        × IsReady P.pieces before (rows_in items.now) pass.old front }
     requires packets { All (HasPacket front.interface) items.now }
     ensures queue { pass.new.queue ≡ pass.old.queue }
     ensures kept { HasFed pass.old.record_of pass.new.record_of }
-    ensures cut { (before : List records.Row) → HasCut before pass.old.record_of.fed front
-        → IfOk result (HasCut (before ++ rows_in items.now) pass.new.record_of.fed) }
+    ensures cut { (before : List records.Row) → HasCut before pass.old front
+        → IfOk result (HasCut (before ++ rows_in items.now) pass.new) }
     ensures interface { IfOk result (λ after. after.interface ≡ front.interface) }
     ensures memory { IfErr result (λ fault. fault ≡ Memory) }
 {
@@ -132,14 +133,14 @@ pub fn take_bytes<P: Plan, A: Allocator + Copy, R: Wait + Clock>(
     requires queue { pass.old.queue ≡ work.now.queue }
     requires open { pass.old.record_of.ends ≡ 0 }
     requires ready { (text : List ℕ) × IsTextReady P.pieces text bytes.now lines.old
-        pass.old.record_of.fed front }
+        pass.old front }
     ensures queue { pass.new.queue ≡ pass.old.queue }
     ensures kept { HasFed pass.old.record_of pass.new.record_of }
     ensures stands { OnOk result ((text : List ℕ) → StandsFor lines.old text
         → StandsFor lines.new (text ++ bytes.now)) }
     ensures fed { (text : List ℕ) → StandsFor lines.old text
-        → IsFedTo text pass.old.record_of.fed front
-        → IfOk result (IsFedTo (text ++ bytes.now) pass.new.record_of.fed) }
+        → IsFedTo text pass.old front
+        → IfOk result (IsFedTo (text ++ bytes.now) pass.new) }
     ensures refused { (text : List ℕ) → StandsFor lines.old text
         → IfErr result (IsFaultOf (early (text ++ bytes.now))) }
     ensures size { OnOk result (bytes_fed lines.new ≡ bytes_fed lines.old + length bytes.now) }

@@ -1,4 +1,4 @@
-use Rattle.std.proofs.Common.{◌∙◌, ap, sym, refl, List, length, arith, length-append}
+use Rattle.std.proofs.Common.{◌∙◌, ◌++◌, ap, sym, refl, List, length, arith, length-append}
 use Rattle.line_model.specs.basics.Records.{Piece}
 use Rattle.restart_epochs.specs.Cutting.{given_of}
 use Rattle.piece_feed.proofs.Nexts.{last_next}
@@ -17,10 +17,11 @@ returns-clause-cut g c rows h =
     let whole = sym (length-append (given_of i rows) c.in_ok-pieces.field-0.pieces.items) ∙ ap (λ (l : List Piece). length l) (c.in_ok-pieces.ensures.pieces i rows h.stands) in
     let all = h.all in
     let count = h.count in
+    let pieces = c.feed_pieces.ensures.pieces ∙ (ap (λ l. l ++ c.in_ok-pieces.field-0.pieces.items) h.pieces ∙ c.in_ok-pieces.ensures.pieces i rows h.stands) in
     record {
       interface = refl;
-      all = omega (arith, whole, all, c.in_ok-pieces.field-0.pieces.ok.0, c.feed_pieces.ensures.fed);
+      all = pieces;
       line = c.in_ok-pieces.ensures.line i rows h.stands;
       packets = c.in_ok-pieces.ensures.packets i rows h.stands;
-      pieces = omega (arith, c.len.ensures, c.in_ok-pieces.field-0.pieces.ok.0, c.feed_pieces.ensures.fed, count);
+      pieces = omega (arith, c.len.ensures, c.in_ok-pieces.field-0.pieces.ok.0, count, all, whole, ap (λ (l : List Piece). length l) pieces);
     }

@@ -10,7 +10,7 @@ loop-lines-init g c = record {
   failures = omega arith;
   queue = refl;
   kept = fed_none c.args.pass.now.record_of c.requires.first.1;
-  course = course_begun (g.S.Source.left c.args.source.now) c.new-lines.result c.args.pass.now.record_of.fed c.new-lines.ensures c.requires.first.0;
+  course = course_begun (g.S.Source.left c.args.source.now) c.new-lines.result c.args.pass.now c.new-lines.ensures (c.requires.first.0, c.requires.none);
 }
 
 pub take_bytes-requires-clause-ready : goal.take_bytes-requires-clause-ready
@@ -43,7 +43,7 @@ returns-in-Err-take_bytes-clause-read g c =
     let inv = c.loop-lines.invariant in
     let course = inv.course in
     let source = gave_more (g.S.Source.left c.args.source.now) (g.S.Source.left c.loop-lines.source) (g.S.Source.left c.read.new.self) course.text _ _ course.source c.in-Ok.ensures.given in
-    has_refused (g.S.Source.left c.args.source.now) (g.S.Source.left c.read.new.self) _ (course.text ++ _) c.take_bytes.new.pass.record_of.fed c.in-Err-take_bytes.fault source
+    has_refused (g.S.Source.left c.args.source.now) (g.S.Source.left c.read.new.self) _ (course.text ++ _) c.take_bytes.new.pass.pieces c.in-Err-take_bytes.fault source
     (c.in-Err-take_bytes.ensures.refused course.text course.reader) c.in-Err-take_bytes.ensures.kinds
 
 pub finish-requires-clause-ready : goal.finish-requires-clause-ready
@@ -62,7 +62,7 @@ returns-in-Ok-eq0-clause-read g c =
     let after = g.S.Source.left c.read.new.self in
     let some : 0 < length c.loop-lines.buffer = search rules in
     let all = gave_all before (g.S.Source.left c.loop-lines.source) after course.text _ _ course.source c.in-Ok-eq0.ensures.given some (ap (λ n. take n c.read.new.buffer) c.in-Ok-eq0.field-0-test) in
-    has_read before after _ course.text c.finish.new.pass.record_of.fed c.finish.result all (c.finish.ensures.read course.text course.reader course.cut) (c.finish.ensures.refused course.text course.reader) c.finish.ensures.kinds
+    has_read before after _ course.text c.finish.new.pass.pieces c.finish.result all (c.finish.ensures.read course.text course.reader course.cut) (c.finish.ensures.refused course.text course.reader) c.finish.ensures.kinds
 
 pub returns-in-Ok-eq0-clause-kept : goal.returns-in-Ok-eq0-clause-kept
 returns-in-Ok-eq0-clause-kept g c = fed_on c.args.pass.now.record_of c.loop-lines.pass.record_of c.finish.new.pass.record_of c.loop-lines.invariant.kept c.finish.ensures.kept
@@ -72,5 +72,5 @@ returns-in-Err-clause-read g c =
     let inv = c.loop-lines.invariant in
     let course = inv.course in
     let before = g.S.Source.left c.args.source.now in
-    has_failed before (g.S.Source.left c.read.new.self) _ course.text c.loop-lines.pass.record_of.fed (subst (λ o. Gave before o course.text) (sym c.in-Err.ensures.failed) course.source) course.reader.sound
+    has_failed before (g.S.Source.left c.read.new.self) _ course.text c.loop-lines.pass.pieces (subst (λ o. Gave before o course.text) (sym c.in-Err.ensures.failed) course.source) course.reader.sound
     (omega (arith, inv.failures, c.in-Err.ensures.failures))

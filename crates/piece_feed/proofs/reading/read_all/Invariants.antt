@@ -12,7 +12,7 @@ invariant-loop-lines g l =
       failures : g.S.Source.failures l.fn.source ≤ g.S.Source.failures l.source;
       queue : l.pass.queue ≡ l.fn.pass.queue;
       kept : HasFed l.fn.pass.record_of l.pass.record_of;
-      course : Course (g.S.Source.left l.fn.source) (g.S.Source.left l.source) l.lines l.pass.record_of.fed l.front;
+      course : Course (g.S.Source.left l.fn.source) (g.S.Source.left l.source) l.lines l.pass l.front;
     }
 
 abbrev pub decreases-loop-lines : goal.decreases-loop-lines

@@ -52,4 +52,5 @@ returns-clause-cut g c before h =
       counting = c.in_ok-pieces.ensures.counted before h.counting;
       count = omega (arith, c.len.ensures, c.in_ok-pieces.pieces.ok.0, c.feed_pieces.ensures.fed, count);
       all = omega (arith, whole, all, c.in_ok-pieces.pieces.ok.0, c.feed_pieces.ensures.fed);
+      pieces = c.feed_pieces.ensures.pieces ∙ (ap (λ l. l ++ c.in_ok-pieces.pieces.items) h.pieces ∙ given);
     }
