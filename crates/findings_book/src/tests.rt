@@ -8,7 +8,7 @@ ghost use Rattle.std.specs.Prelude.{◌≡◌, ◌≤◌, ◌^◌, ◌+◌, IfOk
 
 use crate::tests::in_turn::{has_one, has_three_epochs, posted_twice, three_epochs};
 use crate::tests::side_by_side::{has_both, has_twelve, post_and_look, twelve_pieces};
-use crate::{Blanks, Book, Ledgers, LockedPosts, Share};
+use crate::{AnyReport, Blanks, Book, Ledgers, LockedPosts, Share};
 use line_model::fault::Fault;
 use line_model::finding::{Code, Finding};
 use line_model::piece::PieceReport;
@@ -78,7 +78,7 @@ fn post_one<R: Wait + Abort, L: Ledgers>(
     share: &mut Share<L>,
     report: PieceReport,
 ) -> Result<(), Fault> {
-    if let Err((_, fault)) = locked_posts.post(rt, report, share) {
+    if let Err((_, fault)) = locked_posts.post(rt, report, share, AnyReport) {
         return Err(fault);
     }
     let seen = locked_posts.look(rt, share);
@@ -95,7 +95,7 @@ fn comes_back<R: Wait + Abort, L: Ledgers>(
     share: &mut Share<L>,
 ) {
     let (id, octets) = (report.id, report.octets);
-    let refused = locked_posts.post(rt, report, share);
+    let refused = locked_posts.post(rt, report, share, AnyReport);
     assert!(rt; refused.is_err());
     if let Err((back, fault)) = refused {
         assert_eq!(rt; fault, Fault::Double(id));
@@ -174,7 +174,7 @@ fn play_with<R: Threads + Wait + Abort + Sync, L: Ledgers + Sync>(
 {
     let mut shares = two_shares(alloc, &mut book)?;
     let played = play_in_two(rt, alloc, scenario, book.locked_posts(), &mut shares);
-    let (totals, reports) = book.gather(shares);
+    let (totals, reports, _) = book.gather(shares);
     end(rt, scenario, totals, &reports);
     played
 }
@@ -191,7 +191,12 @@ fn play_in<R: Threads + Wait + Abort + Sync, L: Ledgers + Sync>(
     requires octets { (blanks.octets.name ≡ L.octets) × (blanks.octets.parts ≡ 4096) }
     requires segments { (blanks.segments.name ≡ L.segments) × (blanks.segments.parts ≡ 4096) }
 {
-    play_with(rt, alloc, scenario, Book::<Brand, L>::new(alloc, blanks))
+    play_with(
+        rt,
+        alloc,
+        scenario,
+        Book::<Brand, L>::new(alloc, blanks, AnyReport),
+    )
 }
 
 /// Plays a scenario with a book over four new ledgers.

@@ -11,6 +11,7 @@ use Rattle.line_model.specs.declared.fault.Fault.{Fault}
 use Rattle.line_model.specs.declared.fault.Fault.TheVariants.{Memory, Trace, Read as ReadFailed}
 use Rattle.line_model.proofs.TextLemmas.{early_rows-nothing}
 use Rattle.trace_text.specs.StandsFor.{IsFaultOf, IsTextFault}
+use Rattle.piece_queue.specs.Passes.{PassView}
 use Rattle.piece_queue.specs.declared.rule.Record.{Record}
 use Rattle.workers.specs.Workers.{HasFed}
 use Rattle.piece_feed.specs.TextCuts.{HasTaken, IsFedTo, IsPlanOf}
@@ -24,17 +25,23 @@ abbrev pub Gave : (before after : Option (List ℕ)) → List ℕ → Type 0
 Gave before after text = IfSome before (λ all. (rest : List ℕ) × (all ≡ text ++ rest) × (after ≡ Some rest))
 
 -- the text was read and cut, and its pieces that are known whole were fed
-pub record Course {A : Type 0} (before after : Option (List ℕ)) (c : TextCutter A) (n : ℕ) : Type 0 where
+pub record Course {A : Type 0} (before after : Option (List ℕ)) (c : TextCutter A) (fed : PassView) : Type 0 where
   pub text : List ℕ
-  pub fed : IsFedTo text n c
+  pub cut : IsFedTo text fed c
   pub source : Gave before after text
 
 gave_none : (before : Option (List ℕ)) → Gave before before []
 gave_none None = tt
 gave_none (Some all) = (all, refl, refl)
 
-pub course_begun : {A : Type 0} (before : Option (List ℕ)) (c : TextCutter A) (n : ℕ) → HasTaken [] c → n ≡ 0 → Course before before c n
-course_begun before c n taken none = record { text = []; fed = record { taken = taken; all = none ∙ sym (ap (λ (ps : List Piece). length ps) (none_known [] early_rows-nothing)) }; source = gave_none before }
+pub course_begun : {A : Type 0} (before : Option (List ℕ)) (c : TextCutter A) (fed : PassView) → HasTaken [] c → fed.record_of.fed ≡ 0 → fed.pieces ≡ [] → Course before before c fed
+course_begun before c fed taken none no_pieces =
+    let known = none_known [] early_rows-nothing in
+    record {
+      text = [];
+      cut = record { taken = taken; count = none ∙ sym (ap (λ (ps : List Piece). length ps) known); pieces = no_pieces ∙ sym known };
+      source = gave_none before;
+    }
 
 pub gave_more : (before now next : Option (List ℕ)) (text bytes : List ℕ) (room : ℕ) → Gave before now text → Gives now next bytes room → Gave before next (text ++ bytes)
 gave_more None now next text bytes room h more = tt
@@ -87,7 +94,7 @@ on_the_way given rest _ h = absurd h
 gave_this : (before : Option (List ℕ)) (text : List ℕ) (P : List ℕ → Type 0) → before ≡ Some text → IfSome before P → P text
 gave_this before text P e h = subst (λ o. IfSome o P) e h
 
-pub has_read : {A : Type 0} (before after : Option (List ℕ)) (failed : Type 0) (text : List ℕ) (fed : ℕ) (r : Result (Read A) Fault) → IfSome before (λ all. (all ≡ text) × (after ≡ Some []))
+pub has_read : {A : Type 0} (before after : Option (List ℕ)) (failed : Type 0) (text : List ℕ) (fed : List Piece) (r : Result (Read A) Fault) → IfSome before (λ all. (all ≡ text) × (after ≡ Some []))
     → IfOk r (IsReadOf text fed) → IfErr r (IsFaultOf (fault text)) → IfErr r IsTextFault → HasRead before after failed fed r
 has_read before after failed text fed (Ok read) source ok refused kinds = record {
   told = λ all e. let at = gave_this before all _ e source in (subst (λ t. IsReadOf t fed read) (sym at.0) ok, at.1);
@@ -106,7 +113,7 @@ has_read before after failed text fed (Err f) source ok refused kinds = record {
   read_failed = λ e. let same : f ≡ ReadFailed = cc in absurd (no_read_fault f kinds same);
 }
 
-pub has_refused : {A : Type 0} (before after : Option (List ℕ)) (failed : Type 0) (text : List ℕ) (fed : ℕ) (f : Fault) → Gave before after text → IsFaultOf (early text) f → IsTextFault f → HasRead {A = A} before after failed fed (Err f)
+pub has_refused : {A : Type 0} (before after : Option (List ℕ)) (failed : Type 0) (text : List ℕ) (fed : List Piece) (f : Fault) → Gave before after text → IsFaultOf (early text) f → IsTextFault f → HasRead {A = A} before after failed fed (Err f)
 has_refused before after failed text fed f source refused kinds = record {
   told = λ all e. tt;
   of_text = tt;
@@ -117,7 +124,7 @@ has_refused before after failed text fed f source refused kinds = record {
   read_failed = λ e. let same : f ≡ ReadFailed = cc in absurd (no_read_fault f kinds same);
 }
 
-pub has_failed : {A : Type 0} (before after : Option (List ℕ)) (failed : Type 0) (text : List ℕ) (fed : ℕ) → Gave before after text → early text ≡ None → failed → HasRead {A = A} before after failed fed (Err ReadFailed)
+pub has_failed : {A : Type 0} (before after : Option (List ℕ)) (failed : Type 0) (text : List ℕ) (fed : List Piece) → Gave before after text → early text ≡ None → failed → HasRead {A = A} before after failed fed (Err ReadFailed)
 has_failed before after failed text fed source sound fails = record {
   told = λ all e. tt;
   of_text = tt;

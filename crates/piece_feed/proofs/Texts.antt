@@ -41,7 +41,7 @@ pub plan_is : (known : KnownPlan) (text : List ℕ) (i j : Interface) (rs : List
 plan_is None text i j rs e same told h = tt
 plan_is (Some ps) text i j rs e same told h = h ∙ plan_of_head text i e ∙ (λ k. plan (sym same k) (told k))
 
-pub read_of : {A : Type 0} (text : List ℕ) (i j : Interface) (rs : List Row) (fed : ℕ) (r : Read A) → fault text ≡ None → head text ≡ Some i → j ≡ i → rows text ≡ rs → IsCutOf j rs fed r → IsReadOf text fed r
+pub read_of : {A : Type 0} (text : List ℕ) (i j : Interface) (rs : List Row) (fed : List Piece) (r : Read A) → fault text ≡ None → head text ≡ Some i → j ≡ i → rows text ≡ rs → IsCutOf j rs fed r → IsReadOf text fed r
 read_of text i j rs fed r sound e same told cut =
     let here : j ≡ r.interface = sym cut.interface in
     record {
@@ -49,7 +49,7 @@ read_of text i j rs fed r sound e same told cut =
       header = e ∙ ap Some (sym same ∙ here);
       cut = record {
         interface = refl;
-        all = cut.all ∙ (λ k. length (plan (here k) (sym told k)));
+        all = cut.all ∙ (λ k. plan (here k) (sym told k));
         line = cut.line ∙ (λ k. line_findings (here k) (sym told k));
         packets = cut.packets ∙ ap (λ (l : List Row). length l) (sym told);
         pieces = cut.pieces;

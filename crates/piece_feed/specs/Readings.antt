@@ -1,6 +1,6 @@
 -- What was read of a source.
 use Rattle.std.specs.Prelude.{◌≡◌, ℕ, ◌⊎◌, List, [], ◌++◌, length, Option, Some, None, Result, Err, IfOk, IfErr, MatchOption}
-use Rattle.line_model.specs.basics.Records.{Row}
+use Rattle.line_model.specs.basics.Records.{Row, Piece}
 use Rattle.line_model.specs.declared.interface.Interface.{Interface}
 use Rattle.line_model.specs.text.Text.{early, fault, head, rows}
 use Rattle.line_model.specs.pieces.Plans.{plan, line_findings}
@@ -8,16 +8,16 @@ use Rattle.line_model.specs.declared.fault.Fault.{Fault}
 use Rattle.line_model.specs.declared.fault.Fault.TheVariants.{Memory, Trace, Read as ReadFailed, Write, Start}
 use Rattle.piece_feed.specs.declared.reading.Read.{Read}
 
--- this is what the rows of an interface say, and all pieces of their plan were fed
-pub record IsCutOf {A : Type 0} (i : Interface) (rs : List Row) (fed : ℕ) (r : Read A) : Type 0 where
+-- this is what the rows of an interface say, and the pieces of their plan were fed, all and in order
+pub record IsCutOf {A : Type 0} (i : Interface) (rs : List Row) (fed : List Piece) (r : Read A) : Type 0 where
   pub interface : r.interface ≡ i
-  pub all : fed ≡ length (plan i rs)
+  pub all : fed ≡ plan i rs
   pub line : r.line.items ≡ line_findings i rs
   pub packets : r.packets ≡ length rs
-  pub pieces : r.pieces ≡ fed
+  pub pieces : r.pieces ≡ length fed
 
--- the text has no fault, and this was read of it
-pub record IsReadOf {A : Type 0} (text : List ℕ) (fed : ℕ) (r : Read A) : Type 0 where
+-- the text has no fault, this was read of it, and its pieces were fed
+pub record IsReadOf {A : Type 0} (text : List ℕ) (fed : List Piece) (r : Read A) : Type 0 where
   pub sound : fault text ≡ None
   pub header : head text ≡ Some r.interface
   pub cut : IsCutOf r.interface (rows text) fed r
@@ -47,8 +47,8 @@ IsReadingFault (Trace line kind) = Unit {0}
 IsReadingFault ReadFailed = Unit {0}
 IsReadingFault _ = ⊥
 
--- so many pieces were fed, by which all of a text was read, or it was refused
-pub record HasRead {A : Type 0} (before after : Option (List ℕ)) (failed : Type 0) (fed : ℕ) (r : Result (Read A) Fault) : Type 0 where
+-- these pieces were fed, by which all of a text was read, or it was refused
+pub record HasRead {A : Type 0} (before after : Option (List ℕ)) (failed : Type 0) (fed : List Piece) (r : Result (Read A) Fault) : Type 0 where
   pub told : (text : List ℕ) → before ≡ Some text → IfOk r (λ read. IsReadOf text fed read × (after ≡ Some []))
   pub of_text : IfOk r (λ read. (text : List ℕ) × IsReadOf text fed read)
   pub kinds : IfErr r IsReadingFault
@@ -56,5 +56,5 @@ pub record HasRead {A : Type 0} (before after : Option (List ℕ)) (failed : Typ
   pub read_failed : r ≡ Err ReadFailed → failed
 
 -- the source was read
-abbrev pub IsOutcome : {A : Type 0} → (before after : Option (List ℕ)) → (failed : Type 0) → ℕ → Option (Result (Read A) Fault) → Type 0
+abbrev pub IsOutcome : {A : Type 0} → (before after : Option (List ℕ)) → (failed : Type 0) → List Piece → Option (Result (Read A) Fault) → Type 0
 IsOutcome before after failed fed outcome = MatchOption outcome ⊥ (HasRead before after failed fed)

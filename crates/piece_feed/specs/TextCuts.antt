@@ -7,6 +7,7 @@ use Rattle.line_model.specs.basics.Records.{Row, Piece}
 use Rattle.line_model.specs.text.Text.{early_head, early_rows, last_or}
 use Rattle.line_model.specs.traces.Traces.{trace_plan}
 use Rattle.restart_epochs.specs.Cutting.{Cutting, StandsFor as IsCutterOf, given_of}
+use Rattle.piece_queue.specs.Passes.{PassView}
 use Rattle.trace_text.specs.Progress.{Progress}
 use Rattle.trace_text.specs.StandsFor.{StandsFor}
 use Rattle.piece_feed.specs.declared.text_cutter.Front.{Front}
@@ -54,9 +55,10 @@ abbrev pub known_pieces : List ℕ → List Piece
 known_pieces text = known_of (early_head text) (early_rows text)
 
 -- it was given this text, and the pieces that are known whole were fed
-pub record IsFedTo {A : Type 0} (text : List ℕ) (fed : ℕ) (c : TextCutter A) : Type 0 where
+pub record IsFedTo {A : Type 0} (text : List ℕ) (fed : PassView) (c : TextCutter A) : Type 0 where
   pub taken : HasTaken text c
-  pub all : fed ≡ length (known_pieces text)
+  pub count : fed.record_of.fed ≡ length (known_pieces text)
+  pub pieces : fed.pieces ≡ known_pieces text
 
 -- the plan, where it is known, is that of a text that begins so
 abbrev pub IsPlanOf : KnownPlan → List ℕ → Type 0

@@ -1,6 +1,6 @@
 //! A source that is read to its end while the pieces of its trace are fed.
 
-ghost use Rattle.std.specs.Prelude.{◌≡◌, ℕ, ◌+◌, ◌<◌, ◌≤◌, ◌^◌, List, IfErr, IfOk, IfSome, length};
+ghost use Rattle.std.specs.Prelude.{◌≡◌, ℕ, ◌+◌, ◌<◌, ◌≤◌, ◌^◌, [], List, IfErr, IfOk, IfSome, length};
 ghost use Rattle.std.specs.Option.{option_map};
 ghost use Rattle.std.specs.Thread.{IsSync};
 ghost use Rattle.line_model.specs.text.Text.{fault};
@@ -51,12 +51,13 @@ fn end_front<P: Plan, A: Allocator + Copy, R: Wait + Clock>(
     requires open { pass.old.record_of.ends ≡ 0 }
     requires ready { (rows : List records.Row) × HasCut rows front
         × (pass.old.record_of.fed ≡ length (given_of front.interface rows))
+        × (pass.old.pieces ≡ given_of front.interface rows)
         × IfSome P.pieces (λ ps. ps ≡ plan front.interface rows) }
     ensures queue { pass.new.queue ≡ pass.old.queue }
     ensures kept { HasFed pass.old.record_of pass.new.record_of }
     ensures cut { (rows : List records.Row) → HasCut rows front
-        → pass.old.record_of.fed ≡ length (given_of front.interface rows)
-        → IfOk result (IsCutOf front.interface rows pass.new.record_of.fed) }
+        → pass.old.pieces ≡ given_of front.interface rows
+        → IfOk result (IsCutOf front.interface rows pass.new.pieces) }
     ensures memory { IfErr result (λ fault. fault ≡ Memory) }
 {
     let Front { interface, cutter } = front;
@@ -86,13 +87,13 @@ fn finish<P: Plan, A: Allocator + Copy, R: Wait + Clock>(
 ) -> Result<Read<A>, Fault>
     requires queue { pass.old.queue ≡ work.now.queue }
     requires open { pass.old.record_of.ends ≡ 0 }
-    requires ready { (given : List ℕ) × IsFedTo given pass.old.record_of.fed text
+    requires ready { (given : List ℕ) × IsFedTo given pass.old text
         × IfSome P.pieces (λ ps. ps ≡ trace_plan given) }
     ensures queue { pass.new.queue ≡ pass.old.queue }
     ensures kept { HasFed pass.old.record_of pass.new.record_of }
-    ensures read { (given : List ℕ) → IsFedTo given pass.old.record_of.fed text
-        → IfOk result (IsReadOf given pass.new.record_of.fed) }
-    ensures refused { (given : List ℕ) → IsFedTo given pass.old.record_of.fed text
+    ensures read { (given : List ℕ) → IsFedTo given pass.old text
+        → IfOk result (IsReadOf given pass.new.pieces) }
+    ensures refused { (given : List ℕ) → IsFedTo given pass.old text
         → IfErr result (IsFaultOf (fault given)) }
     ensures kinds { IfErr result IsTextFault }
 {
@@ -115,11 +116,12 @@ fn read_all<P: Plan, A: Allocator + Copy, S: Source, R: Wait + Clock>(
 ) -> Result<Read<A>, Fault>
     requires queue { pass.old.queue ≡ work.now.queue }
     requires first { (pass.old.record_of.fed ≡ 0) × (pass.old.record_of.ends ≡ 0) }
+    requires none { pass.old.pieces ≡ [] }
     requires plan { P.pieces ≡ option_map trace_plan (S.left source.old) }
     ensures queue { pass.new.queue ≡ pass.old.queue }
     ensures kept { HasFed pass.old.record_of pass.new.record_of }
     ensures read { HasRead (S.left source.old) (S.left source.new) (S.failures source.old
-        < S.failures source.new) pass.new.record_of.fed result }
+        < S.failures source.new) pass.new.pieces result }
     ensures asked { S.calls source.new ≤ S.calls source.old + (2 ^ 30 + 1) }
 {
     let mut buffer = [0; CHUNK];

@@ -1,6 +1,7 @@
 -- What a call of `take` says.
-use Rattle.std.specs.Prelude.{◌≡◌, ℕ, ◌<◌, [], ◌∷◌, ◌++◌, true, false}
+use Rattle.std.specs.Prelude.{◌≡◌, ℕ, ◌<◌, List, [], ◌∷◌, ◌++◌, true, false}
 use Rattle.crossbeam_queue.specs.Fifo.{Held}
+use Rattle.line_model.specs.basics.Records.{Piece}
 use Rattle.line_model.specs.work.Book.{KnownPlan, IsPlanned}
 use Rattle.line_model.specs.work.Work.{Entry}
 use Rattle.piece_queue.specs.declared.rule.Record.{Record}
@@ -19,3 +20,9 @@ abbrev pub WasDrained : {A : Type 0} → KnownPlan → Record → Taken A → �
 WasDrained plan v Finish fed = (n : ℕ) × (0 < n) × Held n (IsDrained plan v fed)
 WasDrained plan v (Got p) fed = Unit {0}
 WasDrained plan v Empty fed = Unit {0}
+
+-- a piece that was taken stands behind those before it
+abbrev pub AddsTaken : {A : Type 0} → List Piece → Taken A → List Piece → Type 0
+AddsTaken before (Got p) after = after ≡ before ++ p ∷ []
+AddsTaken before Finish after = after ≡ before
+AddsTaken before Empty after = after ≡ before

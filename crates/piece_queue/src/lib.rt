@@ -4,10 +4,12 @@
 mod entry;
 pub mod laws;
 mod rule;
+mod witness;
 mod work;
 
 pub use entry::Entry;
-pub use rule::Record;
+pub use rule::{Notes, Record};
+pub use witness::Witness;
 pub use work::{FeederPass, Taken, Work, WorkerPass};
 
 #[cfg(test)]

@@ -1,12 +1,12 @@
 //! The rule of the queue: what it holds, and what each pass knows.
 use crate::entry::Entry;
 use crossbeam_queue::protocol::{Join, Lesson, Outcome, Protocol, Split};
-use line_model::piece::Plan;
+use line_model::piece::{Piece, Plan};
 use std::alloc::Allocator;
 use std::collections::LinkedList;
 use std::marker::PhantomData;
 
-/// What a pass knows. No value of it is made.
+/// What a pass did, by numbers. No value of it is made.
 pub struct Record {
     /// It is the feeder's.
     pub feeds: bool,
@@ -28,38 +28,76 @@ pub struct Record {
     pub told: u64,
 }
 
-/// The rule: the queue holds the plan's pieces that were fed and not taken, in order, and then ends.
+/// What a pass knows. No value of it is made.
+pub struct Notes {
+    /// What it did, by numbers.
+    pub record_of: Record,
+    /// Of the feeder's: the pieces that were fed, in order.
+    pub fed: LinkedList<Piece>,
+    /// Pieces that it knows of, each of which was fed.
+    pub known: LinkedList<Piece>,
+}
+
+/// The rule: the queue holds the plan's pieces that were fed and not taken, in order, and then ends; and each piece that
+/// stands in it or that a pass knows was fed.
 pub struct PlanOrder<P> {
     plan: PhantomData<P>,
 }
 
-impl<P: Plan, A: Allocator> Protocol<Entry<A>, Record> for PlanOrder<P> {
-    ghost use Rattle.piece_queue.specs.Rule.{IsKept, feeder};
+impl<P: Plan, A: Allocator> Protocol<Entry<A>, Notes> for PlanOrder<P> {
     ghost use Rattle.std.specs.Prelude.{[]};
+    ghost use Rattle.piece_queue.specs.Rule.{feeder};
+    ghost use Rattle.piece_queue.specs.Known.{AreNoted, notes};
 
-    ghost holds = { IsKept P.pieces };
+    ghost holds = { AreNoted P.pieces };
 
-    ghost first = { feeder 0 0 0 0 [] };
+    ghost first = { notes (feeder 0 0 0 0 []) [] [] };
 }
 
 /// A new worker's pass is split from the feeder's.
 pub struct Worker;
 
-impl Split<Record> for Worker {
-    ghost use Rattle.piece_queue.specs.Rule.{after_split, worker};
+impl Split<Notes> for Worker {
     ghost use Rattle.std.specs.Prelude.{[], false};
+    ghost use Rattle.piece_queue.specs.Rule.{after_split, worker};
+    ghost use Rattle.piece_queue.specs.Known.{notes};
 
-    ghost left = { after_split };
+    ghost left = { λ v. notes (after_split v.record_of) v.fed v.known };
 
-    ghost right = { λ v. worker [] false 0 };
+    ghost right = { λ v. notes (worker [] false 0) [] [] };
 }
 
-impl Join<Record> for Worker {
+impl Join<Notes> for Worker {
+    ghost use Rattle.std.specs.Prelude.{[]};
     ghost use Rattle.piece_queue.specs.Rule.{after_join, nobody};
+    ghost use Rattle.piece_queue.specs.Known.{notes};
 
-    ghost both = { after_join };
+    ghost both = { λ v w. notes (after_join v.record_of w.record_of) v.fed v.known };
 
-    ghost spent = { nobody };
+    ghost spent = { notes nobody [] [] };
+}
+
+/// A witness is split from a pass, and knows what that one knows.
+pub struct Testimony;
+
+impl Split<Notes> for Testimony {
+    ghost use Rattle.std.specs.Prelude.{[]};
+    ghost use Rattle.piece_queue.specs.Rule.{nobody};
+    ghost use Rattle.piece_queue.specs.Known.{notes};
+
+    ghost left = { λ v. v };
+
+    ghost right = { λ v. notes nobody [] v.known };
+}
+
+impl Join<Notes> for Testimony {
+    ghost use Rattle.std.specs.Prelude.{[]};
+    ghost use Rattle.piece_queue.specs.Rule.{nobody};
+    ghost use Rattle.piece_queue.specs.Known.{after_testimony, notes};
+
+    ghost both = { after_testimony };
+
+    ghost spent = { notes nobody [] [] };
 }
 
 /// The step that feeds a piece.
@@ -67,16 +105,16 @@ pub struct FeedsPiece<P> {
     plan: PhantomData<P>,
 }
 
-impl<P: Plan, A: Allocator> Outcome<Entry<A>, Record> for FeedsPiece<P> {
-    ghost use Rattle.piece_queue.specs.Rule.{Fed};
+impl<P: Plan, A: Allocator> Outcome<Entry<A>, Notes> for FeedsPiece<P> {
+    ghost use Rattle.piece_queue.specs.Known.{FedPiece};
 
-    ghost then = { Fed };
+    ghost then = { FedPiece };
 }
 
-impl<P: Plan, A: Allocator> Lesson<Entry<A>, Record> for FeedsPiece<P> {
+impl<P: Plan, A: Allocator> Lesson<Entry<A>, Notes> for FeedsPiece<P> {
     ghost use Rattle.piece_queue.specs.Rule.{IsInQueue};
 
-    ghost fact = { IsInQueue P.pieces };
+    ghost fact = { λ v. IsInQueue P.pieces v.record_of };
 }
 
 /// The step that feeds an end.
@@ -84,16 +122,16 @@ pub struct FeedsEnd<P> {
     plan: PhantomData<P>,
 }
 
-impl<P: Plan, A: Allocator> Outcome<Entry<A>, Record> for FeedsEnd<P> {
-    ghost use Rattle.piece_queue.specs.Rule.{EndFed};
+impl<P: Plan, A: Allocator> Outcome<Entry<A>, Notes> for FeedsEnd<P> {
+    ghost use Rattle.piece_queue.specs.Known.{FedEnd};
 
-    ghost then = { EndFed };
+    ghost then = { FedEnd };
 }
 
-impl<P: Plan, A: Allocator> Lesson<Entry<A>, Record> for FeedsEnd<P> {
+impl<P: Plan, A: Allocator> Lesson<Entry<A>, Notes> for FeedsEnd<P> {
     ghost use Rattle.piece_queue.specs.Rule.{IsInQueue};
 
-    ghost fact = { IsInQueue P.pieces };
+    ghost fact = { λ v. IsInQueue P.pieces v.record_of };
 }
 
 /// The step that takes what stands at the front.
@@ -101,22 +139,31 @@ pub struct Takes<P> {
     plan: PhantomData<P>,
 }
 
-impl<P: Plan, A: Allocator> Outcome<Entry<A>, Record> for Takes<P> {
-    ghost use Rattle.piece_queue.specs.Rule.{TookEntry};
+impl<P: Plan, A: Allocator> Outcome<Entry<A>, Notes> for Takes<P> {
+    ghost use Rattle.piece_queue.specs.Known.{Took};
 
-    ghost then = { TookEntry P.pieces };
+    ghost then = { Took P.pieces };
 }
 
-impl<P: Plan, A: Allocator> Lesson<Entry<A>, Record> for Takes<P> {
+impl<P: Plan, A: Allocator> Lesson<Entry<A>, Notes> for Takes<P> {
     ghost fact = { λ v items. Unit {0} };
 }
 
 /// What the feeder knows once a pass was joined: what that one told, and what all took.
 pub struct Account;
 
-impl<A: Allocator> Lesson<Entry<A>, Record> for Account {
+impl<A: Allocator> Lesson<Entry<A>, Notes> for Account {
     ghost use Rattle.std.specs.Prelude.{◌≡◌};
     ghost use Rattle.piece_queue.specs.Rule.{IsAccounted};
 
-    ghost fact = { λ v items. (v.told ≡ v.fed) × IsAccounted v };
+    ghost fact = { λ v items. (v.record_of.told ≡ v.record_of.fed) × IsAccounted v.record_of };
+}
+
+/// What the feeder knows once a witness was heard: each piece of the witness was fed.
+pub struct Hearing;
+
+impl<A: Allocator> Lesson<Entry<A>, Notes> for Hearing {
+    ghost use Rattle.piece_queue.specs.Known.{WasHeard};
+
+    ghost fact = { λ v items. WasHeard v };
 }

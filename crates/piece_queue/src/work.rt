@@ -1,11 +1,15 @@
 //! The queue with its passes.
-ghost use Rattle.std.specs.Prelude.{◌≡◌, ◌+◌, ◌<◌, ◌≤◌, [], ◌++◌, ◌∷◌, true, false, IfOk, OnOk, IfErr, OnErr};
+ghost use Rattle.std.specs.Prelude.{◌≡◌, ◌+◌, ◌<◌, ◌≤◌, [], ◌++◌, ◌∷◌, true, false, All, length, IfOk, OnOk, IfErr, OnErr, MatchResult};
 ghost use Rattle.crossbeam_queue.specs.Fifo.{Held};
 ghost use Rattle.line_model.specs.work.Book.{IsPlanned};
+ghost use Rattle.piece_queue.specs.Known.{IsFed};
 ghost use Rattle.piece_queue.specs.Rule.{feeder, worker, after_split, after_join, IsInQueue, IsAccounted, IsTold};
 
 use crate::entry::Entry;
-use crate::rule::{Account, FeedsEnd, FeedsPiece, PlanOrder, Record, Takes, Worker};
+use crate::rule::{
+    Account, FeedsEnd, FeedsPiece, Hearing, Notes, PlanOrder, Takes, Testimony, Worker,
+};
+use crate::witness::Witness;
 use crossbeam_queue::{ArrayQueue, Pass, RuledArrayQueue};
 use line_model::fault::Fault;
 use line_model::piece::{Piece, Plan};
@@ -19,7 +23,7 @@ const MOST_FREED: usize = 4096;
 /// A queue of pieces, and the way back of those that were run. Contracts see which queue it is and how much it holds.
 #[derive(Drop)]
 pub struct Work<P: Plan, A: Allocator = Global> {
-    queue: RuledArrayQueue<Entry<A>, Record, PlanOrder<P>, A>,
+    queue: RuledArrayQueue<Entry<A>, Notes, PlanOrder<P>, A>,
     used: ArrayQueue<Piece<A>, A>,
 }
 
@@ -35,7 +39,7 @@ impl<P: Plan, A: Allocator> Model for Work<P, A> {
 /// The pass of the thread that feeds. It has no bytes.
 #[derive(Drop)]
 pub struct FeederPass<A: Allocator = Global> {
-    pass: Pass<Entry<A>, Record>,
+    pass: Pass<Entry<A>, Notes>,
 }
 
 impl<A: Allocator> Model for FeederPass<A> {
@@ -45,15 +49,15 @@ impl<A: Allocator> Model for FeederPass<A> {
 
     ghost Value = { PassView };
 
-    ghost view = { λ s. record { queue = s.pass.table_id; record_of = seen s.pass } };
+    ghost view = { λ s. record { queue = s.pass.table_id; record_of = (seen s.pass).record_of; pieces = (seen s.pass).fed } };
 
-    ghost invariant = { λ s. (s.pass.me.1 ≡ []) × ((seen s.pass).feeds ≡ true) };
+    ghost invariant = { λ s. (s.pass.me.1 ≡ []) × ((seen s.pass).record_of.feeds ≡ true) × ((seen s.pass).known ≡ []) };
 }
 
 /// The pass of a worker. It has no bytes.
 #[derive(Drop)]
 pub struct WorkerPass<A: Allocator = Global> {
-    pass: Pass<Entry<A>, Record>,
+    pass: Pass<Entry<A>, Notes>,
 }
 
 impl<A: Allocator> Model for WorkerPass<A> {
@@ -63,9 +67,9 @@ impl<A: Allocator> Model for WorkerPass<A> {
 
     ghost Value = { PassView };
 
-    ghost view = { λ s. record { queue = s.pass.table_id; record_of = seen s.pass } };
+    ghost view = { λ s. record { queue = s.pass.table_id; record_of = (seen s.pass).record_of; pieces = (seen s.pass).known } };
 
-    ghost invariant = { λ s. (s.pass.me.1 ≡ []) × ((seen s.pass).works ≡ true) };
+    ghost invariant = { λ s. (s.pass.me.1 ≡ []) × ((seen s.pass).record_of.works ≡ true) };
 }
 
 /// What a worker took.
@@ -80,7 +84,7 @@ pub enum Taken<A: Allocator = Global> {
 }
 
 impl<P: Plan, A: Allocator> Work<P, A> {
-    ghost use Rattle.piece_queue.specs.Takes.{IsTaken, WasDrained};
+    ghost use Rattle.piece_queue.specs.Takes.{AddsTaken, IsTaken, WasDrained};
 
     /// An empty queue that holds so many entries, and the feeder's pass; or want of memory.
     pub fn new(alloc: A, capacity: usize) -> Result<(Work<P, A>, FeederPass<A>), Fault>
@@ -90,6 +94,7 @@ impl<P: Plan, A: Allocator> Work<P, A> {
         requires few { capacity ≤ 4096 }
         ensures ok { IfOk result (λ r. (r.0.capacity ≡ capacity) × (r.1.queue ≡ r.0.queue)
             × (r.1.record_of ≡ feeder 0 0 0 0 [])) }
+        ensures none { IfOk result (λ r. r.1.pieces ≡ []) }
         ensures refused { IfErr result (λ fault. fault ≡ Fault.Memory) }
     {
         let used = ArrayQueue::new(alloc.clone()?, capacity)?;
@@ -125,6 +130,7 @@ impl<P: Plan, A: Allocator> Work<P, A> {
         ensures queue { (pass.new.queue ≡ pass.old.queue) × (result.queue ≡ pass.old.queue) }
         ensures counted { pass.new.record_of ≡ after_split pass.old.record_of }
         ensures empty { result.record_of ≡ worker [] false 0 }
+        ensures pieces { (pass.new.pieces ≡ pass.old.pieces) × (result.pieces ≡ []) }
     {
         let pass = self.queue.another::<Worker>(&mut pass.pass);
         WorkerPass { pass }
@@ -147,6 +153,9 @@ impl<P: Plan, A: Allocator> Work<P, A> {
             pass.old.record_of.done pass.old.record_of.taken) }
         ensures err { IfErr result (λ back. (back ≡ piece)
             × (pass.new.record_of ≡ pass.old.record_of)) }
+        ensures pieces { MatchResult result
+            (λ _. pass.new.pieces ≡ pass.old.pieces ++ piece ∷ [])
+            (λ _. pass.new.pieces ≡ pass.old.pieces) }
         ensures full { OnErr result (Held self.now.capacity
             (IsInQueue P.pieces pass.old.record_of)) }
     {
@@ -168,6 +177,7 @@ impl<P: Plan, A: Allocator> Work<P, A> {
             ≡ feeder pass.old.record_of.fed (pass.old.record_of.ends + 1) pass.old.record_of.pending
             pass.old.record_of.done pass.old.record_of.taken) }
         ensures err { OnErr result (pass.new.record_of ≡ pass.old.record_of) }
+        ensures pieces { pass.new.pieces ≡ pass.old.pieces }
         ensures full { OnErr result (Held self.now.capacity
             (IsInQueue P.pieces pass.old.record_of)) }
     {
@@ -189,6 +199,7 @@ impl<P: Plan, A: Allocator> Work<P, A> {
         requires unfinished { pass.old.record_of.finished ≡ false }
         ensures queue { pass.new.queue ≡ pass.old.queue }
         ensures taken { IsTaken P.pieces pass.old.record_of result pass.new.record_of }
+        ensures pieces { AddsTaken pass.old.pieces result pass.new.pieces }
         ensures drained { WasDrained P.pieces pass.old.record_of result pass.new.record_of.fed }
     {
         match self.queue.pop_as::<Takes<P>, R>(rt, &mut pass.pass) {
@@ -206,9 +217,53 @@ impl<P: Plan, A: Allocator> Work<P, A> {
         ensures joined { pass.new.record_of ≡ after_join pass.old.record_of other.record_of }
         ensures told { IsTold pass.old.record_of other.record_of }
         ensures all { IsAccounted pass.new.record_of }
+        ensures pieces { pass.new.pieces ≡ pass.old.pieces }
     {
         let WorkerPass { pass: other } = other;
         self.queue.absorb::<Worker>(&mut pass.pass, other);
         self.queue.learn_as::<Account>(&mut pass.pass);
+    }
+
+    /// A witness that knows of no piece.
+    pub fn witness(&self, pass: &mut FeederPass<A>) -> Witness<A>
+        requires { pass.old.queue ≡ self.now.queue }
+        ensures same { pass.new ≡ pass.old }
+        ensures witness { (result.queue ≡ self.now.queue) × (result.pieces ≡ []) }
+    {
+        let pass = self.queue.another::<Testimony>(&mut pass.pass);
+        Witness { pass }
+    }
+
+    /// A witness of the pieces that a worker took.
+    pub fn testify(&self, pass: &mut WorkerPass<A>) -> Witness<A>
+        requires { pass.old.queue ≡ self.now.queue }
+        ensures same { pass.new ≡ pass.old }
+        ensures witness { (result.queue ≡ self.now.queue) × (result.pieces ≡ pass.old.pieces) }
+    {
+        let pass = self.queue.another::<Testimony>(&mut pass.pass);
+        Witness { pass }
+    }
+
+    /// One witness takes in what another knows.
+    pub fn learn(&self, witness: &mut Witness<A>, other: Witness<A>)
+        requires { (witness.old.queue ≡ self.now.queue) × (other.queue ≡ self.now.queue) }
+        ensures queue { witness.new.queue ≡ witness.old.queue }
+        ensures pieces { witness.new.pieces ≡ witness.old.pieces ++ other.pieces }
+    {
+        let Witness { pass: other } = other;
+        self.queue.absorb::<Testimony>(&mut witness.pass, other);
+    }
+
+    /// Each piece that a witness knows of was fed, and stands at its id among those that were. They are as many as the
+    /// record of the feeder says.
+    pub fn hear(&self, pass: FeederPass<A>, witness: Witness<A>)
+        requires { (pass.queue ≡ self.now.queue) × (witness.queue ≡ self.now.queue) }
+        ensures fed { All (IsFed pass.pieces) witness.pieces }
+        ensures number { length pass.pieces ≡ pass.record_of.fed }
+    {
+        let FeederPass { mut pass } = pass;
+        let Witness { pass: witness } = witness;
+        self.queue.absorb::<Testimony>(&mut pass, witness);
+        self.queue.learn_as::<Hearing>(&mut pass);
     }
 }

@@ -1,18 +1,20 @@
 -- What is known of the whole once all workers were joined.
-use Rattle.std.specs.Prelude.{◌≡◌, ℕ, length, vec_len, MatchResult}
+use Rattle.std.specs.Prelude.{◌≡◌, ℕ, List, Some, length, vec_len, MatchResult}
 use Rattle.line_model.specs.declared.fault.Fault.TheVariants.{Memory}
+use Rattle.line_model.specs.basics.Records.{Piece}
 use Rattle.line_model.specs.work.Book.{KnownPlan, AreOf, totals_of, sum_of}
 use Rattle.workers.specs.declared.gathering.Gathered.{Gathered}
 use Rattle.workers.specs.declared.whole.Worked.{Worked}
 
--- as many reports as pieces were fed, each the value of another piece of the plan; the totals are theirs, and those of the shares, of which each worker has one
-pub record IsWhole {A : Type 0} (plan : KnownPlan) (workers fed : ℕ) (g : Gathered A) : Type 0 where
+-- as many reports as pieces were fed, each the value of another piece of the plan, and of another one that was fed; the totals are theirs, and those of the shares, of which each worker has one
+pub record IsWhole {A : Type 0} (plan : KnownPlan) (workers : ℕ) (fed : List Piece) (g : Gathered A) : Type 0 where
   pub posted : AreOf plan g.reports.items
-  pub number : length g.reports.items ≡ fed
+  pub of_fed : AreOf (Some fed) g.reports.items
+  pub number : length g.reports.items ≡ length fed
   pub sums : g.totals ≡ totals_of g.reports.items
   pub of_shares : g.totals ≡ sum_of g.shares.items
   pub each : vec_len g.shares ≡ workers
 
--- so many pieces were fed, by which the task became this, and all of them were posted, or memory ran out
-abbrev pub HasWorked : {T A : Type 0} → KnownPlan → (ℕ → T → Type 0) → ℕ → Worked T A → Type 0
-HasWorked plan gives workers w = (fed : ℕ) × gives fed w.task × MatchResult w.gathered (IsWhole plan workers fed) (λ f. f ≡ Memory)
+-- some pieces were fed, by which the task became this, and all of them were posted, or memory ran out
+abbrev pub HasWorked : {T A : Type 0} → KnownPlan → (List Piece → T → Type 0) → ℕ → Worked T A → Type 0
+HasWorked plan gives workers w = (fed : List Piece) × gives fed w.task × MatchResult w.gathered (IsWhole plan workers fed) (λ f. f ≡ Memory)

@@ -1,6 +1,7 @@
 -- What is known once the workers were joined.
-use Rattle.std.specs.Prelude.{◌≡◌, ℕ, ◌-◌, ◌<◌, length, sum_by, vec_len, MatchOption}
+use Rattle.std.specs.Prelude.{◌≡◌, ℕ, ◌-◌, ◌<◌, List, length, sum_by, vec_len, MatchOption}
 use Rattle.line_model.specs.declared.fault.Fault.TheVariants.{Memory}
+use Rattle.line_model.specs.basics.Records.{Piece}
 use Rattle.piece_queue.specs.Passes.{QueueId}
 use Rattle.piece_queue.specs.Rule.{IsAccounted}
 use Rattle.piece_queue.specs.declared.rule.Record.{Record}
@@ -17,6 +18,8 @@ pub record IsJoined {H A : Type 0} (posts : H → ℕ) (id : QueueId) (count : �
   pub fault : MatchOption j.fault (sum_by posts j.shares.items ≡ length j.pass.record_of.taken) (λ f. f ≡ Memory)
   pub all : 0 < count → IsAccounted j.pass.record_of
 
--- so many pieces were fed, by which the task became this. Without a fault there are so many shares, with a post for each piece; else memory ran out
-abbrev pub IsRunOutcome : {T H A : Type 0} → (H → ℕ) → (ℕ → T → Type 0) → ℕ → RunOutcome T H A → Type 0
-IsRunOutcome posts gives count r = (fed : ℕ) × gives fed r.task × MatchOption r.fault ((vec_len r.shares ≡ count) × (sum_by posts r.shares.items ≡ fed)) (λ f. f ≡ Memory)
+-- the task became this by the pieces that were fed, which the pass knows. Without a fault there are so many shares, with a post for each piece; else memory ran out
+pub record IsRunOutcome {T H A : Type 0} (posts : H → ℕ) (gives : List Piece → T → Type 0) (count : ℕ) (id : QueueId) (r : RunOutcome T H A) : Type 0 where
+  pub queue : r.pass.queue ≡ id
+  pub became : gives r.pass.pieces r.task
+  pub fault : MatchOption r.fault ((vec_len r.shares ≡ count) × (sum_by posts r.shares.items ≡ r.pass.record_of.fed)) (λ f. f ≡ Memory)

@@ -1,6 +1,6 @@
 //! What the reading thread feeds.
 
-ghost use Rattle.std.specs.Prelude.{◌≡◌, ◌+◌, ℕ, vec_len};
+ghost use Rattle.std.specs.Prelude.{◌≡◌, ◌+◌, ◌++◌, ◌∷◌, [], vec_len};
 ghost use Rattle.line_model.specs.work.Book.{IsPlanned};
 ghost use Rattle.piece_queue.specs.Rule.{feeder};
 ghost use Rattle.workers.specs.Workers.{ArePlanned, HasFed};
@@ -14,11 +14,14 @@ use std::time::Clock;
 
 /// What the reading thread does while the workers run: it feeds the first pieces of the plan, in order.
 pub trait Feed<P: Plan, A: Allocator> {
+    ghost use Rattle.std.specs.Prelude.{List};
+    ghost use Rattle.line_model.specs.basics.Records as records;
+
     /// What it wants.
     ghost can_feed: { Self → Type 0 };
 
-    /// What becomes of it where so many pieces were fed.
-    ghost feed_gives: { Self → ℕ → Self → Type 0 };
+    /// What becomes of it where these pieces were fed, in order.
+    ghost feed_gives: { Self → List records.Piece → Self → Type 0 };
 
     /// What is known of it where its turn does not come.
     ghost unfed: { Self → Self → Type 0 };
@@ -32,9 +35,10 @@ pub trait Feed<P: Plan, A: Allocator> {
         requires able { can_feed self }
         requires queue { pass.old.queue ≡ work.now.queue }
         requires first { (pass.old.record_of.fed ≡ 0) × (pass.old.record_of.ends ≡ 0) }
+        requires none { pass.old.pieces ≡ [] }
         ensures queue { pass.new.queue ≡ pass.old.queue }
         ensures fed { HasFed pass.old.record_of pass.new.record_of }
-        ensures gives { feed_gives self pass.new.record_of.fed result };
+        ensures gives { feed_gives self pass.new.pieces result };
 }
 
 /// Feeds a piece, again while the queue is full.
@@ -51,6 +55,7 @@ pub fn feed_piece<P: Plan, A: Allocator, R: Wait + Clock>(
     ensures fed { pass.new.record_of ≡ feeder
         (pass.old.record_of.fed + 1) pass.old.record_of.ends pass.old.record_of.pending
         pass.old.record_of.done pass.old.record_of.taken }
+    ensures pieces { pass.new.pieces ≡ pass.old.pieces ++ piece ∷ [] }
 {
     let mut piece = piece;
     let mut backoff = Backoff::new();
@@ -78,6 +83,7 @@ pub fn feed_pieces<P: Plan, A: Allocator, R: Wait + Clock>(
     ensures queue { pass.new.queue ≡ pass.old.queue }
     ensures fed { pass.new.record_of.fed ≡ pass.old.record_of.fed + vec_len pieces }
     ensures kept { HasFed pass.old.record_of pass.new.record_of }
+    ensures pieces { pass.new.pieces ≡ pass.old.pieces ++ pieces.items }
 {
     for piece in pieces {
         feed_piece(rt, work, piece, pass);
@@ -95,6 +101,7 @@ fn feed_end<P: Plan, A: Allocator, R: Wait + Clock>(
     ensures fed { pass.new.record_of ≡ feeder pass.old.record_of.fed
         (pass.old.record_of.ends + 1) pass.old.record_of.pending pass.old.record_of.done
         pass.old.record_of.taken }
+    ensures pieces { pass.new.pieces ≡ pass.old.pieces }
 {
     let mut backoff = Backoff::new();
     for _ in rt.forever() {
@@ -121,6 +128,7 @@ pub fn feed_ends<P: Plan, A: Allocator, R: Wait + Clock>(
     ensures pending { pass.new.record_of.pending ≡ pass.old.record_of.pending }
     ensures done { pass.new.record_of.done ≡ pass.old.record_of.done }
     ensures taken { pass.new.record_of.taken ≡ pass.old.record_of.taken }
+    ensures pieces { pass.new.pieces ≡ pass.old.pieces }
 {
     for _end in 0..count {
         feed_end(rt, work, pass);

@@ -1,12 +1,15 @@
 //! What all workers made, gathered from the book and their shares.
 
-ghost use Rattle.std.specs.Prelude.{◌≡◌, IfOk, IfErr, vec_len};
+ghost use Rattle.std.specs.Prelude.{◌≡◌, All, IfOk, IfErr, sum_by, vec_len};
+ghost use Rattle.workers.specs.Gathers.{IsWhole};
 ghost use Rattle.line_model.specs.work.Book.{AreOf, totals_of, sum_of};
 
-use findings_book::{Book, Ledgers, Share};
+use crate::witness::{PieceWitness, QueueName};
+use findings_book::{Book, Ledgers, Share, Witness};
 use line_model::fault::Fault;
 use line_model::piece::{PieceReport, Plan};
 use line_model::totals::Totals;
+use piece_queue::FeederPass;
 use std::alloc::{Allocator, Global};
 
 /// The totals of the book, those of each worker's share, and the reports in the order in which they were posted.
@@ -32,24 +35,44 @@ fn totals_of_each<L: Ledgers, A: Allocator + Copy>(
     Ok(all)
 }
 
-/// What was posted, from all shares of the book, or want of memory.
-pub fn gather<P: Plan, L: Ledgers, A: Allocator + Copy>(
+/// What was posted, from all shares of the book, and who vouches for it; or want of memory.
+pub fn gather<P: Plan, L: Ledgers, A: Allocator + Copy, N: Witness + Drop>(
     alloc: A,
-    book: Book<P, L, A>,
+    book: Book<P, L, A, N>,
     shares: Vec<Share<L>, A>,
-) -> Result<Gathered<A>, Fault>
+) -> Result<(Gathered<A>, N), Fault>
     requires all { vec_len shares ≡ book }
-    ensures reports { IfOk result (λ g. AreOf P.pieces g.reports.items) }
-    ensures totals { IfOk result (λ g. g.totals ≡ totals_of g.reports.items) }
-    ensures sums { IfOk result (λ g. g.totals ≡ sum_of g.shares.items) }
-    ensures each { IfOk result (λ g. g.shares.items ≡ shares.items) }
+    ensures reports { IfOk result (λ g. AreOf P.pieces g.0.reports.items) }
+    ensures vouched { IfOk result (λ g. All (N.vouches g.1) g.0.reports.items) }
+    ensures totals { IfOk result (λ g. g.0.totals ≡ totals_of g.0.reports.items) }
+    ensures sums { IfOk result (λ g. g.0.totals ≡ sum_of g.0.shares.items) }
+    ensures each { IfOk result (λ g. g.0.shares.items ≡ shares.items) }
     ensures refused { IfErr result (λ fault. fault ≡ Fault.Memory) }
 {
     let each = totals_of_each(alloc, shares.as_slice())?;
-    let (totals, reports) = book.gather(shares);
-    Ok(Gathered {
+    let (totals, reports, witness) = book.gather(shares);
+    let gathered = Gathered {
         totals,
         shares: each,
         reports,
-    })
+    };
+    Ok((gathered, witness))
+}
+
+/// What was posted, where all pieces that were fed have their reports, or want of memory.
+pub fn gather_all<'w, P: Plan, L: Ledgers + QueueName, A: Allocator + Copy>(
+    alloc: A,
+    book: Book<P, L, A, PieceWitness<'w, P, L, A>>,
+    pass: FeederPass<A>,
+    shares: Vec<Share<L>, A>,
+) -> Result<Gathered<A>, Fault>
+    requires queue { pass.queue ≡ L.queue }
+    requires all { vec_len shares ≡ book }
+    requires posted { sum_by (λ s. s.posts) shares.items ≡ pass.record_of.fed }
+    ensures whole { IfOk result (IsWhole P.pieces (vec_len shares) pass.pieces) }
+    ensures refused { IfErr result (λ fault. fault ≡ Fault.Memory) }
+{
+    let (gathered, witness) = gather(alloc, book, shares)?;
+    witness.hear(pass);
+    Ok(gathered)
 }

@@ -31,6 +31,7 @@ pub fn join_all<'w, P: Plan, H: Posted + Drop, A: Allocator, R: Threads>(
     requires promised { All (λ h. h.promise.work.now.queue ≡ work.now.queue) running.items }
     requires fresh { (pass.record_of.done ≡ 0) × (length pass.record_of.taken ≡ 0) }
     requires room { (vec_len shares ≡ 0) × (vec_len running ≤ vec_capacity shares) }
+    ensures pieces { result.pass.pieces ≡ pass.pieces }
     ensures joined { IsJoined H.posts work.now.queue (vec_len running.entry) pass.record_of result }
 {
     let mut fault = None;

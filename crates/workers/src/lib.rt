@@ -10,6 +10,7 @@ mod run;
 mod starting;
 mod waiting;
 mod whole;
+mod witness;
 mod worker;
 
 pub use feeding::{Feed, feed_piece, feed_pieces};

@@ -9,17 +9,18 @@ use crate::joining::join_all;
 use crate::starting::{Crew, start_all};
 use line_model::fault::Fault;
 use line_model::piece::Plan;
-use piece_queue::Work;
+use piece_queue::{FeederPass, Work};
 use std::alloc::{Allocator, Global};
 use std::sync::Wait;
 use std::thread;
 use std::thread::{Scope, Threads};
 use std::time::Clock;
 
-/// What became of the task, the shares of all workers, and the first of the workers' faults.
+/// What became of the task, the pass that has fed, the shares of all workers, and the first of the workers' faults.
 #[derive(Drop)]
 pub struct RunOutcome<T, H, A: Allocator = Global> {
     pub task: T,
+    pub pass: FeederPass<A>,
     pub shares: Vec<H, A>,
     pub fault: Option<Fault>,
 }
@@ -45,9 +46,10 @@ fn run<
     task: T,
 ) -> Result<RunOutcome<T, H, A>, (T, Fault)>
     requires queue { crew.queue ≡ work.now.queue }
+    requires handler { W.handles handler.now work.now.queue }
     requires some { 0 < crew.count }
     requires able { T.can_feed task }
-    ensures ran { IfOk result (IsRunOutcome H.posts (T.feed_gives task) crew.count) }
+    ensures ran { IfOk result (IsRunOutcome H.posts (T.feed_gives task) crew.count work.now.queue) }
     ensures refused { IfErr result (λ e. T.unfed task e.0
         × ((e.1 ≡ Fault.Memory) ⊎ (e.1 ≡ Fault.Start))) }
 {
@@ -72,6 +74,7 @@ fn run<
     let joined = join_all(rt, work, pass, running, shares);
     Ok(RunOutcome {
         task,
+        pass: joined.pass,
         shares: joined.shares,
         fault: joined.fault,
     })
@@ -94,9 +97,10 @@ pub fn run_scoped<
     task: T,
 ) -> Result<RunOutcome<T, H, A>, (T, Fault)>
     requires queue { crew.queue ≡ work.now.queue }
+    requires handler { W.handles handler.now work.now.queue }
     requires some { 0 < crew.count }
     requires able { T.can_feed task }
-    ensures ran { IfOk result (IsRunOutcome H.posts (T.feed_gives task) crew.count) }
+    ensures ran { IfOk result (IsRunOutcome H.posts (T.feed_gives task) crew.count work.now.queue) }
     ensures refused { IfErr result (λ e. T.unfed task e.0
         × ((e.1 ≡ Fault.Memory) ⊎ (e.1 ≡ Fault.Start))) }
 {
@@ -104,8 +108,9 @@ pub fn run_scoped<
         thread::scope_env(),
         rt,
         move |scope| -> Result<RunOutcome<T, H, A>, (T, Fault)>
-            requires { (crew.queue ≡ work.now.queue) × (0 < crew.count) × T.can_feed task }
-            ensures { IfOk result (IsRunOutcome H.posts (T.feed_gives task) crew.count)
+            requires { (crew.queue ≡ work.now.queue) × (0 < crew.count) × T.can_feed task
+                × W.handles handler.now work.now.queue }
+            ensures { IfOk result (IsRunOutcome H.posts (T.feed_gives task) crew.count work.entry.now.queue)
                 × IfErr result (λ e. T.unfed task e.0
                 × ((e.1 ≡ Fault.Memory) ⊎ (e.1 ≡ Fault.Start))) }
         { run(scope, rt, alloc, work, handler, crew, task) },

@@ -6,7 +6,7 @@ ghost use Rattle.workers.specs.Workers.{IsWorkerOutcome, IsWorkerStart};
 
 use crate::handler::{Handler, Posted};
 use crate::worker::{Finishes, WorkerOutcome, work_on};
-use findings_book::{Book, Ledgers, Share};
+use findings_book::{Book, Ledgers, Share, Witness};
 use line_model::fault::Fault;
 use line_model::piece::Plan;
 use piece_queue::{FeederPass, Work, WorkerPass};
@@ -43,19 +43,19 @@ impl<H: Posted, A: Allocator> Model for Crew<H, A> {
 
     ghost view = { λ c. record { queue = c.pass.queue; count = vec_len c.worker_starts } };
 
-    ghost invariant = { λ c. (c.pass.record_of ≡ feeder 0 0 (vec_len c.worker_starts) 0 []) × All (IsWorkerStart H.posts c.pass.queue) c.worker_starts.items };
+    ghost invariant = { λ c. (c.pass.record_of ≡ feeder 0 0 (vec_len c.worker_starts) 0 []) × (c.pass.pieces ≡ []) × All (IsWorkerStart H.posts c.pass.queue) c.worker_starts.items };
 }
 
 /// A worker_start for each of so many workers, or want of memory.
-pub fn crew_for<P: Plan, L: Ledgers, A: Allocator + Copy>(
+pub fn crew_for<P: Plan, L: Ledgers, A: Allocator + Copy, N: Witness>(
     alloc: A,
     work: &Work<P, A>,
-    book: &mut Book<P, L, A>,
+    book: &mut Book<P, L, A, N>,
     pass: FeederPass<A>,
     workers: usize,
 ) -> Result<Crew<Share<L>, A>, Fault>
     requires queue { pass.queue ≡ work.now.queue }
-    requires fresh { pass.record_of ≡ feeder 0 0 0 0 [] }
+    requires fresh { (pass.record_of ≡ feeder 0 0 0 0 []) × (pass.pieces ≡ []) }
     requires few { workers ≤ 64 }
     requires shares { book.old ≡ 0 }
     ensures queue { IfOk result (λ crew. crew.queue ≡ work.now.queue) }
@@ -95,6 +95,7 @@ fn start<
     handler: &'s W,
     worker_start: WorkerStart<H, A>,
 ) -> Option<Running<'s, P, H, A>>
+    requires handler { W.handles handler.now work.now.queue }
     requires worker_start { IsWorkerStart H.posts work.now.queue worker_start }
     ensures promise { IfSome result (λ h. h.promise.work.now.queue ≡ work.now.queue) }
 {
@@ -103,7 +104,7 @@ fn start<
         Finishes { work },
         move || -> WorkerOutcome<H, A>
             requires { (pass.queue ≡ work.now.queue) × (pass.record_of ≡ worker [] false 0)
-                × (H.posts share ≡ 0) }
+                × (H.posts share ≡ 0) × W.handles handler.now work.now.queue }
             ensures { IsWorkerOutcome H.posts work.entry.now.queue result }
         { work_on(rt, alloc, work, handler, pass, share) },
     );
@@ -128,6 +129,7 @@ pub fn start_all<
     worker_starts: Vec<WorkerStart<H, A>, A>,
     running: &mut Vec<Running<'s, P, H, A>, A>,
 ) -> bool
+    requires handler { W.handles handler.now work.now.queue }
     requires worker_starts { All (IsWorkerStart H.posts work.now.queue) worker_starts.items }
     requires none { vec_len running.old ≡ 0 }
     requires room { vec_len worker_starts ≤ vec_capacity running.old }

@@ -6,10 +6,11 @@ ghost use Rattle.workers.specs.Gathers.{HasWorked, IsWhole};
 
 use crate::feeding::Feed;
 use crate::gate::Gate;
-use crate::gathering::{Gathered, gather};
+use crate::gathering::{Gathered, gather_all};
 use crate::handler::Posting;
 use crate::run::{RunOutcome, run_scoped};
 use crate::starting::crew_for;
+use crate::witness::{PieceWitness, QueueName};
 use findings_book::{Blanks, Book, Ledgers, Share};
 use line_model::fault::Fault;
 use line_model::piece::Plan;
@@ -28,34 +29,38 @@ pub struct Worked<T, A: Allocator = Global> {
 }
 
 /// What the workers made, from the book and what became of their run.
-fn gather_ran<P: Plan, L: Ledgers, A: Allocator + Copy, T: Drop>(
+fn gather_ran<'w, P: Plan, L: Ledgers + QueueName, A: Allocator + Copy, T: Drop>(
     alloc: A,
-    book: Book<P, L, A>,
+    book: Book<P, L, A, PieceWitness<'w, P, L, A>>,
     ran: RunOutcome<T, Share<L>, A>,
 ) -> Worked<T, A>
-    requires all { MatchOption ran.fault (vec_len ran.shares ≡ book) (λ fault. fault
+    requires queue { ran.pass.queue ≡ L.queue }
+    requires all { MatchOption ran.fault ((vec_len ran.shares ≡ book)
+        × (sum_by (λ s. s.posts) ran.shares.items ≡ ran.pass.record_of.fed)) (λ fault. fault
         ≡ Fault.Memory) }
     ensures task { result.task ≡ ran.task }
     ensures whole { IfOk result.gathered (λ g. (ran.fault ≡ None)
-        × IsWhole P.pieces (vec_len ran.shares) (sum_by (λ s. s.posts) ran.shares.items) g) }
+        × IsWhole P.pieces (vec_len ran.shares) ran.pass.pieces g) }
     ensures refused { IfErr result.gathered (λ fault. fault ≡ Fault.Memory) }
 {
     let RunOutcome {
         task,
+        pass,
         shares,
         fault,
     } = ran;
     let gathered = match fault {
         Some(fault) => Err(fault),
-        None => gather(alloc, book, shares),
+        None => gather_all(alloc, book, pass, shares),
     };
     Worked { task, gathered }
 }
 
 /// As `work_through`, over this book and this queue.
 fn work_with<
+    'w,
     P: Plan + Send + Sync,
-    L: Ledgers + Sync,
+    L: Ledgers + QueueName + Send + Sync,
     A: Allocator + Copy + Send + Sync,
     G: Gate,
     R: Threads + Wait + Clock + Sync,
@@ -63,14 +68,16 @@ fn work_with<
 >(
     rt: &R,
     alloc: A,
-    mut book: Book<P, L, A>,
-    queue: (&Work<P, A>, FeederPass<A>),
+    mut book: Book<P, L, A, PieceWitness<'w, P, L, A>>,
+    queue: (&'w Work<P, A>, FeederPass<A>),
     workers: usize,
     gate: &G,
     task: T,
 ) -> Result<Worked<T, A>, (T, Fault)>
     requires book { book ≡ 0 }
-    requires queue { (queue.1.queue ≡ queue.0.now.queue) × (queue.1.record_of ≡ feeder 0 0 0 0 []) }
+    requires named { queue.0.now.queue ≡ L.queue }
+    requires queue { queue.1.queue ≡ queue.0.now.queue }
+    requires fresh { (queue.1.record_of ≡ feeder 0 0 0 0 []) × (queue.1.pieces ≡ []) }
     requires workers { (0 < workers) × (workers ≤ 64) }
     requires able { T.can_feed task }
     ensures worked { IfOk result (HasWorked P.pieces (T.feed_gives task) workers) }
@@ -82,6 +89,7 @@ fn work_with<
         return Err((task.back(), Fault::Memory));
     };
     let posting = Posting {
+        work,
         locked_posts: book.locked_posts(),
         gate,
     };
@@ -89,10 +97,10 @@ fn work_with<
     Ok(gather_ran(alloc, book, ran))
 }
 
-/// As `work_through`, over the four ledgers of these blanks.
+/// As `work_through`, over the four ledgers of these blanks and this queue.
 fn work_in<
     P: Plan + Send + Sync,
-    L: Ledgers + Sync,
+    L: Ledgers + QueueName + Send + Sync,
     A: Allocator + Copy + Send + Sync,
     G: Gate,
     R: Threads + Wait + Clock + Sync,
@@ -101,8 +109,8 @@ fn work_in<
     rt: &R,
     alloc: A,
     blanks: Blanks,
+    queue: (&Work<P, A>, FeederPass<A>),
     workers: usize,
-    capacity: usize,
     gate: &G,
     task: T,
 ) -> Result<Worked<T, A>, (T, Fault)>
@@ -110,18 +118,19 @@ fn work_in<
     requires findings { (blanks.findings.name ≡ L.findings) × (blanks.findings.parts ≡ 4096) }
     requires octets { (blanks.octets.name ≡ L.octets) × (blanks.octets.parts ≡ 4096) }
     requires segments { (blanks.segments.name ≡ L.segments) × (blanks.segments.parts ≡ 4096) }
+    requires named { queue.0.now.queue ≡ L.queue }
+    requires queue { queue.1.queue ≡ queue.0.now.queue }
+    requires fresh { (queue.1.record_of ≡ feeder 0 0 0 0 []) × (queue.1.pieces ≡ []) }
     requires workers { (0 < workers) × (workers ≤ 64) }
-    requires capacity { (0 < capacity) × (capacity ≤ 4096) }
     requires able { T.can_feed task }
     ensures worked { IfOk result (HasWorked P.pieces (T.feed_gives task) workers) }
     ensures refused { IfErr result (λ e. T.unfed task e.0
         × ((e.1 ≡ Fault.Memory) ⊎ (e.1 ≡ Fault.Start))) }
 {
-    let Ok((work, pass)) = Work::<P, A>::new(alloc, capacity) else {
-        return Err((task.back(), Fault::Memory));
-    };
-    let book = Book::<P, L, A>::new(alloc, blanks);
-    work_with(rt, alloc, book, (&work, pass), workers, gate, task)
+    let (work, mut pass) = queue;
+    let witness = PieceWitness::<P, L, A>::new(work, &mut pass);
+    let book = Book::<P, L, A, PieceWitness<P, L, A>>::new(alloc, blanks, witness);
+    work_with(rt, alloc, book, (work, pass), workers, gate, task)
 }
 
 /// Works through the pieces that the task feeds, with 1 to 64 workers and a queue of 1 to 4,096 entries. Where memory
@@ -147,5 +156,9 @@ pub fn work_through<
     ensures refused { IfErr result (λ e. T.unfed task e.0
         × ((e.1 ≡ Fault.Memory) ⊎ (e.1 ≡ Fault.Start))) }
 {
-    work_in::<P, Brand, A, G, R, T>(rt, alloc, Blanks::new(), workers, capacity, gate, task)
+    let Ok((work, pass)) = Work::<P, A>::new(alloc, capacity) else {
+        return Err((task.back(), Fault::Memory));
+    };
+    let blanks = Blanks::new();
+    work_in::<P, Brand, A, G, R, T>(rt, alloc, blanks, (&work, pass), workers, gate, task)
 }

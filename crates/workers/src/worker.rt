@@ -3,6 +3,7 @@
 ghost use Rattle.std.specs.Prelude.{◌≡◌, ◌+◌, [], false, None, IfSome, IfNone};
 ghost use Rattle.line_model.specs.work.Book.{IsPlanned};
 ghost use Rattle.piece_queue.specs.Rule.{worker};
+ghost use Rattle.workers.specs.Vouching.{HasPiece};
 ghost use Rattle.workers.specs.Workers.{IsWorkerOutcome};
 
 use crate::handler::{Handler, Posted};
@@ -39,17 +40,21 @@ fn handle_unless<P: Plan, H: Posted + Drop, A: Allocator + Copy, W: Handler<P, A
     alloc: A,
     handler: &W,
     piece: &Piece<A>,
+    pass: &mut WorkerPass<A>,
     share: &mut H,
     fault: Option<Fault>,
 ) -> Option<Fault>
     requires planned { IsPlanned P.pieces piece.now.id piece.now }
+    requires queue { W.handles handler.now pass.old.queue }
+    requires taken { HasPiece pass.old.pieces piece.now }
     requires memory { IfSome fault (λ f. f ≡ Fault.Memory) }
+    ensures same { pass.new ≡ pass.old }
     ensures posted { IfNone result ((fault ≡ None) × (H.posts share.new ≡ H.posts share.old + 1)) }
     ensures memory { IfSome result (λ f. f ≡ Fault.Memory) }
 {
     match fault {
         Some(fault) => Some(fault),
-        None => handler.handle(rt, alloc, piece, share).err(),
+        None => handler.handle(rt, alloc, piece, pass, share).err(),
     }
 }
 
@@ -70,6 +75,7 @@ pub fn work_on<
     mut share: H,
 ) -> WorkerOutcome<H, A>
     requires pass { (pass.queue ≡ work.now.queue) × (pass.record_of ≡ worker [] false 0) }
+    requires handler { W.handles handler.now work.now.queue }
     requires share { H.posts share ≡ 0 }
     ensures done { IsWorkerOutcome H.posts work.now.queue result }
 {
@@ -79,7 +85,7 @@ pub fn work_on<
         match work.take(rt, &mut pass) {
             Taken::Got(piece) => {
                 backoff = Backoff::new();
-                fault = handle_unless(rt, alloc, handler, &piece, &mut share, fault);
+                fault = handle_unless(rt, alloc, handler, &piece, &mut pass, &mut share, fault);
                 work.give_back(rt, piece);
             }
             Taken::Finish => return WorkerOutcome { pass, share, fault },

@@ -3,7 +3,7 @@
 ghost use Rattle.std.specs.Prelude.{◌≡◌};
 
 use crate::tests::{finding, report};
-use crate::{Blanks, Book, Ledgers, LockedPosts, Share};
+use crate::{AnyReport, Blanks, Book, Ledgers, LockedPosts, Share};
 use line_model::fault::Fault;
 use line_model::piece::PieceReport;
 use line_model::totals::Totals;
@@ -54,7 +54,7 @@ fn post_refused<'a, R: Wait + Abort, L: Ledgers>(
 ) -> Option<PieceReport<&'a Scarce<Global>>> {
     let (id, before) = (report.id, share.totals());
     heap.refuse_one(good);
-    let answer = locked_posts.post(rt, report, share);
+    let answer = locked_posts.post(rt, report, share, AnyReport);
     let refused = good < heap.asked();
     heap.grant_all();
     assert_eq!(rt; answer.is_err(), refused);
@@ -126,11 +126,11 @@ fn play_refused<'a, R: Wait + Abort, L: Ledgers>(
     requires octets { (blanks.octets.name ≡ L.octets) × (blanks.octets.parts ≡ 4096) }
     requires segments { (blanks.segments.name ≡ L.segments) × (blanks.segments.parts ≡ 4096) }
 {
-    let mut book = Book::<Brand, L, &'a Scarce<Global>>::new(heap, blanks);
+    let mut book = Book::<Brand, L, &'a Scarce<Global>>::new(heap, blanks, AnyReport);
     let mut share = book.share();
     let refused = post_each(rt, heap, book.locked_posts(), &mut share)?;
     let posted = share.totals();
-    let (totals, reports) = book.gather(vec![in heap; share]?);
+    let (totals, reports, _) = book.gather(vec![in heap; share]?);
     has_each_once(rt, totals, &reports, posted);
     assert!(rt; 1 < refused, "posts have {refused} growths");
     Ok(())

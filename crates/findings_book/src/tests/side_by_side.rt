@@ -3,7 +3,7 @@
 use crate::tests::{
     Scenario, THREE_EPOCHS, comes_back, finding, play, post_all, report, report_of,
 };
-use crate::{Ledgers, LockedPosts, Share};
+use crate::{AnyReport, Ledgers, LockedPosts, Share};
 use line_model::fault::Fault;
 use line_model::piece::PieceReport;
 use line_model::totals::Totals;
@@ -108,7 +108,7 @@ fn post_then_look<R: Wait + Abort, L: Ledgers>(
     share: &mut Share<L>,
     posted: Totals,
 ) -> Result<(), Fault> {
-    if let Err((_, fault)) = locked_posts.post(rt, report, share) {
+    if let Err((_, fault)) = locked_posts.post(rt, report, share, AnyReport) {
         return Err(fault);
     }
     assert!(rt; shows(locked_posts.look(rt, share), posted));

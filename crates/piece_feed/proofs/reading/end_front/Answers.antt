@@ -1,4 +1,4 @@
-use Rattle.std.proofs.Common.{◌∙◌, ◌+◌, ◌<◌, ◌^◌, ap, sym, refl, List, length, arith, length-append}
+use Rattle.std.proofs.Common.{◌∙◌, ◌+◌, ◌++◌, ◌<◌, ◌^◌, ap, sym, refl, List, length, arith, length-append}
 use Rattle.line_model.specs.basics.Records.{Piece}
 use Rattle.restart_epochs.specs.Cutting.{given_of}
 use Rattle.piece_feed.proofs.Nexts.{last_next}
@@ -26,16 +26,17 @@ feed_pieces-requires-clause-next g c =
     let rows = c.requires.ready.0 in
     let ready = c.requires.ready in
     let i = c.args.front.interface in
-    last_next g.P.Plan.pieces i rows (given_of i rows) c.in_ok-pieces.field-0.pieces.items c.args.pass.now.record_of.fed ready.2 (c.in_ok-pieces.ensures.pieces i rows ready.1.stands) ready.3
+    last_next g.P.Plan.pieces i rows (given_of i rows) c.in_ok-pieces.field-0.pieces.items c.args.pass.now.record_of.fed ready.2 (c.in_ok-pieces.ensures.pieces i rows ready.1.stands) ready.4
 
 pub returns-clause-cut : goal.returns-clause-cut
-returns-clause-cut g c rows h all =
+returns-clause-cut g c rows h fed =
     let i = c.args.front.interface in
-    let whole = sym (length-append (given_of i rows) c.in_ok-pieces.field-0.pieces.items) ∙ ap (λ (l : List Piece). length l) (c.in_ok-pieces.ensures.pieces i rows h.stands) in
+    let all = c.feed_pieces.ensures.pieces ∙ ap (λ l. l ++ c.in_ok-pieces.field-0.pieces.items) fed ∙ c.in_ok-pieces.ensures.pieces i rows h.stands in
+    let whole = ap (λ (l : List Piece). length l) all ∙ ap (λ (l : List Piece). length l) (sym (c.in_ok-pieces.ensures.pieces i rows h.stands)) ∙ length-append (given_of i rows) c.in_ok-pieces.field-0.pieces.items in
     record {
       interface = refl;
-      all = omega (arith, whole, all, c.in_ok-pieces.field-0.pieces.ok.0, c.feed_pieces.ensures.fed);
+      all = all;
       line = c.in_ok-pieces.ensures.line i rows h.stands;
       packets = c.in_ok-pieces.ensures.packets i rows h.stands;
-      pieces = omega (arith, c.len.ensures, c.in_ok-pieces.field-0.pieces.ok.0, c.feed_pieces.ensures.fed, c.given-given.ensures i rows h.stands, all);
+      pieces = omega (arith, c.len.ensures, c.in_ok-pieces.field-0.pieces.ok.0, whole, c.given-given.ensures i rows h.stands);
     }

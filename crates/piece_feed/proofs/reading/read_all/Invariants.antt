@@ -12,7 +12,7 @@ invariant-loop-text g l =
       failures : g.S.Source.failures l.fn.source ≤ g.S.Source.failures l.source;
       queue : l.pass.queue ≡ l.fn.pass.queue;
       kept : HasFed l.fn.pass.record_of l.pass.record_of;
-      course : Course (g.S.Source.left l.fn.source) (g.S.Source.left l.source) l.text l.pass.record_of.fed;
+      course : Course (g.S.Source.left l.fn.source) (g.S.Source.left l.source) l.text l.pass;
     }
 
 abbrev pub decreases-loop-text : goal.decreases-loop-text

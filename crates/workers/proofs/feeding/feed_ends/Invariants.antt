@@ -8,5 +8,6 @@ invariant-loop-end g l = record {
   ends : l.pass.record_of.ends ≡ l.initial.pass.record_of.ends + l._end;
   pending : l.pass.record_of.pending ≡ l.initial.pass.record_of.pending;
   done : l.pass.record_of.done ≡ l.initial.pass.record_of.done;
+  pieces : l.pass.pieces ≡ l.initial.pass.pieces;
   taken : l.pass.record_of.taken ≡ l.initial.pass.record_of.taken;
 }

@@ -1,6 +1,6 @@
-use Rattle.std.proofs.Common.{◌≡◌, ◌+◌, ◌∙◌, ap, arith, refl, sym}
+use Rattle.std.proofs.Common.{◌≡◌, ◌+◌, ◌++◌, ◌∙◌, ap, arith, refl, sym}
 use Rattle.std.specs.Prelude.{slice_get}
-use Rattle.workers.proofs.Pieces.{planned-next, planned-rest}
+use Rattle.workers.proofs.Pieces.{planned-next, planned-rest, pieces-next}
 use Rattle.workers.proofs.feeding.feed_pieces.Goals as goal
 
 pub feed_piece-requires-clause-next : goal.feed_piece-requires-clause-next
@@ -17,6 +17,7 @@ loop-piece-preserved g c =
       ends = ap (λ v. v.ends) fed ∙ i.ends;
       pending = ap (λ v. v.pending) fed ∙ i.pending;
       done = ap (λ v. v.done) fed ∙ i.done;
+      pieces = pieces-next _ _ _ _ _ c.in-Some.ensures.steps.0 c.feed_piece.ensures.pieces ∙ i.pieces;
       taken = ap (λ v. v.taken) fed ∙ i.taken;
     }
 
@@ -29,5 +30,6 @@ loop-piece-init g c =
       ends = c.requires.open;
       pending = refl;
       done = refl;
+      pieces = ap (λ l. c.args.pass.now.pieces ++ l) given.0;
       taken = refl;
     }

@@ -1,4 +1,4 @@
-use Rattle.std.specs.Prelude.{◌≡◌, ◌+◌, vec_len}
+use Rattle.std.specs.Prelude.{◌≡◌, ◌+◌, ◌++◌, vec_len}
 use Rattle.std.specs.Vec.Iter.{into_iter_items, into_iter_len}
 use Rattle.workers.specs.Workers.{ArePlanned}
 use Rattle.workers.proofs.feeding.feed_pieces.Given as goal
@@ -11,5 +11,6 @@ invariant-loop-piece g l = record {
   ends : l.pass.record_of.ends ≡ 0;
   pending : l.pass.record_of.pending ≡ l.initial.pass.record_of.pending;
   done : l.pass.record_of.done ≡ l.initial.pass.record_of.done;
+  pieces : l.pass.pieces ++ into_iter_items l.piece-iterator ≡ l.initial.pass.pieces ++ l.fn.pieces.items;
   taken : l.pass.record_of.taken ≡ l.initial.pass.record_of.taken;
 }

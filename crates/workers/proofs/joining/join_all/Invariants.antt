@@ -10,6 +10,7 @@ invariant-loop-one g l = record {
   count : vec_len l.shares + into_iter_len l.one-iterator ≡ vec_len l.fn.running;
   room : vec_len l.fn.running ≤ vec_capacity l.shares;
   queue : l.pass.queue ≡ l.work.queue;
+  pieces : l.pass.pieces ≡ l.initial.pass.pieces;
   pending : l.pass.record_of.pending ≡ l.initial.pass.record_of.pending - vec_len l.shares;
   done : l.pass.record_of.done ≡ vec_len l.shares;
   fed : l.pass.record_of.fed ≡ l.initial.pass.record_of.fed;

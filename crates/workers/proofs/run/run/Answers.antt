@@ -1,4 +1,4 @@
-use Rattle.std.proofs.Common.{◌≡◌, ◌<◌, ◌∙◌, ap, length, subst, inl, inr, refl, rules, arith}
+use Rattle.std.proofs.Common.{◌≡◌, ◌<◌, ◌∙◌, ap, length, subst, sym, inl, inr, refl, rules, arith}
 use Rattle.std.specs.Prelude.{All, vec_len}
 use Rattle.workers.specs.Workers.{IsWorkerStart}
 use Rattle.workers.proofs.Ends.{ended}
@@ -8,10 +8,15 @@ pub returns-clause-ran : goal.returns-clause-ran
 returns-clause-ran g c =
     let fed = c.feed-task.new.pass.record_of in
     let v = c.feed_ends-2.new.pass.record_of in
+    let joined = c.join_all-joined.ensures.joined in
     let same : vec_len c.start_all.new.running ≡ c.args.crew.count = search rules in
     let pending : v.pending ≡ vec_len c.start_all.new.running = search rules in
     let some : 0 < vec_len c.start_all.new.running = omega (arith, same, c.requires.some) in
-    (fed.fed, c.feed-task.ensures.gives, ended _ _ _ _ fed.fed v c.join_all-joined.result c.join_all-joined.ensures.joined pending some c.feed_ends-2.ensures.fed same)
+    let pieces = c.join_all-joined.ensures.pieces ∙ c.feed_ends-2.ensures.pieces in record {
+      queue = joined.queue;
+      became = subst (λ l. g.T.Feed.feed_gives c.args.task l c.feed-task.result) (sym pieces) c.feed-task.ensures.gives;
+      fault = ended _ _ _ _ c.join_all-joined.result.pass.record_of.fed v c.join_all-joined.result joined pending some (sym joined.fed) same;
+    }
 
 pub returns-then-not-start_all-clause-refused : goal.returns-then-not-start_all-clause-refused
 returns-then-not-start_all-clause-refused g c = (c.back-then-not-start_all.ensures, inr refl)
@@ -58,8 +63,8 @@ pub start_all-requires : goal.start_all-requires
 start_all-requires g c =
     let b = c.type_bounds in
     let queue = ap (λ crew. crew.queue) c.crew.view_is ∙ c.requires.queue in
-    let worker_starts = subst (λ q. All (IsWorkerStart g.H.Posted.posts q) c.crew.inside.worker_starts.items) queue c.crew.invariant.1 in
-    (b.send-P, (b.send-H, (b.send-A, (b.sync-P, (b.sync-A, (b.sync-W, (b.sync-R, (b.frees-A-Allocator, (worker_starts, (c.in-Ok.ensures.len, omega (arith, c.in-Ok.ensures.capacity, c.len-count.ensures)))))))))))
+    let worker_starts = subst (λ q. All (IsWorkerStart g.H.Posted.posts q) c.crew.inside.worker_starts.items) queue c.crew.invariant.2 in
+    (b.send-P, (b.send-H, (b.send-A, (b.sync-P, (b.sync-A, (b.sync-W, (b.sync-R, (b.frees-A-Allocator, (c.requires.handler, (worker_starts, (c.in-Ok.ensures.len, omega (arith, c.in-Ok.ensures.capacity, c.len-count.ensures))))))))))))
 
 pub join_all-requires-clause-room : goal.join_all-requires-clause-room
 join_all-requires-clause-room g c =

@@ -9,5 +9,6 @@ invariant-loop-worker g l = record {
   given : l.book ≡ l._worker;
   queue : l.pass.queue ≡ l.work.queue;
   pass : l.pass.record_of ≡ feeder 0 0 l._worker 0 [];
+  pieces : l.pass.pieces ≡ [];
   worker_starts : All (IsWorkerStart (λ s. s.posts) l.work.queue) l.worker_starts.items;
 }

@@ -28,7 +28,7 @@ pub start-requires : goal.start-requires
 start-requires g c =
     let b = c.type_bounds in
     let worker_start = All-first (IsWorkerStart g.H.Posted.posts c.args.work.now.queue) _ _ _ c.in-Some.ensures.steps.0 c.loop-worker_start.invariant.worker_starts in
-    (b.send-P, (b.send-H, (b.send-A, (b.sync-P, (b.sync-A, (b.sync-W, (b.sync-R, (b.frees-A-Allocator, worker_start))))))))
+    (b.send-P, (b.send-H, (b.send-A, (b.sync-P, (b.sync-A, (b.sync-W, (b.sync-R, (b.frees-A-Allocator, (c.requires.handler, worker_start)))))))))
 
 pub push_reserved-requires : goal.push_reserved-requires
 push_reserved-requires g c = omega (arith, c.loop-worker_start.invariant.count, c.loop-worker_start.invariant.room, c.in-Some.ensures.steps.1)

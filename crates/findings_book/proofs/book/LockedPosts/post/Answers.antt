@@ -2,7 +2,7 @@ use Rattle.std.proofs.Common.{rules}
 use Rattle.findings_book.proofs.book.LockedPosts.post.Goals as goal
 
 pub add-requires : goal.add-requires
-add-requires g c = record { value = c.requires.value }
+add-requires g c = record { value = c.requires.value; vouched = c.requires.vouched }
 
 pub returns-clause-share : goal.returns-clause-share
 returns-clause-share g c = c.add.ensures.share

@@ -8,7 +8,7 @@ pub returns-clause-reports : goal.returns-clause-reports
 returns-clause-reports g c = c.self.view_is
 
 pub returns-clause-posts : goal.returns-clause-posts
-returns-clause-posts g c = c.self.invariant.posts
+returns-clause-posts g c = c.self.invariant.0.posts
 
 pub returns-clause-totals : goal.returns-clause-totals
-returns-clause-totals g c = c.totals-totals.ensures ∙ (c.settle.ensures.same ∙ c.self.invariant.totals)
+returns-clause-totals g c = c.totals-totals.ensures ∙ (c.settle.ensures.same ∙ c.self.invariant.0.totals)

@@ -1,0 +1,90 @@
+//! Who knows of which pieces the reports are.
+
+ghost use Rattle.std.specs.Prelude.{◌≡◌, [], Some, length};
+ghost use Rattle.line_model.specs.basics.Records as records;
+ghost use Rattle.line_model.specs.work.Book.{IsValue};
+ghost use Rattle.workers.specs.Vouching.{IsValueOfOne};
+
+use line_model::piece::Plan;
+use piece_queue::{FeederPass, Work};
+use std::alloc::Allocator;
+use std::marker::{Brand, Model, PhantomData};
+
+/// The queue whose witnesses a book hears, which contracts alone see.
+pub trait QueueName {
+    ghost use Rattle.piece_queue.specs.Passes.{QueueId};
+
+    ghost queue: { QueueId };
+}
+
+impl QueueName for Brand {
+    ghost use Rattle.workers.specs.Vouching.{no_queue};
+
+    ghost queue = { no_queue };
+}
+
+/// Vouches for the reports of pieces that were fed to the queue of this name. Contracts see the pieces that it knows of.
+#[derive(Drop)]
+pub struct PieceWitness<'a, P: Plan, N: QueueName, A: Allocator> {
+    pub(crate) work: &'a Work<P, A>,
+    pub(crate) witness: piece_queue::Witness<A>,
+    pub(crate) name: PhantomData<N>,
+}
+
+impl<'a, P: Plan, N: QueueName, A: Allocator> Model for PieceWitness<'a, P, N, A> {
+    ghost use Rattle.std.specs.Prelude.{◌≡◌, List};
+    ghost use Rattle.line_model.specs.basics.Records as records;
+
+    ghost Value = { List records.Piece };
+
+    ghost view = { λ w. w.witness.pieces };
+
+    ghost invariant = { λ w. (w.work.now.queue ≡ N.queue) × (w.witness.queue ≡ N.queue) };
+}
+
+impl<'a, P: Plan, N: QueueName, A: Allocator> PieceWitness<'a, P, N, A> {
+    /// A witness that knows of no piece.
+    pub fn new(work: &'a Work<P, A>, pass: &mut FeederPass<A>) -> PieceWitness<'a, P, N, A>
+        requires queue { pass.old.queue ≡ work.now.queue }
+        requires named { work.now.queue ≡ N.queue }
+        ensures same { pass.new ≡ pass.old }
+        ensures none { result ≡ [] }
+    {
+        PieceWitness {
+            work,
+            witness: work.witness(pass),
+            name: PhantomData,
+        }
+    }
+
+    /// Each report that it vouches for is the value of the piece of its id among those that were fed. They are as many
+    /// as the record of the feeder says.
+    pub fn hear(self, pass: FeederPass<A>)
+        requires { pass.queue ≡ N.queue }
+        ensures fed { (r : records.PieceReport) → IsValueOfOne self.entry r
+            → IsValue (Some pass.pieces) r }
+        ensures number { length pass.pieces ≡ pass.record_of.fed }
+    {
+        let PieceWitness {
+            work,
+            witness,
+            name: _,
+        } = self;
+        work.hear(pass, witness);
+    }
+}
+
+impl<'a, P: Plan, N: QueueName, A: Allocator> findings_book::Witness for PieceWitness<'a, P, N, A> {
+    ghost use Rattle.workers.specs.Vouching.{IsValueOfOne};
+
+    ghost vouches = { λ pieces report. IsValueOfOne pieces report };
+
+    fn learn(&mut self, other: PieceWitness<'a, P, N, A>) {
+        let PieceWitness {
+            work: _,
+            witness,
+            name: _,
+        } = other;
+        self.work.learn(&mut self.witness, witness);
+    }
+}
