@@ -1,7 +1,8 @@
 -- What a scan with workers answers.
 use Rattle.std.specs.Prelude.{◌≡◌, ℕ, List, [], Option, Some, None}
 use Rattle.line_model.specs.declared.fault.Fault.{Fault}
-use Rattle.line_model.specs.declared.fault.Fault.TheVariants.{Memory, Trace, Read, Write, Start, Stranger, Missing}
+use Rattle.line_model.specs.declared.fault.Fault.TheVariants.{Memory, Trace, Read, Write, Start}
+use Rattle.line_model.specs.basics.Records.{Piece}
 use Rattle.line_model.specs.work.Book.{KnownPlan}
 use Rattle.line_model.specs.pieces.Plans.{channel_totals}
 use Rattle.line_model.specs.text.Text.{head, rows}
@@ -15,11 +16,12 @@ use Rattle.trace_scan.specs.declared.threaded.ScanParts.{ScanParts}
 abbrev pub trace_totals : List ℕ → Totals
 trace_totals x = elim (head x) [ None ↦ record { posts = 0; findings = 0; octets = 0; segments = 0 } | Some i ↦ channel_totals i (rows x) ]
 
--- a text was read, the one that the source tells if it does, and each of its pieces was run and posted once
+-- these pieces were fed: those of a text that was read, the one that the source tells if it does; and each of them was run and posted once
 pub record AreScanParts {A : Type 0} (plan : KnownPlan) (workers : ℕ) (before after : Option (List ℕ)) (t : ScanParts A) : Type 0 where
-  pub whole : IsWhole plan workers t.read.pieces t.gathered
-  pub told : (text : List ℕ) → before ≡ Some text → IsReadOf text t.read.pieces t.read × (after ≡ Some [])
-  pub of_text : (text : List ℕ) × IsReadOf text t.read.pieces t.read
+  pub fed : List Piece
+  pub whole : IsWhole plan workers fed t.gathered
+  pub told : (text : List ℕ) → before ≡ Some text → IsReadOf text fed t.read × (after ≡ Some [])
+  pub of_text : (text : List ℕ) × IsReadOf text fed t.read
 
 -- the faults that may stop reading and working
 abbrev pub IsStopFault : Fault → Type 0
@@ -34,13 +36,11 @@ pub record IsStopped (before after : Option (List ℕ)) (f : Fault) : Type 0 whe
   pub kinds : IsStopFault f
   pub refused : (text : List ℕ) → before ≡ Some text → IsRefusedBy IsRefusal text after f
 
--- the faults that a scan with workers may meet; the merge's only where the source does not tell its bytes
-abbrev pub IsWorkedFault : Option (List ℕ) → Fault → Type 0
-IsWorkedFault told Memory = Unit {0}
-IsWorkedFault told (Trace line kind) = Unit {0}
-IsWorkedFault told Read = Unit {0}
-IsWorkedFault told Write = Unit {0}
-IsWorkedFault told Start = Unit {0}
-IsWorkedFault told (Stranger id) = told ≡ None
-IsWorkedFault told (Missing id) = told ≡ None
-IsWorkedFault told _ = ⊥
+-- the faults that a scan with workers may meet
+abbrev pub IsWorkedFault : Fault → Type 0
+IsWorkedFault Memory = Unit {0}
+IsWorkedFault (Trace line kind) = Unit {0}
+IsWorkedFault Read = Unit {0}
+IsWorkedFault Write = Unit {0}
+IsWorkedFault Start = Unit {0}
+IsWorkedFault _ = ⊥

@@ -6,6 +6,7 @@ ghost use Rattle.line_model.specs.traces.Traces.{trace_plan, trace_report};
 ghost use Rattle.line_model.specs.work.Book.{sum_of};
 ghost use Rattle.live_report.specs.Reports.{IsReported, IsTaken};
 ghost use Rattle.piece_feed.specs.Readings.{IsRefusal, IsRefusedBy};
+ghost use Rattle.trace_scan.specs.Scan.{IsPartTaken};
 ghost use Rattle.trace_scan.specs.Threaded.{AreScanParts, IsStopped, IsWorkedFault, trace_totals};
 
 use line_model::device::{Sink, Source};
@@ -150,6 +151,10 @@ pub fn scan_with<
     // The totals are that observer's over the channels.
     ensures totals { (text : List ℕ) → S.left source.old ≡ Some text
         → IfOk result (λ scan. scan.totals ≡ trace_totals text) }
+    // So it is of some text with a source that does not tell its bytes.
+    ensures of_text { IfOk result (λ scan. (text : List ℕ)
+        × IsReported text (K.taken sink.old) (K.taken sink.new) scan.summary
+        × (scan.totals ≡ trace_totals text)) }
     ensures shares { IfOk result (λ scan. (vec_len scan.shares ≡ workers)
         × (scan.totals ≡ sum_of scan.shares.items)) }
     // A refusal is by the bytes that were given.
@@ -163,8 +168,10 @@ pub fn scan_with<
     ensures unwritten { IfErr result (λ fault. fault ≢ Fault.Write → sink.new ≡ sink.old) }
     ensures taken { (text : List ℕ) → S.left source.old ≡ Some text
         → IfErr result (IsTaken (K.taken sink.old) (K.taken sink.new) (trace_report text)) }
-    // Never `Double`; the merge's other refusals only where the source does not tell its bytes.
-    ensures kinds { IfErr result (IsWorkedFault (S.left source.old)) }
+    // Whatever the source tells: where the sink failed, it took a first part of the report of a text without a fault.
+    ensures part { result ≡ Err Fault.Write → IsPartTaken (K.taken sink.old) (K.taken sink.new) }
+    // No refusal of the merge but for want of memory.
+    ensures kinds { IfErr result IsWorkedFault }
     ensures asked { S.calls source.new ≤ S.calls source.old + (2 ^ 30 + 1) }
 {
     let parts = match work_on_trace::<Brand, A, S, G, R>(

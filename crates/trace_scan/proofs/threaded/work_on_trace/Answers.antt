@@ -1,7 +1,7 @@
 use Rattle.std.proofs.Common.{◌≡◌, subst, rules}
-use Rattle.std.specs.Prelude.{IfErr}
-use Rattle.trace_scan.specs.Threaded.{IsStopped}
-use Rattle.trace_scan.proofs.ThreadedLemmas.{stopped}
+use Rattle.std.specs.Prelude.{IfErr, IfOk}
+use Rattle.trace_scan.specs.Threaded.{AreScanParts, IsStopped}
+use Rattle.trace_scan.proofs.ThreadedLemmas.{parts_are, stopped}
 use Rattle.trace_scan.proofs.threaded.work_on_trace.Goals as goal
 
 pub returns-in-Ok-clause-stopped : goal.returns-in-Ok-clause-stopped
@@ -10,3 +10,10 @@ returns-in-Ok-clause-stopped g c =
     let same : c.in-Ok.worked.task.source.now ≡ c.source-1.given.0 = search rules in
     subst (λ s. IfErr c.first_fault.result (IsStopped (g.S.Source.left c.args.source.now) (g.S.Source.left s))) same
     (stopped c.first_fault.result c.in-Ok.worked.task.outcome c.in-Ok.worked.gathered (g.S.Source.left c.args.source.now) (g.S.Source.left c.in-Ok.worked.task.source.now) _ w.0 _ c.first_fault.ensures.first w.1.1 w.2)
+
+pub returns-in-Ok-clause-parts : goal.returns-in-Ok-clause-parts
+returns-in-Ok-clause-parts g c =
+    let w = c.in-Ok.ensures.worked in
+    let same : c.in-Ok.worked.task.source.now ≡ c.source-1.given.0 = search rules in
+    subst (λ s. IfOk c.first_fault.result (AreScanParts g.P.Plan.pieces c.args.workers (g.S.Source.left c.args.source.now) (g.S.Source.left s))) same
+    (parts_are c.first_fault.result c.in-Ok.worked.task.outcome c.in-Ok.worked.gathered g.P.Plan.pieces c.args.workers (g.S.Source.left c.args.source.now) (g.S.Source.left c.in-Ok.worked.task.source.now) _ w.0 c.first_fault.ensures.both w.1.1 w.2)
