@@ -1,11 +1,16 @@
 -- The entries of the tables, and the packets that they stand for.
-use Rattle.std.proofs.Common.{◌≡◌, Bool, true, refl}
+use Rattle.std.proofs.Common.{◌≡◌, ℕ, Bool, true, refl, List}
+use Rattle.line_model.specs.declared.interface.Interface.{Interface}
 use Rattle.line_model.specs.declared.packet.Class.{Class}
 use Rattle.line_model.specs.declared.state.Side.{Side}
 use Rattle.line_model.specs.declared.state.ChannelState.{ChannelState}
-use Rattle.line_model.specs.channels.ChannelStep.{judged}
+use Rattle.line_model.specs.declared.state.StateName.{StateName}
+use Rattle.line_model.specs.declared.table.Action.{Action}
+use Rattle.line_model.specs.declared.table.Action.TheVariants.{Move, Normal, Error, Discard, Pass, Ends, Below, ToChannel}
+use Rattle.line_model.specs.channels.Channels.{Channel}
+use Rattle.line_model.specs.channels.ChannelStep.{judged, report_nothing}
 use Rattle.line_model.proofs.Every.{every, flags, sides, states, classes, every_flag, every_side, every_state, every_class}
-use Rattle.channel_machine.specs.Entries.{is_entry}
+use Rattle.channel_machine.specs.Entries.{entry_step, is_entry}
 
 abbrev table_fits : (permanent : Bool) → Side → ChannelState → (owed : Bool) → Class → Bool
 table_fits p x s w k = is_entry (judged p x s w k).entry x k s
@@ -20,3 +25,16 @@ fits p x s w k =
     (every_state (λ s. every (λ w. every (λ k. table_fits p x s w k) classes) flags)
     (every_side (λ x. every (λ s. every (λ w. every (λ k. table_fits p x s w k) classes) flags) states)
     (every_flag (λ p. every (λ x. every (λ s. every (λ w. every (λ k. table_fits p x s w k) classes) flags) states) sides) all_fit p) x) s) w) k
+
+-- every other entry does nothing
+pub nothing_by : (i : Interface) (n : ℕ) (x : Side) (s : StateName) (a : Action) (xs : List ℕ) (c : Channel) →
+    ((t : StateName) → a ≡ Move t → ⊥) → (a ≡ Normal → ⊥) → ((m : ℕ) → a ≡ Error m → ⊥) → (a ≡ Ends → ⊥) →
+    report_nothing c ≡ entry_step i n x (record { state = s; entry = a }) xs c
+nothing_by i n x s (Move t) xs c m o e f = absurd (m t refl)
+nothing_by i n x s Normal xs c m o e f = absurd (o refl)
+nothing_by i n x s (Error k) xs c m o e f = absurd (e k refl)
+nothing_by i n x s Discard xs c m o e f = refl
+nothing_by i n x s Pass xs c m o e f = refl
+nothing_by i n x s Ends xs c m o e f = absurd (f refl)
+nothing_by i n x s Below xs c m o e f = refl
+nothing_by i n x s ToChannel xs c m o e f = refl

@@ -1,9 +1,10 @@
-use Rattle.std.proofs.Common.{◌∙◌, ap, sym, subst}
+use Rattle.std.proofs.Common.{refl, append-nil, ◌∙◌, ap, sym, subst}
 use Rattle.std.specs.Prelude.{IfOk}
 use Rattle.line_model.specs.packets.Classes.{class_of}
 use Rattle.line_model.specs.declared.table.Action.TheVariants.{Move}
 use Rattle.channel_machine.specs.Channels.{Does}
 use Rattle.channel_machine.specs.Entries.{entry_step, is_entry}
+use Rattle.channel_machine.proofs.Entries.{nothing_by}
 use Rattle.channel_machine.proofs.channel.StatusChannel.act.Goals as goal
 
 pub take_transfer-requires-clause-transfer : goal.take_transfer-requires-clause-transfer
@@ -23,3 +24,11 @@ returns-in-Move-clause-does g c k reached s =
     (sym c.in-Move.is)
     (c.take_move.ensures.does k reached
     (ap (λ t. is_entry (Move to) x (class_of i xs) t) (sym s.state) ∙ ap (λ a. is_entry a x (class_of i xs) old.state) (sym c.in-Move.is) ∙ c.requires.fits) s)
+
+pub returns-in_default-clause-does : goal.returns-in_default-clause-does
+returns-in_default-clause-does g c k reached s =
+    let old = c.args.self.now in
+    subst (λ o. Does c.args.place.now.stamp old old c.args.events.now.items c.args.events.now.items o)
+    (nothing_by old.terms.interface old.channel c.args.place.now.side c.args.place.now.state c.args.entry c.args.octets.now k
+    c.in_default.not-Move c.in_default.not-Normal c.in_default.not-Error c.in_default.not-Ends)
+    (record { interface = refl; channel = refl; stands = s; reports = sym (append-nil c.args.events.now.items) })
