@@ -73,6 +73,22 @@ fn a_queue_of_one_entry_and_one_worker(rt: HostRuntime) -> Result<(), Fail> {
 }
 
 #[test]
+fn a_witness_knows_what_each_worker_took(rt: HostRuntime) -> Result<(), Fail> {
+    let (work, mut feeder) = Work::<Brand>::new(rt.alloc(), 4)?;
+    let mut witness = work.witness(&mut feeder);
+    let mut one = work.split(&mut feeder);
+    let mut other = work.split(&mut feeder);
+    feed_one(&rt, rt.alloc(), &work, &mut feeder, 0);
+    assert!(rt; matches!(work.take(&rt, &mut one), Taken::Got(_)));
+    work.learn(&mut witness, work.testify(&mut one));
+    feed_one(&rt, rt.alloc(), &work, &mut feeder, 1);
+    assert!(rt; matches!(work.take(&rt, &mut other), Taken::Got(_)));
+    work.learn(&mut witness, work.testify(&mut other));
+    work.hear(feeder, witness);
+    Ok(())
+}
+
+#[test]
 fn as_many_pieces_go_back_as_the_queue_holds(rt: HostRuntime) -> Result<(), Fail> {
     let (work, _feeder) = Work::<Brand>::new(rt.alloc(), 2)?;
     for id in 0..3 {

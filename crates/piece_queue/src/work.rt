@@ -240,8 +240,9 @@ impl<P: Plan, A: Allocator> Work<P, A> {
         ensures same { pass.new ≡ pass.old }
         ensures witness { (result.queue ≡ self.now.queue) × (result.pieces ≡ pass.old.pieces) }
     {
-        let pass = self.queue.another::<Testimony>(&mut pass.pass);
-        Witness { pass }
+        Witness {
+            pass: self.queue.another::<Testimony>(&mut pass.pass),
+        }
     }
 
     /// One witness takes in what another knows.

@@ -1,8 +1,6 @@
 -- Facts on lists, at a loop's step.
-use Rattle.std.proofs.Common.{◌≡◌, ℕ, suc, refl, List, [], ◌∷◌, ◌++◌, length, sym, subst, arith}
+use Rattle.std.proofs.Common.{◌≡◌, ℕ, suc, refl, List, [], ◌∷◌, length, subst, arith}
 use Rattle.std.specs.Prelude.{All, sum_by}
-use Rattle.std.proofs.lemmas.List.Elements.{All-push}
-use Rattle.line_model.proofs.Schedules.{All-more}
 
 pub All-rest : {X : Type 0} (P : X → Type 0) (ys xs : List X) (x : X) → ys ≡ x ∷ xs → All P ys → All P xs
 All-rest P ys xs x e h k d lt = subst (λ l. All P l) e h (suc k) d (omega arith)

@@ -1,9 +1,8 @@
 -- The plan's next piece, and those behind it.
-use Rattle.std.proofs.Common.{◌≡◌, ℕ, suc, ◌+◌, zero, List, [], ◌∷◌, ◌++◌, length, Some, ap, sym, refl, ◌∙◌, subst, arith}
+use Rattle.std.proofs.Common.{◌≡◌, ℕ, suc, ◌+◌, zero, List, [], ◌∷◌, ◌++◌, Some, ap, sym, refl, ◌∙◌, subst, arith}
 use Rattle.std.specs.Prelude.{All, slice_get}
 use Rattle.line_model.specs.basics.Records.{Piece}
 use Rattle.line_model.specs.work.Book.{KnownPlan, IsPlanned, IsValue}
-use Rattle.line_model.specs.pieces.Plans.{value}
 use Rattle.line_model.specs.basics.Records.{PieceReport}
 use Rattle.line_model.proofs.Posts.{value_is}
 use Rattle.piece_queue.specs.Known.{IsFed}

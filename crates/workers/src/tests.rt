@@ -2,7 +2,7 @@
 
 mod looking;
 
-ghost use Rattle.std.specs.Prelude.{◌≡◌, ◌<◌, ◌≤◌, ℕ, None, vec_len};
+ghost use Rattle.std.specs.Prelude.{◌≡◌, ◌<◌, ◌≤◌, ℕ, None, length};
 ghost use Rattle.workers.specs.Workers.{ArePlanned};
 
 use crate::{Feed, Gate, Worked, feed_piece, feed_pieces, work_through};
@@ -92,7 +92,7 @@ struct Plain {
 impl Feed<Brand, Global> for Plain {
     ghost can_feed = { λ task. Unit {0} };
 
-    ghost feed_gives = { λ task fed after. fed ≡ task.count };
+    ghost feed_gives = { λ task fed after. length fed ≡ task.count };
 
     ghost unfed = { λ task after. Unit {0} };
 
@@ -131,7 +131,7 @@ struct Batch {
 impl Feed<Brand, Global> for Batch {
     ghost can_feed = { λ task. ArePlanned None 0 task.pieces.items };
 
-    ghost feed_gives = { λ task fed after. fed ≡ vec_len task.pieces };
+    ghost feed_gives = { λ task fed after. fed ≡ task.pieces.items };
 
     ghost unfed = { λ task after. Unit {0} };
 

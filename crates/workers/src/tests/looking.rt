@@ -7,13 +7,13 @@ use crate::handler::Handler;
 use crate::run::{RunOutcome, run_scoped};
 use crate::starting::crew_for;
 use crate::tests::Plain;
-use findings_book::{Blanks, Book, Ledgers, LockedPosts, Share};
+use findings_book::{AnyReport, Blanks, Book, Ledgers, LockedPosts, Share};
 use line_model::fault::Fault;
 use line_model::finding::{Code, Finding};
 use line_model::piece::{Piece, PieceReport};
 use line_model::state::{Side, StateName};
 use line_model::totals::Totals;
-use piece_queue::Work;
+use piece_queue::{Work, WorkerPass};
 use std::alloc::Global;
 use std::marker::Brand;
 use std::process::Abort;
@@ -97,17 +97,24 @@ struct Looking<'a, L: Ledgers> {
 }
 
 impl<'a, L: Ledgers> Handler<Brand, Global, Share<L>> for Looking<'a, L> {
+    ghost handles = { λ looking id. Unit {0} };
+
     fn handle<R: Wait>(
         &self,
         rt: &R,
         alloc: Global,
         piece: &Piece,
+        _pass: &mut WorkerPass,
         share: &mut Share<L>,
     ) -> Result<(), Fault> {
         let Ok(report) = report_of(alloc, piece) else {
             return Err(Fault::Memory);
         };
-        if self.locked_posts.post(rt, report, share).is_err() {
+        if self
+            .locked_posts
+            .post(rt, report, share, AnyReport)
+            .is_err()
+        {
             return Err(Fault::Memory);
         }
         let seen = self.locked_posts.look(rt, share);
@@ -144,10 +151,11 @@ fn work_together<R: Threads + Wait + Clock + Sync, L: Ledgers + Sync>(
         Ok(
             RunOutcome {
                 task: _,
+                pass: _,
                 shares,
                 fault: None,
             },
-        ) => gather(alloc, book, shares),
+        ) => Ok(gather(alloc, book, shares)?.0),
         Ok(
             RunOutcome {
                 fault: Some(fault),
@@ -174,7 +182,7 @@ fn work_over<R: Threads + Wait + Clock + Sync, L: Ledgers + Sync>(
     work_together(
         rt,
         alloc,
-        Book::<Brand, L>::new(alloc, blanks),
+        Book::<Brand, L>::new(alloc, blanks, AnyReport),
         looks,
         below,
     )

@@ -1,4 +1,4 @@
-use Rattle.std.proofs.Common.{◌≡◌, sym, ap, ◌∙◌, subst, refl}
+use Rattle.std.proofs.Common.{sym, ap, ◌∙◌, subst, refl}
 use Rattle.line_model.specs.work.Book.{IsValue}
 use Rattle.workers.specs.Vouching.{IsValueOfOne}
 use Rattle.line_model.proofs.Posts.{value_is}

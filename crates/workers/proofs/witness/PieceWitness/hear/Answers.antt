@@ -1,4 +1,4 @@
-use Rattle.std.proofs.Common.{◌≡◌, ap, sym, subst, ◌∙◌}
+use Rattle.std.proofs.Common.{subst}
 use Rattle.std.specs.Prelude.{All}
 use Rattle.piece_queue.specs.Known.{IsFed}
 use Rattle.workers.proofs.Pieces.{value-of-fed}

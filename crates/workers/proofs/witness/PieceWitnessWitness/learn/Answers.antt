@@ -1,4 +1,4 @@
-use Rattle.std.proofs.Common.{◌≡◌, ◌++◌, ap, sym, ◌∙◌}
+use Rattle.std.proofs.Common.{◌++◌, ap, ◌∙◌}
 use Rattle.workers.proofs.Pieces.{vouches-front, vouches-back}
 use Rattle.workers.proofs.witness.PieceWitnessWitness.learn.Goals as goal
 
