@@ -110,7 +110,8 @@ pub fn run_scoped<
         move |scope| -> Result<RunOutcome<T, H, A>, (T, Fault)>
             requires { (crew.queue ≡ work.now.queue) × (0 < crew.count) × T.can_feed task
                 × W.handles handler.now work.now.queue }
-            ensures { IfOk result (IsRunOutcome H.posts (T.feed_gives task) crew.count work.entry.now.queue)
+            ensures { IfOk result (IsRunOutcome H.posts (T.feed_gives task) crew.count
+                work.entry.now.queue)
                 × IfErr result (λ e. T.unfed task e.0
                 × ((e.1 ≡ Fault.Memory) ⊎ (e.1 ≡ Fault.Start))) }
         { run(scope, rt, alloc, work, handler, crew, task) },
