@@ -8,5 +8,3 @@ mod line;
 mod quoted;
 mod ranges;
 mod rows;
-#[cfg(test)]
-mod tests;

@@ -12,7 +12,5 @@ pub mod laws;
 mod marks;
 pub mod notes;
 pub mod page;
-#[cfg(test)]
-mod tests;
 mod watched;
 pub mod watcher;

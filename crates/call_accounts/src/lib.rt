@@ -7,5 +7,3 @@ mod counts;
 mod pad_table;
 pub mod peak;
 pub mod so_far;
-#[cfg(test)]
-mod tests;

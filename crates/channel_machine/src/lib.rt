@@ -16,6 +16,4 @@ pub mod run;
 mod status;
 mod step;
 mod terms;
-#[cfg(test)]
-mod tests;
 mod transfer;

@@ -6,7 +6,5 @@ mod annotating;
 mod explaining;
 mod help;
 mod json;
-mod options;
+pub mod options;
 pub mod program;
-#[cfg(test)]
-mod tests;

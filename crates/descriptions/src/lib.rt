@@ -16,6 +16,4 @@ mod parameters;
 mod prose;
 pub mod rows;
 pub mod scan;
-#[cfg(test)]
-mod tests;
 mod uncounted;

@@ -12,6 +12,4 @@ mod refusals;
 mod states;
 mod statuses;
 pub mod table;
-#[cfg(test)]
-mod tests;
 pub mod text;

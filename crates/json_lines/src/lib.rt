@@ -8,7 +8,5 @@ pub mod laws;
 mod lines;
 mod objects;
 pub mod sink;
-#[cfg(test)]
-mod tests;
 pub mod text;
 mod words;

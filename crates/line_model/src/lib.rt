@@ -18,7 +18,5 @@ pub mod report;
 pub mod row;
 pub mod state;
 pub mod table;
-#[cfg(test)]
-mod tests;
 pub mod totals;
 pub mod verdict;

@@ -8,6 +8,4 @@ pub mod laws;
 pub mod live;
 pub mod observer;
 mod telling;
-#[cfg(test)]
-mod tests;
 mod watching;

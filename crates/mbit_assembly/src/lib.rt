@@ -4,5 +4,3 @@
 pub mod assembler;
 mod begun;
 pub mod sequence;
-#[cfg(test)]
-mod tests;

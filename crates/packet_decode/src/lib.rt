@@ -7,6 +7,4 @@ pub mod decode;
 mod facility;
 pub mod fields;
 mod lengths;
-#[cfg(test)]
-mod tests;
 pub mod transfer;

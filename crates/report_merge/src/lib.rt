@@ -6,7 +6,5 @@ mod judge;
 mod lines;
 pub mod merging;
 pub mod parts;
-#[cfg(test)]
-mod tests;
 pub mod text;
 pub mod words;

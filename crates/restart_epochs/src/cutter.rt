@@ -22,15 +22,15 @@ use std::marker::Model;
 /// Cuts a trace into pieces.
 #[derive(Drop)]
 pub struct Cutter<A: Allocator = Global> {
-    pub(crate) interface: Interface,
+    interface: Interface,
     machine: Restart,
     epoch: u32,
     /// How many pieces were given out.
     given: u32,
     packets: u32,
     /// The number of the last row, or 0.
-    pub(crate) last: u32,
-    pub(crate) octets: u32,
+    last: u32,
+    octets: u32,
     findings: Vec<Finding, A>,
     open_rows: OpenEpoch<A>,
 }
@@ -250,6 +250,27 @@ impl<A: Allocator + Copy> Cutter<A> {
             self.given,
             &self.open_rows,
         )
+    }
+
+    /// The interface of the trace.
+    pub fn interface(&self) -> Interface
+        ensures { result ≡ self.now.interface }
+    {
+        self.interface
+    }
+
+    /// The number of the last row that was taken, or 0.
+    pub fn last(&self) -> u32
+        ensures { result ≡ self.now.last }
+    {
+        self.last
+    }
+
+    /// How many octets the rows that were taken have.
+    pub fn octets(&self) -> u32
+        ensures { result ≡ self.now.octets }
+    {
+        self.octets
     }
 
     /// How many pieces were given out: those of the epochs that have ended.

@@ -9,5 +9,3 @@ pub mod open_lanes;
 pub mod restart;
 pub mod routing;
 mod showing;
-#[cfg(test)]
-mod tests;

@@ -5,6 +5,4 @@ pub mod following;
 pub mod gate;
 mod reading;
 pub mod scan;
-#[cfg(test)]
-mod tests;
 pub mod threaded;

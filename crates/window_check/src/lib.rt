@@ -4,6 +4,4 @@
 mod direction;
 pub mod flow;
 pub mod packed;
-#[cfg(test)]
-mod tests;
 mod word;

@@ -3,5 +3,3 @@
 
 pub mod message;
 pub mod pairs;
-#[cfg(test)]
-mod tests;

@@ -3,6 +3,4 @@
 
 mod concern;
 pub mod settings;
-#[cfg(test)]
-mod tests;
 mod values;

@@ -1,0 +1,112 @@
+//! Steps of a channel whose growths are refused.
+
+ghost use Rattle.std.specs.Prelude.{◌≡◌, All, OnOk};
+ghost use Rattle.line_model.specs.basics.Bounds.{IsItem};
+ghost use Rattle.line_model.specs.channels.Channels as channels;
+
+use crate::channels::refused::LINES;
+use crate::channels::{INTERFACE, items};
+use channel_machine::channel::{PackedChannel, PlainChannel};
+use channel_machine::run::Channel;
+use line_model::event::Event;
+use line_model::fault::Fault;
+use line_model::interface::Interface;
+use line_model::items::Items;
+use line_model::packet::Packet;
+use line_model::row::Row;
+use line_model::state::{ChannelState, DState, Side};
+use std::alloc::Global;
+use std::process::Abort;
+use std::test::Fail;
+use test_devices::scarce::Scarce;
+
+/// The most growths that these tests look for in a step.
+const GROWTHS: u64 = 1000;
+
+/// What is seen of a channel: its state, whether a call is open, and how many events it told.
+type Seen = (ChannelState, bool, usize);
+
+/// Steps a channel with each growth refused in turn, until none is: after a refusal it is as it was. Answers how often one
+/// was refused.
+fn step_until_taken<'a, C: Channel<&'a Scarce<Global>>>(
+    rt: &impl Abort,
+    heap: &'a Scarce<Global>,
+    channel: &mut C,
+    row: &Row<&'a Scarce<Global>>,
+    packet: &Packet,
+    events: &mut Vec<Event, &'a Scarce<Global>>,
+) -> Result<u64, Fail>
+    requires item { IsItem (C.interface_of channel.old) (C.number_of channel.old) (record { row = row.now; packet = packet.now }) }
+    ensures interface { (c : channels.Channel) → C.stands_for channel.old c → OnOk result (C.interface_of channel.new ≡ C.interface_of channel.old) }
+    ensures number { (c : channels.Channel) → C.stands_for channel.old c → OnOk result (C.number_of channel.new ≡ C.number_of channel.old) }
+    ensures stands { (c : channels.Channel) → C.stands_for channel.old c → OnOk result ((d : channels.Channel) × C.stands_for channel.new d) }
+{
+    let before: Seen = (channel.state(), channel.is_open(), events.len());
+    for good in 0..GROWTHS {
+        heap.refuse_one(good);
+        let step = channel.step(1, row, packet, events);
+        let refused = good < heap.asked();
+        heap.grant_all();
+        assert_eq!(rt; step.is_err(), refused, "at {good}");
+        match step {
+            Ok(()) => return Ok(good),
+            Err(fault) => {
+                let after: Seen = (channel.state(), channel.is_open(), events.len());
+                assert_eq!(rt; fault, Fault::Memory);
+                assert_eq!(rt; after, before, "at {good}");
+            }
+        }
+    }
+    Err("a step has fewer growths".into())
+}
+
+/// Steps a fresh channel through rows, with each growth of each step refused in turn. Answers how often one was refused,
+/// and what is seen at the end.
+fn step_through<'a, C: Channel<&'a Scarce<Global>>>(
+    rt: &impl Abort,
+    heap: &'a Scarce<Global>,
+    interface: &Interface,
+    items: &Items<&'a Scarce<Global>>,
+) -> Result<(u64, Seen), Fail>
+    requires items { All (IsItem interface.now 1) items.now }
+{
+    let mut channel = C::fresh(heap, interface, 1, 1);
+    let mut row = Row {
+        number: 0,
+        side: Side::T,
+        octets: Vec::new(heap),
+    };
+    let mut events = Vec::new(heap);
+    let mut refused = 0u64;
+    for item in items.iter() {
+        item.copy_to(&mut row)?;
+        let growths = step_until_taken(rt, heap, &mut channel, &row, &item.packet, &mut events)?;
+        refused = refused.saturating_add(growths);
+    }
+    Ok((refused, (channel.state(), channel.is_open(), events.len())))
+}
+
+/// Steps a machine through a PAD call: it opens and comes up, four data packets are heard, of which two are faulty messages
+/// and one sets a parameter.
+fn check<'a, C: Channel<&'a Scarce<Global>>>(
+    rt: &impl Abort,
+    heap: &'a Scarce<Global>,
+) -> Result<(), Fail> {
+    let items = items(heap, &INTERFACE, 1, LINES.as_slice())?;
+    let (refused, seen) = step_through::<C>(rt, heap, &INTERFACE, &items)?;
+    assert!(rt; 1 < refused, "{refused} growths");
+    let (state, is_open, events) = seen;
+    assert_eq!(rt; state, ChannelState::Transfer(DState::D1));
+    assert!(rt; is_open);
+    assert_eq!(rt; events, 9);
+    Ok(())
+}
+
+#[test]
+fn a_step_that_wants_memory_leaves_the_channel_as_it_was(rt: HostRuntime) -> Result<(), Fail> {
+    let heap = Scarce::new(rt.alloc());
+    check::<PlainChannel<&Scarce<Global>>>(&rt, &heap)?;
+    check::<PackedChannel<&Scarce<Global>>>(&rt, &heap)?;
+    assert_eq!(rt; heap.held(), 0);
+    Ok(())
+}

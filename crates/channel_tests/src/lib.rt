@@ -1,0 +1,15 @@
+//! The tests of one logical channel and of the layers below it: windows, packet sequences, PAD messages and settings, calls and accounts.
+#![tactic(auto)]
+
+#[cfg(test)]
+mod accounts;
+#[cfg(test)]
+mod channels;
+#[cfg(test)]
+mod messages;
+#[cfg(test)]
+mod parameters;
+#[cfg(test)]
+mod sequences;
+#[cfg(test)]
+mod windows;

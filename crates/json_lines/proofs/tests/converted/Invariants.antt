@@ -1,4 +1,0 @@
-use Rattle.json_lines.proofs.tests.converted.Given as goal
-
-abbrev pub ghosts-outcome : goal.ghosts-outcome
-ghosts-outcome a = record { name = a.blank.name; parts = a.blank.parts }

@@ -1,4 +1,0 @@
-use Rattle.report_merge.proofs.tests.a_sink_that_is_full_is_told.Given as goal
-
-abbrev pub ghosts-answered : goal.ghosts-answered
-ghosts-answered g a = record { name = a.blank.name; parts = a.blank.parts }

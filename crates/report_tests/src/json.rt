@@ -1,0 +1,231 @@
+//! Lines of reports as JSON lines that were written by hand, over sinks that cut and fail.
+
+ghost use Rattle.std.specs.Prelude.{◌≡◌, ◌<◌};
+
+use json_lines::sink::{JsonSink, Lent, Origin, Returned};
+use json_lines::text::write_json_lines;
+use line_model::count::Count;
+use line_model::device::Sink;
+use line_model::fault::Fault;
+use std::alloc::Global;
+use std::marker::Brand;
+use std::process::Abort;
+use std::sync::ledger::{Blank, Ledger};
+use test_devices::CutSink;
+
+/// How a sink of the tests takes: at most so many bytes a call, and so many good calls.
+#[derive(Clone, Copy)]
+struct Takes {
+    step: usize,
+    good_calls: usize,
+}
+
+/// Takes all.
+const WHOLE: Takes = Takes {
+    step: usize::MAX,
+    good_calls: usize::MAX,
+};
+
+/// What was answered, how many calls were good, and the bytes that were taken.
+#[derive(Drop)]
+struct Conversion {
+    answer: Result<(), Fault>,
+    calls: usize,
+    bytes: Vec<u8, Global>,
+}
+
+/// Gives a sink all of a text in parts of some size, until it refuses one.
+fn write_parts<K: Sink>(sink: &mut K, text: &[u8], size: usize) -> Result<(), Fault> {
+    for part in text.chunks(size.max(1)) {
+        match sink.write(part) {
+            Ok(_) => {}
+            Err(()) => return Err(Fault::Write),
+        }
+    }
+    Ok(())
+}
+
+/// Has a lent sink take the objects of a text that comes in parts.
+fn convert<'a, K: Sink, B: Origin>(text: &[u8], size: usize, to: Lent<'a, K>) -> Returned<'a, K>
+    requires name { to.sink.ghost_name ≡ B.name }
+    requires before { (K.taken to.sink.now, K.failures to.sink.now) ≡ B.before }
+{
+    let mut json = JsonSink::<K, B>::new(to);
+    let written = write_parts(&mut json, text, size);
+    let Returned { sink, answer } = json.finish();
+    match written {
+        Ok(()) => Returned { sink, answer },
+        Err(fault) => Returned {
+            sink,
+            answer: Err(fault),
+        },
+    }
+}
+
+/// What becomes of a text that comes in parts of some size.
+fn outcome<L: Ledger>(
+    blank: Blank,
+    alloc: Global,
+    text: &[u8],
+    size: usize,
+    takes: Takes,
+) -> Conversion
+    requires name { blank.name ≡ L.name }
+    requires parts { blank.parts ≡ L.parts }
+    requires some { 0 < L.parts }
+{
+    let mut sink: CutSink<L> = CutSink {
+        taken: Vec::new(alloc),
+        step: takes.step,
+        good_calls: takes.good_calls,
+        failures: Count::open(blank),
+    };
+    let answer = {
+        let Returned { answer, .. } = convert::<CutSink<L>, Brand>(
+            text,
+            size,
+            Lent { sink: &mut sink },
+        );
+        answer
+    };
+    let calls = takes.good_calls.saturating_sub(sink.good_calls);
+    Conversion {
+        answer,
+        calls,
+        bytes: sink.taken,
+    }
+}
+
+/// What becomes of a text that is written at once.
+fn whole<L: Ledger>(blank: Blank, alloc: Global, text: &[u8]) -> Conversion
+    requires name { blank.name ≡ L.name }
+    requires parts { blank.parts ≡ L.parts }
+    requires some { 0 < L.parts }
+{
+    let mut sink: CutSink<L> = CutSink {
+        taken: Vec::new(alloc),
+        step: WHOLE.step,
+        good_calls: WHOLE.good_calls,
+        failures: Count::open(blank),
+    };
+    let answer = write_json_lines(text, &mut sink);
+    Conversion {
+        answer,
+        calls: WHOLE.good_calls.saturating_sub(sink.good_calls),
+        bytes: sink.taken,
+    }
+}
+
+/// What becomes of a text in parts of some size.
+fn converted(alloc: Global, text: &[u8], size: usize, takes: Takes) -> Conversion {
+    outcome::<Brand>(Blank::new(1), alloc, text, size, takes)
+}
+
+const REPORT: &[u8] = b"F 5 T d1 1\n\
+F 7 N - X2\n\
+C 1 1 1 out 12 345 1 2 - open 3 129 0 0 3\n\
+C 2 1 1 in - 0345 1 - 2 collision 0 0 0 0 0\n\
+S 1 T 2 said 1\n\
+S 1 N 21 refused 5\n\
+A - 1 2\n\
+A 012 1 3\n\
+P 2 4\n\
+P 0 -\n\
+Z 5 1 1 2 2\n";
+
+const OBJECTS: &[u8] =
+    b"{\"line\":\"finding\",\"packet\":5,\"side\":\"T\",\"state\":\"d1\",\"code\":\"1\"}\n\
+{\"line\":\"finding\",\"packet\":7,\"side\":\"N\",\"state\":null,\"code\":\"X2\"}\n\
+{\"line\":\"call\",\"call\":1,\"epoch\":1,\"channel\":1,\"direction\":\"out\",\"called\":\"12\",\"calling\":\"345\",\"opened\":1,\"up\":2,\"ended\":null,\"how\":\"open\",\"data_t\":3,\"octets_t\":129,\"data_n\":0,\"octets_n\":0,\"segments\":3}\n\
+{\"line\":\"call\",\"call\":2,\"epoch\":1,\"channel\":1,\"direction\":\"in\",\"called\":null,\"calling\":\"0345\",\"opened\":1,\"up\":null,\"ended\":2,\"how\":\"collision\",\"data_t\":0,\"octets_t\":0,\"data_n\":0,\"octets_n\":0,\"segments\":0}\n\
+{\"line\":\"setting\",\"call\":1,\"side\":\"T\",\"parameter\":2,\"word\":\"said\",\"value\":1}\n\
+{\"line\":\"setting\",\"call\":1,\"side\":\"N\",\"parameter\":21,\"word\":\"refused\",\"value\":5}\n\
+{\"line\":\"account\",\"address\":null,\"calls\":1,\"segments\":2}\n\
+{\"line\":\"account\",\"address\":\"012\",\"calls\":1,\"segments\":3}\n\
+{\"line\":\"peak\",\"count\":2,\"packet\":4}\n\
+{\"line\":\"peak\",\"count\":0,\"packet\":null}\n\
+{\"line\":\"sums\",\"packets\":5,\"findings\":1,\"calls\":1,\"octets\":2,\"segments\":2}\n";
+
+/// Sees that a text becomes some objects, in parts of any size.
+fn check(rt: &impl Abort, alloc: Global, text: &[u8], objects: &[u8]) {
+    for size in [1, 7, 65536] {
+        let told = converted(alloc, text, size, WHOLE);
+        assert_eq!(rt; told.answer, Ok(()));
+        assert_eq!(rt; told.bytes.as_slice(), objects);
+    }
+}
+
+#[test]
+fn lines_of_every_kind_become_objects(rt: HostRuntime) {
+    check(&rt, rt.alloc(), REPORT, OBJECTS);
+    check(&rt, rt.alloc(), b"", b"");
+}
+
+#[test]
+fn a_sink_that_takes_one_byte_a_call_takes_the_same(rt: HostRuntime) {
+    let slow = Takes {
+        step: 1,
+        good_calls: usize::MAX,
+    };
+    let told = converted(rt.alloc(), REPORT, 7, slow);
+    assert_eq!(rt; told.answer, Ok(()));
+    assert_eq!(rt; told.bytes.as_slice(), OBJECTS);
+    assert_eq!(rt; told.calls, OBJECTS.len());
+}
+
+#[test]
+fn a_line_is_written_as_soon_as_it_has_ended(rt: HostRuntime) {
+    let told = converted(rt.alloc(), REPORT, 1, WHOLE);
+    assert_eq!(rt; told.calls, 11);
+}
+
+#[test]
+fn a_portion_of_many_lines_is_one_write(rt: HostRuntime) {
+    let told = converted(rt.alloc(), REPORT, 65536, WHOLE);
+    assert_eq!(rt; told.calls, 1);
+}
+
+#[test]
+fn a_sink_that_fails_has_a_first_part_and_is_told(rt: HostRuntime) {
+    for good_calls in 0..11 {
+        for size in [1, 65536] {
+            let takes = Takes {
+                step: 90,
+                good_calls,
+            };
+            let told = converted(rt.alloc(), REPORT, size, takes);
+            assert_eq!(rt; told.answer, Err(Fault::Write));
+            assert_eq!(rt; told.calls, good_calls);
+            assert!(rt; OBJECTS.starts_with(told.bytes.as_slice()));
+        }
+    }
+}
+
+#[test]
+fn a_line_that_has_not_ended_is_not_told(rt: HostRuntime) {
+    check(
+        &rt,
+        rt.alloc(),
+        b"P 2 4\nZ 5 1 1 2 2",
+        b"{\"line\":\"peak\",\"count\":2,\"packet\":4}\n",
+    );
+}
+
+#[test]
+fn a_line_that_no_report_has_is_unknown(rt: HostRuntime) {
+    let mut long = [b'1'; 260];
+    long[0] = b'P';
+    long[1] = b' ';
+    long[259] = b'\n';
+    let unknown = b"{\"line\":\"unknown\"}\n";
+    check(&rt, rt.alloc(), &long, unknown);
+    check(&rt, rt.alloc(), b"\n", unknown);
+    check(&rt, rt.alloc(), b"Q 1\n", unknown);
+}
+
+#[test]
+fn a_whole_text_is_written(rt: HostRuntime) {
+    let told = whole::<Brand>(Blank::new(1), rt.alloc(), REPORT);
+    assert_eq!(rt; told.answer, Ok(()));
+    assert_eq!(rt; told.bytes.as_slice(), OBJECTS);
+}

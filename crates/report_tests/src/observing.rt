@@ -1,0 +1,243 @@
+//! Reports of traces that grow.
+
+ghost use Rattle.std.specs.Prelude.{◌≡◌, ◌<◌};
+ghost use Rattle.live_report.specs.Lives.{IsFed};
+
+mod findings;
+mod follows;
+mod wanting;
+
+use channel_machine::channel::PlainChannel;
+use channel_machine::run::Channel;
+use line_model::count::Count;
+use line_model::fault::{Fault, Kind};
+use live_report::live::Live;
+use std::alloc::{Allocator, Global};
+use std::marker::Brand;
+use std::process::Abort;
+use std::sync::ledger::{Blank, Ledger};
+use test_devices::CutSink;
+
+/// Why a report was refused, if it was, and what it wrote.
+#[derive(Drop)]
+struct Answer {
+    fault: Option<Fault>,
+    bytes: Vec<u8>,
+}
+
+/// The report that must be told, or why it must be refused, and nothing written.
+type Wanted = Result<&'static [u8], Fault>;
+
+/// What a trace is fed, or asked for.
+#[derive(Clone, Copy)]
+enum Step {
+    /// It is fed this chunk, and refuses it so, if it does.
+    Feed(&'static [u8], Option<Fault>),
+    /// It is asked for its report so far.
+    Report(Wanted),
+}
+
+/// A sink that has its room.
+fn open_sink<L: Ledger>(blank: Blank, alloc: Global) -> CutSink<L>
+    requires name { blank.name ≡ L.name }
+    requires parts { blank.parts ≡ L.parts }
+    requires some { 0 < L.parts }
+{
+    CutSink {
+        taken: Vec::new(alloc),
+        step: usize::MAX,
+        good_calls: usize::MAX,
+        failures: Count::open(blank),
+    }
+}
+
+fn told_on<A: Allocator + Copy, C: Channel<A>, L: Ledger>(
+    blank: Blank,
+    alloc: Global,
+    trace: &Live<A, C>,
+) -> Answer
+    requires name { blank.name ≡ L.name }
+    requires parts { blank.parts ≡ L.parts }
+    requires some { 0 < L.parts }
+    requires fed { IsFed C.interface_of C.number_of C.stands_for trace.now }
+{
+    let mut sink = open_sink::<L>(blank, alloc);
+    let fault = trace.report(&mut sink).err();
+    Answer {
+        fault,
+        bytes: sink.taken,
+    }
+}
+
+/// The report of a trace so far.
+fn told<A: Allocator + Copy, C: Channel<A>>(alloc: Global, trace: &Live<A, C>) -> Answer
+    requires fed { IsFed C.interface_of C.number_of C.stands_for trace.now }
+{
+    told_on::<A, C, Brand>(Blank::new(1), alloc, trace)
+}
+
+fn ended_on<A: Allocator + Copy, C: Channel<A>, L: Ledger>(
+    blank: Blank,
+    alloc: Global,
+    trace: Live<A, C>,
+) -> Answer
+    requires name { blank.name ≡ L.name }
+    requires parts { blank.parts ≡ L.parts }
+    requires some { 0 < L.parts }
+    requires fed { IsFed C.interface_of C.number_of C.stands_for trace }
+{
+    let mut sink = open_sink::<L>(blank, alloc);
+    let fault = trace.end(&mut sink).err();
+    Answer {
+        fault,
+        bytes: sink.taken,
+    }
+}
+
+/// The report of a trace that has ended.
+fn ended<A: Allocator + Copy, C: Channel<A>>(alloc: Global, trace: Live<A, C>) -> Answer
+    requires fed { IsFed C.interface_of C.number_of C.stands_for trace }
+{
+    ended_on::<A, C, Brand>(Blank::new(1), alloc, trace)
+}
+
+/// Sees that a fault is the one that is wanted, if any is.
+fn same_fault(rt: &impl Abort, fault: Option<Fault>, wanted: Option<Fault>) {
+    assert_eq!(rt; fault, wanted);
+}
+
+/// Sees that these bytes were written.
+fn same_bytes(rt: &impl Abort, bytes: &[u8], wanted: &[u8]) {
+    assert_eq!(rt; bytes, wanted);
+}
+
+/// Sees that an answer is the one that is wanted.
+fn agree(rt: &impl Abort, answer: &Answer, wanted: Wanted) {
+    same_fault(rt, answer.fault, wanted.err());
+    same_bytes(rt, answer.bytes.as_slice(), wanted.unwrap_or(b""));
+}
+
+/// Sees that the report of a trace so far is the one that is wanted.
+fn check<A: Allocator + Copy, C: Channel<A>>(
+    rt: &impl Abort,
+    alloc: Global,
+    trace: &Live<A, C>,
+    wanted: Wanted,
+)
+    requires fed { IsFed C.interface_of C.number_of C.stands_for trace.now }
+{
+    let answer = told(alloc, trace);
+    agree(rt, &answer, wanted);
+}
+
+/// Feeds a chunk, and sees why it is refused, if it is.
+fn check_fed<A: Allocator + Copy, C: Channel<A>>(
+    rt: &impl Abort,
+    trace: &mut Live<A, C>,
+    chunk: &[u8],
+    fault: Option<Fault>,
+)
+    requires fed { IsFed C.interface_of C.number_of C.stands_for trace.old }
+    ensures fed { IsFed C.interface_of C.number_of C.stands_for trace.new }
+{
+    let answer = trace.feed(chunk).err();
+    same_fault(rt, answer, fault);
+}
+
+/// Plays steps with a trace.
+fn play_steps<A: Allocator + Copy, C: Channel<A>>(
+    rt: &impl Abort,
+    alloc: Global,
+    trace: &mut Live<A, C>,
+    steps: &[Step],
+)
+    requires fed { IsFed C.interface_of C.number_of C.stands_for trace.old }
+    ensures fed { IsFed C.interface_of C.number_of C.stands_for trace.new }
+{
+    for step in steps {
+        match *step {
+            Step::Feed(chunk, fault) => check_fed(rt, trace, chunk, fault),
+            Step::Report(wanted) => check(rt, alloc, trace, wanted),
+        }
+    }
+}
+
+/// Plays steps with a trace of which nothing was fed, and ends it.
+fn play(rt: &impl Abort, alloc: Global, steps: &[Step], end: Wanted) {
+    let mut trace = Live::<Global, PlainChannel<Global>>::new(alloc);
+    play_steps(rt, alloc, &mut trace, steps);
+    let answer = ended(alloc, trace);
+    agree(rt, &answer, end);
+}
+
+/// The fault of a third row that no side wrote.
+const NO_SIDE: Fault = Fault::Trace(4, Kind::Side);
+
+const UP_TO_THE_LAST_LINE: [Step; 12] = [
+    Step::Report(Err(Fault::Trace(1, Kind::HeaderMissing))),
+    Step::Feed(b"X25 1 MOD 8 WIN 2 SIZE 128 PVC 0 SVC 4\n", None),
+    Step::Feed(b"1 T -\n", None),
+    Step::Report(Ok(b"F 1 T - 38\nP 0 -\nZ 1 1 0 0 0\n")),
+    Step::Feed(b"2 T 2", None),
+    Step::Report(Ok(b"F 1 T - 38\nP 0 -\nZ 1 1 0 0 0\n")),
+    Step::Feed(b"0010B0000\n", None),
+    Step::Report(Ok(b"F 1 T - 38\nF 2 T - 40\nP 0 -\nZ 2 2 0 0 0\n")),
+    Step::Feed(b"3 X -\n", Some(NO_SIDE)),
+    Step::Report(Err(NO_SIDE)),
+    Step::Feed(b"4 T -\n", Some(NO_SIDE)),
+    Step::Report(Err(NO_SIDE)),
+];
+
+#[test]
+fn reports_go_up_to_the_last_line_that_ended(rt: HostRuntime) {
+    play(
+        &rt,
+        rt.alloc(),
+        UP_TO_THE_LAST_LINE.as_slice(),
+        Err(NO_SIDE),
+    )
+}
+
+/// The report of a call that a restart ended.
+const ENDED_CALL: &[u8] = b"C 1 1 1 out - - 1 2 3 restart 0 0 0 0 0\nA - 1 0\nP 1 2\nZ 4 0 1 0 0\n";
+
+const CALL_AND_ITS_END: [Step; 6] = [
+    Step::Feed(b"X25 1 MOD 8 WIN 2 SIZE 128 PVC 0 SV", None),
+    Step::Feed(b"C 4\n1 T 10010B0000\n2 N 10010F", None),
+    Step::Feed(b"\n", None),
+    Step::Report(Ok(b"C 1 1 1 out - - 1 2 - open 0 0 0 0 0\nA - 1 0\nP 1 2\nZ 2 0 1 0 0\n")),
+    Step::Feed(b"3 T 1000FB0000\n4 N 1000FF\n", None),
+    Step::Report(Ok(ENDED_CALL)),
+];
+
+#[test]
+fn an_open_call_and_its_end_are_told(rt: HostRuntime) {
+    play(&rt, rt.alloc(), CALL_AND_ITS_END.as_slice(), Ok(ENDED_CALL))
+}
+
+const LAST_LINE: [Step; 2] = [
+    Step::Feed(b"X25 1 MOD 8 WIN 2 SIZE 128 PVC 0 SVC 4\n1 T -", None),
+    Step::Report(Ok(b"P 0 -\nZ 0 0 0 0 0\n")),
+];
+
+#[test]
+fn a_last_line_that_nothing_ended_is_a_row(rt: HostRuntime) {
+    play(
+        &rt,
+        rt.alloc(),
+        LAST_LINE.as_slice(),
+        Ok(b"F 1 T - 38\nP 0 -\nZ 1 1 0 0 0\n"),
+    )
+}
+
+const NO_HEADER: [Step; 1] = [Step::Feed(b"# nothing\n", None)];
+
+#[test]
+fn a_trace_that_ends_before_its_header_is_refused(rt: HostRuntime) {
+    play(
+        &rt,
+        rt.alloc(),
+        NO_HEADER.as_slice(),
+        Err(Fault::Trace(2, Kind::HeaderMissing)),
+    )
+}

@@ -1,0 +1,270 @@
+//! Findings that are written as a trace grows.
+
+ghost use Rattle.std.specs.Prelude.{◌≡◌, ◌<◌};
+ghost use Rattle.live_report.specs.Follows.{IsFed};
+
+use crate::observing::{open_sink, same_bytes, same_fault};
+use channel_machine::channel::PlainChannel;
+use channel_machine::run::Channel;
+use line_model::device::Sink;
+use line_model::fault::{Fault, Kind};
+use line_model::totals::Summary;
+use live_report::follow::Follower;
+use std::alloc::{Allocator, Global};
+use std::marker::Brand;
+use std::process::Abort;
+use std::sync::ledger::{Blank, Ledger};
+use test_devices::CutSink;
+
+/// Takes what a sink takes, and counts how often it was asked.
+#[derive(Drop)]
+struct Counted<L: Ledger> {
+    sink: CutSink<L>,
+    asked: usize,
+}
+
+impl<L: Ledger> Sink for Counted<L> {
+    ghost use Rattle.std.specs.Prelude.{Some};
+
+    ghost taken = { λ s. Some s.sink.taken.items };
+
+    ghost failures = { λ s. s.sink.failures };
+
+    fn write(&mut self, bytes: &[u8]) -> Result<usize, ()> {
+        self.asked = self.asked.saturating_add(1);
+        self.sink.write(bytes)
+    }
+}
+
+/// What is seen of a sink.
+#[derive(Clone, Copy)]
+enum Seen {
+    Taken(&'static [u8]),
+    Asked(usize),
+}
+
+/// What a follower is fed, why it refuses it, if it does, and what is seen of its sink then.
+struct Step {
+    chunk: &'static [u8],
+    fault: Option<Fault>,
+    seen: Seen,
+}
+
+/// Why a trace that has ended is refused or how many findings it has, and what is seen of its sink then.
+struct End {
+    fault: Option<Fault>,
+    findings: u64,
+    seen: Seen,
+}
+
+/// Sees what a sink took, or how often it was asked.
+fn look<L: Ledger>(rt: &impl Abort, sink: &Counted<L>, seen: Seen) {
+    match seen {
+        Seen::Taken(bytes) => same_bytes(rt, sink.sink.taken.as_slice(), bytes),
+        Seen::Asked(times) => assert_eq!(rt; sink.asked, times),
+    }
+}
+
+/// Feeds a chunk, and sees why it is refused, if it is.
+fn check_fed<A: Allocator + Copy, C: Channel<A>, K: Sink>(
+    rt: &impl Abort,
+    trace: &mut Follower<A, C>,
+    sink: &mut K,
+    step: &Step,
+)
+    requires fed { IsFed C.interface_of C.number_of C.stands_for trace.old }
+    ensures fed { IsFed C.interface_of C.number_of C.stands_for trace.new }
+{
+    let answer = trace.feed(step.chunk, sink).err();
+    same_fault(rt, answer, step.fault);
+}
+
+/// Plays steps with a follower.
+fn play_steps<A: Allocator + Copy, C: Channel<A>, L: Ledger>(
+    rt: &impl Abort,
+    trace: &mut Follower<A, C>,
+    sink: &mut Counted<L>,
+    steps: &[Step],
+)
+    requires fed { IsFed C.interface_of C.number_of C.stands_for trace.old }
+    ensures fed { IsFed C.interface_of C.number_of C.stands_for trace.new }
+{
+    for step in steps {
+        check_fed(rt, trace, sink, step);
+        look(rt, sink, step.seen);
+    }
+}
+
+/// Sees why a trace that has ended is refused, or how many findings it has.
+fn check_ended(rt: &impl Abort, answer: Result<Summary, Fault>, end: &End) {
+    same_fault(rt, answer.err(), end.fault);
+    if let Ok(summary) = answer {
+        assert_eq!(rt; summary.findings, end.findings);
+    }
+}
+
+/// Plays steps with a follower of which nothing was fed, and ends it.
+fn play_into<L: Ledger>(
+    rt: &impl Abort,
+    alloc: Global,
+    sink: &mut Counted<L>,
+    steps: &[Step],
+) -> Result<Summary, Fault> {
+    let mut trace = Follower::<Global, PlainChannel<Global>>::new(alloc);
+    play_steps(rt, &mut trace, sink, steps);
+    trace.end(sink)
+}
+
+fn play_on<L: Ledger>(
+    blank: Blank,
+    rt: &impl Abort,
+    alloc: Global,
+    good_calls: usize,
+    steps: &[Step],
+    end: &End,
+)
+    requires name { blank.name ≡ L.name }
+    requires parts { blank.parts ≡ L.parts }
+    requires some { 0 < L.parts }
+{
+    let mut sink = Counted {
+        sink: CutSink {
+            good_calls,
+            ..open_sink::<L>(blank, alloc)
+        },
+        asked: 0,
+    };
+    let answer = play_into(rt, alloc, &mut sink, steps);
+    check_ended(rt, answer, end);
+    look(rt, &sink, end.seen);
+}
+
+/// Plays steps with a follower of which nothing was fed, whose sink takes so many writes, and ends it.
+fn play(rt: &impl Abort, alloc: Global, good_calls: usize, steps: &[Step], end: &End) {
+    play_on::<Brand>(Blank::new(1), rt, alloc, good_calls, steps, end)
+}
+
+/// A header.
+const HEADER: &[u8] = b"X25 1 MOD 8 WIN 2 SIZE 128 PVC 0 SVC 4\n";
+
+const LINES: [Step; 5] = [
+    Step {
+        chunk: HEADER,
+        fault: None,
+        seen: Seen::Taken(b""),
+    },
+    Step {
+        chunk: b"1 T -",
+        fault: None,
+        seen: Seen::Taken(b""),
+    },
+    Step {
+        chunk: b"\n",
+        fault: None,
+        seen: Seen::Taken(b"F 1 T - 38\n"),
+    },
+    Step {
+        chunk: b"2 T 20010B0000\n# 3\n",
+        fault: None,
+        seen: Seen::Taken(b"F 1 T - 38\nF 2 T - 40\n"),
+    },
+    Step {
+        chunk: b"3 T 10010B0000\n4 T -\n5 T -",
+        fault: None,
+        seen: Seen::Taken(b"F 1 T - 38\nF 2 T - 40\nF 4 T - 38\n"),
+    },
+];
+
+const END_OF_LINES: End = End {
+    fault: None,
+    findings: 4,
+    seen: Seen::Taken(
+        b"F 1 T - 38\nF 2 T - 40\nF 4 T - 38\nF 5 T - 38\nC 1 1 1 out - - 3 - - open 0 0 0 0 0\nA - 1 0\nP 0 -\nZ 5 4 1 0 0\n",
+    ),
+};
+
+#[test]
+fn a_finding_is_written_once_its_line_has_ended(rt: HostRuntime) {
+    play(&rt, rt.alloc(), usize::MAX, LINES.as_slice(), &END_OF_LINES)
+}
+
+/// The fault of a second row that no side wrote.
+const NO_SIDE: Fault = Fault::Trace(3, Kind::Side);
+
+/// What is seen of a sink that has the finding of the first row.
+const FIRST_FINDING: Seen = Seen::Taken(b"F 1 T - 38\n");
+
+const FAULTY_LINE: [Step; 3] = [
+    Step {
+        chunk: HEADER,
+        fault: None,
+        seen: Seen::Taken(b""),
+    },
+    Step {
+        chunk: b"1 T -\n2 X -\n3 T -\n",
+        fault: Some(NO_SIDE),
+        seen: FIRST_FINDING,
+    },
+    Step {
+        chunk: b"4 T -\n",
+        fault: Some(NO_SIDE),
+        seen: FIRST_FINDING,
+    },
+];
+
+const END_AT_A_FAULTY_LINE: End = End {
+    fault: Some(NO_SIDE),
+    findings: 0,
+    seen: FIRST_FINDING,
+};
+
+#[test]
+fn a_faulty_line_is_told_behind_the_findings(rt: HostRuntime) {
+    play(
+        &rt,
+        rt.alloc(),
+        usize::MAX,
+        FAULTY_LINE.as_slice(),
+        &END_AT_A_FAULTY_LINE,
+    )
+}
+
+const FAILING_SINK: [Step; 4] = [
+    Step {
+        chunk: HEADER,
+        fault: None,
+        seen: Seen::Asked(0),
+    },
+    Step {
+        chunk: b"1 T -\n",
+        fault: None,
+        seen: Seen::Taken(b"F 1 T - 38\n"),
+    },
+    Step {
+        chunk: b"2 T -\n",
+        fault: Some(Fault::Write),
+        seen: Seen::Asked(2),
+    },
+    Step {
+        chunk: b"3 X -\n",
+        fault: Some(Fault::Write),
+        seen: Seen::Asked(2),
+    },
+];
+
+const END_OF_A_FAILING_SINK: End = End {
+    fault: Some(Fault::Write),
+    findings: 0,
+    seen: Seen::Asked(2),
+};
+
+#[test]
+fn a_sink_that_failed_is_not_asked_again(rt: HostRuntime) {
+    play(
+        &rt,
+        rt.alloc(),
+        1,
+        FAILING_SINK.as_slice(),
+        &END_OF_A_FAILING_SINK,
+    )
+}

@@ -1,0 +1,134 @@
+//! Reports of worked traces while they grow.
+
+ghost use Rattle.std.specs.Prelude.{◌≡◌, ◌<◌};
+ghost use Rattle.live_report.specs.Lives.{IsFed};
+
+use crate::scans::checks::{Test, check_long_traces, check_table, same_bytes};
+use crate::scans::runs::{Outcome, Way, scan};
+use crate::scans::worked::{Table, Worked};
+use channel_machine::channel::PlainChannel;
+use channel_machine::run::Channel;
+use line_model::count::Count;
+use live_report::live::Live;
+use std::alloc::{Allocator, Global};
+use std::marker::Brand;
+use std::process::Abort;
+use std::sync::Wait;
+use std::sync::ledger::{Blank, Ledger};
+use std::thread::Threads;
+use std::time::Clock;
+use test_devices::{CutSink, Cuts};
+
+fn told_on<A: Allocator + Copy, C: Channel<A>, L: Ledger>(
+    alloc: Global,
+    trace: &Live<A, C>,
+    blank: Blank,
+) -> Outcome
+    requires fed { IsFed C.interface_of C.number_of C.stands_for trace.now }
+    requires name { blank.name ≡ L.name }
+    requires parts { blank.parts ≡ L.parts }
+    requires shared { 0 < L.parts }
+{
+    let mut sink = CutSink {
+        taken: Vec::new(alloc),
+        step: usize::MAX,
+        good_calls: usize::MAX,
+        failures: Count::<L>::open(blank),
+    };
+    let answer = trace.report(&mut sink);
+    Outcome {
+        answer,
+        taken: sink.taken,
+    }
+}
+
+/// The report of a trace so far.
+fn told<A: Allocator + Copy, C: Channel<A>>(alloc: Global, trace: &Live<A, C>) -> Outcome
+    requires fed { IsFed C.interface_of C.number_of C.stands_for trace.now }
+{
+    told_on::<A, C, Brand>(alloc, trace, Blank::new(1))
+}
+
+/// Sees that two outcomes are the same.
+fn agree(rt: &impl Abort, told: &Outcome, scanned: &Outcome, name: &str, bytes: usize) {
+    let cuts = Cuts {
+        good_bytes: bytes,
+        ..Cuts::of_steps(usize::MAX, usize::MAX)
+    };
+    assert_eq!(rt; told.answer, scanned.answer, "{name} after {bytes} bytes");
+    same_bytes(
+        rt,
+        told.taken.as_slice(),
+        scanned.taken.as_slice(),
+        name,
+        cuts,
+    );
+}
+
+/// Sees that a trace tells what the scan of one thread does of its lines so far.
+fn check_told<A: Allocator + Copy, C: Channel<A>, R: Threads + Wait + Clock + Sync + Abort>(
+    rt: &R,
+    alloc: Global,
+    trace: &Live<A, C>,
+    lines: &[u8],
+    name: &str,
+)
+    requires fed { IsFed C.interface_of C.number_of C.stands_for trace.now }
+{
+    let told = told(alloc, trace);
+    let whole = Cuts::of_steps(usize::MAX, usize::MAX);
+    let scanned = scan(rt, alloc, Way::Alone, lines, whole);
+    agree(rt, &told, &scanned, name, lines.len());
+}
+
+/// Feeds a trace byte by byte, and looks at its report after each line feed.
+fn check_grows<A: Allocator + Copy, C: Channel<A>, R: Threads + Wait + Clock + Sync + Abort>(
+    rt: &R,
+    alloc: Global,
+    trace: &mut Live<A, C>,
+    worked: &Worked,
+)
+    requires fed { IsFed C.interface_of C.number_of C.stands_for trace.old }
+{
+    for (index, byte) in worked.text.iter().enumerate() {
+        let _ = trace.feed(&worked.text[index..=index]);
+        if *byte == b'\n' {
+            check_told(rt, alloc, trace, &worked.text[..=index], worked.name);
+        }
+    }
+}
+
+/// Feeds a worked trace byte by byte.
+pub fn check_growing<R: Threads + Wait + Clock + Sync + Abort>(
+    rt: &R,
+    alloc: Global,
+    worked: &Worked,
+) {
+    let mut trace = Live::<Global, PlainChannel<Global>>::new(alloc);
+    check_grows(rt, alloc, &mut trace, worked);
+}
+
+#[test]
+fn calls_are_reported_while_they_grow(rt: HostRuntime) {
+    check_table(&rt, rt.alloc(), Test::WhileItGrows, Table::Channels)
+}
+
+#[test]
+fn epochs_are_reported_while_they_grow(rt: HostRuntime) {
+    check_table(&rt, rt.alloc(), Test::WhileItGrows, Table::Epochs)
+}
+
+#[test]
+fn messages_are_reported_while_they_grow(rt: HostRuntime) {
+    check_table(&rt, rt.alloc(), Test::WhileItGrows, Table::Messages)
+}
+
+#[test]
+fn faulty_texts_are_refused_while_they_grow(rt: HostRuntime) {
+    check_table(&rt, rt.alloc(), Test::WhileItGrows, Table::Refused)
+}
+
+#[test]
+fn long_traces_are_reported_while_they_grow(rt: HostRuntime) {
+    check_long_traces(&rt, rt.alloc(), Test::WhileItGrows)
+}

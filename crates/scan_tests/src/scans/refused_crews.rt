@@ -1,0 +1,9 @@
+//! Scans with workers whose growths are refused.
+
+use crate::scans::refused::check_traces;
+use crate::scans::runs::Way;
+
+#[test]
+fn each_growth_of_a_scan_with_workers_may_be_refused(rt: HostRuntime) {
+    check_traces(&rt, rt.alloc(), Way::Crew(2, 64))
+}

@@ -1,9 +1,0 @@
-//! Scans with workers whose growths are refused.
-
-use crate::tests::refused::check_traces;
-use crate::tests::runs::Way;
-
-#[test]
-fn each_growth_of_a_scan_with_workers_may_be_refused(rt: HostRuntime) {
-    check_traces(&rt, rt.alloc(), Way::Crew(2, 64))
-}

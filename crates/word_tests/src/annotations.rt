@@ -1,0 +1,242 @@
+//! Traces that are annotated, and read again.
+
+mod closing;
+
+ghost use Rattle.std.specs.Prelude.{◌≡◌, ◌<◌};
+
+use annotated_trace::annotating::annotate;
+use annotated_trace::choice::Choice;
+use annotated_trace::describer::Describer;
+use annotated_trace::notes::{Notes, Words};
+use annotated_trace::page::{ClosingPage, Origin};
+use channel_machine::channel::{PackedChannel, PlainChannel};
+use line_model::count::Count;
+use line_model::device::Sink;
+use line_model::fault::{Fault, Kind};
+use line_model::finding::Finding;
+use line_model::report::Report;
+use live_report::live::Live;
+use std::alloc::{AllocError, Allocator, Global};
+use std::marker::Brand;
+use std::process::Abort;
+use std::sync::ledger::{Blank, Ledger};
+use test_devices::{CutSink, CutSource, Cuts};
+
+/// Numbers lines, and says so of each from one of them on.
+#[derive(Drop)]
+struct Numbered {
+    lines: u64,
+    first: u64,
+}
+
+impl<A: Allocator + Copy, W> Describer<A, W> for Numbered {
+    fn describe(&mut self, _trace: &W, notes: &mut Notes<A>) -> Result<bool, AllocError> {
+        self.lines = self.lines.wrapping_add(1);
+        notes.say("line\n")?;
+        notes.number(self.lines)?;
+        Ok(self.lines >= self.first)
+    }
+
+    fn explain(
+        &mut self,
+        _trace: &W,
+        finding: &Finding,
+        words: &mut Words<A>,
+    ) -> Result<(), AllocError> {
+        words.say("packet\n")?;
+        words.number(u64::from(finding.packet))
+    }
+
+    fn close<K: Sink, B: Origin>(&mut self, report: &Report<A>, page: &mut ClosingPage<'_, K, B>) {
+        page.say("findings: ");
+        page.number(report.summary.findings);
+        page.next();
+        page.octets(b"\x0b\xff");
+    }
+}
+
+/// Why a trace was refused, if it was, and what the sink took.
+#[derive(Drop)]
+struct Answer {
+    fault: Option<Fault>,
+    bytes: Vec<u8>,
+}
+
+fn annotated_on<A, D, C: Ledger, F: Ledger, L: Ledger>(
+    heap: A,
+    alloc: Global,
+    text: &[u8],
+    cuts: Cuts,
+    choice: Choice,
+    describer: D,
+    calls: Blank,
+    read_failures: Blank,
+    write_failures: Blank,
+) -> Answer
+where
+    A: Allocator + Copy,
+    D: Describer<A, Live<A, PackedChannel<A>>>,
+    requires calls_name { calls.name ≡ C.name }
+    requires calls_parts { calls.parts ≡ C.parts }
+    requires calls_shared { 0 < C.parts }
+    requires read_name { read_failures.name ≡ F.name }
+    requires read_parts { read_failures.parts ≡ F.parts }
+    requires read_shared { 0 < F.parts }
+    requires write_name { write_failures.name ≡ L.name }
+    requires write_parts { write_failures.parts ≡ L.parts }
+    requires write_shared { 0 < L.parts }
+{
+    let mut source = CutSource {
+        rest: text,
+        step: cuts.read_step,
+        good: cuts.good_bytes,
+        calls: Count::<C>::open(calls),
+        failures: Count::<F>::open(read_failures),
+    };
+    let mut sink = CutSink {
+        taken: Vec::new(alloc),
+        step: cuts.write_step,
+        good_calls: cuts.good_writes,
+        failures: Count::<L>::open(write_failures),
+    };
+    let trace = Live::<A, PackedChannel<A>>::new(heap);
+    let fault = annotate(heap, trace, choice, describer, &mut source, &mut sink).err();
+    Answer {
+        fault,
+        bytes: sink.taken,
+    }
+}
+
+/// The annotation of a trace by a describer, from a source and to a sink that cut and fail so.
+fn annotated_by<A, D>(
+    heap: A,
+    alloc: Global,
+    text: &[u8],
+    cuts: Cuts,
+    choice: Choice,
+    describer: D,
+) -> Answer
+where
+    A: Allocator + Copy,
+    D: Describer<A, Live<A, PackedChannel<A>>>,
+{
+    annotated_on::<A, D, Brand, Brand, Brand>(
+        heap,
+        alloc,
+        text,
+        cuts,
+        choice,
+        describer,
+        Blank::new(1),
+        Blank::new(1),
+        Blank::new(1),
+    )
+}
+
+/// The annotation of a trace that comes in pieces of so many bytes, with the numbers of its lines.
+fn annotated(alloc: Global, text: &[u8], step: usize, choice: Choice, first: u64) -> Answer {
+    let cuts = Cuts::of_steps(step, step);
+    let describer = Numbered { lines: 0, first };
+    annotated_by(alloc, alloc, text, cuts, choice, describer)
+}
+
+fn report_on<L: Ledger>(blank: Blank, alloc: Global, text: &[u8]) -> Answer
+    requires name { blank.name ≡ L.name }
+    requires parts { blank.parts ≡ L.parts }
+    requires some { 0 < L.parts }
+{
+    let mut sink = CutSink {
+        taken: Vec::new(alloc),
+        step: usize::MAX,
+        good_calls: usize::MAX,
+        failures: Count::<L>::open(blank),
+    };
+    let mut trace = Live::<Global, PlainChannel<Global>>::new(alloc);
+    let fault = match trace.feed(text) {
+        Ok(()) => trace.end(&mut sink).err(),
+        Err(fault) => Some(fault),
+    };
+    Answer {
+        fault,
+        bytes: sink.taken,
+    }
+}
+
+/// The report of a trace.
+fn report(alloc: Global, text: &[u8]) -> Answer {
+    report_on::<Brand>(Blank::new(1), alloc, text)
+}
+
+/// Sees what was answered.
+fn agree(rt: &impl Abort, answer: &Answer, fault: Option<Fault>, bytes: &[u8]) {
+    assert_eq!(rt; answer.fault, fault);
+    assert_eq!(rt; answer.bytes.as_slice(), bytes);
+}
+
+/// A comment, two rows that are too short, and a last line without an LF.
+const TRACE: &[u8] =
+    b"# of Monday\nX25 1 MOD 8 WIN 2 SIZE 128 PVC 0 SVC 4\n1 T -\n2 T 20010B0000\n3 T 10010B0000";
+
+const REPORT: &[u8] =
+    b"F 1 T - 38\nF 2 T - 40\nC 1 1 1 out - - 3 - - open 0 0 0 0 0\nA - 1 0\nP 0 -\nZ 3 2 1 0 0\n";
+
+const ANNOTATED: &[u8] =
+    b"# of Monday\n# line 1\nX25 1 MOD 8 WIN 2 SIZE 128 PVC 0 SVC 4\n# line 2\n1 T -\n# line 3\n#! F 1 T - 38: packet 1\n2 T 20010B0000\n# line 4\n#! F 2 T - 40: packet 2\n3 T 10010B0000\n# line 5\n# findings: 2\n# 0BFF\n";
+
+/// Annotates the trace as its source cuts it, and reads what was written again.
+fn check_step(rt: &impl Abort, alloc: Global, step: usize) {
+    let answer = annotated(alloc, TRACE, step, Choice::EveryRow, 0);
+    agree(rt, &answer, None, ANNOTATED);
+    let again = report(alloc, answer.bytes.as_slice());
+    agree(rt, &again, None, REPORT);
+}
+
+#[test]
+fn lines_stand_as_they_were_with_their_comments_behind_them(rt: HostRuntime) {
+    check_step(&rt, rt.alloc(), 65536)
+}
+
+#[test]
+fn lines_that_chunks_cut_stand_as_they_were(rt: HostRuntime) {
+    check_step(&rt, rt.alloc(), 1);
+    check_step(&rt, rt.alloc(), 7)
+}
+
+#[test]
+fn rows_that_were_not_chosen_stand_alone(rt: HostRuntime) {
+    let answer = annotated(rt.alloc(), TRACE, 7, Choice::ChosenRows, 4);
+    agree(
+        &rt,
+        &answer,
+        None,
+        b"# of Monday\nX25 1 MOD 8 WIN 2 SIZE 128 PVC 0 SVC 4\n1 T -\n2 T 20010B0000\n# line 4\n#! F 2 T - 40: packet 2\n3 T 10010B0000\n# line 5\n# findings: 2\n# 0BFF\n",
+    )
+}
+
+#[test]
+fn marks_stand_where_notes_are_left_out(rt: HostRuntime) {
+    let answer = annotated(rt.alloc(), TRACE, 7, Choice::EveryRow, 9);
+    agree(
+        &rt,
+        &answer,
+        None,
+        b"# of Monday\nX25 1 MOD 8 WIN 2 SIZE 128 PVC 0 SVC 4\n1 T -\n#! F 1 T - 38: packet 1\n2 T 20010B0000\n#! F 2 T - 40: packet 2\n3 T 10010B0000\n# findings: 2\n# 0BFF\n",
+    )
+}
+
+#[test]
+fn lines_before_a_faulty_one_are_written(rt: HostRuntime) {
+    let answer = annotated(
+        rt.alloc(),
+        b"X25 1 MOD 8 WIN 2 SIZE 128 PVC 0 SVC 4\n1 T -\n2 X -\n",
+        7,
+        Choice::EveryRow,
+        0,
+    );
+    agree(
+        &rt,
+        &answer,
+        Some(Fault::Trace(3, Kind::Side)),
+        b"X25 1 MOD 8 WIN 2 SIZE 128 PVC 0 SVC 4\n# line 1\n1 T -\n# line 2\n#! F 1 T - 38: packet 1\n",
+    )
+}
