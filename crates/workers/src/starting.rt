@@ -78,40 +78,7 @@ pub fn crew_for<P: Plan, L: Ledgers, A: Allocator + Copy, N: Witness>(
     })
 }
 
-/// Starts a worker, where a thread can be made.
-fn start<
-    's,
-    'e: 's,
-    P: Plan + Send + Sync,
-    H: Posted + Send + Drop + 's,
-    A: Allocator + Copy + Send + Sync,
-    W: Handler<P, A, H> + Sync,
-    R: Wait + Clock + Sync,
->(
-    scope: &'s Scope<'s, &'e ()>,
-    rt: &'s R,
-    alloc: A,
-    work: &'s Work<P, A>,
-    handler: &'s W,
-    worker_start: WorkerStart<H, A>,
-) -> Option<Running<'s, P, H, A>>
-    requires handler { W.handles handler.now work.now.queue }
-    requires worker_start { IsWorkerStart H.posts work.now.queue worker_start }
-    ensures promise { IfSome result (λ h. h.promise.work.now.queue ≡ work.now.queue) }
-{
-    let WorkerStart { pass, share } = worker_start;
-    let started = scope.spawn_with(
-        Finishes { work },
-        move || -> WorkerOutcome<H, A>
-            requires { (pass.queue ≡ work.now.queue) × (pass.record_of ≡ worker [] false 0)
-                × (H.posts share ≡ 0) × W.handles handler.now work.now.queue }
-            ensures { IsWorkerOutcome H.posts work.entry.now.queue result }
-        { work_on(rt, alloc, work, handler, pass, share) },
-    );
-    started.ok()
-}
-
-/// Starts the workers, and says whether each has its thread.
+/// Starts the workers, each in a thread of its own where one can be made, and says whether each has its thread.
 pub fn start_all<
     's,
     'e: 's,
@@ -138,7 +105,16 @@ pub fn start_all<
     ensures promised { All (λ h. h.promise.work.now.queue ≡ work.now.queue) running.new.items }
 {
     for worker_start in worker_starts {
-        match start(scope, rt, alloc, work, handler, worker_start) {
+        let WorkerStart { pass, share } = worker_start;
+        let started = scope.spawn_with(
+            Finishes { work },
+            move || -> WorkerOutcome<H, A>
+                requires { (pass.queue ≡ work.now.queue) × (pass.record_of ≡ worker [] false 0)
+                    × (H.posts share ≡ 0) × W.handles handler.now work.now.queue }
+                ensures { IsWorkerOutcome H.posts work.entry.now.queue result }
+            { work_on(rt, alloc, work, handler, pass, share) },
+        );
+        match started.ok() {
             Some(one) => running.push_reserved(one),
             None => return false,
         }

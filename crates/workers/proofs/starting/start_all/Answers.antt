@@ -9,26 +9,20 @@ loop-worker_start-preserved g c = record {
   worker_starts = All-rest (IsWorkerStart g.H.Posted.posts c.args.work.now.queue) _ _ _ c.in-Some.ensures.steps.0 c.loop-worker_start.invariant.worker_starts;
   count = search rules;
   room = search rules;
-  promised = All-more (λ h. h.promise.work.now.queue ≡ c.args.work.now.queue) _ _ _ c.push_reserved.ensures.items c.loop-worker_start.invariant.promised c.in-Some-start.ensures.promise;
+  promised = All-more (λ h. h.promise.work.now.queue ≡ c.args.work.now.queue) _ _ _ c.push_reserved.ensures.items c.loop-worker_start.invariant.promised search rules;
 }
 
-pub returns-in-None-start-clause-most : goal.returns-in-None-start-clause-most
-returns-in-None-start-clause-most g c = omega (arith, c.loop-worker_start.invariant.count)
+pub returns-in-None-ok-clause-most : goal.returns-in-None-ok-clause-most
+returns-in-None-ok-clause-most g c = omega (arith, c.loop-worker_start.invariant.count)
 
-pub returns-in-None-start-clause-promised : goal.returns-in-None-start-clause-promised
-returns-in-None-start-clause-promised g c = c.loop-worker_start.invariant.promised
+pub returns-in-None-ok-clause-promised : goal.returns-in-None-ok-clause-promised
+returns-in-None-ok-clause-promised g c = c.loop-worker_start.invariant.promised
 
 pub returns-clause-most : goal.returns-clause-most
 returns-clause-most g c = omega (arith, c.loop-worker_start.invariant.count)
 
 pub returns-clause-promised : goal.returns-clause-promised
 returns-clause-promised g c = c.loop-worker_start.invariant.promised
-
-pub start-requires : goal.start-requires
-start-requires g c =
-    let b = c.type_bounds in
-    let worker_start = All-first (IsWorkerStart g.H.Posted.posts c.args.work.now.queue) _ _ _ c.in-Some.ensures.steps.0 c.loop-worker_start.invariant.worker_starts in
-    (b.send-P, (b.send-H, (b.send-A, (b.sync-P, (b.sync-A, (b.sync-W, (b.sync-R, (b.frees-A-Allocator, (c.requires.handler, worker_start)))))))))
 
 pub push_reserved-requires : goal.push_reserved-requires
 push_reserved-requires g c = omega (arith, c.loop-worker_start.invariant.count, c.loop-worker_start.invariant.room, c.in-Some.ensures.steps.1)
