@@ -1,5 +1,5 @@
-use Rattle.std.proofs.Common.{◌≡◌, ◌<◌, ◌∙◌, ap, length, subst, sym, true, inl, inr, refl, rules, arith}
-use Rattle.std.specs.Prelude.{IsTrue, vec_len}
+use Rattle.std.proofs.Common.{◌≡◌, ◌<◌, ◌∙◌, ap, length, subst, sym, inl, inr, refl, arith}
+use Rattle.std.specs.Prelude.{vec_len}
 use Rattle.workers.proofs.Ends.{ended}
 use Rattle.workers.proofs.run.run.Goals as goal
 
