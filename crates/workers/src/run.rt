@@ -6,7 +6,7 @@ ghost use Rattle.workers.specs.Runs.{IsRunOutcome};
 use crate::feeding::{Feed, feed_ends};
 use crate::handler::{Handler, Posted};
 use crate::joining::join_all;
-use crate::starting::{Crew, start_all};
+use crate::starting::{Crew, Started, start_all};
 use line_model::fault::Fault;
 use line_model::piece::Plan;
 use piece_queue::{FeederPass, Work};
@@ -53,18 +53,16 @@ fn run<
     ensures refused { IfErr result (λ e. T.unfed task e.0
         × ((e.1 ≡ Fault.Memory) ⊎ (e.1 ≡ Fault.Start))) }
 {
-    let Crew {
+    let Some(started) = start_all(scope, rt, alloc, work, handler, crew) else {
+        return Err((task.back(), Fault::Memory));
+    };
+    let Started {
         mut pass,
-        worker_starts,
-    } = crew;
-    let count = worker_starts.len();
-    let Ok(mut running) = Vec::with_capacity(alloc, count) else {
-        return Err((task.back(), Fault::Memory));
-    };
-    let Ok(shares) = Vec::with_capacity(alloc, count) else {
-        return Err((task.back(), Fault::Memory));
-    };
-    if !start_all(scope, rt, alloc, work, handler, worker_starts, &mut running) {
+        running,
+        shares,
+        all,
+    } = started;
+    if !all {
         feed_ends(rt, work, running.len(), &mut pass);
         join_all(rt, work, pass, running, shares);
         return Err((task.back(), Fault::Start));

@@ -78,40 +78,16 @@ pub fn crew_for<P: Plan, L: Ledgers, A: Allocator + Copy, N: Witness>(
     })
 }
 
-/// Starts a worker, where a thread can be made.
-fn start<
-    's,
-    'e: 's,
-    P: Plan + Send + Sync,
-    H: Posted + Send + Drop + 's,
-    A: Allocator + Copy + Send + Sync,
-    W: Handler<P, A, H> + Sync,
-    R: Wait + Clock + Sync,
->(
-    scope: &'s Scope<'s, &'e ()>,
-    rt: &'s R,
-    alloc: A,
-    work: &'s Work<P, A>,
-    handler: &'s W,
-    worker_start: WorkerStart<H, A>,
-) -> Option<Running<'s, P, H, A>>
-    requires handler { W.handles handler.now work.now.queue }
-    requires worker_start { IsWorkerStart H.posts work.now.queue worker_start }
-    ensures promise { IfSome result (λ h. h.promise.work.now.queue ≡ work.now.queue) }
-{
-    let WorkerStart { pass, share } = worker_start;
-    let started = scope.spawn_with(
-        Finishes { work },
-        move || -> WorkerOutcome<H, A>
-            requires { (pass.queue ≡ work.now.queue) × (pass.record_of ≡ worker [] false 0)
-                × (H.posts share ≡ 0) × W.handles handler.now work.now.queue }
-            ensures { IsWorkerOutcome H.posts work.entry.now.queue result }
-        { work_on(rt, alloc, work, handler, pass, share) },
-    );
-    started.ok()
+/// The feeder's pass, the workers that run, room for their shares, and whether each worker has its thread.
+#[derive(Drop)]
+pub struct Started<'s, P: Plan, H: Posted, A: Allocator> {
+    pub pass: FeederPass<A>,
+    pub running: Vec<Running<'s, P, H, A>, A>,
+    pub shares: Vec<H, A>,
+    pub all: bool,
 }
 
-/// Starts the workers, and says whether each has its thread.
+/// Starts the workers, each in a thread of its own, up to the first that gets none; or wants memory.
 pub fn start_all<
     's,
     'e: 's,
@@ -126,22 +102,55 @@ pub fn start_all<
     alloc: A,
     work: &'s Work<P, A>,
     handler: &'s W,
-    worker_starts: Vec<WorkerStart<H, A>, A>,
-    running: &mut Vec<Running<'s, P, H, A>, A>,
-) -> bool
+    crew: Crew<H, A>,
+) -> Option<Started<'s, P, H, A>>
+    requires queue { crew.queue ≡ work.now.queue }
     requires handler { W.handles handler.now work.now.queue }
-    requires worker_starts { All (IsWorkerStart H.posts work.now.queue) worker_starts.items }
-    requires none { vec_len running.old ≡ 0 }
-    requires room { vec_len worker_starts ≤ vec_capacity running.old }
-    ensures all { IsTrue result → vec_len running.new ≡ vec_len worker_starts }
-    ensures most { vec_len running.new ≤ vec_len worker_starts }
-    ensures promised { All (λ h. h.promise.work.now.queue ≡ work.now.queue) running.new.items }
+    ensures pass { IfSome result (λ s. (s.pass.queue ≡ work.now.queue)
+        × (s.pass.record_of ≡ feeder 0 0 crew.count 0 []) × (s.pass.pieces ≡ [])) }
+    ensures room { IfSome result (λ s. (vec_len s.shares ≡ 0)
+        × (vec_len s.running ≤ vec_capacity s.shares)) }
+    ensures all { IfSome result (λ s. IsTrue s.all → vec_len s.running ≡ crew.count) }
+    ensures promised { IfSome result (λ s. All (λ h. h.promise.work.now.queue ≡ work.now.queue)
+        s.running.items) }
 {
+    let Crew {
+        pass: feeder_pass,
+        worker_starts,
+    } = crew;
+    let count = worker_starts.len();
+    let Ok(mut running) = Vec::with_capacity(alloc, count) else {
+        return None;
+    };
+    let Ok(shares) = Vec::with_capacity(alloc, count) else {
+        return None;
+    };
     for worker_start in worker_starts {
-        match start(scope, rt, alloc, work, handler, worker_start) {
+        let WorkerStart { pass, share } = worker_start;
+        let started = scope.spawn_with(
+            Finishes { work },
+            move || -> WorkerOutcome<H, A>
+                requires { (pass.queue ≡ work.now.queue) × (pass.record_of ≡ worker [] false 0)
+                    × (H.posts share ≡ 0) × W.handles handler.now work.now.queue }
+                ensures { IsWorkerOutcome H.posts work.entry.now.queue result }
+            { work_on(rt, alloc, work, handler, pass, share) },
+        );
+        match started.ok() {
             Some(one) => running.push_reserved(one),
-            None => return false,
+            None => {
+                return Some(Started {
+                    pass: feeder_pass,
+                    running,
+                    shares,
+                    all: false,
+                });
+            }
         }
     }
-    true
+    Some(Started {
+        pass: feeder_pass,
+        running,
+        shares,
+        all: true,
+    })
 }

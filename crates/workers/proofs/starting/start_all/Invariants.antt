@@ -6,7 +6,7 @@ use Rattle.workers.proofs.starting.start_all.Given as goal
 abbrev pub invariant-loop-worker_start : goal.invariant-loop-worker_start
 invariant-loop-worker_start g l = record {
   worker_starts : All (IsWorkerStart g.H.Posted.posts l.work.queue) (into_iter_items l.worker_start-iterator);
-  count : vec_len l.running + into_iter_len l.worker_start-iterator ≡ vec_len l.fn.worker_starts;
-  room : vec_len l.fn.worker_starts ≤ vec_capacity l.running;
+  count : vec_len l.running + into_iter_len l.worker_start-iterator ≡ l.count;
+  room : l.count ≤ vec_capacity l.running;
   promised : All (λ h. h.promise.work.now.queue ≡ l.work.queue) l.running.items;
 }
