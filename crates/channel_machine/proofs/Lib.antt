@@ -18,3 +18,4 @@ pub mod DataCounts
 pub mod LiveLemmas
 pub mod Changes
 pub mod Reading
+pub mod Worth

@@ -32,3 +32,35 @@ returns-in_default-clause-does g c k reached s =
     (nothing_by old.terms.interface old.channel c.args.place.now.side c.args.place.now.state c.args.entry c.args.octets.now k
     c.in_default.not-Move c.in_default.not-Normal c.in_default.not-Error c.in_default.not-Ends)
     (record { interface = refl; channel = refl; stands = s; reports = sym (append-nil c.args.events.now.items) })
+
+pub returns-in-Normal-clause-does : goal.returns-in-Normal-clause-does
+returns-in-Normal-clause-does g c k reached s =
+    let old = c.args.self.now in
+    subst (λ a. IfOk c.take_transfer.result (λ _. Does c.args.place.now.stamp old c.take_transfer.new.self c.args.events.now.items c.take_transfer.new.events.items
+    (entry_step old.terms.interface old.channel c.args.place.now.side (record { state = c.args.place.now.state; entry = a }) c.args.octets.now k)))
+    (sym c.in-Normal.is) (c.take_transfer.ensures.does k s)
+
+pub returns-in-Error-clause-does : goal.returns-in-Error-clause-does
+returns-in-Error-clause-does g c k reached s =
+    let old = c.args.self.now in
+    subst (λ a. IfOk c.fail.result (λ _. Does c.args.place.now.stamp old c.fail.new.self c.args.events.now.items c.fail.new.events.items
+    (entry_step old.terms.interface old.channel c.args.place.now.side (record { state = c.args.place.now.state; entry = a }) c.args.octets.now k)))
+    (sym c.in-Error.is) (c.fail.ensures.does k s)
+
+pub returns-in-Move-clause-unchanged : goal.returns-in-Move-clause-unchanged
+returns-in-Move-clause-unchanged g c = c.take_move.ensures.unchanged
+
+pub returns-in-Move-clause-memory : goal.returns-in-Move-clause-memory
+returns-in-Move-clause-memory g c = c.take_move.ensures.memory
+
+pub returns-in-Normal-clause-unchanged : goal.returns-in-Normal-clause-unchanged
+returns-in-Normal-clause-unchanged g c = c.take_transfer.ensures.unchanged
+
+pub returns-in-Normal-clause-memory : goal.returns-in-Normal-clause-memory
+returns-in-Normal-clause-memory g c = c.take_transfer.ensures.memory
+
+pub returns-in-Error-clause-unchanged : goal.returns-in-Error-clause-unchanged
+returns-in-Error-clause-unchanged g c = c.fail.ensures.unchanged
+
+pub returns-in-Error-clause-memory : goal.returns-in-Error-clause-memory
+returns-in-Error-clause-memory g c = c.fail.ensures.memory
