@@ -80,7 +80,7 @@ impl Topic {
 }
 
 /// One meaning of a word.
-#[derive(Clone, Copy, Debug, PartialEq, Eq)]
+#[derive(Clone, Copy)]
 pub struct Explanation {
     /// What the word is the name of.
     pub topic: Topic,
