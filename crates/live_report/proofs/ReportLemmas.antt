@@ -1,5 +1,5 @@
 -- The report of a text, from the observer of its rows.
-use Rattle.std.proofs.Common.{◌≡◌, ◌∙◌, sym, ap, subst, ℕ, List, [], ◌++◌, length, Option, Some, None, Result, Ok, Err, IfOk, IfErr, append-nil}
+use Rattle.std.proofs.Common.{◌≡◌, ◌∙◌, refl, sym, ap, subst, ℕ, List, [], ◌++◌, length, Option, Some, None, Result, Ok, Err, IfOk, IfErr, append-nil}
 use Rattle.line_model.specs.basics.Device.{with_more}
 use Rattle.line_model.specs.basics.Records.{Report, Row}
 use Rattle.line_model.specs.observer.Report.{no_summary, report, report_of, text_of}
@@ -7,15 +7,15 @@ use Rattle.line_model.specs.text.Text.{fault, head, rows}
 use Rattle.line_model.specs.traces.Traces.{trace_report, trace_summary}
 use Rattle.line_model.specs.declared.interface.Interface.{Interface}
 use Rattle.line_model.specs.declared.fault.Fault.{Fault}
-use Rattle.line_model.specs.declared.fault.Fault.TheVariants.{Memory, Write}
+use Rattle.line_model.specs.declared.fault.Fault.TheVariants.{Memory, Trace, Write}
 use Rattle.line_model.specs.declared.totals.Summary.{Summary}
 use Rattle.trace_text.specs.Progress.{Progress}
-use Rattle.trace_text.specs.StandsFor.{StandsFor as IsReaderOf}
+use Rattle.trace_text.specs.StandsFor.{StandsFor as IsReaderOf, IsFaultOf, IsTextFault}
 use Rattle.trace_text.proofs.Grows.{head_stays}
 use Rattle.trace_text.proofs.RefusalLemmas.{head_stands}
 use Rattle.trace_text.proofs.RowsOfText.{text_numbers, text_octets, text_rises}
 use Rattle.live_report.specs.Observing.{AreRows}
-use Rattle.live_report.specs.Reports.{IsReportOf, IsReported, IsTaken}
+use Rattle.live_report.specs.Reports.{IsRefusal, IsReportOf, IsReported, IsTaken}
 use Rattle.line_model.proofs.DeviceLemmas.{front_of}
 
 -- a report of the rows of a text is the text's
@@ -50,3 +50,32 @@ pub taken_by : (text : List ℕ) (r : Report) (before after : Option (List ℕ))
     → (front : List ℕ) × (rest : List ℕ) × (text_of r ≡ front ++ rest) × (after ≡ with_more before front) → IsTaken before after (trace_report text) f
 taken_by text r before after f is w part =
     rw w (length part.0, part.3 ∙ ap (with_more before) (front_of part.0 part.1 (trace_report text) (sym (report_text text r is) ∙ part.2)))
+
+-- ---- a text that was refused before anything was written
+
+pub refuses : (text : List ℕ) (f : Fault) → IsFaultOf (fault text) f → IsRefusal text f
+refuses text Memory h = tt
+refuses text (Trace line kind) h = h
+refuses text _ h = absurd h
+
+pub untaken : (taken : Option (List ℕ)) (bytes : List ℕ) (f : Fault) → IsTextFault f → IsTaken taken taken bytes f
+untaken taken bytes Memory h = refl
+untaken taken bytes (Trace line kind) h = refl
+untaken taken bytes _ h = absurd h
+
+pub unwritten : (f : Fault) → IsTextFault f → f ≡ Write → ⊥
+unwritten f h w = subst IsTextFault w h
+
+-- ---- an answer is one of two, and so is what was refused
+
+pub apart : (refused : Option Fault) (f : Fault) → refused ≡ None → refused ≡ Some f → ⊥
+apart refused f none some = cc
+
+pub same : (refused : Option Fault) (f g : Fault) → refused ≡ Some f → refused ≡ Some g → f ≡ g
+same refused f g first second = cc
+
+pub is_fault : (T : Type 0) (f g : Fault) → ◌≡◌ {A = Result T Fault} (Err f) (Err g) → f ≡ g
+is_fault T f g e = cc
+
+pub no_fault : (T : Type 0) (x : T) (f : Fault) → ◌≡◌ {A = Result T Fault} (Ok x) (Err f) → ⊥
+no_fault T x f e = cc
