@@ -2,9 +2,7 @@
 #![tactic(auto)]
 
 mod reading;
-mod text_cutter;
+pub mod text_cutter;
 
 pub use reading::{Read, Reading};
 
-#[cfg(test)]
-mod tests;

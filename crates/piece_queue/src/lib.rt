@@ -12,5 +12,3 @@ pub use rule::{Notes, Record};
 pub use witness::Witness;
 pub use work::{FeederPass, Taken, Work, WorkerPass};
 
-#[cfg(test)]
-mod tests;

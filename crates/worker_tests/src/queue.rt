@@ -3,10 +3,10 @@
 ghost use Rattle.std.specs.Prelude.{◌≡◌, ◌+◌, ◌<◌, ◌≤◌, [], false};
 ghost use Rattle.piece_queue.specs.Rule.{worker};
 
-use crate::{FeederPass, Taken, Work, WorkerPass};
 use line_model::interface::Interface;
 use line_model::items::Items;
 use line_model::piece::Piece;
+use piece_queue::{FeederPass, Taken, Work, WorkerPass};
 use std::alloc::Global;
 use std::marker::Brand;
 use std::sync::{Mutex, Wait};

@@ -1,7 +1,7 @@
 //! The reports of three epochs in two shares, and a report that comes twice.
 
-use crate::tests::{Scenario, THREE_EPOCHS, comes_back, play, post_all, post_one, report};
-use crate::{Ledgers, LockedPosts, Share};
+use crate::posting::{Scenario, THREE_EPOCHS, comes_back, play, post_all, post_one, report};
+use findings_book::{Ledgers, LockedPosts, Share};
 use line_model::piece::PieceReport;
 use line_model::totals::Totals;
 use std::alloc::Global;

@@ -1,5 +1,5 @@
 use Rattle.std.specs.Prelude.{◌≡◌}
-use Rattle.piece_queue.proofs.tests.feed_all.Given as goal
+use Rattle.worker_tests.proofs.queue.feed_all.Given as goal
 
 abbrev pub invariant-loop-id : goal.invariant-loop-id
 invariant-loop-id g l = record {

@@ -2,8 +2,8 @@
 
 ghost use Rattle.std.specs.Prelude.{◌≡◌};
 
-use crate::tests::{finding, report};
-use crate::{AnyReport, Blanks, Book, Ledgers, LockedPosts, Share};
+use crate::posting::{finding, report};
+use findings_book::{AnyReport, Blanks, Book, Ledgers, LockedPosts, Share};
 use line_model::fault::Fault;
 use line_model::piece::PieceReport;
 use line_model::totals::Totals;

@@ -3,13 +3,13 @@
 ghost use Rattle.std.specs.Prelude.{◌≡◌, ◌<◌, Some};
 ghost use Rattle.line_model.specs.traces.Traces.{trace_plan};
 
-use crate::text_cutter::TextCutter;
-use crate::{Read, Reading};
 use line_model::count::Count;
 use line_model::device::Source;
 use line_model::fault::{Fault, Kind};
 use line_model::packet::Packet;
 use line_model::piece::{Piece, PieceReport, Plan};
+use piece_feed::text_cutter::TextCutter;
+use piece_feed::{Read, Reading};
 use std::alloc::{Allocator, Global};
 use std::marker::Brand;
 use std::sync::Wait;

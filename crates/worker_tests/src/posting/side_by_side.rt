@@ -1,9 +1,9 @@
 //! Two threads that post side by side, and what each of them sees.
 
-use crate::tests::{
+use crate::posting::{
     Scenario, THREE_EPOCHS, comes_back, finding, play, post_all, report, report_of,
 };
-use crate::{AnyReport, Ledgers, LockedPosts, Share};
+use findings_book::{AnyReport, Ledgers, LockedPosts, Share};
 use line_model::fault::Fault;
 use line_model::piece::PieceReport;
 use line_model::totals::Totals;

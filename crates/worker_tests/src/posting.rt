@@ -6,9 +6,9 @@ mod side_by_side;
 
 ghost use Rattle.std.specs.Prelude.{◌≡◌, ◌≤◌, ◌^◌, ◌+◌, IfOk, vec_len};
 
-use crate::tests::in_turn::{has_one, has_three_epochs, posted_twice, three_epochs};
-use crate::tests::side_by_side::{has_both, has_twelve, post_and_look, twelve_pieces};
-use crate::{AnyReport, Blanks, Book, Ledgers, LockedPosts, Share};
+use crate::posting::in_turn::{has_one, has_three_epochs, posted_twice, three_epochs};
+use crate::posting::side_by_side::{has_both, has_twelve, post_and_look, twelve_pieces};
+use findings_book::{AnyReport, Blanks, Book, Ledgers, LockedPosts, Share};
 use line_model::fault::Fault;
 use line_model::finding::{Code, Finding};
 use line_model::piece::PieceReport;

@@ -1,6 +1,6 @@
 use Rattle.std.specs.Prelude.{Some}
 use Rattle.line_model.specs.traces.Traces.{trace_plan}
-use Rattle.piece_feed.proofs.tests.read.Given as goal
+use Rattle.worker_tests.proofs.feeding.read.Given as goal
 
 abbrev pub ghosts-read_on-P-Plan : goal.ghosts-read_on-P-Plan
 ghosts-read_on-P-Plan g a = record { pieces = Some (trace_plan a.text.now) }

@@ -1,0 +1,9 @@
+//! The tests of what the workers share: the queue of pieces, the book of findings, and the task that feeds them.
+#![tactic(auto)]
+
+#[cfg(test)]
+mod feeding;
+#[cfg(test)]
+mod posting;
+#[cfg(test)]
+mod queue;
