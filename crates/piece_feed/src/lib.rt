@@ -5,4 +5,3 @@ mod reading;
 pub mod text_cutter;
 
 pub use reading::{Read, Reading};
-

@@ -11,4 +11,3 @@ pub use entry::Entry;
 pub use rule::{Notes, Record};
 pub use witness::Witness;
 pub use work::{FeederPass, Taken, Work, WorkerPass};
-
