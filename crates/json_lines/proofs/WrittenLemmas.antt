@@ -1,9 +1,9 @@
 -- Texts that a sink takes in parts.
-use Rattle.std.proofs.Common.{◌≡◌, ℕ, true, false, ◌<◌, ◌≤◌, List, [], ◌++◌, sym, ap, ◌∙◌, arith, Option, append_assoc}
+use Rattle.std.proofs.Common.{◌≡◌, ℕ, true, false, ◌<◌, ◌≤◌, List, [], ◌++◌, sym, ap, ◌∙◌, arith, Option, append_assoc, subst}
 use Rattle.std.proofs.lemmas.List.{append-nil}
 use Rattle.line_model.specs.basics.Device.{with_more}
 use Rattle.json_lines.specs.declared.chunk.Chunk.{Chunk}
-use Rattle.json_lines.specs.Written.{Writes}
+use Rattle.json_lines.specs.Written.{Puts, Writes}
 use Rattle.line_model.proofs.DeviceLemmas.{with_more-append}
 
 -- what is held is sent, all of it or a first part, and nothing is held then
@@ -67,3 +67,10 @@ still_given_up before taken c d text w was failed = record {
   rising = w.rising;
   cause = λ e. w.cause was;
 }
+
+-- bytes that are put behind others
+pub put_both : (w0 w1 w2 : Option (List ℕ) × ℕ) (c0 c1 c2 : Chunk) (p q : List ℕ) → Puts w0 w1 c0 c1 p → Puts w1 w2 c1 c2 q → Puts w0 w2 c0 c2 (p ++ q)
+put_both w0 w1 w2 c0 c1 c2 p q f g = λ start text w. subst (λ t. Writes start w2 c2 t) (append_assoc text p q) (g start (text ++ p) (f start text w))
+
+pub put_same : (w0 w1 : Option (List ℕ) × ℕ) (c0 c1 : Chunk) (p q : List ℕ) → Puts w0 w1 c0 c1 p → p ≡ q → Puts w0 w1 c0 c1 q
+put_same w0 w1 c0 c1 p q f e = subst (λ r. Puts w0 w1 c0 c1 r) e f
