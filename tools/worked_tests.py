@@ -1,8 +1,8 @@
 #!/usr/bin/env python3
 """worked_tests.py [--check]: writes the worked traces of tests/traces/worked, but those with long lines, as constants of
-the tests of trace_scan.
+scan_tests.
 
-They are crates/trace_scan/src/tests/worked/TOPIC.rt. Run it after a change of those traces.
+They are crates/scan_tests/src/scans/worked/TOPIC.rt. Run it after a change of those traces.
 With --check it writes nothing, and names each file that is another one. The last line is 'N passed, M failed'.
 """
 import re
@@ -11,7 +11,7 @@ import sys
 sys.dont_write_bytecode = True
 from worked_traces import ROOT, content, refusal, report, traces, write_or_check
 
-TESTS = ROOT / "crates/trace_scan/src/tests/worked"
+TESTS = ROOT / "crates/scan_tests/src/scans/worked"
 LONGEST = 400
 INDENT = 12 * " "
 TOPICS = {
@@ -59,7 +59,7 @@ def topic_of(trace):
 def topic_file(topic, chosen):
     """The file of a topic's traces."""
     faults = any(map(refusal, chosen))
-    uses = "use crate::tests::worked::Worked;\n" + ("use line_model::fault::{Fault, Kind};\n" if faults else "")
+    uses = "use crate::scans::worked::Worked;\n" + ("use line_model::fault::{Fault, Kind};\n" if faults else "")
     return f"""//! {TOPICS[topic][0]} tools/worked_tests.py writes this file from tests/traces/worked.
 
 {uses}
