@@ -17,7 +17,10 @@ from dataclasses import dataclass
 ROOT = pathlib.Path(__file__).resolve().parent.parent
 PAUSE = 0.2
 TICKS = os.sysconf("SC_CLK_TCK")
-PARTS = ("libraries", "tests", "edits", "programs", "traces", "program", "guide", "annotated", "follow", "hostile", "refused", "captures")
+# The folders of tests/ whose traces the built program is run on.
+SUITES = ("traces", "program", "guide", "annotated", "follow", "hostile", "refused", "captures")
+# A seed is the check of a crate as it stands that its edits begin with.
+PARTS = ("libraries", "tests", "seeds", "edits", "programs", *SUITES)
 DEAREST = 10
 
 
@@ -71,7 +74,7 @@ def below(process, ancestor, found):
 
 
 def edit_of(crate, room):
-    """The name of the must-fail edit whose text stands in the copy of a crate that is being checked."""
+    """The name of the must-fail edit whose text stands in the copy of a crate that is being checked; None for the crate as it stands."""
     for edit in sorted((ROOT / "crates" / crate / "must-fail").glob("*.edit")):
         file, old = None, None
         for line in edit.read_text().split("\n"):
@@ -85,7 +88,7 @@ def edit_of(crate, room):
                 if whole.exists() and copy.exists() and whole.read_text().replace(old, new) == copy.read_text():
                     return edit.stem
                 break
-    return "as it stands"
+    return None
 
 
 def kind_of(process):
@@ -95,13 +98,14 @@ def kind_of(process):
         crate = words[words.index("--crate-name") + 1]
         room = os.readlink(f"/proc/{process.number}/cwd")
         if "/rt-edit-" in room:
-            return "edits", f"{crate}/{edit_of(crate, room)}"
+            edit = edit_of(crate, room)
+            return ("edits", f"{crate}/{edit}") if edit else ("seeds", crate)
         if "--test" in words:
             return "tests", crate
         return ("programs" if "--crate-checked" in words else "libraries"), crate
     if "/rt-run-" in (words[0] if words else ""):
         return "tests" if process.name.endswith("_tests") else "programs", f"{process.name} (run)"
-    if words[1:2] and words[1].endswith(tuple(f"{part}/compare" for part in PARTS[4:])):
+    if words[1:2] and words[1].endswith(tuple(f"{suite}/compare" for suite in SUITES)):
         return words[1].split("/")[-2], "all"
     return None
 
