@@ -14,7 +14,8 @@ use Rattle.line_model.proofs.LineLemmas.{size_kind-zero}
 use Rattle.line_model.proofs.TextLemmas.{begun-lf, begun-more, ended-lf, ended-more, first_fault-append, size_kind-none, size_of-append, size_of-ended}
 use Rattle.trace_text.proofs.FeedLemmas.{early-none, no_fault, size-sound}
 use Rattle.trace_text.proofs.RefusalLemmas.{more_lines}
-use Rattle.annotated_trace.specs.Annotation.{Annotated, AreComments, AreMarked, IsAnnotationOf, IsMarked, IsOneLine, all_lines, bare_lines, found_in, marks_in, with_comments}
+use Rattle.trace_text.specs.Watched.{found_in}
+use Rattle.annotated_trace.specs.Annotation.{Annotated, AreComments, AreMarked, IsAnnotationOf, IsMarked, IsOneLine, all_lines, bare_lines, marks_in, with_comments}
 use Rattle.annotated_trace.specs.Annotators.{HasAnnotated, HasFirst}
 use Rattle.annotated_trace.specs.Marking.{AreMarksBehind, HasCommentsOf}
 use Rattle.annotated_trace.specs.declared.choice.Choice.{Choice}

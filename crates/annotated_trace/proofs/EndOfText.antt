@@ -22,7 +22,7 @@ use Rattle.annotated_trace.specs.Annotation.{AreComments, IsAnnotation, IsAnnota
 use Rattle.annotated_trace.specs.Annotators.{HasAnnotated, HasFirstOf, IsAnnotated, IsCloseRefusal, IsEndRefusal, IsFull}
 use Rattle.annotated_trace.specs.Marking.{HasClosing, HasFirstOfClosing, StopsClosing}
 use Rattle.trace_text.specs.StandsFor.{IsFaultOf}
-use Rattle.annotated_trace.specs.Watched.{IsReportOf}
+use Rattle.trace_text.specs.Watched.{IsReportOf}
 use Rattle.annotated_trace.specs.declared.choice.Choice.{Choice}
 use Rattle.trace_text.proofs.EndLemmas.{one_line, one_kind, fault-last, head-sound, rows-all}
 use Rattle.annotated_trace.proofs.AnnotatedLemmas.{some_same}

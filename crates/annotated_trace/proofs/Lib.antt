@@ -11,4 +11,3 @@ pub mod PassedLemmas
 pub mod CommentLemmas
 pub mod EndOfText
 pub mod ReadingLemmas
-pub mod WatchedLemmas

@@ -1,10 +1,11 @@
 -- A trace with comments behind its lines.
-use Rattle.std.specs.Prelude.{◌≡◌, ◌⊎◌, ℕ, ◌==◌, ◌&&◌, ◌≤◌, Bool, true, false, List, [], ◌∷◌, ◌++◌, filter, flat_map, map, length, Some, None, codes}
+use Rattle.std.specs.Prelude.{◌≡◌, ◌⊎◌, ℕ, ◌==◌, ◌&&◌, ◌≤◌, Bool, true, false, List, [], ◌∷◌, ◌++◌, filter, flat_map, map, length, codes}
 use Rattle.std.specs.List.{list_any, AllByRecursion}
-use Rattle.line_model.specs.observer.Report.{finding_line, report_of}
-use Rattle.line_model.specs.text.Text.{Line, head_of, is_comment, is_lf, line_limit, lines_of, rows_in}
+use Rattle.line_model.specs.observer.Report.{finding_line}
+use Rattle.line_model.specs.text.Text.{Line, is_comment, is_lf, line_limit, lines_of}
 use Rattle.line_model.specs.traces.Traces.{text}
 use Rattle.line_model.specs.declared.finding.Finding.{Finding}
+use Rattle.trace_text.specs.Watched.{found_in}
 use Rattle.annotated_trace.specs.declared.choice.Choice.{Choice}
 use Rattle.annotated_trace.specs.declared.choice.Choice.TheVariants.{EveryRow, ChosenRows}
 
@@ -48,10 +49,6 @@ abbrev pub AreMarksOf : List Finding → List Line → Type 0
 AreMarksOf [] [] = Unit {0}
 AreMarksOf (finding ∷ findings) (mark ∷ marks) = IsMarkOf finding mark × AreMarksOf findings marks
 AreMarksOf _ _ = ⊥
-
--- the findings of the rows that some lines write, none without a header
-abbrev pub found_in : List Line → List Finding
-found_in ls = elim (head_of ls) [ None ↦ [] | Some i ↦ (report_of i (rows_in ls)).findings ]
 
 -- a line of a trace, and the comments behind it
 pub record Annotated : Type 0 where

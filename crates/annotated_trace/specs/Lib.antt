@@ -1,9 +1,7 @@
 pub mod Annotation
 pub mod Wording
 pub mod Pages
-pub mod Watched
 pub mod Marking
 pub mod Annotators
 pub mod Annotating
-pub mod FedBytes
 pub mod Laws

@@ -7,11 +7,11 @@ ghost use Rattle.annotated_trace.specs.Annotating.{Annotates, HasFed, IsAnnotati
 use crate::annotator::Annotator;
 use crate::choice::Choice;
 use crate::describer::Describer;
-use crate::watcher::Watcher;
 use line_model::device::{Sink, Source};
 use line_model::fault::Fault;
 use line_model::totals::Summary;
 use std::alloc::Allocator;
+use trace_text::watcher::Watcher;
 
 /// The bytes that are asked for at once.
 const CHUNK: usize = 1 << 16;

@@ -12,12 +12,12 @@ use crate::closing::send_closing;
 use crate::commenting::{Scratch, append_comments};
 use crate::describer::Describer;
 use crate::holding::{send_held, send_much};
-use crate::watcher::Watcher;
 use line_model::device::Sink;
 use line_model::fault::Fault;
 use line_model::totals::Summary;
 use std::alloc::Allocator;
 use trace_text::cuts::split_at_byte;
+use trace_text::watcher::Watcher;
 
 /// Whether a fault is that of a line.
 fn is_line(fault: Fault) -> bool

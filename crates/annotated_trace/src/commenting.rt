@@ -7,8 +7,8 @@ use crate::choice::Choice;
 use crate::describer::Describer;
 use crate::marks::append_mark;
 use crate::notes::{Notes, Words};
-use crate::watcher::Watcher;
 use std::alloc::{AllocError, Allocator};
+use trace_text::watcher::Watcher;
 
 /// Room for the words of comments, which is used again.
 #[derive(Drop)]

@@ -12,5 +12,3 @@ pub mod laws;
 mod marks;
 pub mod notes;
 pub mod page;
-mod watched;
-pub mod watcher;

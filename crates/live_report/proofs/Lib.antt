@@ -9,5 +9,6 @@ pub mod FoundLemmas
 pub mod WatchLemmas
 pub mod LiveLemmas
 pub mod ReportLemmas
+pub mod WatchedLemmas
 pub mod LawLemmas
 pub mod FollowLemmas

@@ -5,4 +5,5 @@ pub mod Reports
 pub mod Found
 pub mod Lives
 pub mod Follows
+pub mod FedBytes
 pub mod Laws

@@ -1,22 +1,12 @@
 -- What a report says of a text, and what a sink took of it.
 use Rattle.std.specs.Prelude.{◌≡◌, ℕ, List, Option, Some, None, take}
 use Rattle.line_model.specs.basics.Device.{with_more}
-use Rattle.line_model.specs.basics.Records.{Report}
-use Rattle.line_model.specs.observer.Report.{report_of}
-use Rattle.line_model.specs.text.Text.{fault, head, rows}
+use Rattle.line_model.specs.text.Text.{fault}
 use Rattle.line_model.specs.traces.Traces.{trace_report, trace_summary}
-use Rattle.line_model.specs.declared.interface.Interface.{Interface}
 use Rattle.line_model.specs.declared.fault.Kind.TheVariants.{HeaderMissing}
 use Rattle.line_model.specs.declared.fault.Fault.{Fault}
 use Rattle.line_model.specs.declared.fault.Fault.TheVariants.{Memory, Trace, Write}
 use Rattle.line_model.specs.declared.totals.Summary.{Summary}
-
--- a text without a fault, and its report
-pub record IsReportOf (text : List ℕ) (r : Report) : Type 0 where
-  pub sound : fault text ≡ None
-  pub interface : Interface
-  pub header : head text ≡ Some interface
-  pub report : r ≡ report_of interface (rows text)
 
 -- the text has no fault, the sink took exactly its report, and the sums are those of its last line
 pub record IsReported (text : List ℕ) (before after : Option (List ℕ)) (sums : Summary) : Type 0 where

@@ -8,4 +8,5 @@ pub mod laws;
 pub mod live;
 pub mod observer;
 mod telling;
+mod watched;
 mod watching;

@@ -9,7 +9,8 @@ ghost use Rattle.trace_text.specs.StandsFor.{IsFaultOf, IsTextFault};
 ghost use Rattle.trace_text.specs.EndedPart.{ended_part};
 ghost use Rattle.live_report.specs.Found.{IsFoundBy, found};
 ghost use Rattle.live_report.specs.Lives.{IsFed, IsFedOn, OfFed, RefusesEarly, WasFed};
-ghost use Rattle.live_report.specs.Reports.{IsMissing, IsRefusal, IsReportFault, IsReportOf, IsReported, IsTaken};
+ghost use Rattle.live_report.specs.Reports.{IsMissing, IsRefusal, IsReportFault, IsReported, IsTaken};
+ghost use Rattle.trace_text.specs.Watched.{IsReportOf};
 
 use crate::observer::Observer;
 use crate::watching::{finish, watch};

@@ -9,7 +9,8 @@ use Rattle.line_model.specs.declared.interface.Interface.{Interface}
 use Rattle.line_model.specs.declared.totals.Summary.{Summary}
 use Rattle.line_model.specs.declared.fault.Fault.{Fault}
 use Rattle.line_model.specs.declared.fault.Fault.TheVariants.{Memory, Trace, Read, Write}
-use Rattle.live_report.specs.Reports.{IsRefusal as IsReportRefusal, IsReportFault, IsReportOf, IsReported, IsTaken}
+use Rattle.live_report.specs.Reports.{IsRefusal as IsReportRefusal, IsReportFault, IsReported, IsTaken}
+use Rattle.trace_text.specs.Watched.{IsReportOf}
 use Rattle.piece_feed.specs.Readings.{IsReadingFault, IsRefusal, IsRefusedBy}
 use Rattle.trace_scan.specs.Scan.{IsEarlyRefusal, IsPartTaken, IsScanFault}
 

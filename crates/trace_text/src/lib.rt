@@ -14,4 +14,5 @@ mod row_line;
 pub mod shares;
 #[cfg(test)]
 mod tests;
+pub mod watcher;
 mod words;

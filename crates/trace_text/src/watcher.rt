@@ -1,4 +1,4 @@
-//! What an annotator asks of the reader of a trace.
+//! What a reader of a trace tells of it while it grows.
 
 use line_model::fault::Fault;
 use line_model::finding::Finding;
@@ -10,8 +10,7 @@ pub trait Watcher<A: Allocator>: Drop {
     ghost use Rattle.std.specs.Prelude.{◌≡◌, ℕ, ◌++◌, List, None, IfErr, IfOk, OnOk, length};
     ghost use Rattle.line_model.specs.text.Text.{early, ended_lines, fault};
     ghost use Rattle.line_model.specs.declared.finding.Finding.{Finding as AnyFinding};
-    ghost use Rattle.annotated_trace.specs.Annotation.{found_in};
-    ghost use Rattle.annotated_trace.specs.Watched.{IsReportOf};
+    ghost use Rattle.trace_text.specs.Watched.{IsReportOf, found_in};
     ghost use Rattle.trace_text.specs.StandsFor.{IsFaultOf, IsTextFault};
 
     /// It was fed this text, and refused none of it.

@@ -1,15 +1,12 @@
--- The reports of a trace that grows, as an annotator asks them.
-use Rattle.std.proofs.Common.{◌≡◌, ◌∙◌, sym, ap, ℕ, List, [], ◌++◌, Some, None, Result, Ok, Err, OnOk, IfOk}
-use Rattle.line_model.specs.basics.Records.{Report}
+-- What a live trace found, as the lines say it.
+use Rattle.std.proofs.Common.{◌≡◌, ◌∙◌, sym, ap, ℕ, List, [], ◌++◌, Some, None, Result, Ok, Err, OnOk}
 use Rattle.line_model.specs.observer.Report.{report_of}
 use Rattle.line_model.specs.text.Text.{early, early_head, early_rows, ended_lines, good_lines, head_of}
 use Rattle.line_model.specs.declared.fault.Fault.{Fault}
 use Rattle.line_model.specs.declared.finding.Finding.{Finding}
 use Rattle.trace_text.proofs.FeedLemmas.{rows-sound}
 use Rattle.live_report.specs.Found.{IsFoundBy, found}
-use Rattle.live_report.specs.Reports as live
-use Rattle.annotated_trace.specs.Annotation.{found_in}
-use Rattle.annotated_trace.specs.Watched.{IsReportOf}
+use Rattle.trace_text.specs.Watched.{found_in}
 
 head_so_far : (x : List ℕ) → early x ≡ None → early_head x ≡ head_of (ended_lines x)
 unfolding early_head
@@ -24,10 +21,3 @@ found_ended x h =
 pub found_more : {T : Type 0} → (r : Result T Fault) (x y : List ℕ) (out : List Finding) (P : Type 0) → early x ≡ None → OnOk r P → (P → early y ≡ None) → IsFoundBy r [] out (found x) (found y) → OnOk r (found_in (ended_lines y) ≡ found_in (ended_lines x) ++ out)
 found_more (Ok u) x y out P h p sound f = sym (found_ended y (sound p)) ∙ f.known_has ∙ ap (λ xs. found x ++ xs) (sym f.out_has) ∙ ap (λ xs. xs ++ out) (found_ended x h)
 found_more (Err u) x y out P h p sound f = tt
-
-report_alike : (x : List ℕ) (r : Report) → live.IsReportOf x r → IsReportOf x r
-report_alike x r h = record { sound = h.sound; interface = h.interface; header = h.header; report = h.report }
-
-pub reports_alike : {E : Type 0} → (x : List ℕ) (r : Result Report E) → IfOk r (live.IsReportOf x) → IfOk r (IsReportOf x)
-reports_alike x (Ok r) h = report_alike x r h
-reports_alike x (Err e) h = tt

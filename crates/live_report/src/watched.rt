@@ -1,17 +1,17 @@
-//! The reports of a trace that grows, as an annotator asks them.
+//! A live trace as any reader of a trace.
 
 ghost use Rattle.std.specs.Prelude.{◌≡◌, ℕ, List};
 ghost use Rattle.trace_text.specs.Progress.{bytes_fed};
 ghost use Rattle.live_report.specs.Lives.{StandsFor};
-ghost use Rattle.annotated_trace.specs.FedBytes.{fed_length};
+ghost use Rattle.live_report.specs.FedBytes.{fed_length};
 
-use crate::watcher::Watcher;
+use crate::live::Live;
 use channel_machine::run::Channel;
 use line_model::fault::Fault;
 use line_model::finding::Finding;
 use line_model::report::Report;
-use live_report::live::Live;
 use std::alloc::Allocator;
+use trace_text::watcher::Watcher;
 
 impl<A: Allocator + Copy, C: Channel<A>> Watcher<A> for Live<A, C> {
     ghost stands_for = { λ live text. StandsFor C.interface_of C.number_of C.stands_for live text };

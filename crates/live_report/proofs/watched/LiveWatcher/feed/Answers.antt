@@ -1,6 +1,6 @@
 use Rattle.std.proofs.Common.{◌++◌}
-use Rattle.annotated_trace.proofs.WatchedLemmas.{found_more}
-use Rattle.annotated_trace.proofs.watched.LiveWatcher.feed.Goals as goal
+use Rattle.live_report.proofs.WatchedLemmas.{found_more}
+use Rattle.live_report.proofs.watched.LiveWatcher.feed.Goals as goal
 
 pub returns-clause-found : goal.returns-clause-found
 returns-clause-found g c text s =
