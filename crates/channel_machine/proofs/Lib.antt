@@ -14,8 +14,5 @@ pub mod Entries
 pub mod Reached
 pub mod Usable
 pub mod PackedLemmas
-pub mod DataCounts
-pub mod LiveLemmas
 pub mod Changes
 pub mod Reading
-pub mod Worth

@@ -14,7 +14,7 @@ use Rattle.line_model.specs.declared.interface.Interface.{Interface}
 use Rattle.channel_machine.specs.Events.{stamped}
 use Rattle.channel_machine.specs.Reached.{IsReached}
 use Rattle.channel_machine.specs.Channels.{Known, StandsForReached, Does}
-use Rattle.channel_machine.specs.Run.{row_events}
+use Rattle.channel_run.specs.Run.{row_events}
 
 -- contents with the stamp of a row are events of the row
 stamped_are : (s : Stamp) (r : Row) (ws : List What) → s.packet ≡ r.number → map (stamped s) ws ≡ map event_of (stamp s.epoch (Some s.channel) r ws)

@@ -11,7 +11,3 @@ pub mod PackedStatus
 pub mod Channels
 pub mod Moves
 pub mod Entries
-pub mod Run
-pub mod Counted
-pub mod Live
-pub mod Views

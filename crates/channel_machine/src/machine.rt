@@ -5,9 +5,9 @@ ghost use Rattle.channel_machine.specs.Channels.{StandsForReached, interface_of,
 use crate::channel::StatusChannel;
 use crate::events::Stamp;
 use crate::messages::BothSettings;
-use crate::run::{Channel, View};
 use crate::status::StatusStore;
 use crate::terms::{Terms, is_pad_call, was_fast};
+use channel_run::run::{Channel, View};
 use line_model::event::Event;
 use line_model::fault::Fault;
 use line_model::interface::Interface;

@@ -5,7 +5,7 @@ ghost use Rattle.line_model.specs.basics.Octets.{channel_of};
 ghost use Rattle.line_model.specs.basics.Bounds.{IsItem, all_octets};
 
 use channel_machine::channel::PlainChannel;
-use channel_machine::run::{Channel, run_piece};
+use channel_run::run::{Channel, run_piece};
 use hex::decode as hex_decode;
 use line_model::call::{CallRecord, SettingRecord};
 use line_model::event::{Entry, How};

@@ -12,7 +12,7 @@ use crate::uncounted::Uncounted;
 use annotated_trace::describer::Describer;
 use annotated_trace::notes::{Notes, Words};
 use annotated_trace::page::{ClosingPage, Origin};
-use channel_machine::run::{Channel, View};
+use channel_run::run::{Channel, View};
 use line_model::device::Sink;
 use line_model::event::{Event, What};
 use line_model::finding::Finding;

@@ -1,7 +1,7 @@
 //! What is wrong with a row, in words.
 
 use crate::prose::{Prose, count, say_number};
-use channel_machine::run::View;
+use channel_run::run::View;
 use explanations::explanation::Explanation;
 use explanations::flow_codes::flow_codes;
 use explanations::messages::messages;

@@ -1,6 +1,6 @@
 //! What is remembered of each logical channel.
 
-use channel_machine::run::View;
+use channel_run::run::View;
 use line_model::state::{ChannelState, Side};
 use std::alloc::{AllocError, Allocator};
 

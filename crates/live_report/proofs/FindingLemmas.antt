@@ -27,8 +27,8 @@ use Rattle.restart_epochs.proofs.Routes.{is_to_channel}
 use Rattle.restart_epochs.proofs.Steps.{on_channel, routed_to, routed_none}
 use Rattle.restart_epochs.proofs.Taken.{Told, routed_by}
 use Rattle.restart_epochs.proofs.States.{after_rows, states_of}
-use Rattle.channel_machine.specs.Run.{row_events}
-use Rattle.channel_machine.specs.Live.{channel_after, channel_so_far}
+use Rattle.channel_run.specs.Run.{row_events}
+use Rattle.channel_run.specs.Live.{channel_after, channel_so_far}
 use Rattle.live_report.specs.declared.observer.Observer.{Observer as Running}
 use Rattle.live_report.specs.Lanes.{begun_piece}
 use Rattle.live_report.specs.Observing.{StandsFor}

@@ -9,8 +9,8 @@ use Rattle.line_model.specs.channels.Channels.{Channel}
 use Rattle.line_model.specs.pieces.Plan.{has_some}
 use Rattle.restart_epochs.specs.OpenRows.{OpenRows, rows_of, with_channel, HasMore}
 use Rattle.restart_epochs.specs.OpenLanes.{OpenLanes, value_at, HasTaken, HasListed, HasPut}
-use Rattle.channel_machine.specs.declared.live.LiveChannel.{LiveChannel}
-use Rattle.channel_machine.specs.Live.{StandsFor as IsLive, with_item}
+use Rattle.channel_run.specs.declared.live.LiveChannel.{LiveChannel}
+use Rattle.channel_run.specs.Live.{StandsFor as IsLive, with_item}
 use Rattle.live_report.specs.Lanes.{begun_piece, LaneFor, OpenFor, IsOutFor}
 
 -- a channel that has rows is listed already

@@ -15,7 +15,7 @@ use Rattle.restart_epochs.specs.OpenLanes.{OpenLanes, value_at, IsEmpty}
 use Rattle.restart_epochs.specs.Cutting.{Cutting, IsCutting, IsCounted, given_of, no_cutting}
 use Rattle.restart_epochs.proofs.Pushes.{Pushed}
 use Rattle.restart_epochs.proofs.Listings.{nothing_cut, nothing_bound}
-use Rattle.channel_machine.specs.declared.live.LiveChannel.{LiveChannel}
+use Rattle.channel_run.specs.declared.live.LiveChannel.{LiveChannel}
 use Rattle.live_report.specs.declared.observer.Observer.{Observer}
 use Rattle.live_report.specs.Lanes.{begun_piece, LaneFor, OpenFor}
 use Rattle.live_report.specs.Observing.{AreRows, Holds, StandsFor}

@@ -9,8 +9,8 @@ use Rattle.line_model.specs.pieces.Plans.{value}
 use Rattle.restart_epochs.specs.OpenRows.{OpenRows, rows_of, IsListing}
 use Rattle.restart_epochs.specs.OpenLanes.{OpenLanes, value_at}
 use Rattle.restart_epochs.specs.Cutting.{pieces_out}
-use Rattle.channel_machine.specs.declared.live.LiveChannel.{LiveChannel}
-use Rattle.channel_machine.specs.Live.{StandsFor as IsLive}
+use Rattle.channel_run.specs.declared.live.LiveChannel.{LiveChannel}
+use Rattle.channel_run.specs.Live.{StandsFor as IsLive}
 use Rattle.live_report.specs.Lanes.{begun_piece, LaneFor, OpenFor}
 use Rattle.live_report.proofs.EndingLemmas.{ended_piece}
 

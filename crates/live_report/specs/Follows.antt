@@ -8,7 +8,7 @@ use Rattle.line_model.specs.declared.fault.Fault.TheVariants.{Memory, Trace, Wri
 use Rattle.line_model.specs.declared.interface.Interface.{Interface}
 use Rattle.line_model.specs.text.Text.{early}
 use Rattle.trace_text.specs.Progress.{bytes_fed}
-use Rattle.channel_machine.specs.declared.run.Channel.{Ghosts as Machine}
+use Rattle.channel_run.specs.declared.run.Channel.{Ghosts as Machine}
 use Rattle.live_report.specs.declared.follow.Follower.{Follower}
 use Rattle.live_report.specs.Found.{found, found_text}
 use Rattle.live_report.specs.Lives.{StandsFor as IsLive}

@@ -9,10 +9,10 @@ use Rattle.line_model.specs.observer.Report.{findings_of}
 use Rattle.line_model.specs.pieces.Plan.{has_some}
 use Rattle.restart_epochs.specs.OpenRows.{OpenRows, rows_of, with_channel}
 use Rattle.restart_epochs.specs.OpenLanes.{OpenLanes, value_at}
-use Rattle.channel_machine.specs.declared.live.LiveChannel.{LiveChannel}
-use Rattle.channel_machine.specs.declared.run.Channel.{Ghosts as Machine}
-use Rattle.channel_machine.specs.Live.{StandsFor as IsLive, channel_so_far}
-use Rattle.channel_machine.specs.Run.{row_events}
+use Rattle.channel_run.specs.declared.live.LiveChannel.{LiveChannel}
+use Rattle.channel_run.specs.declared.run.Channel.{Ghosts as Machine}
+use Rattle.channel_run.specs.Live.{StandsFor as IsLive, channel_so_far}
+use Rattle.channel_run.specs.Run.{row_events}
 
 -- a row with its packet
 abbrev pub item : Row → Packet → Item

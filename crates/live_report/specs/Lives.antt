@@ -6,7 +6,7 @@ use Rattle.line_model.specs.text.Text.{early, early_rows}
 use Rattle.line_model.specs.declared.interface.Interface.{Interface}
 use Rattle.trace_text.specs.Progress.{Progress}
 use Rattle.trace_text.specs.StandsFor.{StandsFor as IsReaderOf, IsFaultOf, IsTextFault}
-use Rattle.channel_machine.specs.declared.run.Channel.{Ghosts as Machine}
+use Rattle.channel_run.specs.declared.run.Channel.{Ghosts as Machine}
 use Rattle.live_report.specs.declared.observer.Observer.{Observer}
 use Rattle.live_report.specs.declared.live.Live.{Live}
 use Rattle.live_report.specs.Observing.{StandsFor as IsObserverOf}

@@ -8,7 +8,7 @@ use Rattle.line_model.specs.channels.Channels.{Channel}
 use Rattle.line_model.specs.observer.Report.{report_of}
 use Rattle.line_model.specs.pieces.Plans.{value}
 use Rattle.line_model.specs.text.Text.{last_or}
-use Rattle.channel_machine.specs.declared.run.Channel.{Ghosts as Machine}
+use Rattle.channel_run.specs.declared.run.Channel.{Ghosts as Machine}
 use Rattle.restart_epochs.specs.OpenRows.{rows_of}
 use Rattle.restart_epochs.specs.Cutting.{Cutting, IsCutting, StandsFor as IsCutterOf, given_of, pieces_out}
 use Rattle.report_merge.specs.Gathered.{gathered}

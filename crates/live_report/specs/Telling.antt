@@ -3,8 +3,8 @@ use Rattle.std.specs.Prelude.{◌≡◌, ℕ, ◌++◌, List, Option, Result, On
 use Rattle.line_model.specs.declared.interface.Interface.{Interface}
 use Rattle.line_model.specs.basics.Records.{PieceReport}
 use Rattle.line_model.specs.pieces.Plans.{value}
-use Rattle.channel_machine.specs.declared.live.LiveChannel.{LiveChannel}
-use Rattle.channel_machine.specs.declared.run.Channel.{Ghosts as Machine}
+use Rattle.channel_run.specs.declared.live.LiveChannel.{LiveChannel}
+use Rattle.channel_run.specs.declared.run.Channel.{Ghosts as Machine}
 use Rattle.restart_epochs.specs.Cutting.{pieces_out}
 use Rattle.restart_epochs.specs.OpenLanes.{OpenLanes, IsEmpty}
 use Rattle.restart_epochs.specs.OpenRows.{OpenRows, rows_of, IsListing}

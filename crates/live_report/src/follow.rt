@@ -8,7 +8,7 @@ ghost use Rattle.live_report.specs.Follows.{FollowsOn, HasFindings, HasFindingsA
 ghost use Rattle.live_report.specs.Reports.{IsRefusal, IsReportFault, IsReported};
 
 use crate::live::Live;
-use channel_machine::run::Channel;
+use channel_run::run::Channel;
 use line_model::device::Sink;
 use line_model::fault::Fault;
 use line_model::totals::Summary;

@@ -6,8 +6,8 @@ ghost use Rattle.line_model.specs.declared.fault.Fault.TheVariants.{Memory};
 ghost use Rattle.restart_epochs.specs.OpenRows.{OpenRows, rows_of, HasMore};
 ghost use Rattle.live_report.specs.Lanes.{begun_piece, item, FindsOn, IsOut, LanesStandFor};
 
-use channel_machine::live::LiveChannel;
-use channel_machine::run::Channel;
+use channel_run::live::LiveChannel;
+use channel_run::run::Channel;
 use line_model::event::Event;
 use line_model::fault::Fault;
 use line_model::finding::Finding;

@@ -14,7 +14,7 @@ ghost use Rattle.trace_text.specs.Watched.{IsReportOf};
 
 use crate::observer::Observer;
 use crate::watching::{finish, watch};
-use channel_machine::run::Channel;
+use channel_run::run::Channel;
 use line_model::device::Sink;
 use line_model::fault::Fault;
 use line_model::finding::Finding;

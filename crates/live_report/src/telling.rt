@@ -4,8 +4,8 @@ ghost use Rattle.std.specs.Prelude.{◌≡◌, ◌<◌, ◌+◌, ◌^◌, None, 
 ghost use Rattle.line_model.specs.declared.fault.Fault.TheVariants.{Memory};
 ghost use Rattle.live_report.specs.Telling.{MayTell, TellsPieces};
 
-use channel_machine::live::LiveChannel;
-use channel_machine::run::Channel;
+use channel_run::live::LiveChannel;
+use channel_run::run::Channel;
 use line_model::fault::Fault;
 use report_merge::parts::Parts;
 use restart_epochs::open_lanes::Lanes;

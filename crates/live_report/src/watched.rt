@@ -6,7 +6,7 @@ ghost use Rattle.live_report.specs.Lives.{StandsFor};
 ghost use Rattle.live_report.specs.FedBytes.{fed_length};
 
 use crate::live::Live;
-use channel_machine::run::Channel;
+use channel_run::run::Channel;
 use line_model::fault::Fault;
 use line_model::finding::Finding;
 use line_model::report::Report;

@@ -10,7 +10,7 @@ ghost use Rattle.live_report.specs.Lives.{IsWatcher, OfWatched, Watches};
 ghost use Rattle.live_report.specs.Observing.{MayWalk, TellsReportWith};
 
 use crate::observer::Observer;
-use channel_machine::run::Channel;
+use channel_run::run::Channel;
 use line_model::fault::Fault;
 use line_model::finding::Finding;
 use line_model::report::Report;

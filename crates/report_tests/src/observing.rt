@@ -8,7 +8,7 @@ mod follows;
 mod wanting;
 
 use channel_machine::channel::PlainChannel;
-use channel_machine::run::Channel;
+use channel_run::run::Channel;
 use line_model::count::Count;
 use line_model::fault::{Fault, Kind};
 use live_report::live::Live;

@@ -9,7 +9,7 @@ ghost use Rattle.trace_scan.specs.Scan.{IsScanFault};
 
 use crate::reading::CHUNK;
 use channel_machine::channel::PackedChannel;
-use channel_machine::run::Channel;
+use channel_run::run::Channel;
 use line_model::device::{Sink, Source};
 use line_model::fault::Fault;
 use line_model::totals::Summary;

@@ -1,7 +1,7 @@
 //! The gate through which a scan runs its pieces.
 
 use channel_machine::channel::PackedChannel;
-use channel_machine::run::run_piece;
+use channel_run::run::run_piece;
 use line_model::fault::Fault;
 use line_model::piece::{Piece, PieceReport};
 use std::alloc::Allocator;

@@ -5,7 +5,7 @@ ghost use Rattle.live_report.specs.Lives.{IsFed, StandsFor};
 ghost use Rattle.piece_feed.specs.Readings.{IsReadingFault, IsRefusedBy};
 ghost use Rattle.trace_scan.specs.Scan.{IsEarlyRefusal};
 
-use channel_machine::run::Channel;
+use channel_run::run::Channel;
 use line_model::device::Source;
 use line_model::fault::Fault;
 use live_report::live::Live;

@@ -2,8 +2,8 @@
 
 use crate::channels::{INTERFACE, Line, first_settings, found, items};
 use channel_machine::channel::PlainChannel;
-use channel_machine::live::LiveChannel;
-use channel_machine::run::Channel;
+use channel_run::live::LiveChannel;
+use channel_run::run::Channel;
 use line_model::call::SettingRecord;
 use line_model::event::{Entry, How};
 use line_model::fault::Fault;

@@ -2,7 +2,7 @@
 
 use crate::channels::{INTERFACE, Line, items};
 use channel_machine::channel::PlainChannel;
-use channel_machine::run::run_piece;
+use channel_run::run::run_piece;
 use line_model::fault::Fault;
 use line_model::piece::Piece;
 use line_model::state::Side;

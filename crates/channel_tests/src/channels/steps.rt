@@ -7,7 +7,7 @@ ghost use Rattle.line_model.specs.channels.Channels as channels;
 use crate::channels::refused::LINES;
 use crate::channels::{INTERFACE, items};
 use channel_machine::channel::{PackedChannel, PlainChannel};
-use channel_machine::run::Channel;
+use channel_run::run::Channel;
 use line_model::event::Event;
 use line_model::fault::Fault;
 use line_model::interface::Interface;

@@ -6,7 +6,7 @@ ghost use Rattle.live_report.specs.Lives.{IsWatcher};
 
 use crate::observing::same_fault;
 use channel_machine::channel::PlainChannel;
-use channel_machine::run::Channel;
+use channel_run::run::Channel;
 use line_model::fault::Fault;
 use line_model::finding::{Code, Finding};
 use line_model::row::Row;

@@ -5,7 +5,7 @@ ghost use Rattle.live_report.specs.Follows.{IsFed};
 
 use crate::observing::{open_sink, same_bytes, same_fault};
 use channel_machine::channel::PlainChannel;
-use channel_machine::run::Channel;
+use channel_run::run::Channel;
 use line_model::device::Sink;
 use line_model::fault::{Fault, Kind};
 use line_model::totals::Summary;

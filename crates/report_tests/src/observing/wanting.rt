@@ -4,7 +4,7 @@ ghost use Rattle.live_report.specs.Lives.{IsFed};
 
 use crate::observing::{Wanted, agree, check, check_fed, same_fault, told};
 use channel_machine::channel::PlainChannel;
-use channel_machine::run::Channel;
+use channel_run::run::Channel;
 use line_model::fault::Fault;
 use live_report::live::Live;
 use std::alloc::{Allocator, Global};

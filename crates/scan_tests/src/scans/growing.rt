@@ -7,7 +7,7 @@ use crate::scans::checks::{Test, check_long_traces, check_table, same_bytes};
 use crate::scans::runs::{Outcome, Way, scan};
 use crate::scans::worked::{Table, Worked};
 use channel_machine::channel::PlainChannel;
-use channel_machine::run::Channel;
+use channel_run::run::Channel;
 use line_model::count::Count;
 use live_report::live::Live;
 use std::alloc::{Allocator, Global};

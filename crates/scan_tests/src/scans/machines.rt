@@ -4,7 +4,7 @@ use crate::scans::runs::{Way, outcome_of, scan_through};
 use crate::scans::worked::long::{LONG_TRACES, LongTrace};
 use crate::scans::worked::{Table, Worked, traces};
 use channel_machine::channel::{PackedChannel, PlainChannel};
-use channel_machine::run::run_piece;
+use channel_run::run::run_piece;
 use line_model::call::CallRecord;
 use line_model::fault::Fault;
 use line_model::piece::{Piece, PieceReport};

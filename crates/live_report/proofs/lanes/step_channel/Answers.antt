@@ -1,7 +1,7 @@
 use Rattle.std.proofs.Common.{subst, sym}
 use Rattle.line_model.specs.basics.Bounds.{IsPiece}
 use Rattle.restart_epochs.specs.OpenRows.{rows_of}
-use Rattle.channel_machine.specs.Live.{StandsFor as IsLive}
+use Rattle.channel_run.specs.Live.{StandsFor as IsLive}
 use Rattle.live_report.specs.Lanes.{begun_piece}
 use Rattle.live_report.proofs.LaneLemmas.{put_back}
 use Rattle.live_report.proofs.lanes.step_channel.Goals as goal

@@ -1,7 +1,7 @@
 use Rattle.std.proofs.Common.{◌≡◌, ap, sym, subst}
 use Rattle.std.specs.Option.{option_map}
 use Rattle.restart_epochs.specs.OpenLanes.{HasTaken}
-use Rattle.channel_machine.specs.Live.{StandsFor as IsLive}
+use Rattle.channel_run.specs.Live.{StandsFor as IsLive}
 use Rattle.live_report.proofs.LaneLemmas.{out_none}
 use Rattle.live_report.proofs.lanes.take_out.Goals as goal
 

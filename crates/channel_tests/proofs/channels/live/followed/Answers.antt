@@ -1,8 +1,8 @@
 use Rattle.std.proofs.Common.{◌≡◌, ◌∙◌, ◌++◌, ◌∷◌, [], refl, ap, sym, subst, append_assoc}
 use Rattle.line_model.specs.basics.Records.{Item}
 use Rattle.line_model.specs.basics.Bounds.{IsPiece}
-use Rattle.channel_machine.specs.Live.{StandsFor}
-use Rattle.channel_machine.proofs.LiveLemmas.{next_item}
+use Rattle.channel_run.specs.Live.{StandsFor}
+use Rattle.channel_run.proofs.LiveLemmas.{next_item}
 use Rattle.channel_tests.proofs.channels.live.followed.Goals as goal
 
 pub loop-item-init : goal.loop-item-init

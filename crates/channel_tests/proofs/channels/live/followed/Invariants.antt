@@ -1,5 +1,5 @@
 use Rattle.std.proofs.Common.{◌≡◌, ◌++◌}
-use Rattle.channel_machine.specs.Live.{StandsFor}
+use Rattle.channel_run.specs.Live.{StandsFor}
 use Rattle.channel_tests.proofs.channels.live.followed.Given as goal
 
 abbrev pub invariant-loop-item : goal.invariant-loop-item

@@ -2,8 +2,8 @@ use Rattle.std.proofs.Common.{◌∙◌, ◌+◌, ap, refl, subst, sym}
 use Rattle.line_model.specs.basics.Bounds.{IsPiece}
 use Rattle.restart_epochs.specs.OpenRows.{rows_of}
 use Rattle.line_model.specs.observer.Report.{findings_of}
-use Rattle.channel_machine.specs.Live.{channel_so_far}
-use Rattle.channel_machine.specs.Run.{row_events}
+use Rattle.channel_run.specs.Live.{channel_so_far}
+use Rattle.channel_run.specs.Run.{row_events}
 use Rattle.live_report.specs.Lanes.{begun_piece}
 use Rattle.live_report.proofs.StandLemmas.{lanes_same}
 use Rattle.live_report.proofs.observer.Observer.step.Goals as goal

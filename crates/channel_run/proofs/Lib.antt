@@ -1,0 +1,3 @@
+pub mod DataCounts
+pub mod LiveLemmas
+pub mod Worth

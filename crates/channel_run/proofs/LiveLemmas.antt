@@ -1,0 +1,239 @@
+-- A piece with one more row, and at its end.
+use Rattle.std.proofs.Common.{◌≡◌, ℕ, zero, suc, ◌+◌, ◌-◌, ◌/◌, ◌<◌, ◌≤◌, ◌^◌, min, Bool, true, false, List, [], ◌∷◌, ◌++◌, length, map, sum, take, drop, get_or, Option, Some, None, refl, sym, ap, ◌∙◌, subst, arith, append_assoc}
+use Rattle.std.specs.Prelude.{option_map, option_to_list, slice_get}
+use Rattle.std.specs.List.{AllByRecursion}
+use Rattle.std.specs.Option.{option_copied}
+use Rattle.std.specs.Slice.{IsItemAt}
+use Rattle.std.proofs.lemmas.Option.{slice_get_past}
+use denote.Bor.{Bor}
+use Rattle.std.proofs.Math.Seq.{take-append_seam}
+use Rattle.std.proofs.lemmas.List.{map-append, append-nil, length-append, take_more, take_all, take-append-drop}
+use Rattle.std.proofs.lemmas.List.Elements.{filter_map-append, All-take}
+use Rattle.std.proofs.lemmas.List.Sums.{sum_by-append}
+use Rattle.line_model.specs.declared.interface.Interface.{Interface}
+use Rattle.line_model.specs.declared.event.What.{What}
+use Rattle.line_model.specs.declared.event.What.TheVariants.{Found, Data}
+use Rattle.line_model.specs.declared.event.Event.{Event}
+use Rattle.line_model.specs.declared.finding.Finding.{Finding}
+use Rattle.line_model.specs.basics.Records.{Row, Item, Piece}
+use Rattle.line_model.specs.basics.Bounds.{IsPiece, IsItem, all_octets}
+use Rattle.line_model.specs.channels.Channels.{Channel, fresh, is_open}
+use Rattle.line_model.specs.channels.ChannelStep.{channel_step}
+use Rattle.line_model.specs.observer.MachineEvents.{stamp}
+use Rattle.line_model.specs.pieces.Pieces.{piece_value}
+use Rattle.line_model.specs.observer.Observer.{x25, event_of}
+use Rattle.line_model.specs.observer.Calls.{all_lengths, segments_of}
+use Rattle.line_model.specs.observer.Report.{findings_of}
+use Rattle.line_model.specs.pieces.Plans.{row_numbered, piece_events}
+use Rattle.line_model.specs.declared.event.How.TheVariants.{Restart}
+use Rattle.line_model.specs.declared.event.What.TheVariants.{End}
+use Rattle.line_model.proofs.EventWeights.{octets_weight, segments_weight, fewer_segments}
+use Rattle.line_model.proofs.ValueBounds.{value_bounds}
+use Rattle.line_model.proofs.OneFinding.{founds, step_one}
+use Rattle.call_accounts.specs.Counted.{IsCountable}
+use Rattle.call_accounts.specs.SoFar.{IsOf}
+use Rattle.channel_run.specs.Run.{row_events, end_events}
+use Rattle.channel_run.specs.Counted.{IsWithin}
+use Rattle.channel_run.specs.Live.{channel_after, channel_so_far, so_far, with_item}
+use Rattle.channel_run.proofs.DataCounts.{piece_packets}
+use Rattle.call_accounts.proofs.CountedLemmas.{sum-more}
+use Rattle.call_accounts.proofs.PlaceLemmas.{countable_before}
+
+abbrev rows_of : List Item → List Row
+rows_of items = map (λ i. i.row) items
+
+-- the events of rows, and of a row behind them
+rows_more : (i : Interface) (e k : ℕ) (c : Channel) (items : List Item) (item : Item)
+    → map event_of (piece_value (x25 i) e k c (rows_of (items ++ item ∷ [])) None) ≡ map event_of (piece_value (x25 i) e k c (rows_of items) None) ++ row_events i e k (channel_after i k c items) item.row
+rows_more i e k c [] item = ap (map event_of) (append-nil (stamp e (Some k) item.row (channel_step i k c item.row).reported))
+rows_more i e k c (x ∷ items) item =
+    let d : Channel = (channel_step i k c x.row).after in
+    let told : List Event = row_events i e k c x.row in
+    map-append event_of (stamp e (Some k) x.row (channel_step i k c x.row).reported) (piece_value (x25 i) e k d (rows_of (items ++ item ∷ [])) None)
+    ∙ ap (λ l. told ++ l) (rows_more i e k d items item)
+    ∙ sym (append_assoc told (map event_of (piece_value (x25 i) e k d (rows_of items) None)) (row_events i e k (channel_after i k d items) item.row))
+    ∙ ap (λ l. l ++ row_events i e k (channel_after i k d items) item.row)
+    (sym (map-append event_of (stamp e (Some k) x.row (channel_step i k c x.row).reported) (piece_value (x25 i) e k d (rows_of items) None)))
+
+rows_end : (i : Interface) (e k : ℕ) (c : Channel) (items : List Item) (end : Option ℕ)
+    → map event_of (piece_value (x25 i) e k c (rows_of items) (option_map row_numbered end)) ≡ map event_of (piece_value (x25 i) e k c (rows_of items) None) ++ end_events e k end (is_open (channel_after i k c items))
+rows_end i e k c [] None = refl
+rows_end i e k c [] (Some n) = refl
+rows_end i e k c (x ∷ items) end =
+    let d : Channel = (channel_step i k c x.row).after in
+    let told : List Event = row_events i e k c x.row in
+    map-append event_of (stamp e (Some k) x.row (channel_step i k c x.row).reported) (piece_value (x25 i) e k d (rows_of items) (option_map row_numbered end))
+    ∙ ap (λ l. told ++ l) (rows_end i e k d items end)
+    ∙ sym (append_assoc told (map event_of (piece_value (x25 i) e k d (rows_of items) None)) (end_events e k end (is_open (channel_after i k d items))))
+    ∙ ap (λ l. l ++ end_events e k end (is_open (channel_after i k d items)))
+    (sym (map-append event_of (stamp e (Some k) x.row (channel_step i k c x.row).reported) (piece_value (x25 i) e k d (rows_of items) None)))
+
+pub piece_more : (p : Piece) (item : Item) → piece_events (so_far (with_item p item)) ≡ piece_events (so_far p) ++ row_events p.interface p.epoch p.channel (channel_so_far p) item.row
+piece_more p item = rows_more p.interface p.epoch p.channel (fresh p.interface p.epoch p.channel) p.items item
+
+pub piece_ended : (p : Piece) (end : Option ℕ) → piece_events (record p { end = end }) ≡ piece_events (so_far p) ++ end_events p.epoch p.channel end (is_open (channel_so_far p))
+piece_ended p end = rows_end p.interface p.epoch p.channel (fresh p.interface p.epoch p.channel) p.items end
+
+pub channel_more : (i : Interface) (k : ℕ) (c : Channel) (items : List Item) (item : Item) → channel_after i k c (items ++ item ∷ []) ≡ (channel_step i k (channel_after i k c items) item.row).after
+channel_more i k c [] item = refl
+channel_more i k c (x ∷ items) item = channel_more i k (channel_step i k c x.row).after items item
+
+-- ---- events of one channel in one epoch
+
+stamp_of : (e k : ℕ) (r : Row) (ws : List What) → AllByRecursion (IsOf e k) (map event_of (stamp e (Some k) r ws))
+stamp_of e k r [] = tt
+stamp_of e k r (w ∷ ws) = ((refl, refl), stamp_of e k r ws)
+
+pub row_of_channel : (i : Interface) (e k : ℕ) (c : Channel) (r : Row) → AllByRecursion (IsOf e k) (row_events i e k c r)
+row_of_channel i e k c r = stamp_of e k r (channel_step i k c r).reported
+
+-- ---- at most one finding
+
+few_findings : (e : ℕ) (k : Option ℕ) (r : Row) (ws : List What) → length (findings_of (map event_of (stamp e k r ws))) ≡ founds ws
+few_findings e k r [] = refl
+few_findings e k r (w ∷ ws) = at w (few_findings e k r ws)
+  where
+    at : (w : What) → length (findings_of (map event_of (stamp e k r ws))) ≡ founds ws → length (findings_of (map event_of (stamp e k r (w ∷ ws)))) ≡ founds (w ∷ ws)
+    at (Found x s c) h = omega arith
+    at w h = omega arith
+
+first_alone : (fs : List Finding) → length fs ≤ 1 → option_to_list (slice_get fs 0) ≡ fs
+first_alone [] h = refl
+first_alone (f ∷ []) h = refl
+first_alone (f ∷ g ∷ fs) h = absurd (omega arith)
+
+pub one_finding : (i : Interface) (e k : ℕ) (c : Channel) (r : Row) (es : List Event) (found : Option Finding) → es ≡ row_events i e k c r → found ≡ slice_get (findings_of es) 0 → option_to_list found ≡ findings_of (row_events i e k c r)
+one_finding i e k c r es found is first =
+    let one = step_one i k c r in
+    let same = few_findings e (Some k) r (channel_step i k c r).reported in
+    ap option_to_list (first ∙ ap (λ l. slice_get (findings_of l) 0) is) ∙ first_alone (findings_of (row_events i e k c r)) (omega arith)
+
+-- ---- bounds
+
+pub piece_countable : (p : Piece) → IsPiece p.interface p.channel p.items → IsCountable (piece_events p)
+piece_countable p h =
+    let few = value_bounds p h in
+    record {
+      packets = omega (arith, piece_packets p, h.few_rows);
+      octets = omega (arith, few.few_octets);
+    }
+
+pub piece_within : (p : Piece) → IsPiece p.interface p.channel p.items → IsWithin (piece_events p)
+piece_within p h = value_bounds p h
+
+-- ---- what is counted
+
+findings-more : (es : List Event) (vs : List Event) → findings_of (es ++ vs) ≡ findings_of es ++ findings_of vs
+findings-more es vs = filter_map-append (λ (e : Event). elim e.what [ Found x s c ↦ Some (record { packet = e.packet; side = x; state = s; code = c }) | _ ↦ None ]) es vs
+
+pub findings_told : (es vs : List Event) (old new : List Finding) → old ≡ findings_of es → new ≡ old ++ findings_of vs → new ≡ findings_of (es ++ vs)
+findings_told es vs old new is step = step ∙ ap (λ l. l ++ findings_of vs) is ∙ sym (findings-more es vs)
+
+lengths-more : (es vs : List Event) → all_lengths (es ++ vs) ≡ all_lengths es ++ all_lengths vs
+lengths-more es vs = filter_map-append (λ (e : Event). elim e.what [ Data y n ↦ Some n | _ ↦ None ]) es vs
+
+pub octets_told : (es vs : List Event) (old by new : ℕ) → old ≡ sum (all_lengths es) → by ≡ sum (all_lengths vs) → new ≡ min (old + by) (2 ^ 64 - 1) → IsCountable (es ++ vs) → new ≡ sum (all_lengths (es ++ vs))
+octets_told es vs old by new is more step few =
+    let both = ap sum (lengths-more es vs) ∙ sum-more (all_lengths es) (all_lengths vs) in
+    omega (arith, is, more, step, both, few.octets)
+
+pub segments_told : (es vs : List Event) (old by new : ℕ) → old ≡ segments_of (all_lengths es) → by ≡ segments_of (all_lengths vs) → new ≡ min (old + by) (2 ^ 64 - 1) → IsCountable (es ++ vs) → new ≡ segments_of (all_lengths (es ++ vs))
+segments_told es vs old by new is more step few =
+    let rounded : List ℕ → List ℕ = map (λ n. (n + 63) / 64) in
+    let both : segments_of (all_lengths (es ++ vs)) ≡ segments_of (all_lengths es) + segments_of (all_lengths vs) =
+    ap segments_of (lengths-more es vs) ∙ ap sum (map-append (λ (n : ℕ). (n + 63) / 64) (all_lengths es) (all_lengths vs)) ∙ sum-more (rounded (all_lengths es)) (rounded (all_lengths vs)) in
+    let all : List Event = es ++ vs in
+    omega (arith, is, more, step, both, few.octets, octets_weight all, segments_weight all, fewer_segments all)
+
+-- ---- events, one after the other
+
+all_at : (P : Event → Type 0) (es : List Event) (i : ℕ) (d : Event) → AllByRecursion P es → i < length es → P (get_or es i d)
+all_at P [] i d h lt = absurd (omega arith)
+all_at P (e ∷ es) zero d h lt = h.0
+all_at P (e ∷ es) (suc i) d h lt = all_at P es i d h.1 (omega arith)
+
+pub heard_on : (P Q : List Event → Type 0) (epoch channel : ℕ) (es vs : List Event) (i : ℕ) (e : Event) → i < length vs → e ≡ get_or vs i e → AllByRecursion (IsOf epoch channel) vs → IsCountable (es ++ vs)
+    → P (es ++ take i vs) → (P (es ++ take i vs) → IsOf epoch channel e → IsCountable ((es ++ take i vs) ++ e ∷ []) → Q ((es ++ take i vs) ++ e ∷ [])) → Q (es ++ take (i + 1) vs)
+heard_on P Q epoch channel es vs i e lt is all few h step =
+    let more : take (i + 1) vs ≡ take i vs ++ e ∷ [] = take_more vs i e lt ∙ ap (λ x. take i vs ++ x ∷ []) (sym is) in
+    let whole : es ++ take (i + 1) vs ≡ (es ++ take i vs) ++ e ∷ [] = ap (λ l. es ++ l) more ∙ sym (append_assoc es (take i vs) (e ∷ [])) in
+    let parts : es ++ vs ≡ (es ++ take (i + 1) vs) ++ drop (i + 1) vs = ap (λ l. es ++ l) (sym (take-append-drop (i + 1) vs)) ∙ sym (append_assoc es (take (i + 1) vs) (drop (i + 1) vs)) in
+    let few_so_far : IsCountable ((es ++ take i vs) ++ e ∷ []) = subst IsCountable whole (countable_before (es ++ take (i + 1) vs) (drop (i + 1) vs) (subst IsCountable parts few)) in
+    let of : IsOf epoch channel e = subst (IsOf epoch channel) (sym is) (all_at (IsOf epoch channel) vs i e all lt) in
+    subst Q (sym whole) (step h of few_so_far)
+
+pub findings_on : (first old new : List Finding) (vs : List Event) (i : ℕ) (e : Event) → i < length vs → e ≡ get_or vs i e → old ≡ first ++ findings_of (take i vs) → new ≡ old ++ findings_of (e ∷ []) → new ≡ first ++ findings_of (take (i + 1) vs)
+findings_on first old new vs i e lt is h step =
+    let more : take (i + 1) vs ≡ take i vs ++ e ∷ [] = take_more vs i e lt ∙ ap (λ x. take i vs ++ x ∷ []) (sym is) in
+    step
+    ∙ ap (λ l. l ++ findings_of (e ∷ [])) h
+    ∙ append_assoc first (findings_of (take i vs)) (findings_of (e ∷ []))
+    ∙ ap (λ l. first ++ l) (sym (findings-more (take i vs) (e ∷ [])) ∙ ap findings_of (sym more))
+
+-- ---- the first finding behind others
+
+at_index : (fs : List Finding) (i : ℕ) (d : Finding) → i < length fs → slice_get fs i ≡ Some (get_or fs i d)
+at_index [] i d lt = absurd (omega arith)
+at_index (f ∷ fs) zero d lt = refl
+at_index (f ∷ fs) (suc i) d lt = at_index fs i d (omega arith)
+
+item_at : (fs : List Finding) (i : ℕ) (r : Option (Bor Finding)) → IsItemAt fs i r → option_copied r ≡ slice_get fs i
+item_at fs i None h = sym (slice_get_past fs i h.3)
+item_at fs i (Some x) h = ap (λ f. Some f) (h.4 (omega arith) x.now) ∙ sym (at_index fs i x.now h.3.0)
+
+behind : (fs gs : List Finding) → slice_get (fs ++ gs) (length fs) ≡ slice_get gs 0
+behind [] gs = refl
+behind (f ∷ fs) gs = behind fs gs
+
+pub first_found : (first now : List Finding) (i : ℕ) (vs : List Event) (n : ℕ) (r : Option (Bor Finding)) → IsItemAt now n r → n ≡ length first → length vs ≤ i → now ≡ first ++ findings_of (take i vs) → option_copied r ≡ slice_get (findings_of vs) 0
+first_found first now i vs n r h at le is =
+    item_at now n r h
+    ∙ ap (λ k. slice_get now k) at
+    ∙ ap (λ l. slice_get l (length first)) (is ∙ ap (λ l. first ++ findings_of l) (take_all i vs le))
+    ∙ behind first (findings_of vs)
+
+pub whole_list : (vs : List Event) (i : ℕ) → length vs ≤ i → take i vs ≡ vs
+whole_list vs i le = take_all i vs le
+
+-- ---- a piece of no rows
+
+pub empty_small : (i : Interface) (k : ℕ) → IsPiece i k []
+empty_small i k = record {
+  few_rows = omega arith;
+  few_octets = omega arith;
+  packets = λ n d lt. absurd (omega arith);
+}
+
+last_at : (items : List Item) (item : Item) → get_or (items ++ item ∷ []) (length items) item ≡ item
+last_at [] item = refl
+last_at (x ∷ items) item = last_at items item
+
+pub last_item : (i : Interface) (k : ℕ) (items : List Item) (item : Item) → IsPiece i k (items ++ item ∷ []) → IsItem i k item
+last_item i k items item h = subst (IsItem i k) (last_at items item) (h.packets (length items) item (omega (arith, length-append items (item ∷ []))))
+
+-- ---- the end of a piece
+
+pub end_heard : (p : Piece) (n : ℕ) (b : Bool) → b ≡ is_open (channel_so_far p) → b ≡ true → piece_events (so_far p) ++ record { epoch = p.epoch; channel = p.channel; packet = n; what = End Restart } ∷ [] ≡ piece_events (record p { end = Some n })
+end_heard p n b is opened = sym (piece_ended p (Some n) ∙ ap (λ x. piece_events (so_far p) ++ end_events p.epoch p.channel (Some n) x) (sym is ∙ opened))
+
+pub none_heard : (p : Piece) (n : ℕ) (b : Bool) → b ≡ is_open (channel_so_far p) → b ≡ false → piece_events (so_far p) ≡ piece_events (record p { end = Some n })
+none_heard p n b is closed = sym (piece_ended p (Some n) ∙ ap (λ x. piece_events (so_far p) ++ end_events p.epoch p.channel (Some n) x) (sym is ∙ closed) ∙ append-nil (piece_events (so_far p)))
+
+-- ---- the first rows of a piece
+
+pub piece_part : (i : Interface) (k : ℕ) (items : List Item) (n : ℕ) → IsPiece i k items → IsPiece i k (take n items)
+piece_part i k items n h =
+    let parts = take-append-drop n items in
+    record {
+      few_rows = omega (arith, ap length parts, length-append (take n items) (drop n items), h.few_rows);
+      few_octets = omega (arith, ap all_octets parts, sum_by-append (λ (x : Item). length x.row.octets) (take n items) (drop n items), h.few_octets);
+      packets = All-take (IsItem i k) n items h.packets;
+    }
+
+-- a row that comes behind the first rows of a piece may come there
+pub next_item : (i : Interface) (k : ℕ) (items front left rest : List Item) (next item : Item) → IsPiece i k items → items ≡ front ++ left → left ≡ next ∷ rest → item ≡ next → IsPiece i k (front ++ item ∷ [])
+next_item i k items front left rest next item h all first same =
+    let more : items ≡ (front ++ next ∷ []) ++ rest = all ∙ ap (λ l. front ++ l) first ∙ sym (append_assoc front (next ∷ []) rest) in
+    let part : IsPiece i k (front ++ next ∷ []) =
+    subst (IsPiece i k) (ap (take (length (front ++ next ∷ []))) more ∙ take-append_seam (front ++ next ∷ []) rest) (piece_part i k items (length (front ++ next ∷ [])) h) in
+    subst (λ x. IsPiece i k (front ++ x ∷ [])) (sym same) part

@@ -1,0 +1,18 @@
+use Rattle.std.proofs.Common.{ℕ, sym, subst}
+use Rattle.line_model.specs.pieces.Plans.{piece_events}
+use Rattle.channel_run.specs.Counted.{Counts}
+use Rattle.channel_run.specs.Live.{so_far}
+use Rattle.channel_run.proofs.LiveLemmas.{piece_within}
+use Rattle.channel_run.proofs.live.LiveChannel.report.Goals as goal
+
+pub report-requires : goal.report-requires
+report-requires g c =
+    let p = c.requires.stands.0 in
+    let s = c.requires.stands.1 in
+    record {
+      within = (
+        piece_events (so_far p),
+        subst (λ (w : ℕ × ℕ). Counts c.args.self.now.counted w.0 w.1 (piece_events (so_far p))) (λ j. (sym s.epoch j, sym s.channel j)) s.counted,
+        piece_within (so_far p) s.small,
+      );
+    }

@@ -1,0 +1,59 @@
+use Rattle.std.proofs.Common.{◌≡◌, ◌∙◌, ◌++◌, List, sym, subst}
+use Rattle.std.specs.List.{AllByRecursion}
+use Rattle.line_model.specs.declared.event.Event.{Event}
+use Rattle.line_model.specs.basics.Records.{Item}
+use Rattle.line_model.specs.basics.Bounds.{IsItem}
+use Rattle.line_model.specs.channels.Channels.{Channel, fresh}
+use Rattle.line_model.specs.channels.ChannelStep.{channel_step}
+use Rattle.line_model.specs.pieces.Plans.{piece_events}
+use Rattle.call_accounts.specs.Counted.{IsCountable}
+use Rattle.call_accounts.specs.SoFar.{IsOf}
+use Rattle.channel_run.specs.Counted.{Counts}
+use Rattle.channel_run.specs.Live.{channel_so_far, so_far, with_item}
+use Rattle.channel_run.specs.Run.{row_events}
+use Rattle.channel_run.proofs.LiveLemmas.{last_item, piece_more, channel_more, row_of_channel, one_finding, piece_countable}
+use Rattle.channel_run.proofs.live.LiveChannel.take.Goals as goal
+
+pub step-requires : goal.step-requires
+step-requires g c =
+    let p = c.requires.room.0 in
+    let s = c.requires.room.1 in
+    let item : Item = record { row = c.args.row.now; packet = c.args.packet.now } in
+    record {
+      item = subst (λ i. IsItem i (g.C.Channel.number_of c.args.self.now.machine) item) (sym s.interface)
+          (subst (λ k. IsItem p.interface k item) (sym s.number) (last_item p.interface p.channel p.items item c.requires.room.2));
+    }
+
+pub returns-clause-stands : goal.returns-clause-stands
+returns-clause-stands g c = λ p s small.
+    let row = c.args.row.now in
+    let item : Item = record { row = row; packet = c.args.packet.now } in
+    let before : Channel = channel_so_far p in
+    let step = c.in_ok-step.ensures in
+    let es : List Event = piece_events (so_far p) in
+    let told : List Event = row_events p.interface p.epoch p.channel before row in
+    let heard_is : c.as_slice.result.now ≡ told =
+    c.as_slice.ensures.value ∙ step.events before s.machine ∙ (λ j. c.clear.ensures.items j ++ row_events (s.interface j) (s.epoch j) (s.number j) before row) in
+    let counts : List Event → Type 0 = Counts c.hear_all.new.self p.epoch p.channel in
+    let all = subst (AllByRecursion (IsOf p.epoch p.channel)) (sym heard_is) (row_of_channel p.interface p.epoch p.channel before row) in
+    let few = subst (λ (l : List Event). IsCountable (es ++ l)) (sym heard_is) (subst IsCountable (piece_more p item) (piece_countable (so_far (with_item p item)) small)) in
+    let heard : counts (es ++ told) = subst (λ (l : List Event). counts (es ++ l)) heard_is (c.in_ok-found.ensures.heard p.epoch p.channel es s.counted all few) in
+    record {
+      small = small;
+      interface = step.interface before s.machine ∙ s.interface;
+      number = step.number before s.machine ∙ s.number;
+      channel = s.channel;
+      epoch = s.epoch;
+      machine =
+          subst (g.C.Channel.stands_for c.step.new.self)
+          ((λ j. (channel_step (s.interface j) (s.number j) before row).after) ∙ sym (channel_more p.interface p.channel (fresh p.interface p.epoch p.channel) p.items item)) (step.stands before s.machine);
+      counted = subst counts (sym (piece_more p item)) heard;
+    }
+
+pub returns-clause-finding : goal.returns-clause-finding
+returns-clause-finding g c = λ p s.
+    let row = c.args.row.now in
+    let before : Channel = channel_so_far p in
+    let heard_is : c.as_slice.result.now ≡ row_events p.interface p.epoch p.channel before row =
+    c.as_slice.ensures.value ∙ c.in_ok-step.ensures.events before s.machine ∙ (λ j. c.clear.ensures.items j ++ row_events (s.interface j) (s.epoch j) (s.number j) before row) in
+    one_finding p.interface p.epoch p.channel before row c.as_slice.result.now c.in_ok-found.found heard_is c.in_ok-found.ensures.found

@@ -1,0 +1,4 @@
+pub mod Run
+pub mod Counted
+pub mod Live
+pub mod Views

@@ -1,0 +1,146 @@
+//! A channel that takes its rows as they come, and tells at any time what its piece is worth so far.
+
+ghost use Rattle.std.specs.Prelude.{◌≡◌, ℕ, List, [], ◌∷◌, ◌++◌, None, option_to_list, IfOk, IfErr, OnOk};
+ghost use Rattle.line_model.specs.declared.fault.Fault.TheVariants.{Memory};
+ghost use Rattle.line_model.specs.basics.Records.{Piece};
+ghost use Rattle.line_model.specs.basics.Bounds.{IsPiece};
+ghost use Rattle.line_model.specs.pieces.Plans.{piece_events, value};
+ghost use Rattle.line_model.specs.observer.Report.{findings_of};
+ghost use Rattle.channel_run.specs.Counted.{Counts};
+ghost use Rattle.channel_run.specs.Live.{StandsFor, channel_so_far, so_far, with_item};
+ghost use Rattle.channel_run.specs.Run.{row_events};
+ghost use Rattle.channel_run.specs.Views.{IsViewOf};
+
+use crate::counted::Counted;
+use crate::run::{Channel, View};
+use line_model::event::{Event, How, What};
+use line_model::fault::Fault;
+use line_model::finding::Finding;
+use line_model::interface::Interface;
+use line_model::packet::Packet;
+use line_model::piece::PieceReport;
+use line_model::row::Row;
+use std::alloc::Allocator;
+
+/// One logical channel in one epoch: its machine, and what is counted of its rows so far. It keeps no row.
+#[derive(Drop)]
+pub struct LiveChannel<A: Allocator, C: Channel<A>> {
+    channel: u16,
+    epoch: u32,
+    machine: C,
+    counted: Counted<A>,
+}
+
+impl<A: Allocator + Clone, C: Channel<A>> LiveChannel<A, C> {
+    /// A fresh channel of an epoch, of which no row was taken. It takes no memory, but for that of clones of the
+    /// allocator.
+    pub fn fresh(alloc: A, interface: &Interface, channel: u16, epoch: u32) -> Result<Self, Fault>
+        ensures stands { IfOk result (λ live. (p : Piece) → p.interface ≡ interface.now
+            → p.channel ≡ channel → p.epoch ≡ epoch → p.items ≡ []
+            → StandsFor C.interface_of C.number_of C.stands_for live p) }
+        ensures memory { IfErr result (λ fault. fault ≡ Memory) }
+    {
+        Ok(LiveChannel {
+            channel,
+            epoch,
+            machine: C::fresh(alloc.clone()?, interface, channel, epoch),
+            counted: Counted::new(alloc)?,
+        })
+    }
+
+    /// Takes the next row with its packet, and answers the finding on it, if there is one. The caller lends the list
+    /// `events`, which holds the events of the row afterwards and nothing else. It answers `Memory` alone; then it
+    /// stands for nothing any more.
+    pub fn take(
+        &mut self,
+        row: &Row<A>,
+        packet: &Packet,
+        events: &mut Vec<Event, A>,
+    ) -> Result<Option<Finding>, Fault>
+        requires room { (p : Piece) × StandsFor C.interface_of C.number_of C.stands_for self.old p
+            × IsPiece p.interface p.channel (p.items
+            ++ record { row = row.now; packet = packet.now } ∷ []) }
+        ensures stands { (p : Piece) → StandsFor C.interface_of C.number_of C.stands_for self.old p
+            → IsPiece p.interface p.channel (p.items
+            ++ record { row = row.now; packet = packet.now } ∷ [])
+            → OnOk result (StandsFor C.interface_of C.number_of C.stands_for self.new
+            (with_item p (record { row = row.now; packet = packet.now }))) }
+        ensures events { (p : Piece) → StandsFor C.interface_of C.number_of C.stands_for self.old p
+            → OnOk result (events.new.items ≡ row_events p.interface p.epoch p.channel
+            (channel_so_far p) row.now) }
+        ensures finding { (p : Piece) → StandsFor C.interface_of C.number_of C.stands_for self.old p
+            → IfOk result (λ found. option_to_list found
+            ≡ findings_of (row_events p.interface p.epoch p.channel (channel_so_far p) row.now)) }
+        ensures memory { IfErr result (λ fault. fault ≡ Memory) }
+    {
+        events.clear();
+        self.machine.step(self.epoch, row, packet, events)?;
+        let found = self.counted.hear_all(events.as_slice())?;
+        Ok(found)
+    }
+
+    /// What is known of the channel after the rows so far.
+    pub fn view(&self) -> View
+        ensures { (p : Piece) → StandsFor C.interface_of C.number_of C.stands_for self.now p
+            → IsViewOf p.interface (channel_so_far p) result }
+    {
+        self.machine.view()
+    }
+
+    /// The findings so far.
+    pub fn findings(&self) -> &[Finding]
+        ensures { (p : Piece) → StandsFor C.interface_of C.number_of C.stands_for self.now p
+            → result.now ≡ (value (so_far p)).findings }
+    {
+        self.counted.findings()
+    }
+
+    /// What the piece is worth so far, by a copy: the channel goes on. It answers `Memory` alone.
+    pub fn report(&self, alloc: A, id: u32) -> Result<PieceReport<A>, Fault>
+        requires stands { (p : Piece) × StandsFor C.interface_of C.number_of
+            C.stands_for self.now p }
+        ensures value { IfOk result (λ report. (p : Piece)
+            → StandsFor C.interface_of C.number_of C.stands_for self.now p
+            → report ≡ value (record p { id = id; end = None })) }
+        ensures memory { IfErr result (λ fault. fault ≡ Memory) }
+    {
+        self.counted.report(alloc, id, self.epoch, self.channel)
+    }
+
+    /// What the piece is worth. Where a restart ended the epoch, `end` is the number of its row, and an open call ends
+    /// with it. It answers `Memory` alone.
+    pub fn end(mut self, id: u32, end: Option<u32>) -> Result<PieceReport<A>, Fault>
+        requires stands { (p : Piece) × StandsFor C.interface_of C.number_of C.stands_for self p }
+        ensures value { IfOk result (λ report. (p : Piece)
+            → StandsFor C.interface_of C.number_of C.stands_for self p
+            → report ≡ value (record p { id = id; end = end })) }
+        ensures memory { IfErr result (λ fault. fault ≡ Memory) }
+    {
+        self.close(end)?;
+        self.counted.finish(id, self.epoch, self.channel)
+    }
+
+    /// The call that is open ends with the row of a restart, where one ended the epoch.
+    fn close(&mut self, end: Option<u32>) -> Result<(), Fault>
+        ensures place { OnOk result ((self.new.epoch ≡ self.old.epoch)
+            × (self.new.channel ≡ self.old.channel)) }
+        ensures counted { (p : Piece) → StandsFor C.interface_of C.number_of C.stands_for self.old p
+            → OnOk result (Counts self.new.counted p.epoch p.channel
+            (piece_events (record p { end = end }))) }
+        ensures memory { IfErr result (λ fault. fault ≡ Memory) }
+    {
+        let Some(packet) = end else {
+            return Ok(());
+        };
+        if !self.machine.is_open() {
+            return Ok(());
+        }
+        self.counted.hear(&Event {
+            epoch: self.epoch,
+            channel: self.channel,
+            packet,
+            what: What::End(How::Restart),
+        })?;
+        Ok(())
+    }
+}

@@ -1,0 +1,130 @@
+//! The run of a piece: any machine of one logical channel, over the rows of the piece.
+
+ghost use Rattle.std.specs.Prelude.{◌≡◌, ◌≤◌, ◌^◌, ◌++◌, ℕ, length, IfOk, IfErr, OnErr};
+ghost use Rattle.line_model.specs.declared.fault.Fault.TheVariants.{Memory};
+ghost use Rattle.line_model.specs.channels.Channels as channels;
+ghost use Rattle.line_model.specs.channels.Channels.{fresh, is_open};
+ghost use Rattle.line_model.specs.channels.ChannelStep.{channel_step};
+ghost use Rattle.line_model.specs.basics.Bounds.{IsItem};
+ghost use Rattle.line_model.specs.pieces.Plans as plans;
+ghost use Rattle.channel_run.specs.Run.{row_events};
+ghost use Rattle.channel_run.specs.Views.{IsViewOf};
+
+use crate::live::LiveChannel;
+use line_model::event::Event;
+use line_model::fault::Fault;
+use line_model::interface::Interface;
+use line_model::packet::Packet;
+use line_model::piece::{Piece, PieceReport};
+use line_model::row::Row;
+use line_model::state::{ChannelState, Side};
+use std::alloc::Allocator;
+use window_check::flow::Flow;
+
+/// What is known of a logical channel at one moment.
+#[derive(Clone, Copy)]
+pub struct View {
+    /// Its state.
+    pub state: ChannelState,
+    /// Whether an indication of the DCE is owed (profile).
+    pub owed: bool,
+    /// Whether a PAD call is open (X.29; profile).
+    pub pad_call: bool,
+    /// Whether a call is open that asked fast select (X.25 clause 6.16).
+    pub fast: bool,
+    /// The packet size in force for data from T, in octets.
+    pub size_t: u16,
+    /// The packet size in force for data from N, in octets.
+    pub size_n: u16,
+    /// Its windows and interrupts.
+    pub flow: Flow,
+}
+
+/// One logical channel of an interface: from its packets to events (X.25 Annexes B and C, clauses 4 to 6). What it
+/// keeps is its own affair: contracts see the channel of the definitions that it stands for.
+pub trait Channel<A: Allocator>: Drop {
+    ghost use Rattle.line_model.specs.declared.interface.Interface.{Interface};
+
+    /// The interface of the channel.
+    ghost interface_of: { Self → Interface };
+
+    /// The number of the channel.
+    ghost number_of: { Self → ℕ };
+
+    /// What the machine keeps stands for this channel.
+    ghost stands_for: { Self → channels.Channel → Type 0 };
+
+    /// A fresh channel of an epoch: p1, or d1 where it is a permanent virtual circuit, and unknown in epoch 1 where the
+    /// trace begins in the middle. It takes no memory.
+    fn fresh(alloc: A, interface: &Interface, channel: u16, epoch: u32) -> Self
+        ensures interface { interface_of result ≡ interface.now }
+        ensures number { number_of result ≡ channel }
+        ensures stands { stands_for result (fresh interface.now epoch channel) };
+
+    /// The state of the channel.
+    fn state(&self) -> ChannelState
+        ensures { (c : channels.Channel) → stands_for self.now c → result ≡ c.state };
+
+    /// What is known of the channel.
+    fn view(&self) -> View
+        ensures { (c : channels.Channel) → stands_for self.now c
+            → IsViewOf (interface_of self.now) c result };
+
+    /// Whether a call is open.
+    fn is_open(&self) -> bool
+        ensures { (c : channels.Channel) → stands_for self.now c → result ≡ is_open c };
+
+    /// Takes a row of the channel with its packet, and adds the events of an epoch. It answers `Memory` alone, and then
+    /// nothing has changed.
+    fn step(
+        &mut self,
+        epoch: u32,
+        row: &Row<A>,
+        packet: &Packet,
+        events: &mut Vec<Event, A>,
+    ) -> Result<(), Fault>
+        requires item { IsItem (interface_of self.old) (number_of self.old)
+            (record { row = row.now; packet = packet.now }) }
+        ensures interface { (c : channels.Channel) → stands_for self.old c
+            → IfOk result (λ _. interface_of self.new ≡ interface_of self.old) }
+        ensures number { (c : channels.Channel) → stands_for self.old c
+            → IfOk result (λ _. number_of self.new ≡ number_of self.old) }
+        ensures stands { (c : channels.Channel) → stands_for self.old c
+            → IfOk result (λ _. stands_for self.new
+            (channel_step (interface_of self.old) (number_of self.old) c row.now).after) }
+        ensures events { (c : channels.Channel) → stands_for self.old c
+            → IfOk result (λ _. events.new.items ≡ events.old.items
+            ++ row_events (interface_of self.old) epoch (number_of self.old) c row.now) }
+        ensures unchanged { OnErr result ((self.new ≡ self.old)
+            × (events.new.items ≡ events.old.items)) }
+        ensures memory { IfErr result (λ fault. fault ≡ Memory) };
+}
+
+/// What a piece is worth: the findings and calls of its rows on a fresh channel, and the octets and segments of its data
+/// packets. A call that is open where a restart ends the epoch ends with it. It answers `Memory` alone.
+pub fn run_piece<A: Allocator + Clone, C: Channel<A>>(
+    alloc: A,
+    piece: &Piece<A>,
+) -> Result<PieceReport<A>, Fault>
+    ensures value { IfOk result (λ report. report ≡ plans.value piece.now) }
+    ensures memory { IfErr result (λ fault. fault ≡ Memory) }
+{
+    let mut live = LiveChannel::<A, C>::fresh(
+        alloc.clone()?,
+        &piece.interface,
+        piece.channel,
+        piece.epoch,
+    )?;
+    let mut row = Row {
+        number: 0,
+        side: Side::T,
+        octets: Vec::new(alloc.clone()?),
+    };
+    let mut events = Vec::new(alloc);
+    for item in piece.items.iter() {
+        item.copy_to(&mut row)?;
+        live.take(&row, &item.packet, &mut events)?;
+    }
+    let report = live.end(piece.id, piece.end)?;
+    Ok(report)
+}
