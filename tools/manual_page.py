@@ -1,5 +1,5 @@
 #!/usr/bin/env python3
-"""manual_page.py [--check]: writes docs/x25scan.1 from the words of crates/command_line and the table of crates/explanations.
+"""manual_page.py [--check]: writes docs/x25scan.1 from the words of crates/command_options and the table of crates/explanations.
 
 With --check it writes nothing, and says where the page is another one, where the help has other exit statuses than the
 table, and where the version names another kit than `rt version`. The last line is 'N passed, M failed'.
@@ -14,7 +14,7 @@ sys.dont_write_bytecode = True
 from codes_document import rows  # noqa: E402
 
 ROOT = pathlib.Path(__file__).resolve().parent.parent
-WORDS = ROOT / "crates" / "command_line" / "src"
+WORDS = ROOT / "crates" / "command_options" / "src"
 PAGE = ROOT / "docs" / "x25scan.1"
 TEXT = r'"((?:[^"\\]|\\.)*)"'
 CONSTANT = re.compile(r"pub const (\w+): &str =\s+" + TEXT + ";", re.DOTALL)
@@ -96,7 +96,7 @@ def page():
     """The text of the page."""
     told, found = constants(), arguments()
     version = told["VERSION"].split("\n")[0]
-    text = f'.\\" Written by tools/manual_page.py from crates/command_line and crates/explanations.\n.TH X25SCAN 1 "" "x25scan {version}"\n'
+    text = f'.\\" Written by tools/manual_page.py from crates/command_options and crates/explanations.\n.TH X25SCAN 1 "" "x25scan {version}"\n'
     text += ".SH NAME\nx25scan \\- what an observer of an X.25 interface finds in a trace\n"
     text += ".SH SYNOPSIS\n.B x25scan\n" + "\n".join(map(synopsis, found)) + "\n"
     text += ".SH DESCRIPTION\n" + troff(told["ABOUT"]) + ".\n"

@@ -1,3 +1,4 @@
+pub mod Rows
 pub mod Annotation
 pub mod Wording
 pub mod Pages

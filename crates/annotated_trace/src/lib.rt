@@ -12,3 +12,4 @@ pub mod laws;
 mod marks;
 pub mod notes;
 pub mod page;
+pub mod rows;

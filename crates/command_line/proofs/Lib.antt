@@ -1,3 +1,2 @@
 pub mod JsonLemmas
 pub mod StatusLemmas
-mod WorkedWords

@@ -1,4 +1,3 @@
-pub mod Options
 pub mod Explaining
 pub mod Program
 pub mod Annotating

@@ -1,13 +1,13 @@
 //! The trace once more, with comments behind its rows.
 
 ghost use Rattle.std.specs.Prelude.{◌≡◌, ◌<◌, ◌≤◌, ◌+◌, ◌^◌, ◌⊎◌, map, option_map};
-ghost use Rattle.descriptions.specs.Rows.{choice_of};
+ghost use Rattle.annotated_trace.specs.Rows.{choice_of};
 ghost use Rattle.command_line.specs.Annotating.{IsAnnotateAnswer, IsAnnotateStatus};
 ghost use Rattle.command_line.specs.Program.{IsUnread, trace_of};
 
-use crate::options::Options;
 use crate::program::{USAGE, refuse_scan, refuse_trace, summary_status};
-use descriptions::rows::Rows;
+use annotated_trace::rows::Rows;
+use command_options::options::Options;
 use descriptions::scan::annotate;
 use line_model::device::Sink;
 use std::alloc::Global;

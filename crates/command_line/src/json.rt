@@ -3,8 +3,8 @@
 ghost use Rattle.std.specs.Prelude.{◌≡◌, ℕ, ◌<◌, ◌≤◌, ◌+◌, ◌^◌, List, Some};
 ghost use Rattle.command_line.specs.Program.{IsScannedAsJson};
 
-use crate::options::Options;
 use crate::program::{OTHER_FAULT, refuse, scan};
+use command_options::options::Options;
 use json_lines::sink::{JsonSink, Lent, Origin, Returned};
 use line_model::device::Sink;
 use std::alloc::Global;

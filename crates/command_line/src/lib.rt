@@ -4,7 +4,5 @@
 
 mod annotating;
 mod explaining;
-mod help;
 mod json;
-pub mod options;
 pub mod program;

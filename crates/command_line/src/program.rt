@@ -2,20 +2,20 @@
 
 ghost use Rattle.std.specs.Prelude.{◌≡◌, ◌≢◌, ℕ, ◌<◌, ◌≤◌, ◌+◌, ◌^◌, ◌⊎◌, IfSome, List, [], None, Some, false, map, option_map, true};
 ghost use Rattle.clap.specs.Words.{kind_of};
-ghost use Rattle.command_line.specs.Options.{annotation, as_json, asked_word, follows, named_trace, words_fault};
+ghost use Rattle.command_options.specs.Options.{annotation, as_json, asked_word, follows, named_trace, words_fault};
 ghost use Rattle.command_line.specs.Explaining.{IsAnswered};
 ghost use Rattle.annotated_trace.specs.declared.choice.Choice.{Choice};
-ghost use Rattle.descriptions.specs.Rows.{choice_of};
+ghost use Rattle.annotated_trace.specs.Rows.{choice_of};
 ghost use Rattle.command_line.specs.Annotating.{IsAnnotateAnswer};
 ghost use Rattle.command_line.specs.Program.{IsFollowStatus, IsStatus, IsUnread, IsWordsStatus, TellsOf, fault_status, summary_status, trace_of, words_status};
 
 use crate::annotating::annotate_trace;
 use crate::explaining::explain_word;
 use crate::json::scan_json;
-use crate::options::{Options, parse};
 use advice::advice::advice;
 use clap::Error;
 use clap::error::ErrorKind;
+use command_options::options::{Options, parse};
 use line_model::device::Sink;
 use line_model::fault::{Fault, Kind};
 use line_model::totals::Summary;

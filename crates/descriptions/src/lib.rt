@@ -14,6 +14,5 @@ mod names;
 mod packets;
 mod parameters;
 mod prose;
-pub mod rows;
 pub mod scan;
 mod uncounted;

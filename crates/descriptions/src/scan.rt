@@ -2,11 +2,11 @@
 
 ghost use Rattle.std.specs.Prelude.{◌≡◌, ◌+◌, ◌<◌, ◌≤◌, ◌^◌, Err, IfErr, IfOk};
 ghost use Rattle.annotated_trace.specs.Annotating.{Annotates, IsAnnotatingFault, Stops};
-ghost use Rattle.descriptions.specs.Rows.{choice_of};
+ghost use Rattle.annotated_trace.specs.Rows.{choice_of};
 
 use crate::descriptions::Descriptions;
-use crate::rows::Rows;
 use annotated_trace::annotating::annotate as annotate_by;
+use annotated_trace::rows::Rows;
 use channel_machine::channel::PackedChannel;
 use line_model::device::{Sink, Source};
 use line_model::fault::Fault;

@@ -2,7 +2,7 @@
 
 ghost use Rattle.std.specs.Prelude.{◌≡◌, ◌<◌};
 
-use descriptions::rows::Rows;
+use annotated_trace::rows::Rows;
 use descriptions::scan::annotate;
 use line_model::count::Count;
 use std::alloc::{AllocError, Global};

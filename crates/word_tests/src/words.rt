@@ -3,7 +3,7 @@
 mod runs;
 
 use crate::words::runs::{NamedText, run, run_beside};
-use command_line::options::parse;
+use command_options::options::parse;
 use std::test::Fail;
 use test_devices::Cuts;
 

@@ -2,7 +2,7 @@ use Rattle.std.proofs.Common.{◌≡◌, ◌∙◌, option_map, Bool, ℕ, List,
 use Rattle.annotated_trace.specs.declared.choice.Choice.{Choice}
 use Rattle.command_line.specs.Annotating.{IsAnnotateAnswer}
 use Rattle.command_line.specs.Explaining.{IsAnswered}
-use Rattle.command_line.specs.Options.{follows, named_trace}
+use Rattle.command_options.specs.Options.{follows, named_trace}
 use Rattle.command_line.specs.Program.{IsTold, IsUnread, trace_of}
 use Rattle.command_line.proofs.program.program.Given.{Over}
 use Rattle.command_line.proofs.program.program.Goals as goal

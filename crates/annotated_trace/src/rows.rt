@@ -1,9 +1,9 @@
 //! Which rows of a trace are told of.
 
 ghost use Rattle.std.specs.Prelude.{◌≡◌};
-ghost use Rattle.descriptions.specs.Rows.{choice_of};
+ghost use Rattle.annotated_trace.specs.Rows.{choice_of};
 
-use annotated_trace::choice::Choice;
+use crate::choice::Choice;
 use line_model::packet::Packet;
 
 /// Which rows are told of.

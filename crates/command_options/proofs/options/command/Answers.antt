@@ -1,7 +1,7 @@
 use Rattle.std.proofs.Common.{◌∙◌, ap}
 use Rattle.std.proofs.lemmas.Result.{IfOk-weaker}
-use Rattle.command_line.specs.Options.{with_asking, with_scanning, with_telling}
-use Rattle.command_line.proofs.options.command.Goals as goal
+use Rattle.command_options.specs.Options.{with_asking, with_scanning, with_telling}
+use Rattle.command_options.proofs.options.command.Goals as goal
 
 pub returns : goal.returns
 returns c =

@@ -2,9 +2,9 @@ use Rattle.std.proofs.Common.{◌≡◌, ◌∙◌, ap, refl, subst, sym, true, 
 use Rattle.clap.specs.Words.{HasKind, app_of, fault_of, found_of, first_value, is_simple, is_simple_and_free, matches_of, first_of}
 use Rattle.clap.proofs.OnLiterals.{clap_on_literals}
 use Rattle.clap.proofs.WalkLemmas.{first_value-rows}
-use Rattle.command_line.specs.Options.{annotation_by, command, is_given, named_by}
-use Rattle.command_line.proofs.options.parse.Goals as goal
-use Rattle.command_line.proofs.options.parse.Goals.{Joined-matches}
+use Rattle.command_options.specs.Options.{annotation_by, command, is_given, named_by}
+use Rattle.command_options.proofs.options.parse.Goals as goal
+use Rattle.command_options.proofs.options.parse.Goals.{Joined-matches}
 
 is_free : is_simple_and_free command ≡ true
 unfolding clap_on_literals

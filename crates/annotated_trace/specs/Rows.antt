@@ -2,8 +2,8 @@
 use Rattle.std.specs.Prelude.{ℕ, Option}
 use Rattle.annotated_trace.specs.declared.choice.Choice.{Choice}
 use Rattle.annotated_trace.specs.declared.choice.Choice.TheVariants.{EveryRow, ChosenRows}
-use Rattle.descriptions.specs.declared.rows.Rows.{Rows}
-use Rattle.descriptions.specs.declared.rows.Rows.TheVariants.{All, Chosen}
+use Rattle.annotated_trace.specs.declared.rows.Rows.{Rows}
+use Rattle.annotated_trace.specs.declared.rows.Rows.TheVariants.{All, Chosen}
 
 -- each row is told of, or some are chosen
 abbrev pub choice_of : Rows → Choice

@@ -1,13 +1,13 @@
 //! The command line.
 
 ghost use Rattle.std.specs.Prelude.{◌≡◌, ◌≤◌, IfOk, codes, false, map, option_map};
-ghost use Rattle.descriptions.specs.Rows.{choice_of};
+ghost use Rattle.annotated_trace.specs.Rows.{choice_of};
 ghost use Rattle.clap.specs.Words.{FailsBy, app_of, first_value, found_of, rule_of};
-ghost use Rattle.command_line.specs.Options.{annotation, annotation_by, as_json, asked_word, call_rule, channel_rule, command, explain_rule, flag_rule, follows, is_given, named_by, named_trace, trace_rule, versioned, with_asking, with_scanning, with_telling, words_fault, workers_rule};
+ghost use Rattle.command_options.specs.Options.{annotation, annotation_by, as_json, asked_word, call_rule, channel_rule, command, explain_rule, flag_rule, follows, is_given, named_by, named_trace, trace_rule, versioned, with_asking, with_scanning, with_telling, words_fault, workers_rule};
 
 use crate::help::{ABOUT, AFTER_HELP, VERSION};
+use annotated_trace::rows::Rows;
 use clap::{Arg, ArgAction, ArgMatches, Command, Error, value_parser};
-use descriptions::rows::Rows;
 use std::alloc::{AllocError, Global};
 
 /// What the words ask for.

@@ -3,7 +3,7 @@ use Rattle.std.proofs.Common.{◌≡◌, false, true, refl, codes, [], ◌∷◌
 use Rattle.annotated_trace.specs.declared.choice.Choice.TheVariants.{EveryRow, ChosenRows}
 use Rattle.clap.proofs.OnLiterals.{clap_on_literals}
 use Rattle.clap.specs.declared.error.kind.ErrorKind.TheVariants.{ArgumentConflict, DisplayHelp, DisplayVersion, UnknownArgument, ValueValidation}
-use Rattle.command_line.specs.Options.{annotation, as_json, asked_word, follows, named_trace, words_fault}
+use Rattle.command_options.specs.Options.{annotation, as_json, asked_word, follows, named_trace, words_fault}
 
 no_arguments : words_fault (codes "x25scan" ∷ []) ≡ []
 unfolding clap_on_literals
