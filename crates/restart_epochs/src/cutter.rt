@@ -252,27 +252,6 @@ impl<A: Allocator + Copy> Cutter<A> {
         )
     }
 
-    /// The interface of the trace.
-    pub fn interface(&self) -> Interface
-        ensures { result ≡ self.now.interface }
-    {
-        self.interface
-    }
-
-    /// The number of the last row that was taken, or 0.
-    pub fn last(&self) -> u32
-        ensures { result ≡ self.now.last }
-    {
-        self.last
-    }
-
-    /// How many octets the rows that were taken have.
-    pub fn octets(&self) -> u32
-        ensures { result ≡ self.now.octets }
-    {
-        self.octets
-    }
-
     /// How many pieces were given out: those of the epochs that have ended.
     pub fn given(&self) -> usize
         ensures { OfCut self.now (λ i rows. result ≡ length (given_of i rows)) }
@@ -319,3 +298,5 @@ impl<A: Allocator + Copy> Cutter<A> {
         })
     }
 }
+
+mod taken;
