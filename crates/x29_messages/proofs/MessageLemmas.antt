@@ -2,7 +2,7 @@
 use Rattle.std.proofs.Common.{◌≡◌, ◌≤◌, ◌<◌, ◌-◌, ◌==◌, ◌||◌, nat_lt, ℕ, Bool, true, false, arith, refl, sym, ◌∙◌, ap, List, [], ◌∷◌, length, drop, take, Option, Some, None}
 use Rattle.std.specs.Prelude.{not, is_none, slice_index}
 use Rattle.std.specs.Option.{option_map_or}
-use Rattle.std.proofs.lemmas.Bool.{agree_below_at, eqb-true, ne_eqb, le-ltb, lt-ltb, or_from, or_parts}
+use Rattle.std.proofs.lemmas.Bool.{agree_below_at, eqb-true, ne_eqb, le-ltb, or_from, or_parts}
 use Rattle.line_model.specs.basics.Octets.{octet, bits}
 use Rattle.line_model.specs.channels.Pad.{form_fault, is_badly_formed, is_too_long, is_unknown_message}
 use Rattle.line_model.specs.declared.finding.Xcode.{Xcode}
@@ -59,11 +59,6 @@ known xs k some below e =
     let octet_known : is_unknown_octet (octet 1 xs) ≡ false = sym (is_unknown-none (slice_index xs 0) below) ∙ ap is_none (sym e) in
     let both = or_parts (not (bits 8 5 (octet 1 xs) == 0)) (nat_lt 8 (bits 4 1 (octet 1 xs))) octet_known in
     or_from _ _ (or_from _ _ none both.0) both.1
-
--- XL
-pub long_message : (xs : List ℕ) (k : MessageCode) → 1 ≤ length xs → slice_index xs 0 < 256 → Some k ≡ code_of (slice_index xs 0) → 1024 < length xs → form_fault xs ≡ Some XL
-long_message xs k some below e long =
-    ap (λ u. fault_by u (is_too_long xs) (is_badly_formed xs)) (known xs k some below e) ∙ ap (λ l. fault_by false l (is_badly_formed xs)) (lt-ltb 1024 (length xs) long)
 
 -- X2, or none
 pub form_of : (xs : List ℕ) (k : MessageCode) (is_bad : Bool) → 1 ≤ length xs → slice_index xs 0 < 256 → Some k ≡ code_of (slice_index xs 0) → length xs ≤ 1024 → is_bad ≡ is_badly_formed xs → form_fault xs ≡ fault_by false false is_bad
