@@ -1,7 +1,7 @@
 -- Packets of data transfer, and where their headers end.
 use Rattle.std.proofs.lemmas.Bool.{ltb-true, ltb-false, eqb-false}
 use Rattle.std.proofs.Common.{◌≡◌, ◌≢◌, ◌≤◌, ◌<◌, ◌==◌, nat_lt, ℕ, Bool, true, false, refl, sym, arith, List, [], ◌∷◌, length, Some, None}
-use Rattle.std.specs.Prelude.{if◌then◌else◌}
+use Rattle.std.specs.Prelude.{if◌then◌else◌, not, unwrap_or}
 use Rattle.line_model.specs.basics.Choice.{first_that}
 use Rattle.line_model.specs.declared.interface.Interface.{Interface}
 use Rattle.line_model.specs.declared.packet.DataHeader.{DataHeader}
@@ -9,7 +9,8 @@ use Rattle.line_model.specs.declared.packet.Packet.TheVariants.{Channel}
 use Rattle.line_model.specs.declared.packet.PacketKind.{PacketKind}
 use Rattle.line_model.specs.declared.packet.Class.{Class}
 use Rattle.line_model.specs.declared.packet.Class.TheVariants.{Call, Accepted, Short, WrongFormat, Unassigned, TwoOctets, RestartHere, Clear, ClearConfirm, Interrupt, InterruptConfirm, Reset, ResetConfirm, Data, Rr, Rnr, Rej, Undefined, Restart, RestartConfirm, Diagnostic, Registration}
-use Rattle.line_model.specs.packets.Classes.{class_of, data_header, header_length, kind_of, packet_of, packet_with, receive_number}
+use Rattle.line_model.specs.packets.Classes.{class_of, data_header, format_of, header_length, kind_of, line_type, packet_of, packet_with, receive_number, type_class}
+use Rattle.line_model.specs.basics.Octets.{octet, bits, channel_of}
 
 -- a class that only three octets have
 third : (short wrong apart line two : Bool) (l m k : Class) → k ≢ Short → k ≢ WrongFormat → k ≢ Unassigned → k ≢ TwoOctets →
@@ -28,15 +29,21 @@ three_octets n h =
     let more : n ≢ 2 = eqb-false n 2 h.1 in
     omega arith
 
+class_octets : (i : Interface) (xs : List ℕ) (k : Class) → k ≢ Short → k ≢ WrongFormat → k ≢ Unassigned → k ≢ TwoOctets → class_of i xs ≡ k → 3 ≤ length xs
+class_octets i xs k s w u t e =
+    three_octets (length xs)
+    (third (nat_lt (length xs) 2) (not (bits 6 5 (octet 1 xs) == format_of i)) (nat_lt i.svc (channel_of xs)) (channel_of xs == 0) (length xs == 2)
+    (unwrap_or (line_type (octet 3 xs)) Unassigned) (type_class i (octet 3 xs)) k s w u t e)
+
 -- a data packet has its third octet
 pub data_octets : (i : Interface) (xs : List ℕ) → class_of i xs ≡ Data → 3 ≤ length xs
-data_octets i xs e = three_octets (length xs) (third _ _ _ _ _ _ _ Data (λ h. cc) (λ h. cc) (λ h. cc) (λ h. cc) e)
+data_octets i xs e = class_octets i xs Data (λ h. cc) (λ h. cc) (λ h. cc) (λ h. cc) e
 
 pub rr_octets : (i : Interface) (xs : List ℕ) → class_of i xs ≡ Rr → 3 ≤ length xs
-rr_octets i xs e = three_octets (length xs) (third _ _ _ _ _ _ _ Rr (λ h. cc) (λ h. cc) (λ h. cc) (λ h. cc) e)
+rr_octets i xs e = class_octets i xs Rr (λ h. cc) (λ h. cc) (λ h. cc) (λ h. cc) e
 
 pub rnr_octets : (i : Interface) (xs : List ℕ) → class_of i xs ≡ Rnr → 3 ≤ length xs
-rnr_octets i xs e = three_octets (length xs) (third _ _ _ _ _ _ _ Rnr (λ h. cc) (λ h. cc) (λ h. cc) (λ h. cc) e)
+rnr_octets i xs e = class_octets i xs Rnr (λ h. cc) (λ h. cc) (λ h. cc) (λ h. cc) e
 
 -- a header is there exactly where its octets are
 cut_at : {A : Type 0} (eight short : Bool) (x y : A) (n : ℕ) → (short ≡ true → n < 4) → first_that ((eight, Some x) ∷ (short, None) ∷ []) (Some y) ≡ None → n < (if eight then 3 else 4)
