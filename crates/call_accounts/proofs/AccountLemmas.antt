@@ -7,7 +7,7 @@ use Rattle.std.specs.Cmp.{alike_right}
 use Rattle.std.specs.declared.cmp.Ordering.{Ordering}
 use Rattle.std.proofs.Common.{Less, Equal, Greater}
 use Rattle.std.specs.Ordering.{match_ordering}
-use Rattle.std.proofs.lemmas.Bool.Decides.{nat_tests}
+use Rattle.std.proofs.lemmas.Bool.{eqb-true, eqb-false}
 use Rattle.std.proofs.lemmas.Map.Lookups.{exact_bytes}
 use Rattle.std.proofs.lemmas.List.Sums.{sum_by-cons}
 use Rattle.line_model.specs.basics.Records.{CallRecord}
@@ -23,7 +23,9 @@ use Rattle.call_accounts.specs.Entries.{IsRank, IsRanked, account_of_call, accou
 -- ---- the accounts of one more call
 
 account-other : (c : CallRecord) (cs : List CallRecord) (b : List ℕ) → payer c ≢ b → account (c ∷ cs) b ≡ account cs b
-account-other c cs b h = let e = same_from-apart (payer c) b h in simp e refl
+account-other c cs b h =
+    let own : List CallRecord = filter (λ d. is_same_address (payer d) b) cs in
+    ap (λ s. record { address = b; calls = length (cond s (c ∷ own) own); segments = sum_by (λ d. d.segments) (cond s (c ∷ own) own) }) (same_from-apart (payer c) b h)
 
 account-own : (c : CallRecord) (cs : List CallRecord)
     → account (c ∷ cs) (payer c) ≡ record { address = payer c; calls = (account cs (payer c)).calls + 1; segments = (account cs (payer c)).segments + c.segments }
@@ -239,12 +241,13 @@ summed_from-ledger (e ∷ es) k r h up ranked =
     at : (b : Bool) → (r == e.rank) ≡ b → (r ≡ e.rank → summed_from (sum_of k own) r es ≡ put (sum_of k own) rest) → summed_from own e.rank es ≡ put own rest
         → elim b [ true ↦ summed_from (sum_of k own) r es | false ↦ k ∷ summed_from own e.rank es ] ≡ put k (put own rest)
     at true t joined apart =
-        let same : r ≡ e.rank = grind (arith, nat_tests) in
+        let same : r ≡ e.rank = eqb-true r e.rank t in
         let address : k.address ≡ e.address = same_from-ranks r e.rank k.address e.address h ranked.0 same in
         joined same ∙ ap (λ s. put s rest) (sum_of-comm own k (sym address)) ∙ sym (put-sum k own rest address)
     at false t joined apart =
         let le : r ≤ e.rank = up.0 in
-        let lower : r < e.rank = grind (arith, nat_tests) in
+        let other : r ≢ e.rank = eqb-false r e.rank t in
+        let lower : r < e.rank = omega arith in
         ap (λ l. k ∷ l) apart
         ∙ sym (put-first k (put own rest) (first-put k own rest (less_from-ranks r e.rank k.address e.address h ranked.0 lower) (first-ledger k r e.rank es h lower up.1 ranked.1)))
 

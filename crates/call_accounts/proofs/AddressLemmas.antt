@@ -6,7 +6,7 @@ use Rattle.std.specs.Cmp.{nat_cmp_total, ranks, IsTotalOrder, tied_itself}
 use Rattle.std.specs.declared.cmp.Ordering.{Ordering}
 use Rattle.std.proofs.Common.{Less, Equal, Greater}
 use Rattle.std.specs.Ordering.{MatchOrdering, nat_cmp, ordering_then, ordering_reverse}
-use Rattle.std.proofs.lemmas.Bool.Decides.{nat_tests}
+use Rattle.std.proofs.lemmas.Bool.{eq-eqb, le-ltb, lt-ltb, ne_eqb}
 use Rattle.std.proofs.lemmas.Map.Lookups.{exact_bytes}
 use Rattle.line_model.specs.basics.Records.{CallRecord}
 use Rattle.line_model.specs.observer.Accounts.{payer, payers, with_address, is_same_address, is_before}
@@ -23,17 +23,20 @@ Tests o same before = MatchOrdering o ((same ≡ false) × (before ≡ true)) (s
 
 tests_cons : (o p : Ordering) (same before : Bool) (x y : ℕ) → MatchOrdering o (x < y) (x ≡ y) (y < x) → Tests p same before → Tests (ordering_then o p) ((x == y) && same) (nat_lt x y || ((x == y) && before))
 tests_cons Less p same before x y h t =
-    let apart : (x == y) ≡ false = grind (arith, nat_tests) in
-    let lower : nat_lt x y ≡ true = grind (arith, nat_tests) in
+    let less : x < y = h in
+    let apart : (x == y) ≡ false = ne_eqb x y (λ e. omega arith) in
+    let lower : nat_lt x y ≡ true = lt-ltb x y less in
     (ap (λ b. b && same) apart, ap (λ b. b || ((x == y) && before)) lower)
 tests_cons Equal p same before x y h t =
-    let e : (x == y) ≡ true = grind (arith, nat_tests) in
-    let lower : nat_lt x y ≡ false = grind (arith, nat_tests) in
+    let alike : x ≡ y = h in
+    let e : (x == y) ≡ true = eq-eqb x y alike in
+    let lower : nat_lt x y ≡ false = le-ltb x y (omega arith) in
     let f : (nat_lt x y || ((x == y) && before)) ≡ before = ap (λ b. b || ((x == y) && before)) lower ∙ ap (λ b. b && before) e in
     subst (λ s. Tests p s (nat_lt x y || ((x == y) && before))) (sym (ap (λ b. b && same) e)) (subst (λ b. Tests p same b) (sym f) t)
 tests_cons Greater p same before x y h t =
-    let apart : (x == y) ≡ false = grind (arith, nat_tests) in
-    let lower : nat_lt x y ≡ false = grind (arith, nat_tests) in
+    let more : y < x = h in
+    let apart : (x == y) ≡ false = ne_eqb x y (λ e. omega arith) in
+    let lower : nat_lt x y ≡ false = le-ltb x y (omega arith) in
     (ap (λ b. b && same) apart, ap (λ b. b || ((x == y) && before)) lower ∙ ap (λ b. b && before) apart)
 
 tests : (a b : List ℕ) → Tests (order a b) (is_same_address a b) (is_before a b)
@@ -42,14 +45,21 @@ tests [] (y ∷ ys) = (refl, refl)
 tests (x ∷ xs) [] = (refl, refl)
 tests (x ∷ xs) (y ∷ ys) = tests_cons (nat_cmp x y) (order xs ys) (is_same_address xs ys) (is_before xs ys) x y (ranks x y) (tests xs ys)
 
+-- what the two tests choose
+abbrev chosen : (same before : Bool) → (a b : List ℕ) → (bs : List (List ℕ)) → List (List ℕ)
+chosen same before a b bs = elim same [
+  | true ↦ b ∷ bs
+  | false ↦ elim before [ true ↦ a ∷ b ∷ bs | false ↦ b ∷ with_address a bs ]
+]
+
 with-same : (a b : List ℕ) (bs : List (List ℕ)) → is_same_address a b ≡ true → with_address a (b ∷ bs) ≡ b ∷ bs
-with-same a b bs e = simp (e, with_address) refl
+with-same a b bs e = ap (λ s. chosen s (is_before a b) a b bs) e
 
 with-before : (a b : List ℕ) (bs : List (List ℕ)) → is_same_address a b ≡ false → is_before a b ≡ true → with_address a (b ∷ bs) ≡ a ∷ b ∷ bs
-with-before a b bs e f = simp (e, f, with_address) refl
+with-before a b bs e f = ap (λ s. chosen s (is_before a b) a b bs) e ∙ ap (λ p. chosen false p a b bs) f
 
 with-after : (a b : List ℕ) (bs : List (List ℕ)) → is_same_address a b ≡ false → is_before a b ≡ false → with_address a (b ∷ bs) ≡ b ∷ with_address a bs
-with-after a b bs e f = simp (e, f, with_address) refl
+with-after a b bs e f = ap (λ s. chosen s (is_before a b) a b bs) e ∙ ap (λ p. chosen false p a b bs) f
 
 -- ---- same addresses
 

@@ -6,7 +6,7 @@ use Rattle.std.specs.declared.cmp.Ordering.{Ordering}
 use Rattle.std.proofs.Common.{Less, Equal, Greater}
 use Rattle.std.specs.Ordering.{MatchOrdering, nat_cmp, ordering_then}
 use Rattle.std.proofs.lemmas.Map.Lookups.{exact_bytes}
-use Rattle.std.proofs.lemmas.Bool.Decides.{nat_tests}
+use Rattle.std.proofs.lemmas.Bool.{ltb-true, ltb-false}
 use Rattle.std.proofs.lemmas.List.{at_drop_more, at_drop_all}
 use Rattle.call_accounts.specs.Entries.{digit_at, rank_behind, IsRank}
 use Rattle.call_accounts.proofs.AddressLemmas.{order, less_from-greater}
@@ -39,10 +39,10 @@ rank-more octets i r lt =
 
     at : (b : Bool) → nat_lt i (length octets) ≡ b → rank_behind (suc n) (drop i octets) r ≡ rank_behind n (drop (i + 1) octets) (r * 257 + elim b [ true ↦ get_or octets i 0 + 1 | false ↦ 0 ])
     at true e =
-        let within : i < length octets = grind (arith, nat_tests) in
+        let within : i < length octets = ltb-true i (length octets) e in
         at_drop_more (λ l. rank_behind (suc n) l r) octets i 0 within
     at false e =
-        let past : length octets ≤ i = grind (arith, nat_tests) in
+        let past : length octets ≤ i = ltb-false i (length octets) e in
         let zero_more : r * 257 ≡ r * 257 + 0 = omega arith in
         at_drop_all (λ l. rank_behind (suc n) l r) octets i past
         ∙ ap (λ s. rank_behind n [] s) zero_more

@@ -6,6 +6,7 @@ use Rattle.std.specs.List.{list_any}
 use Rattle.std.proofs.lemmas.List.{length-drop, reverse-append}
 use Rattle.std.proofs.lemmas.List.Sums.{take_while-cons}
 use Rattle.std.proofs.lemmas.List.Folds.{find-append}
+use Rattle.std.proofs.lemmas.Bool.{le-ltb}
 use Rattle.std.proofs.lemmas.Bool.Decides.{eqb_tells}
 use Rattle.line_model.specs.declared.interface.Interface.{Interface}
 use Rattle.line_model.specs.packets.Facilities.{Facility, facilities_of, parameters_from, octets_after, last_parameters, is_out_of_range, asks_fast, asks_reverse, asked_sizes, asked_windows}
@@ -99,7 +100,7 @@ joined_marker i rest fs fits =
     ap (asked_of i) (take_while-cons (λ g. not (g.code == 0)) (facility_at 0 rest) fs)
 
 joined_charging : (i : Interface) (rest : List ℕ) (fs : List Facility) → IsJoined i rest fs 1
-joined_charging i [] fs fits = grind (arith, fits)
+joined_charging i [] fs fits = absurd (omega arith)
 joined_charging i (r ∷ rs) fs fits =
     let a : Asked = asked_of i (before_marker fs) in
     ap (asked_of i) (take_while-cons (λ g. not (g.code == 0)) (facility_at 1 (r ∷ rs)) fs)
@@ -107,8 +108,8 @@ joined_charging i (r ∷ rs) fs fits =
     ∙ (λ k. record a { charging = option_or a.charging (Some r); sizes = or_none a.sizes k; windows = or_none a.windows k })
 
 joined_sizes : (i : Interface) (rest : List ℕ) (fs : List Facility) → IsJoined i rest fs 0x42
-joined_sizes i [] fs fits = grind (arith, fits)
-joined_sizes i (q ∷ []) fs fits = grind (arith, fits)
+joined_sizes i [] fs fits = absurd (omega arith)
+joined_sizes i (q ∷ []) fs fits = absurd (omega arith)
 joined_sizes i (q ∷ r ∷ rs) fs fits =
     let a : Asked = asked_of i (before_marker fs) in
     ap (asked_of i) (take_while-cons (λ g. not (g.code == 0)) (facility_at 0x42 (q ∷ r ∷ rs)) fs)
@@ -121,8 +122,8 @@ joined_sizes i (q ∷ r ∷ rs) fs fits =
     })
 
 joined_windows : (i : Interface) (rest : List ℕ) (fs : List Facility) → IsJoined i rest fs 0x43
-joined_windows i [] fs fits = grind (arith, fits)
-joined_windows i (q ∷ []) fs fits = grind (arith, fits)
+joined_windows i [] fs fits = absurd (omega arith)
+joined_windows i (q ∷ []) fs fits = absurd (omega arith)
 joined_windows i (q ∷ r ∷ rs) fs fits =
     let a : Asked = asked_of i (before_marker fs) in
     ap (asked_of i) (take_while-cons (λ g. not (g.code == 0)) (facility_at 0x43 (q ∷ r ∷ rs)) fs)
@@ -184,7 +185,7 @@ asked_first : (i : Interface) (code : ℕ) (ys : List ℕ) → octets_after code
     asked_in i (code ∷ ys) ≡ option_map (joined i code ys) (asked_in i (drop (octets_after code ys) ys))
 asked_first i code ys fits =
     let n : ℕ = octets_after code ys in
-    let enough : nat_lt (length ys) n ≡ false = grind (arith, fits) in
+    let enough : nat_lt (length ys) n ≡ false = le-ltb (length ys) n fits in
     let bound : facilities_of (length (code ∷ ys)) (code ∷ ys) ≡ facilities_of (suc (length ys)) (code ∷ ys) =
     facilities_of-bound (length (code ∷ ys)) (suc (length ys)) (code ∷ ys) (omega arith) (omega arith) in
     let same : facilities_of (length ys) (drop n ys) ≡ facilities_of (length (drop n ys)) (drop n ys) =
@@ -198,7 +199,7 @@ asked_first i code ys fits =
 pub asked_step : (i : Interface) (xs rest more : List ℕ) (n : ℕ) → 1 ≤ length xs → rest ≡ drop 1 xs →
     n ≡ octets_after (octet 1 xs) rest → n ≤ length rest → more ≡ drop n rest →
     asked_in i xs ≡ option_map (joined i (octet 1 xs) rest) (asked_in i more)
-asked_step i [] rest more n l rest_is n_is fits more_is = grind (arith, l)
+asked_step i [] rest more n l rest_is n_is fits more_is = absurd (omega arith)
 asked_step i (code ∷ ys) rest more n l rest_is n_is fits more_is =
     let whole : octets_after code ys ≤ length ys = subst (λ zs. octets_after code zs ≤ length zs) rest_is (rw (← n_is) fits) in
     asked_first i code ys whole ∙ rw (more_is, n_is, rest_is) refl

@@ -3,3 +3,4 @@ pub mod FacilityLemmas
 pub mod AskedLemmas
 pub mod CallTypes
 pub mod ContentsLemmas
+pub mod BlockLemmas

@@ -214,3 +214,7 @@ head_alike T U Start kept head h = h
 head_alike T U (Double i) kept head h = h
 head_alike T U (Stranger i) kept head h = h
 head_alike T U (Missing i) kept head h = h
+
+-- it refused nothing
+pub is-running : (v : Progress) (text : List ℕ) (f : Fault) → StandsFor v text → v.refused ≡ Some f → ⊥
+is-running v text f s h = let none : None ≡ Some f = sym s.running ∙ h in cc

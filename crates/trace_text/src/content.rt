@@ -21,7 +21,7 @@ pub enum Content {
 }
 
 /// Why a line was not read.
-#[derive(Clone, Copy, Debug, PartialEq, Eq)]
+#[derive(Clone, Copy)]
 pub enum LineFault {
     /// Want of memory.
     Memory,

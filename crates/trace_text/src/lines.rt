@@ -55,7 +55,7 @@ impl<A: Allocator> Model for Lines<A> {
 }
 
 /// How a text without a fault ends.
-#[derive(Clone, Copy, Debug, PartialEq, Eq)]
+#[derive(Clone, Copy)]
 pub struct TextEnd {
     /// What the header says.
     pub interface: Interface,

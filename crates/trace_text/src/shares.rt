@@ -8,7 +8,7 @@ use crate::reading::read_line;
 use std::marker::Model;
 
 /// Why a share was not read by itself.
-#[derive(Clone, Copy, Debug, PartialEq, Eq)]
+#[derive(Clone, Copy, PartialEq, Eq)]
 pub enum ShareFault {
     /// Want of memory.
     Memory,
