@@ -106,8 +106,9 @@ fn feed_end<P: Plan, A: Allocator, R: Wait + Clock>(
     let mut backoff = Backoff::new();
     for _ in rt.forever() {
         work.free_used(rt);
-        if work.feed_end(rt, pass).is_ok() {
-            return;
+        match work.feed_end(rt, pass) {
+            Ok(()) => return,
+            Err(()) => {}
         }
         backoff.take(rt);
     }

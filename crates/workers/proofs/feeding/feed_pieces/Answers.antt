@@ -1,4 +1,6 @@
-use Rattle.std.proofs.Common.{◌≡◌, ◌+◌, ◌++◌, ◌∙◌, ap, arith, refl, sym}
+use Rattle.std.proofs.Common.{◌≡◌, ◌+◌, ◌++◌, ◌∙◌, ap, append-nil, arith, refl, sym}
+use Rattle.std.proofs.lemmas.List.{nil_from_length}
+use Rattle.std.specs.Vec.Iter.{into_iter_items}
 use Rattle.std.specs.Prelude.{slice_get}
 use Rattle.workers.proofs.Pieces.{planned-next, planned-rest, pieces-next}
 use Rattle.workers.proofs.feeding.feed_pieces.Goals as goal
@@ -33,3 +35,21 @@ loop-piece-init g c =
       pieces = ap (λ l. c.args.pass.now.pieces ++ l) given.0;
       taken = refl;
     }
+
+pub returns : goal.returns
+returns g c =
+    let i = c.loop-piece.invariant in
+    let none = c.in-None.ensures.steps.0 in
+    let pieces = c.loop-piece.pass.pieces in
+    let empty = nil_from_length (into_iter_items c.loop-piece.piece-iterator) (sym c.loop-piece.piece-iterator.rest.ok.0 ∙ none) in record {
+      queue = i.queue;
+      fed = omega (arith, i.fed, none);
+      kept = record { ends = i.ends; pending = i.pending; done = i.done; taken = i.taken };
+      pieces = sym (append-nil pieces) ∙ ap (λ l. pieces ++ l) (sym empty) ∙ i.pieces;
+    }
+
+pub feed_piece-requires-clause-queue : goal.feed_piece-requires-clause-queue
+feed_piece-requires-clause-queue g c = c.loop-piece.invariant.queue ∙ c.requires.queue
+
+pub feed_piece-requires-clause-open : goal.feed_piece-requires-clause-open
+feed_piece-requires-clause-open g c = c.loop-piece.invariant.ends

@@ -1,6 +1,6 @@
 use Rattle.std.specs.Vec.Iter.{into_iter_items}
-use Rattle.std.proofs.Common.{◌≡◌, ◌+◌, length, arith, rules, ap, refl, subst, sym, ◌∙◌}
-use Rattle.std.specs.Prelude.{All, sum_by, if◌then◌else◌}
+use Rattle.std.proofs.Common.{◌≡◌, ◌+◌, ◌-◌, length, arith, ap, refl, subst, sym, ◌∙◌}
+use Rattle.std.specs.Prelude.{All, sum_by, if◌then◌else◌, vec_len}
 use Rattle.std.proofs.lemmas.List.Sums.{sum_by_push}
 use Rattle.std.proofs.Common.{length-append}
 use Rattle.workers.proofs.Lists.{All-rest, sum-of-none}
@@ -44,7 +44,7 @@ loop-one-preserved g c =
 pub loop-one-init : goal.loop-one-init
 loop-one-init g c =
     let given = c.into_iter-one-iterator.ensures.into_iter_gives in
-    let none : length c.args.shares.items ≡ 0 = search rules in record {
+    let none : length c.args.shares.items ≡ 0 = sym c.args.shares.ok.0 ∙ c.requires.room.0 in record {
       promised = subst (λ l. All (λ h. h.promise.work.now.queue ≡ c.args.work.now.queue) l) (sym given.0) c.requires.promised;
       count = omega (arith, given.1, c.requires.room.0);
       room = c.requires.room.1;
@@ -55,4 +55,20 @@ loop-one-init g c =
       fed = refl;
       fault = sum-of-none g.H.Posted.posts c.args.shares.items none ∙ sym c.requires.fresh.1;
       all = λ some. absurd (omega (arith, some, c.requires.room.0));
+    }
+
+pub returns-clause-pieces : goal.returns-clause-pieces
+returns-clause-pieces g c = c.loop-one.invariant.pieces
+
+pub returns-clause-joined : goal.returns-clause-joined
+returns-clause-joined g c =
+    let i = c.loop-one.invariant in
+    let all : vec_len c.loop-one.shares ≡ vec_len c.args.running = omega (arith, i.count, c.in-None.ensures.steps.0) in record {
+      queue = i.queue;
+      pending = i.pending ∙ ap (λ n. c.args.pass.record_of.pending - n) all;
+      done = i.done ∙ all;
+      fed = i.fed;
+      shares = all;
+      fault = i.fault;
+      all = λ some. i.all (omega (arith, some, all));
     }

@@ -1,4 +1,5 @@
-use Rattle.std.proofs.Common.{◌≡◌, ◌∙◌, ap, subst}
+use Rattle.std.proofs.Common.{◌≡◌, ◌∙◌, ap, subst, sym}
+use Rattle.line_model.specs.packets.Classes.{packet_of}
 use Rattle.std.specs.Prelude.{IfOk}
 use Rattle.line_model.specs.basics.Records.{Row}
 use Rattle.line_model.specs.channels.ChannelStep.{channel_step}
@@ -52,3 +53,15 @@ returns-clause-events g c k s =
     let whole : r ≡ c.args.row.now = (λ j. record { number = c.row.inside.number; side = c.row.inside.side; octets = c.deref.ensures.value j }) ∙ c.row.view_is in
     adds_events c.take.result stamp self c.take.new.self c.args.events.now.items c.take.new.events.items self.terms.interface k c.args.row.now (ap (λ w. w.number) c.row.view_is)
     (of_row c.take.result stamp self c.take.new.self c.args.events.now.items c.take.new.events.items self.terms.interface self.channel k r c.args.row.now whole does)
+
+pub take-requires : goal.take-requires
+take-requires g c =
+    let r : Row = record { number = c.row.inside.number; side = c.row.inside.side; octets = c.deref.result.now } in
+    let whole : r ≡ c.args.row.now = (λ j. record { number = c.row.inside.number; side = c.row.inside.side; octets = c.deref.ensures.value j }) ∙ c.row.view_is in
+    record { packet = c.requires.item.packet ∙ ap (λ (w : Row). packet_of c.args.self.now.terms.interface w.octets) (sym whole) }
+
+pub returns-clause-unchanged : goal.returns-clause-unchanged
+returns-clause-unchanged g c = c.take.ensures.unchanged
+
+pub returns-clause-memory : goal.returns-clause-memory
+returns-clause-memory g c = c.take.ensures.memory

@@ -1,4 +1,7 @@
-use Rattle.std.proofs.Common.{sym, ap, ◌∙◌, subst, refl}
+use Rattle.std.proofs.Common.{◌≡◌, ◌+◌, sym, ap, ◌∙◌, subst, refl}
+use Rattle.std.specs.Prelude.{IfErr}
+use Rattle.std.proofs.lemmas.Result.{IfOk-from_err, err_from_is_err_and}
+use Rattle.line_model.specs.declared.fault.Fault.TheVariants.{Memory}
 use Rattle.line_model.specs.work.Book.{IsValue}
 use Rattle.workers.specs.Vouching.{IsValueOfOne}
 use Rattle.line_model.proofs.Posts.{value_is}
@@ -29,3 +32,23 @@ loop-preserved g c =
       share = back.1 ∙ i.share;
       pass = c.testify.ensures.same ∙ i.pass;
     }
+
+pub testify-requires : goal.testify-requires
+testify-requires g c = ap (λ v. v.queue) c.loop.invariant.pass ∙ (c.requires.queue.0 ∙ sym c.requires.queue.1)
+
+pub post-requires-clause-value : goal.post-requires-clause-value
+post-requires-clause-value g c = c.loop.invariant.value
+
+pub returns-in-Ok-clause-same : goal.returns-in-Ok-clause-same
+returns-in-Ok-clause-same g c = c.testify.ensures.same ∙ c.loop.invariant.pass
+
+pub returns-in-Ok-clause-posted : goal.returns-in-Ok-clause-posted
+returns-in-Ok-clause-posted g c = ap (λ s. s.posts) c.in-Ok.ensures.share ∙ ap (λ s. s.posts + 1) c.loop.invariant.share
+
+pub returns-in_err-report-clause-posted : goal.returns-in_err-report-clause-posted
+returns-in_err-report-clause-posted g c = IfOk-from_err _ _ c.from_residual.ensures.0
+
+pub returns-in_err-report-clause-refused : goal.returns-in_err-report-clause-refused
+returns-in_err-report-clause-refused g c =
+    let p = err_from_is_err_and c.from_residual.result c.from_residual.ensures.1 in
+    subst (λ r. IfErr r (λ f. f ≡ Memory)) (sym p.1) (p.2 ∙ c.in_err-report.ensures.value)
