@@ -71,6 +71,30 @@ fn report<A: Allocator + Copy>(
     Ok(report_of(alloc, id, findings, octets, segments))
 }
 
+/// What was counted is what was wanted.
+fn totals_are<R: Abort>(rt: &R, counted: Totals, wanted: Totals) {
+    assert_eq!(rt; counted, wanted);
+}
+
+/// The share has these totals, and a look by it sees the same.
+fn share_has<R: Wait + Abort, L: Ledgers, A: Allocator>(
+    rt: &R,
+    locked_posts: &LockedPosts<Brand, L, A>,
+    share: &mut Share<L>,
+    wanted: Totals,
+) {
+    totals_are(rt, share.totals(), wanted);
+    totals_are(rt, locked_posts.look(rt, share), wanted);
+}
+
+/// Each number that is seen is at least that of what was posted.
+fn shows(seen: Totals, posted: Totals) -> bool {
+    seen.posts >= posted.posts
+        && seen.findings >= posted.findings
+        && seen.octets >= posted.octets
+        && seen.segments >= posted.segments
+}
+
 /// Posts a report, and looks. No number that is seen is below that of the share.
 fn post_one<R: Wait + Abort, L: Ledgers>(
     rt: &R,
@@ -81,10 +105,21 @@ fn post_one<R: Wait + Abort, L: Ledgers>(
     if let Err((_, fault)) = locked_posts.post(rt, report, share, AnyReport) {
         return Err(fault);
     }
-    let seen = locked_posts.look(rt, share);
-    assert!(rt; share.totals().posts <= seen.posts);
-    assert!(rt; share.totals().findings <= seen.findings);
+    assert!(rt; shows(locked_posts.look(rt, share), share.totals()));
     Ok(())
+}
+
+/// The id, the octets and the fault of a report that comes back.
+fn refusal<R: Wait, L: Ledgers>(
+    rt: &R,
+    locked_posts: &LockedPosts<Brand, L>,
+    report: PieceReport,
+    share: &mut Share<L>,
+) -> Option<(u32, u64, Fault)> {
+    match locked_posts.post(rt, report, share, AnyReport) {
+        Ok(()) => None,
+        Err((back, fault)) => Some((back.id, back.octets, fault)),
+    }
 }
 
 /// A report of an id that was posted comes back.
@@ -95,12 +130,8 @@ fn comes_back<R: Wait + Abort, L: Ledgers>(
     share: &mut Share<L>,
 ) {
     let (id, octets) = (report.id, report.octets);
-    let refused = locked_posts.post(rt, report, share, AnyReport);
-    assert!(rt; refused.is_err());
-    if let Err((back, fault)) = refused {
-        assert_eq!(rt; fault, Fault::Double(id));
-        assert_eq!(rt; (back.id, back.octets), (id, octets));
-    }
+    let refused = refusal(rt, locked_posts, report, share);
+    assert!(rt; refused == Some((id, octets, Fault::Double(id))));
 }
 
 /// Posts the reports of some pieces. After each post no number that is seen is below that of the share.

@@ -1,6 +1,8 @@
 //! The reports of three epochs in two shares, and a report that comes twice.
 
-use crate::posting::{Scenario, THREE_EPOCHS, comes_back, play, post_all, post_one, report};
+use crate::posting::{
+    Scenario, THREE_EPOCHS, comes_back, play, post_all, post_one, report, share_has, totals_are,
+};
 use findings_book::{Ledgers, LockedPosts, Share};
 use line_model::piece::PieceReport;
 use line_model::totals::Totals;
@@ -10,6 +12,11 @@ use std::process::Abort;
 use std::sync::Wait;
 use std::test::Fail;
 
+/// The posts and the findings of six pieces.
+fn has_six(totals: Totals) -> bool {
+    totals.posts == 6 && totals.findings == 6
+}
+
 /// The first share has posted the reports of six pieces, and all twelve are seen by the second.
 fn has_six_of_twelve<R: Wait + Abort, L: Ledgers>(
     rt: &R,
@@ -17,9 +24,8 @@ fn has_six_of_twelve<R: Wait + Abort, L: Ledgers>(
     first: &Share<L>,
     second: &mut Share<L>,
 ) {
-    assert_eq!(rt; first.totals().posts, 6);
-    assert_eq!(rt; first.totals().findings, 6);
-    assert_eq!(rt; locked_posts.look(rt, second), THREE_EPOCHS);
+    assert!(rt; has_six(first.totals()));
+    totals_are(rt, locked_posts.look(rt, second), THREE_EPOCHS);
 }
 
 /// Posts the reports of twelve pieces, six by either share.
@@ -38,7 +44,7 @@ pub(super) fn three_epochs<R: Wait + Abort, L: Ledgers>(
 
 /// The book has the reports of three epochs, in the order of the posts.
 pub(super) fn has_three_epochs<R: Abort>(rt: &R, totals: Totals, reports: &[PieceReport]) {
-    assert_eq!(rt; totals, THREE_EPOCHS);
+    totals_are(rt, totals, THREE_EPOCHS);
     assert!(rt; reports.iter().map(|report| report.id).eq(0..12));
 }
 
@@ -55,16 +61,6 @@ const ONCE: Totals = Totals {
     segments: 2,
 };
 
-/// The share and the book have the numbers of the report that was taken.
-fn has_once<R: Wait + Abort, L: Ledgers>(
-    rt: &R,
-    locked_posts: &LockedPosts<Brand, L>,
-    share: &mut Share<L>,
-) {
-    assert_eq!(rt; share.totals(), ONCE);
-    assert_eq!(rt; locked_posts.look(rt, share), ONCE);
-}
-
 /// Posts a report that is taken, and one of its id that comes back.
 pub(super) fn posted_twice<R: Wait + Abort, L: Ledgers>(
     rt: &R,
@@ -74,13 +70,13 @@ pub(super) fn posted_twice<R: Wait + Abort, L: Ledgers>(
 ) -> Result<(), Fail> {
     post_one(rt, locked_posts, share, report(alloc, 3, 130, 2)?)?;
     comes_back(rt, locked_posts, report(alloc, 3, 7, 1)?, share);
-    has_once(rt, locked_posts, share);
+    share_has(rt, locked_posts, share, ONCE);
     Ok(())
 }
 
 /// The book has the report that was taken.
 pub(super) fn has_one<R: Abort>(rt: &R, totals: Totals, reports: &[PieceReport]) {
-    assert_eq!(rt; totals, ONCE);
+    totals_are(rt, totals, ONCE);
     assert!(rt; reports.iter().map(|report| report.octets).eq([130]));
 }
 

@@ -2,7 +2,7 @@
 
 ghost use Rattle.std.specs.Prelude.{◌≡◌};
 
-use crate::posting::{finding, report};
+use crate::posting::{finding, report, share_has, totals_are};
 use findings_book::{AnyReport, Blanks, Book, Ledgers, LockedPosts, Share};
 use line_model::fault::Fault;
 use line_model::piece::PieceReport;
@@ -28,22 +28,47 @@ const ALL: Totals = Totals {
 /// The most growths that these tests look for in a post.
 const GROWTHS: u64 = 1000;
 
-/// The report that was posted came back, the share has what it had, and a look sees all that it had.
-fn check_back<R: Wait + Abort, L: Ledgers>(
-    rt: &R,
-    locked_posts: &LockedPosts<Brand, L, &Scarce<Global>>,
-    share: &mut Share<L>,
-    before: Totals,
-    back: &PieceReport<&Scarce<Global>>,
-    id: u32,
-) {
+/// A report that came back is the one that was posted.
+fn is_whole<R: Abort>(rt: &R, back: &PieceReport<&Scarce<Global>>, id: u32) {
     assert_eq!(rt; (back.id, back.octets, back.segments), (id, 130, 2));
     assert_eq!(rt; back.findings.as_slice(), [finding(1)].as_slice());
-    assert_eq!(rt; share.totals(), before);
-    assert_eq!(rt; locked_posts.look(rt, share), before);
 }
 
-/// Posts a report, with one growth refused after so many. Answers what came back.
+/// The report of this id that came back for want of memory, if one did.
+fn back_for_memory<'a, R: Abort>(
+    rt: &R,
+    answer: Result<(), (PieceReport<&'a Scarce<Global>>, Fault)>,
+    id: u32,
+) -> Option<PieceReport<&'a Scarce<Global>>> {
+    match answer {
+        Ok(()) => None,
+        Err((back, fault)) => {
+            assert!(rt; fault == Fault::Memory);
+            is_whole(rt, &back, id);
+            Some(back)
+        }
+    }
+}
+
+/// Posts a report, with one growth refused after so many. Answers what came back, and whether one was refused.
+fn post_with<'a, R: Wait + Abort, L: Ledgers>(
+    rt: &R,
+    heap: &'a Scarce<Global>,
+    locked_posts: &LockedPosts<Brand, L, &'a Scarce<Global>>,
+    share: &mut Share<L>,
+    report: PieceReport<&'a Scarce<Global>>,
+    good: u64,
+) -> (Option<PieceReport<&'a Scarce<Global>>>, bool) {
+    let id = report.id;
+    heap.refuse_one(good);
+    let answer = locked_posts.post(rt, report, share, AnyReport);
+    let refused = good < heap.asked();
+    heap.grant_all();
+    (back_for_memory(rt, answer, id), refused)
+}
+
+/// Posts a report, with one growth refused after so many. Answers what came back: where none did, no growth was refused,
+/// and else the share has what it had, and a look sees all that it had.
 fn post_refused<'a, R: Wait + Abort, L: Ledgers>(
     rt: &R,
     heap: &'a Scarce<Global>,
@@ -52,20 +77,13 @@ fn post_refused<'a, R: Wait + Abort, L: Ledgers>(
     report: PieceReport<&'a Scarce<Global>>,
     good: u64,
 ) -> Option<PieceReport<&'a Scarce<Global>>> {
-    let (id, before) = (report.id, share.totals());
-    heap.refuse_one(good);
-    let answer = locked_posts.post(rt, report, share, AnyReport);
-    let refused = good < heap.asked();
-    heap.grant_all();
-    assert_eq!(rt; answer.is_err(), refused);
-    match answer {
-        Ok(()) => None,
-        Err((back, fault)) => {
-            assert_eq!(rt; fault, Fault::Memory);
-            check_back(rt, locked_posts, share, before, &back, id);
-            Some(back)
-        }
+    let before = share.totals();
+    let (back, refused) = post_with(rt, heap, locked_posts, share, report, good);
+    assert!(rt; back.is_some() == refused);
+    if refused {
+        share_has(rt, locked_posts, share, before);
     }
+    back
 }
 
 /// Posts a report again and again, with each growth refused in turn, until it is taken. Answers how often it came back.
@@ -86,7 +104,21 @@ fn post_until_taken<'a, R: Wait + Abort, L: Ledgers>(
     GROWTHS
 }
 
-/// Posts all reports, each of which comes back for each growth of its post. Answers how often one came back.
+/// Posts the report of an id, which comes back for each growth of its post. Answers how often it came back.
+fn post_id<'a, R: Wait + Abort, L: Ledgers>(
+    rt: &R,
+    heap: &'a Scarce<Global>,
+    locked_posts: &LockedPosts<Brand, L, &'a Scarce<Global>>,
+    share: &mut Share<L>,
+    id: u32,
+) -> Result<u64, Fault> {
+    let report = report(heap, id, 130, 2)?;
+    let came_back = post_until_taken(rt, heap, locked_posts, share, report);
+    assert!(rt; came_back < GROWTHS, "report {id}");
+    Ok(came_back)
+}
+
+/// Posts all reports. Answers how often one came back.
 fn post_each<'a, R: Wait + Abort, L: Ledgers>(
     rt: &R,
     heap: &'a Scarce<Global>,
@@ -95,24 +127,46 @@ fn post_each<'a, R: Wait + Abort, L: Ledgers>(
 ) -> Result<u64, Fault> {
     let mut refused = 0u64;
     for id in 0..REPORTS {
-        let report = report(heap, id, 130, 2)?;
-        let came_back = post_until_taken(rt, heap, locked_posts, share, report);
-        assert!(rt; came_back < GROWTHS, "report {id}");
-        refused = refused.saturating_add(came_back);
+        refused = refused.saturating_add(post_id(rt, heap, locked_posts, share, id)?);
     }
     Ok(refused)
 }
 
-/// The book and the share have each report once.
-fn has_each_once<R: Abort>(
+/// Posts all reports by the one share.
+fn post_by_one<'a, R: Wait + Abort, L: Ledgers>(
     rt: &R,
-    totals: Totals,
-    reports: &[PieceReport<&Scarce<Global>>],
-    posted: Totals,
-) {
-    assert_eq!(rt; totals, ALL);
-    assert_eq!(rt; posted, ALL);
+    heap: &'a Scarce<Global>,
+    locked_posts: &LockedPosts<Brand, L, &'a Scarce<Global>>,
+    shares: &mut [Share<L>],
+) -> Result<(), Fail> {
+    let [share] = shares else {
+        return Err("there is not one share")?;
+    };
+    let refused = post_each(rt, heap, locked_posts, share)?;
+    assert!(rt; 1 < refused, "posts have {refused} growths");
+    totals_are(rt, share.totals(), ALL);
+    Ok(())
+}
+
+/// The book has each report once.
+fn has_each_once<R: Abort>(rt: &R, totals: Totals, reports: &[PieceReport<&Scarce<Global>>]) {
+    totals_are(rt, totals, ALL);
     assert!(rt; reports.iter().map(|report| report.id).eq(0..REPORTS));
+}
+
+/// Posts all reports to a book, and looks at the whole.
+fn play_with<'a, R: Wait + Abort, L: Ledgers>(
+    rt: &R,
+    heap: &'a Scarce<Global>,
+    mut book: Book<Brand, L, &'a Scarce<Global>>,
+) -> Result<(), Fail>
+    requires fresh { book ≡ 0 }
+{
+    let mut shares = vec![in heap; book.share()]?;
+    let played = post_by_one(rt, heap, book.locked_posts(), &mut shares);
+    let (totals, reports, _) = book.gather(shares);
+    has_each_once(rt, totals, &reports);
+    played
 }
 
 /// Posts all reports to a book over the ledgers of these blanks.
@@ -126,14 +180,11 @@ fn play_refused<'a, R: Wait + Abort, L: Ledgers>(
     requires octets { (blanks.octets.name ≡ L.octets) × (blanks.octets.parts ≡ 4096) }
     requires segments { (blanks.segments.name ≡ L.segments) × (blanks.segments.parts ≡ 4096) }
 {
-    let mut book = Book::<Brand, L, &'a Scarce<Global>>::new(heap, blanks, AnyReport);
-    let mut share = book.share();
-    let refused = post_each(rt, heap, book.locked_posts(), &mut share)?;
-    let posted = share.totals();
-    let (totals, reports, _) = book.gather(vec![in heap; share]?);
-    has_each_once(rt, totals, &reports, posted);
-    assert!(rt; 1 < refused, "posts have {refused} growths");
-    Ok(())
+    play_with(
+        rt,
+        heap,
+        Book::<Brand, L, &'a Scarce<Global>>::new(heap, blanks, AnyReport),
+    )
 }
 
 /// Posts all reports to a book over four new ledgers.

@@ -1,9 +1,10 @@
 //! Two threads that post side by side, and what each of them sees.
 
 use crate::posting::{
-    Scenario, THREE_EPOCHS, comes_back, finding, play, post_all, report, report_of,
+    Scenario, THREE_EPOCHS, comes_back, finding, play, post_all, post_one, report, report_of,
+    totals_are,
 };
-use findings_book::{AnyReport, Ledgers, LockedPosts, Share};
+use findings_book::{Ledgers, LockedPosts, Share};
 use line_model::fault::Fault;
 use line_model::piece::PieceReport;
 use line_model::totals::Totals;
@@ -53,7 +54,7 @@ pub(super) fn twelve_pieces<R: Threads + Wait + Abort + Sync, L: Ledgers + Sync>
 
 /// The book has the reports of twelve pieces.
 pub(super) fn has_twelve<R: Abort>(rt: &R, totals: Totals, reports: &[PieceReport]) {
-    assert_eq!(rt; totals, THREE_EPOCHS);
+    totals_are(rt, totals, THREE_EPOCHS);
     assert_eq!(rt; reports.len(), 12);
 }
 
@@ -86,21 +87,13 @@ const BOTH: Totals = Totals {
     segments: 1,
 };
 
-/// Each number that is seen is at least that of what was posted.
-fn shows(seen: Totals, posted: Totals) -> bool {
-    seen.posts >= posted.posts
-        && seen.findings >= posted.findings
-        && seen.octets >= posted.octets
-        && seen.segments >= posted.segments
-}
-
 /// The report that the first thread posts.
 fn two_findings(alloc: Global) -> Result<PieceReport, Fault> {
     let findings = vec![in alloc; finding(1), finding(2)]?;
     Ok(report_of(alloc, 0, findings, 3, 1))
 }
 
-/// Posts a report, and looks.
+/// Posts a report, looks, and has these totals then.
 fn post_then_look<R: Wait + Abort, L: Ledgers>(
     rt: &R,
     locked_posts: &LockedPosts<Brand, L>,
@@ -108,11 +101,8 @@ fn post_then_look<R: Wait + Abort, L: Ledgers>(
     share: &mut Share<L>,
     posted: Totals,
 ) -> Result<(), Fault> {
-    if let Err((_, fault)) = locked_posts.post(rt, report, share, AnyReport) {
-        return Err(fault);
-    }
-    assert!(rt; shows(locked_posts.look(rt, share), posted));
-    assert_eq!(rt; share.totals(), posted);
+    post_one(rt, locked_posts, share, report)?;
+    totals_are(rt, share.totals(), posted);
     Ok(())
 }
 
@@ -141,8 +131,8 @@ fn both_are_seen<R: Wait + Abort, L: Ledgers>(
     first: &mut Share<L>,
     second: &mut Share<L>,
 ) {
-    assert_eq!(rt; locked_posts.look(rt, first), BOTH);
-    assert_eq!(rt; locked_posts.look(rt, second), BOTH);
+    totals_are(rt, locked_posts.look(rt, first), BOTH);
+    totals_are(rt, locked_posts.look(rt, second), BOTH);
 }
 
 /// Each of two threads posts a report and looks, and a report of an id that was posted comes back.
@@ -163,7 +153,7 @@ pub(super) fn post_and_look<R: Threads + Wait + Abort + Sync, L: Ledgers + Sync>
 
 /// The book has the reports of both threads.
 pub(super) fn has_both<R: Abort>(rt: &R, totals: Totals, reports: &[PieceReport]) {
-    assert_eq!(rt; totals, BOTH);
+    totals_are(rt, totals, BOTH);
     assert_eq!(rt; reports.len(), 2);
 }
 
