@@ -34,8 +34,8 @@ fn take_out<A: Allocator + Copy, C: Channel<A>>(
     if let Some(live) = lanes.take(channel) {
         return Ok(live);
     }
-    let live = Box::new(alloc, LiveChannel::fresh(alloc, interface, channel, epoch)?)?;
     lanes.list(channel)?;
+    let live = Box::new(alloc, LiveChannel::fresh(alloc, interface, channel, epoch)?)?;
     Ok(live)
 }
 

@@ -111,6 +111,24 @@ impl<A: Allocator + Copy, C: Channel<A>> Live<A, C> {
                 &mut self.found,
             );
         }
+        self.begin(chunk)
+    }
+
+    /// Takes the rows of a chunk before which there was none, and appends what they find.
+    fn begin(&mut self, chunk: &[u8]) -> Result<(), Fault>
+        requires fed { (text : List ℕ) × WasFed C.Channel text self.old }
+        requires bare { self.old.observer ≡ None }
+        ensures stands { IsFedOn C.Channel self.old chunk.now self.new result }
+        ensures refused { RefusesEarly C.Channel self.old chunk.now result }
+        ensures found { OfFed C.Channel self.old (λ text.
+            IsFoundBy result self.old.found.items self.new.found.items
+            (found text) (found (text ++ chunk.now))) }
+        ensures few { length self.new.found.items ≤ length self.old.found.items + length chunk.now }
+        ensures size { OnOk result (bytes_fed self.new.lines
+            ≡ bytes_fed self.old.lines + length chunk.now) }
+        ensures limit { OnOk result (bytes_fed self.new.lines ≤ 2 ^ 30) }
+        ensures kinds { IfErr result IsTextFault }
+    {
         let rest = match self.lines.next_row(chunk, &mut self.row)? {
             Some(rest) => rest,
             None => return Ok(()),

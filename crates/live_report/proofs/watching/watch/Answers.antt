@@ -1,5 +1,6 @@
-use Rattle.std.proofs.Common.{◌≡◌, ◌∙◌, ◌+◌, ◌<◌, ◌++◌, List, Err, ap, subst, sym, refl, length, length-append, arith, rules}
+use Rattle.std.proofs.Common.{◌≡◌, ◌∙◌, ◌+◌, ◌<◌, ◌++◌, List, Err, ap, subst, sym, refl, length, length-append, arith}
 use Rattle.std.specs.Option.{option_to_list}
+use Rattle.std.proofs.lemmas.Result.{err_from_is_err_and}
 use Rattle.line_model.specs.text.Text.{early, early_rows}
 use Rattle.line_model.specs.declared.fault.Fault.TheVariants.{Memory}
 use Rattle.line_model.specs.declared.finding.Finding.{Finding}
@@ -79,13 +80,15 @@ returns-in-Err-clause-found g c i text w =
 
 pub returns-in_err-take-in-Ok-Some-clause-found : goal.returns-in_err-take-in-Ok-Some-clause-found
 returns-in_err-take-in-Ok-Some-clause-found g c i text w =
-    let memory : c.from_residual.result ≡ Err Memory = search rules in
+    let p = err_from_is_err_and c.from_residual.result c.from_residual.ensures.1 in
+    let memory : c.from_residual.result ≡ Err Memory = p.1 ∙ ap (λ f. Err f) (p.2 ∙ c.in_err-take-in-Ok-Some.ensures.memory) in
     subst (λ r. IsFoundBy r c.args.found.now.items c.loop-after.found.items (found_at i text) (found_at i (text ++ c.args.chunk.now))) (sym memory)
     (course_stopped g.C.Channel.interface_of g.C.Channel.number_of g.C.Channel.stands_for i text c.args.chunk.now c.loop-after.rest.now c.loop-after.lines c.loop-after.observer _ _ (c.loop-after.invariant.course i text w))
 
 pub returns-in_err-note-in-Ok-Some-clause-found : goal.returns-in_err-note-in-Ok-Some-clause-found
 returns-in_err-note-in-Ok-Some-clause-found g c i text w =
-    let memory : c.from_residual-in_err-note-in-Ok-Some.result ≡ Err Memory = search rules in
+    let p = err_from_is_err_and c.from_residual-in_err-note-in-Ok-Some.result c.from_residual-in_err-note-in-Ok-Some.ensures.1 in
+    let memory : c.from_residual-in_err-note-in-Ok-Some.result ≡ Err Memory = p.1 ∙ ap (λ f. Err f) p.2 in
     subst (λ r. IsFoundBy r c.args.found.now.items c.note.new.findings.items (found_at i text) (found_at i (text ++ c.args.chunk.now))) (sym memory)
     (subst (λ l. IsFoundUpTo Memory c.args.found.now.items l (found_at i text) (found_at i (text ++ c.args.chunk.now))) (sym c.in_err-note-in-Ok-Some.ensures.refused)
     (course_stopped g.C.Channel.interface_of g.C.Channel.number_of g.C.Channel.stands_for i text c.args.chunk.now c.loop-after.rest.now c.loop-after.lines c.loop-after.observer _ _ (c.loop-after.invariant.course i text w)))

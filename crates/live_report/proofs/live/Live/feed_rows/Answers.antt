@@ -1,15 +1,7 @@
-use Rattle.std.proofs.Common.{◌≡◌, ◌∙◌, ◌<◌, ◌++◌, List, [], Err, ap, subst, sym, refl, length, length-append, arith, rules}
-use Rattle.std.specs.Prelude.{IfErr}
-use Rattle.std.specs.Option.{option_to_list}
-use Rattle.line_model.specs.text.Text.{early}
-use Rattle.line_model.specs.declared.fault.Fault.TheVariants.{Memory}
-use Rattle.line_model.specs.declared.finding.Finding.{Finding}
+use Rattle.std.proofs.Common.{◌++◌, refl}
 use Rattle.restart_epochs.proofs.Taken.{on_ok}
-use Rattle.trace_text.specs.StandsFor.{IsFaultOf, ReadsChunk, TakesRow}
-use Rattle.live_report.specs.Found.{HasFound, IsFoundBy, IsFoundUpTo, found, found_at}
-use Rattle.live_report.specs.Lives.{IsWatching}
-use Rattle.live_report.proofs.FoundLemmas.{at_most_one, found_next, found_unheaded, found_up_to}
-use Rattle.live_report.proofs.LiveLemmas.{chunk_text, first_found, first_rows, first_watched, found_as, found_headed, found_no_more, found_no_row, nothing_seen, stands_watching, watching_of}
+use Rattle.live_report.specs.Found.{found, found_at}
+use Rattle.live_report.proofs.LiveLemmas.{found_as, found_headed, stands_watching, watching_of}
 use Rattle.live_report.proofs.live.Live.feed_rows.Goals as goal
 
 pub watch-requires : goal.watch-requires
@@ -36,117 +28,5 @@ returns-in-Some-clause-found g c text s =
     found_as c.watch.result c.args.self.now.found.items c.watch.new.found.items (found_at seen.0 text) (found text) (found_at seen.0 (text ++ c.args.chunk.now)) (found (text ++ c.args.chunk.now)) headed.0 headed.1
     (c.watch.ensures.found seen.0 text seen.1)
 
-pub returns-in_err-rest-clause-found : goal.returns-in_err-rest-clause-found
-returns-in_err-rest-clause-found g c text s =
-    let none = nothing_seen g.C.Channel.interface_of g.C.Channel.number_of g.C.Channel.stands_for c.args.self.now text s c.in_default.is in
-    let is : c.from_residual.result ≡ Err c.in_err-rest.field-0.0 = search rules in
-    subst (λ r. IsFoundBy r c.args.self.now.found.items c.args.self.now.found.items (found text) (found (text ++ c.args.chunk.now))) (sym is)
-    (found_unheaded c.in_err-rest.field-0.0 text (text ++ c.args.chunk.now) c.args.self.now.found.items none (c.in_err-rest.ensures.known text s.reads))
-
-pub returns-in-None-clause-found : goal.returns-in-None-clause-found
-returns-in-None-clause-found g c text s =
-    let none = nothing_seen g.C.Channel.interface_of g.C.Channel.number_of g.C.Channel.stands_for c.args.self.now text s c.in_default.is in
-    let end : ReadsChunk c.args.self.now.lines c.next_row.new.self c.args.chunk.now = rw c.in-None.is at c.in_ok-rest.ensures.ok in
-    found_no_row c.args.self.now.lines c.next_row.new.self text c.args.chunk.now c.args.self.now.found.items s.reads none end
-
-pub returns-in_err-first-clause-found : goal.returns-in_err-first-clause-found
-returns-in_err-first-clause-found g c text s =
-    let none = nothing_seen g.C.Channel.interface_of g.C.Channel.number_of g.C.Channel.stands_for c.args.self.now text s c.in_default.is in
-    let memory : c.from_residual-in_err-first.result ≡ Err Memory = search rules in
-    subst (λ r. IsFoundBy r c.args.self.now.found.items c.args.self.now.found.items (found text) (found (text ++ c.args.chunk.now))) (sym memory)
-    (found_no_more c.args.self.now.lines text c.args.chunk.now c.args.self.now.found.items c.args.self.now.found.items s.reads none refl)
-
-pub returns-in_err-note-clause-refused : goal.returns-in_err-note-clause-refused
-returns-in_err-note-clause-refused g c text s =
-    let memory : c.from_residual-in_err-note.result ≡ Err Memory = search rules in
-    subst (λ r. IfErr r (IsFaultOf (early (text ++ c.args.chunk.now)))) (sym memory) tt
-
-pub returns-in_err-note-clause-found : goal.returns-in_err-note-clause-found
-returns-in_err-note-clause-found g c text s =
-    let none = nothing_seen g.C.Channel.interface_of g.C.Channel.number_of g.C.Channel.stands_for c.args.self.now text s c.in_default.is in
-    let memory : c.from_residual-in_err-note.result ≡ Err Memory = search rules in
-    subst (λ r. IsFoundBy r c.args.self.now.found.items c.note.new.findings.items (found text) (found (text ++ c.args.chunk.now))) (sym memory)
-    (found_no_more c.args.self.now.lines text c.args.chunk.now c.args.self.now.found.items c.note.new.findings.items s.reads none c.in_err-note.ensures.refused)
-
-pub take-requires : goal.take-requires
-take-requires g c =
-    let room = c.requires in
-    let none = nothing_seen g.C.Channel.interface_of g.C.Channel.number_of g.C.Channel.stands_for c.args.self.now room.0 room.1 c.in_default.is in
-    let row : TakesRow c.args.self.now.lines c.next_row.new.self c.args.chunk.now c.in-Some-2.rest.now c.next_row.new.row = rw c.in-Some-2.is at c.in_ok-rest.ensures.ok in
-    record { room = (c.in-Some-interface.interface, [], c.new-observer.ensures, first_rows c.args.self.now.lines c.next_row.new.self room.0 c.args.chunk.now c.in-Some-2.rest.now c.next_row.new.row room.1.reads none row) }
-
-pub watch-requires-2 : goal.watch-requires-2
-watch-requires-2 g c =
-    let room = c.requires in
-    let none = nothing_seen g.C.Channel.interface_of g.C.Channel.number_of g.C.Channel.stands_for c.args.self.now room.0 room.1 c.in_default.is in
-    let row : TakesRow c.args.self.now.lines c.next_row.new.self c.args.chunk.now c.in-Some-2.rest.now c.next_row.new.row = rw c.in-Some-2.is at c.in_ok-rest.ensures.ok in
-    let watched = first_watched g.C.Channel.interface_of g.C.Channel.number_of g.C.Channel.stands_for c.in-Some-interface.interface room.0 c.args.chunk.now c.in-Some-2.rest.now c.next_row.new.row c.args.self.now.lines c.next_row.new.self c.take.new.self room.1.reads none row (c.in-Some-interface.ensures.kept ∙ ap (λ v. v.lines.interface) c.self.view_is)
-    (c.in_ok-first.ensures.stands c.in-Some-interface.interface [] c.new-observer.ensures (first_rows c.args.self.now.lines c.next_row.new.self room.0 c.args.chunk.now c.in-Some-2.rest.now c.next_row.new.row room.1.reads none row)) in
-    (c.in-Some-interface.interface, room.0 ++ row.taken, watched)
-
-pub returns-in-Ok-clause-stands : goal.returns-in-Ok-clause-stands
-returns-in-Ok-clause-stands g c text s =
-    let none = nothing_seen g.C.Channel.interface_of g.C.Channel.number_of g.C.Channel.stands_for c.args.self.now text s c.in_default.is in
-    let row : TakesRow c.args.self.now.lines c.next_row.new.self c.args.chunk.now c.in-Some-2.rest.now c.next_row.new.row = rw c.in-Some-2.is at c.in_ok-rest.ensures.ok in
-    let watched = first_watched g.C.Channel.interface_of g.C.Channel.number_of g.C.Channel.stands_for c.in-Some-interface.interface text c.args.chunk.now c.in-Some-2.rest.now c.next_row.new.row c.args.self.now.lines c.next_row.new.self c.take.new.self s.reads none row (c.in-Some-interface.ensures.kept ∙ ap (λ v. v.lines.interface) c.self.view_is)
-    (c.in_ok-first.ensures.stands c.in-Some-interface.interface [] c.new-observer.ensures (first_rows c.args.self.now.lines c.next_row.new.self text c.args.chunk.now c.in-Some-2.rest.now c.next_row.new.row s.reads none row)) in
-    stands_watching g.C.Channel.interface_of g.C.Channel.number_of g.C.Channel.stands_for c.in-Some-interface.interface _ (text ++ c.args.chunk.now) c.watch-2.new.observer
-    (subst (λ x. IsWatching g.C.Channel.interface_of g.C.Channel.number_of g.C.Channel.stands_for c.in-Some-interface.interface x c.watch-2.new.lines c.watch-2.new.observer) (chunk_text c.args.self.now.lines c.next_row.new.self text c.args.chunk.now c.in-Some-2.rest.now c.next_row.new.row row)
-    (c.in-Ok.ensures.watches c.in-Some-interface.interface (text ++ row.taken) watched)) refl s.running
-
-pub returns-in-Err-clause-refused : goal.returns-in-Err-clause-refused
-returns-in-Err-clause-refused g c text s =
-    let none = nothing_seen g.C.Channel.interface_of g.C.Channel.number_of g.C.Channel.stands_for c.args.self.now text s c.in_default.is in
-    let row : TakesRow c.args.self.now.lines c.next_row.new.self c.args.chunk.now c.in-Some-2.rest.now c.next_row.new.row = rw c.in-Some-2.is at c.in_ok-rest.ensures.ok in
-    let watched = first_watched g.C.Channel.interface_of g.C.Channel.number_of g.C.Channel.stands_for c.in-Some-interface.interface text c.args.chunk.now c.in-Some-2.rest.now c.next_row.new.row c.args.self.now.lines c.next_row.new.self c.take.new.self s.reads none row (c.in-Some-interface.ensures.kept ∙ ap (λ v. v.lines.interface) c.self.view_is)
-    (c.in_ok-first.ensures.stands c.in-Some-interface.interface [] c.new-observer.ensures (first_rows c.args.self.now.lines c.next_row.new.self text c.args.chunk.now c.in-Some-2.rest.now c.next_row.new.row s.reads none row)) in
-    subst (λ x. IsFaultOf (early x) c.in-Err.fault) (chunk_text c.args.self.now.lines c.next_row.new.self text c.args.chunk.now c.in-Some-2.rest.now c.next_row.new.row row)
-    (c.in-Err.ensures.refused c.in-Some-interface.interface (text ++ row.taken) watched)
-
-pub returns-in-Ok-clause-found : goal.returns-in-Ok-clause-found
-returns-in-Ok-clause-found g c text s =
-    let none = nothing_seen g.C.Channel.interface_of g.C.Channel.number_of g.C.Channel.stands_for c.args.self.now text s c.in_default.is in
-    let row : TakesRow c.args.self.now.lines c.next_row.new.self c.args.chunk.now c.in-Some-2.rest.now c.next_row.new.row = rw c.in-Some-2.is at c.in_ok-rest.ensures.ok in
-    let i = c.in-Some-interface.interface in
-    let given = text ++ row.taken in
-    let sound = first_rows c.args.self.now.lines c.next_row.new.self text c.args.chunk.now c.in-Some-2.rest.now c.next_row.new.row s.reads none row in
-    let watched = first_watched g.C.Channel.interface_of g.C.Channel.number_of g.C.Channel.stands_for i text c.args.chunk.now c.in-Some-2.rest.now c.next_row.new.row c.args.self.now.lines c.next_row.new.self c.take.new.self s.reads none row (c.in-Some-interface.ensures.kept ∙ ap (λ v. v.lines.interface) c.self.view_is)
-    (c.in_ok-first.ensures.stands i [] c.new-observer.ensures sound) in
-    let headed = found_headed c.next_row.new.self given c.in-Some-2.rest.now i watched.reads watched.header in
-    let all = chunk_text c.args.self.now.lines c.next_row.new.self text c.args.chunk.now c.in-Some-2.rest.now c.next_row.new.row row in
-    let first = first_found i text c.args.chunk.now c.in-Some-2.rest.now c.next_row.new.row c.args.self.now.lines c.next_row.new.self c.args.self.now.found.items c.note.new.findings.items (option_to_list c.in_ok-first.first) s.reads none row
-    c.in_ok-note.ensures.ok (c.in_ok-first.ensures.finding i [] c.new-observer.ensures) in
-    let then = c.in-Ok.ensures.found i given watched in
-    subst (λ x. HasFound c.args.self.now.found.items c.watch-2.new.found.items (found text) (found x)) all
-    (subst (λ m. HasFound c.args.self.now.found.items c.watch-2.new.found.items (found text) m) (sym headed.1)
-    (found_next c.args.self.now.found.items c.note.new.findings.items c.watch-2.new.found.items (found text) (found_at i given) (found_at i (given ++ c.in-Some-2.rest.now)) first then))
-
-pub returns-in-Err-clause-found : goal.returns-in-Err-clause-found
-returns-in-Err-clause-found g c text s =
-    let none = nothing_seen g.C.Channel.interface_of g.C.Channel.number_of g.C.Channel.stands_for c.args.self.now text s c.in_default.is in
-    let row : TakesRow c.args.self.now.lines c.next_row.new.self c.args.chunk.now c.in-Some-2.rest.now c.next_row.new.row = rw c.in-Some-2.is at c.in_ok-rest.ensures.ok in
-    let i = c.in-Some-interface.interface in
-    let given = text ++ row.taken in
-    let sound = first_rows c.args.self.now.lines c.next_row.new.self text c.args.chunk.now c.in-Some-2.rest.now c.next_row.new.row s.reads none row in
-    let watched = first_watched g.C.Channel.interface_of g.C.Channel.number_of g.C.Channel.stands_for i text c.args.chunk.now c.in-Some-2.rest.now c.next_row.new.row c.args.self.now.lines c.next_row.new.self c.take.new.self s.reads none row (c.in-Some-interface.ensures.kept ∙ ap (λ v. v.lines.interface) c.self.view_is)
-    (c.in_ok-first.ensures.stands i [] c.new-observer.ensures sound) in
-    let headed = found_headed c.next_row.new.self given c.in-Some-2.rest.now i watched.reads watched.header in
-    let all = chunk_text c.args.self.now.lines c.next_row.new.self text c.args.chunk.now c.in-Some-2.rest.now c.next_row.new.row row in
-    let first = first_found i text c.args.chunk.now c.in-Some-2.rest.now c.next_row.new.row c.args.self.now.lines c.next_row.new.self c.args.self.now.found.items c.note.new.findings.items (option_to_list c.in_ok-first.first) s.reads none row
-    c.in_ok-note.ensures.ok (c.in_ok-first.ensures.finding i [] c.new-observer.ensures) in
-    let then = c.in-Err.ensures.found i given watched in
-    subst (λ x. IsFoundUpTo c.in-Err.fault c.args.self.now.found.items c.watch-2.new.found.items (found text) (found x)) all
-    (subst (λ m. IsFoundUpTo c.in-Err.fault c.args.self.now.found.items c.watch-2.new.found.items (found text) m) (sym headed.1)
-    (found_up_to c.in-Err.fault c.args.self.now.found.items c.note.new.findings.items c.watch-2.new.found.items (found text) (found_at i given) (found_at i (given ++ c.in-Some-2.rest.now)) first then))
-
-pub returns-in-Ok-clause-few : goal.returns-in-Ok-clause-few
-returns-in-Ok-clause-few g c =
-    let shorter : length c.in-Some-2.rest.now < length c.args.chunk.now = rw c.in-Some-2.is at c.in_ok-rest.ensures.shorter in
-    let few = c.watch-2.ensures.few in
-    omega (arith, few, shorter, ap (λ (xs : List Finding). length xs) c.in_ok-note.ensures.ok, length-append c.args.self.now.found.items (option_to_list c.in_ok-first.first), at_most_one c.in_ok-first.first)
-
-pub returns-in-Err-clause-few : goal.returns-in-Err-clause-few
-returns-in-Err-clause-few g c =
-    let shorter : length c.in-Some-2.rest.now < length c.args.chunk.now = rw c.in-Some-2.is at c.in_ok-rest.ensures.shorter in
-    let few = c.watch-2.ensures.few in
-    omega (arith, few, shorter, ap (λ (xs : List Finding). length xs) c.in_ok-note.ensures.ok, length-append c.args.self.now.found.items (option_to_list c.in_ok-first.first), at_most_one c.in_ok-first.first)
+pub begin-requires : goal.begin-requires
+begin-requires g c = record { fed = c.requires; bare = c.in_default.is }

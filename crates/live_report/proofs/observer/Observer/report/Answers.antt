@@ -1,5 +1,6 @@
-use Rattle.std.proofs.Common.{◌∙◌, refl, map}
+use Rattle.std.proofs.Common.{◌∙◌, ap, arith, length, refl, map, sym}
 use Rattle.line_model.specs.pieces.Plans.{value}
+use Rattle.line_model.proofs.Posts.{length-values}
 use Rattle.restart_epochs.specs.Cutting.{given_of}
 use Rattle.restart_epochs.proofs.Listings.{listing}
 use Rattle.live_report.proofs.WholeLemmas.{of_walk}
@@ -16,3 +17,10 @@ returns-clause-report g c i rs s =
     c.finish.ensures.report i rs _
     (c.in_ok-tell_channels.ensures.values s.cutting.interface s.cutting.epoch s.cutting.open_rows (map value (given_of i rs)) s.holds.lanes (listing i rs s.cutting s.cut) (c.in_ok-parts.ensures.same ∙ s.holds.ended))
     (of_walk g.C.Channel.interface_of g.C.Channel.number_of g.C.Channel.stands_for i rs c.args.self.now s c.in_ok-findings.findings.items c.args.self.now.packets (c.in_ok-findings.ensures.items ∙ c.as_slice.ensures.value) refl)
+
+pub tell_channels-requires-clause-pieces : goal.tell_channels-requires-clause-pieces
+tell_channels-requires-clause-pieces g c =
+    let s = c.requires.room.2 in
+    let pieces = ap (λ e. e.pieces) (c.in_ok-parts.ensures.same ∙ s.holds.ended) ∙ length-values (given_of c.requires.room.0 c.requires.room.1) ∙ sym s.cut.given in
+    let channels = ap (λ l. length l) s.holds.lanes.channels in
+    omega (arith, pieces, channels, s.bounds.ids, s.bounds.rows, s.bounds.last)

@@ -1,8 +1,9 @@
-use Rattle.std.proofs.Common.{◌≡◌, ◌∙◌, ap, subst, sym, refl, ◌+◌, ◌++◌, ◌∷◌, [], length, map, Some}
+use Rattle.std.proofs.Common.{◌≡◌, ◌∙◌, arith, ap, subst, sym, refl, ◌+◌, ◌++◌, ◌∷◌, [], length, map, Some}
 use Rattle.std.specs.Option.{option_to_list}
 use Rattle.line_model.specs.basics.Bounds.{IsPiece}
 use Rattle.line_model.specs.basics.Octets.{channel_of}
 use Rattle.line_model.specs.pieces.Plans.{value}
+use Rattle.line_model.proofs.Posts.{length-values}
 use Rattle.line_model.specs.channels.RestartMachine.{Routing}
 use Rattle.restart_epochs.specs.OpenRows.{rows_of}
 use Rattle.restart_epochs.specs.Cutting.{IsKeptOn, given_of, pieces_out, route_finding}
@@ -149,3 +150,55 @@ returns-in-Pass-clause-finding g c i rs s =
     let octets : c.as_slice-octets.result.now ≡ r.octets = c.as_slice-octets.ensures.value ∙ ap (λ x. x.octets) c.row.view_is in
     let told = told_of g.C.Channel.interface_of g.C.Channel.number_of g.C.Channel.stands_for i rs c.args.self.now r p step s c.as_slice-octets.result.now c.row.inside.side (length c.as_slice-octets.result.now) octets (ap (λ x. x.side) c.row.view_is) (ap (λ l. length l) octets) c.decode-packet.ensures c.step-route.ensures in
     line_finds g.C.Channel.interface_of g.C.Channel.number_of g.C.Channel.stands_for i rs c.args.self.now r p step s c.finding_of-finding.result told (ap is_to_channel c.in-Pass.is) (c.finding_of-finding.ensures c.row.inside.octets.items ∙ ap (λ x. route_finding x step.route) c.row.view_is) c.advance-in-Pass.result c.advance-in-Pass.ensures.found
+
+pub step-requires-clause-packets : goal.step-requires-clause-packets
+step-requires-clause-packets g c =
+    let s = c.requires.room.2 in
+    omega (arith, s.holds.packets, s.bounds.rows, s.bounds.last)
+
+pub leave-requires-clause-packets : goal.leave-requires-clause-packets
+leave-requires-clause-packets g c =
+    let s = c.requires.room.2 in
+    omega (arith, s.holds.packets, s.bounds.rows, s.bounds.last)
+
+pub leave-requires-clause-pieces : goal.leave-requires-clause-pieces
+leave-requires-clause-pieces g c =
+    let s = c.requires.room.2 in
+    let pieces = ap (λ e. e.pieces) s.holds.ended ∙ length-values (given_of c.requires.room.0 c.requires.room.1) ∙ sym s.cut.given in
+    let channels = ap (λ l. length l) s.holds.lanes.channels in
+    omega (arith, pieces, channels, s.bounds.ids, s.bounds.rows, s.bounds.last)
+
+pub enter-requires-clause-epochs : goal.enter-requires-clause-epochs
+enter-requires-clause-epochs g c =
+    let s = c.requires.room.2 in
+    omega (arith, s.holds.epoch, s.bounds.epochs, s.bounds.rows, s.bounds.last)
+
+pub enter-requires-clause-packets : goal.enter-requires-clause-packets
+enter-requires-clause-packets g c =
+    let s = c.requires.room.2 in
+    omega (arith, s.holds.packets, s.bounds.rows, s.bounds.last)
+
+pub advance-requires : goal.advance-requires
+advance-requires g c =
+    let s = c.requires.room.2 in
+    record { packets = omega (arith, s.holds.packets, s.bounds.rows, s.bounds.last) }
+
+pub advance-requires-in-Pass : goal.advance-requires-in-Pass
+advance-requires-in-Pass g c =
+    let s = c.requires.room.2 in
+    record { packets = omega (arith, s.holds.packets, s.bounds.rows, s.bounds.last) }
+
+pub returns-in-ToChannel-clause-memory : goal.returns-in-ToChannel-clause-memory
+returns-in-ToChannel-clause-memory g c = c.step.ensures.memory
+
+pub returns-in-Leave-clause-memory : goal.returns-in-Leave-clause-memory
+returns-in-Leave-clause-memory g c = c.leave.ensures.memory
+
+pub returns-in-Enter-clause-memory : goal.returns-in-Enter-clause-memory
+returns-in-Enter-clause-memory g c = c.enter.ensures.memory
+
+pub returns-in-Found-clause-memory : goal.returns-in-Found-clause-memory
+returns-in-Found-clause-memory g c = c.advance.ensures.memory
+
+pub returns-in-Pass-clause-memory : goal.returns-in-Pass-clause-memory
+returns-in-Pass-clause-memory g c = c.advance-in-Pass.ensures.memory
