@@ -5,7 +5,8 @@ ghost use Rattle.std.specs.List.Sorted.{IsStrictlyIncreasing};
 
 mod refused;
 
-use line_model::finding::Code;
+use crate::checks::{holds_at, holds_for};
+use line_model::finding::{Code, Finding};
 use line_model::interface::Interface;
 use line_model::items::ItemRef;
 use line_model::packet::Packet;
@@ -14,10 +15,11 @@ use line_model::row::Row;
 use line_model::state::{RState, Side, StateName};
 use packet_decode::decode::decode;
 use restart_epochs::cut::cut;
-use restart_epochs::cutter::Cutter;
+use restart_epochs::cutter::{Cut, Cutter};
 use restart_epochs::open_epoch::OpenEpoch;
 use restart_epochs::restart::{Restart, Route};
 use std::alloc::{Allocator, Global};
+use std::process::Abort;
 use std::test::Fail;
 
 /// Channels 1 to 4 are virtual.
@@ -38,155 +40,135 @@ fn step(machine: &mut Restart, octets: &[u8], side: Side) -> (Route, RState) {
     (route, machine.state())
 }
 
-#[test]
-fn a_channel_packet_decides_the_restart_machine(rt: HostRuntime) {
-    let mut machine = Restart::new();
-    for (octets, side, answer) in [
-        (
-            b"\x10\x00\xfb\x00\x00".as_slice(),
-            Side::T,
-            (Route::Leave(None), RState::R2),
-        ),
-        (
-            b"\x10\x01\x00".as_slice(),
-            Side::T,
-            (Route::Found(StateName::R2, 18), RState::R3),
-        ),
-        (
-            b"\x10\x00\xfb\x00\x00".as_slice(),
-            Side::T,
-            (Route::Enter, RState::R1),
-        ),
-        (
-            b"\x10\x00\xff".as_slice(),
-            Side::N,
-            (Route::Found(StateName::R1, 17), RState::R1),
-        ),
-    ] {
-        assert!(rt; step(&mut machine, octets, side) == answer, "{octets:?}");
+/// A packet and its side, where it goes, and the state after it.
+type Step = (&'static [u8], Side, Route, RState);
+
+/// Each packet goes where it has to, and leaves its state.
+fn check_steps(rt: &impl Abort, machine: Restart, steps: &[Step]) {
+    let mut machine = machine;
+    for (octets, side, route, state) in steps {
+        let answer = step(&mut machine, octets, *side);
+        holds_for(rt, answer == (*route, *state), octets);
     }
 }
+
+/// A packet of a channel while a restart is asked for.
+const LEFT_BY_DATA: [Step; 4] = [
+    (
+        b"\x10\x00\xfb\x00\x00",
+        Side::T,
+        Route::Leave(None),
+        RState::R2,
+    ),
+    (
+        b"\x10\x01\x00",
+        Side::T,
+        Route::Found(StateName::R2, 18),
+        RState::R3,
+    ),
+    (b"\x10\x00\xfb\x00\x00", Side::T, Route::Enter, RState::R1),
+    (
+        b"\x10\x00\xff",
+        Side::N,
+        Route::Found(StateName::R1, 17),
+        RState::R1,
+    ),
+];
+
+#[test]
+fn a_channel_packet_decides_the_restart_machine(rt: HostRuntime) {
+    check_steps(&rt, Restart::new(), &LEFT_BY_DATA);
+}
+
+/// Restart packets, some of which are too short or too long.
+const FORMATS: [Step; 5] = [
+    (
+        b"\x10\x00\xfb",
+        Side::T,
+        Route::Found(StateName::R1, 38),
+        RState::R1,
+    ),
+    (
+        b"\x10\x00\xfb\x00\x00\x00",
+        Side::N,
+        Route::Found(StateName::R1, 39),
+        RState::R1,
+    ),
+    (
+        b"\x10\x00\xfb\x00\x00",
+        Side::N,
+        Route::Leave(None),
+        RState::R3,
+    ),
+    (
+        b"\x10\x00\xff\x00",
+        Side::T,
+        Route::Found(StateName::R3, 39),
+        RState::R3,
+    ),
+    (b"\x10\x00\xff", Side::T, Route::Enter, RState::R1),
+];
 
 #[test]
 fn restart_packets_have_their_formats(rt: HostRuntime) {
-    let mut machine = Restart::new();
-    for (octets, side, answer) in [
-        (
-            b"\x10\x00\xfb".as_slice(),
-            Side::T,
-            (Route::Found(StateName::R1, 38), RState::R1),
-        ),
-        (
-            b"\x10\x00\xfb\x00\x00\x00".as_slice(),
-            Side::N,
-            (Route::Found(StateName::R1, 39), RState::R1),
-        ),
-        (
-            b"\x10\x00\xfb\x00\x00".as_slice(),
-            Side::N,
-            (Route::Leave(None), RState::R3),
-        ),
-        (
-            b"\x10\x00\xff\x00".as_slice(),
-            Side::T,
-            (Route::Found(StateName::R3, 39), RState::R3),
-        ),
-        (
-            b"\x10\x00\xff".as_slice(),
-            Side::T,
-            (Route::Enter, RState::R1),
-        ),
-    ] {
-        assert!(rt; step(&mut machine, octets, side) == answer, "{octets:?}");
-    }
+    check_steps(&rt, Restart::new(), &FORMATS);
 }
+
+/// A confirmation of the DTE that comes first, and what comes behind it.
+const OWED: [Step; 9] = [
+    (b"\x10\x00\xff", Side::T, Route::Leave(Some(17)), RState::R3),
+    (b"\x10\x00\xff", Side::N, Route::Pass, RState::R3),
+    (b"\x10\x00\xfb\x00\x00", Side::N, Route::Pass, RState::R3),
+    (
+        b"\x10\x00\xff",
+        Side::N,
+        Route::Found(StateName::R3, 19),
+        RState::R3,
+    ),
+    (b"\x10\x00\xff", Side::T, Route::Enter, RState::R1),
+    (b"\x10\x01\x00\xaa", Side::T, Route::ToChannel, RState::R1),
+    (
+        b"\x10",
+        Side::N,
+        Route::Found(StateName::Dash, 38),
+        RState::R1,
+    ),
+    (b"\x10\x00\xf1", Side::N, Route::Pass, RState::R1),
+    (
+        b"\x10\x00\xf1",
+        Side::T,
+        Route::Found(StateName::Dash, 36),
+        RState::R1,
+    ),
+];
 
 #[test]
 fn the_indication_of_the_dce_is_owed_after_an_error_of_the_dte(rt: HostRuntime) {
-    let mut machine = Restart::new();
-    for (octets, side, answer) in [
-        (
-            b"\x10\x00\xff".as_slice(),
-            Side::T,
-            (Route::Leave(Some(17)), RState::R3),
-        ),
-        (
-            b"\x10\x00\xff".as_slice(),
-            Side::N,
-            (Route::Pass, RState::R3),
-        ),
-        (
-            b"\x10\x00\xfb\x00\x00".as_slice(),
-            Side::N,
-            (Route::Pass, RState::R3),
-        ),
-        (
-            b"\x10\x00\xff".as_slice(),
-            Side::N,
-            (Route::Found(StateName::R3, 19), RState::R3),
-        ),
-        (
-            b"\x10\x00\xff".as_slice(),
-            Side::T,
-            (Route::Enter, RState::R1),
-        ),
-        (
-            b"\x10\x01\x00\xaa".as_slice(),
-            Side::T,
-            (Route::ToChannel, RState::R1),
-        ),
-        (
-            b"\x10".as_slice(),
-            Side::N,
-            (Route::Found(StateName::Dash, 38), RState::R1),
-        ),
-        (
-            b"\x10\x00\xf1".as_slice(),
-            Side::N,
-            (Route::Pass, RState::R1),
-        ),
-        (
-            b"\x10\x00\xf1".as_slice(),
-            Side::T,
-            (Route::Found(StateName::Dash, 36), RState::R1),
-        ),
-    ] {
-        assert!(rt; step(&mut machine, octets, side) == answer, "{octets:?}");
-    }
+    check_steps(&rt, Restart::new(), &OWED);
 }
+
+/// Confirmations in a recording that begins in the middle.
+const JOINED: [Step; 5] = [
+    (b"\x10\x00\xff\x01\x02", Side::T, Route::Pass, RState::R1),
+    (b"\x10\x00\xff", Side::N, Route::Pass, RState::R1),
+    (
+        b"\x10\x00\xfb\x00\x00",
+        Side::T,
+        Route::Leave(None),
+        RState::R2,
+    ),
+    (b"\x10\x00\xff", Side::N, Route::Enter, RState::R1),
+    (
+        b"\x10\x00\xff",
+        Side::N,
+        Route::Found(StateName::R1, 17),
+        RState::R1,
+    ),
+];
 
 #[test]
 fn confirmations_pass_until_r1_is_first_left(rt: HostRuntime) {
-    let mut machine = Restart::joined();
-    for (octets, side, answer) in [
-        (
-            b"\x10\x00\xff\x01\x02".as_slice(),
-            Side::T,
-            (Route::Pass, RState::R1),
-        ),
-        (
-            b"\x10\x00\xff".as_slice(),
-            Side::N,
-            (Route::Pass, RState::R1),
-        ),
-        (
-            b"\x10\x00\xfb\x00\x00".as_slice(),
-            Side::T,
-            (Route::Leave(None), RState::R2),
-        ),
-        (
-            b"\x10\x00\xff".as_slice(),
-            Side::N,
-            (Route::Enter, RState::R1),
-        ),
-        (
-            b"\x10\x00\xff".as_slice(),
-            Side::N,
-            (Route::Found(StateName::R1, 17), RState::R1),
-        ),
-    ] {
-        assert!(rt; step(&mut machine, octets, side) == answer, "{octets:?}");
-    }
+    check_steps(&rt, Restart::joined(), &JOINED);
 }
 
 /// A row without octets, with its packet.
@@ -199,23 +181,31 @@ fn empty_item(number: u32) -> ItemRef<'static> {
     }
 }
 
+/// Keeps a row of each of these numbers on its channel.
+fn keep(rt: &impl Abort, open_epoch: &mut OpenEpoch<Global>, rows: &[(u16, u32)]) {
+    for (channel, number) in rows {
+        let kept = open_epoch.push(*channel, &empty_item(*number));
+        holds_at(rt, kept.is_ok(), *number as usize);
+    }
+}
+
+/// The channel that is taken out next, and how many rows it has.
+fn first_channel(open_epoch: &mut OpenEpoch<Global>) -> Option<(u16, usize)> {
+    match open_epoch.pop_first() {
+        Some((channel, items)) => Some((channel, items.len())),
+        None => None,
+    }
+}
+
 #[test]
-fn channels_are_taken_out_in_order_with_their_rows(rt: HostRuntime) -> Result<(), Fail> {
+fn channels_are_taken_out_in_order_with_their_rows(rt: HostRuntime) {
     let mut open_epoch = OpenEpoch::new(rt.alloc());
-    for (channel, number) in [(7, 1), (2, 2), (7, 3), (4095, 4)] {
-        let kept = open_epoch.push(channel, &empty_item(number));
-        assert!(rt; kept.is_ok(), "row {number}");
-    }
-    assert_eq!(rt; open_epoch.len(), 3);
-    for (wanted, rows) in [(2, 1), (7, 2), (4095, 1)] {
-        let Some((channel, items)) = open_epoch.pop_first() else {
-            return Err("a channel is missing")?;
-        };
-        assert_eq!(rt; channel, wanted);
-        assert_eq!(rt; items.len(), rows);
-    }
-    assert!(rt; open_epoch.pop_first().is_none());
-    Ok(())
+    keep(&rt, &mut open_epoch, &[(7, 1), (2, 2), (7, 3), (4095, 4)]);
+    assert!(rt; open_epoch.len() == 3);
+    assert!(rt; first_channel(&mut open_epoch) == Some((2, 1)));
+    assert!(rt; first_channel(&mut open_epoch) == Some((7, 2)));
+    assert!(rt; first_channel(&mut open_epoch) == Some((4095, 1)));
+    assert!(rt; first_channel(&mut open_epoch) == None);
 }
 
 /// Pushes the next row.
@@ -235,7 +225,9 @@ fn push(cutter: &mut Cutter, side: Side, octets: &[u8], out: &mut Vec<Piece>) ->
 }
 
 /// A piece's number, epoch, channel, rows and end.
-fn shape(piece: &Piece) -> (u32, u32, u16, usize, Option<u32>) {
+type Shape = (u32, u32, u16, usize, Option<u32>);
+
+fn shape(piece: &Piece) -> Shape {
     (
         piece.id,
         piece.epoch,
@@ -245,40 +237,60 @@ fn shape(piece: &Piece) -> (u32, u32, u16, usize, Option<u32>) {
     )
 }
 
+/// The pieces have these shapes, in this order.
+fn shapes_are(pieces: &[Piece], shapes: &[Shape]) -> bool {
+    pieces.len() == shapes.len()
+        && pieces
+            .iter()
+            .zip(shapes)
+            .all(|(piece, wanted)| shape(piece) == *wanted)
+}
+
+/// The row and the code of the one finding.
+fn told(line: &[Finding]) -> Option<(u32, Code)> {
+    match line {
+        [finding] => Some((finding.packet, finding.code)),
+        _ => None,
+    }
+}
+
+/// Two channels whose rows come before a restart, and what comes behind it; with each row, how many pieces are given out
+/// with it or were before.
+const TWO_EPOCHS: [(Side, &[u8], usize); 8] = [
+    (Side::T, b"\x10\x02\x0b\x00\x00", 0),
+    (Side::T, b"\x10\x01\x0b\x00\x00", 0),
+    (Side::N, b"\x10\x02\x0f", 0),
+    (Side::T, b"\x10\x00\xfb\x00\x00", 2),
+    (Side::T, b"\x10\x00\xfb\x00\x00", 2),
+    (Side::N, b"\x10\x00\xff", 2),
+    (Side::T, b"\x10\x02\x0b\x00\x00", 2),
+    (Side::N, b"\x10\x00\xff", 2),
+];
+
+/// Pushes two epochs.
+fn push_two(rt: &impl Abort, cutter: &mut Cutter, out: &mut Vec<Piece>) -> Result<(), Fail> {
+    for (side, octets, given) in &TWO_EPOCHS {
+        push(cutter, *side, octets, out)?;
+        holds_for(rt, out.len() == *given, octets);
+        holds_for(rt, cutter.given() == *given, octets);
+    }
+    Ok(())
+}
+
+/// The second epoch has a piece, and the last of eight rows a finding.
+fn has_second(rt: &impl Abort, cut: &Cut) {
+    assert!(rt; cut.packets == 8);
+    assert!(rt; shapes_are(&cut.pieces, &[(2, 2, 2, 1, None)]));
+    assert!(rt; told(&cut.line) == Some((8, Code::Number(17))));
+}
+
 #[test]
 fn row_that_leaves_r1_gives_out_its_epoch(rt: HostRuntime) -> Result<(), Fail> {
     let mut cutter = Cutter::new(rt.alloc(), &PLAIN);
     let mut out = Vec::new(rt.alloc());
-    for (side, octets, given) in [
-        (Side::T, b"\x10\x02\x0b\x00\x00".as_slice(), 0),
-        (Side::T, b"\x10\x01\x0b\x00\x00".as_slice(), 0),
-        (Side::N, b"\x10\x02\x0f".as_slice(), 0),
-        (Side::T, b"\x10\x00\xfb\x00\x00".as_slice(), 2),
-        (Side::T, b"\x10\x00\xfb\x00\x00".as_slice(), 2),
-        (Side::N, b"\x10\x00\xff".as_slice(), 2),
-        (Side::T, b"\x10\x02\x0b\x00\x00".as_slice(), 2),
-        (Side::N, b"\x10\x00\xff".as_slice(), 2),
-    ] {
-        push(&mut cutter, side, octets, &mut out)?;
-        assert_eq!(rt; out.len(), given, "{octets:?}");
-        assert_eq!(rt; cutter.given(), given, "{octets:?}");
-    }
-    let [first, second] = out.as_slice() else {
-        return Err("the first epoch has two pieces")?;
-    };
-    assert!(rt; shape(first) == (0, 1, 1, 1, Some(4)));
-    assert!(rt; shape(second) == (1, 1, 2, 2, Some(4)));
-    let cut = match cutter.end() {
-        Ok(cut) => cut,
-        Err(_) => return Err("no memory")?,
-    };
-    assert_eq!(rt; cut.packets, 8);
-    let ([rest], [finding]) = (cut.pieces.as_slice(), cut.line.as_slice()) else {
-        return Err("the second epoch has a piece, and the last row a finding")?;
-    };
-    assert!(rt; shape(rest) == (2, 2, 2, 1, None));
-    assert_eq!(rt; finding.packet, 8);
-    assert!(rt; finding.code == Code::Number(17));
+    push_two(&rt, &mut cutter, &mut out)?;
+    assert!(rt; shapes_are(&out, &[(0, 1, 1, 1, Some(4)), (1, 1, 2, 2, Some(4))]));
+    has_second(&rt, &cutter.end()?);
     Ok(())
 }
 
@@ -315,46 +327,54 @@ const EPOCH: [(Side, &[u8]); 6] = [
     (Side::N, b"\x10\x00\xff"),
 ];
 
-#[test]
-fn three_epochs_have_a_piece_for_each_channel(rt: HostRuntime) -> Result<(), Fail> {
-    let mut packets = Vec::new(rt.alloc());
+/// The packets of three epochs, the last of which has no restart.
+fn three_epochs(alloc: Global) -> Result<Vec<(Side, &'static [u8])>, Fail> {
+    let mut packets = Vec::new(alloc);
     packets.extend_from_slice(&EPOCH)?;
     packets.extend_from_slice(&EPOCH)?;
     packets.extend_from_slice(&EPOCH[..4])?;
-    let rows = rows_of(rt.alloc(), packets.as_slice())?;
-    let cut = cut(&PLAIN, rows)?;
-    assert_eq!(rt; cut.packets, 16);
+    Ok(packets)
+}
+
+/// The pieces of these packets.
+fn cut_of(alloc: Global, packets: &[(Side, &[u8])]) -> Result<Cut, Fail> {
+    let rows = rows_of(alloc, packets)?;
+    Ok(cut(&PLAIN, rows)?)
+}
+
+#[test]
+fn three_epochs_have_a_piece_for_each_channel(rt: HostRuntime) -> Result<(), Fail> {
+    let packets = three_epochs(rt.alloc())?;
+    let cut = cut_of(rt.alloc(), packets.as_slice())?;
+    assert!(rt; cut.packets == 16);
     assert!(rt; cut.line.is_empty());
-    assert_eq!(rt; cut.pieces.len(), 12);
-    for (piece, wanted) in cut.pieces.iter().zip(PIECES) {
-        assert!(rt; shape(piece) == wanted, "{wanted:?}");
-    }
+    assert!(rt; shapes_are(&cut.pieces, &PIECES));
+    Ok(())
+}
+
+/// The piece of the open epoch is shown, and its row's finding.
+fn shows_the_open_epoch(rt: &impl Abort, cutter: &Cutter) -> Result<(), Fail> {
+    let shown = cutter.peek()?;
+    assert!(rt; shapes_are(&shown, &[(0, 1, 2, 1, None)]));
+    let [finding] = cutter.line() else {
+        return Err("one row has a finding")?;
+    };
+    assert!(rt; finding.code == Code::Number(17));
     Ok(())
 }
 
 #[test]
 fn pieces_of_the_open_epoch_are_shown_and_stay(rt: HostRuntime) -> Result<(), Fail> {
-    let alloc = rt.alloc();
-    let mut cutter = Cutter::new(alloc, &PLAIN);
-    let mut pieces = Vec::new(alloc);
+    let mut cutter = Cutter::new(rt.alloc(), &PLAIN);
+    let mut pieces = Vec::new(rt.alloc());
     push(&mut cutter, Side::T, b"\x10\x02\x00\xaa", &mut pieces)?;
     push(&mut cutter, Side::N, b"\x10\x00\xff", &mut pieces)?;
-    for _ in 0..2 {
-        let shown = cutter.peek()?;
-        let [piece] = shown.as_slice() else {
-            return Err("one channel has rows")?;
-        };
-        assert!(rt; shape(piece) == (0, 1, 2, 1, None));
-        let [finding] = cutter.line() else {
-            return Err("one row has a finding")?;
-        };
-        assert!(rt; finding.code == Code::Number(17));
-    }
-    Ok(())
+    shows_the_open_epoch(&rt, &cutter)?;
+    shows_the_open_epoch(&rt, &cutter)
 }
 
 /// The pieces of three epochs.
-const PIECES: [(u32, u32, u16, usize, Option<u32>); 12] = [
+const PIECES: [Shape; 12] = [
     (0, 1, 1, 1, Some(5)),
     (1, 1, 2, 1, Some(5)),
     (2, 1, 3, 1, Some(5)),
@@ -369,26 +389,23 @@ const PIECES: [(u32, u32, u16, usize, Option<u32>); 12] = [
     (11, 3, 4, 1, None),
 ];
 
+/// Confirmations on a channel that is ready, of which the second is owed.
+const CONFIRMATIONS: [(Side, &[u8]); 4] = [
+    (Side::T, b"\x10\x00\xff"),
+    (Side::N, b"\x10\x00\xff"),
+    (Side::T, b"\x10\x00\xff"),
+    (Side::N, b"\x10\x00\xff"),
+];
+
 #[test]
 fn findings_of_the_restart_machine_are_all_told(rt: HostRuntime) -> Result<(), Fail> {
-    let rows = rows_of(
-        rt.alloc(),
-        &[
-            (Side::T, b"\x10\x00\xff".as_slice()),
-            (Side::N, b"\x10\x00\xff".as_slice()),
-            (Side::T, b"\x10\x00\xff".as_slice()),
-            (Side::N, b"\x10\x00\xff".as_slice()),
-        ],
-    )?;
-    let cut = cut(&PLAIN, rows)?;
-    assert_eq!(rt; cut.packets, 4);
+    let cut = cut_of(rt.alloc(), &CONFIRMATIONS)?;
+    assert!(rt; cut.packets == 4);
     assert!(rt; cut.pieces.is_empty());
     let [first, last] = cut.line.as_slice() else {
         return Err("two rows have findings")?;
     };
-    assert_eq!(rt; first.packet, 1);
-    assert!(rt; first.code == Code::Number(17));
-    assert_eq!(rt; last.packet, 4);
-    assert!(rt; last.code == Code::Number(17));
+    assert!(rt; (first.packet, first.code) == (1, Code::Number(17)));
+    assert!(rt; (last.packet, last.code) == (4, Code::Number(17)));
     Ok(())
 }

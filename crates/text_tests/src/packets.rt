@@ -1,11 +1,13 @@
 //! Packets written octet by octet, and what they are.
 
+use crate::checks::holds_for;
 use line_model::interface::Interface;
 use line_model::packet::{Class, DataHeader, Packet, PacketKind};
 use packet_decode::contents::{Contents, InForce, read_contents};
 use packet_decode::decode::{class_of, decode};
 use packet_decode::fields::{CallFields, call_fields};
 use packet_decode::transfer::{TransferContents, read_transfer};
+use std::process::Abort;
 use std::test::Fail;
 
 /// 4095 virtual channels at modulo 8.
@@ -53,114 +55,141 @@ fn fault(octets: &[u8], fast_before: bool) -> Option<u8> {
     }
 }
 
+/// Each packet is what it is said to be.
+fn check_decoded(rt: &impl Abort, interface: &Interface, packets: &[(&[u8], Packet)]) {
+    for (octets, packet) in packets {
+        holds_for(rt, decode(interface, octets) == *packet, octets);
+    }
+}
+
+/// A packet of data at modulo 8, whose bits are set.
+const DATA_8: [(&[u8], Packet); 1] = [(
+    b"\xd5\x01\xb6\xaa",
+    Packet::Channel {
+        channel: 1281,
+        kind: PacketKind::Data(Some(DataHeader {
+            send: 3,
+            receive: 5,
+            more: true,
+            delivery: true,
+            qualified: true,
+        })),
+    },
+)];
+
+/// Packets of data at modulo 128, of which one is cut.
+const DATA_128: [(&[u8], Packet); 2] = [
+    (
+        b"\x20\x01\x7e\x83",
+        Packet::Channel {
+            channel: 1,
+            kind: PacketKind::Data(Some(DataHeader {
+                send: 63,
+                receive: 65,
+                more: true,
+                delivery: false,
+                qualified: false,
+            })),
+        },
+    ),
+    (
+        b"\x20\x01\x7e",
+        Packet::Channel {
+            channel: 1,
+            kind: PacketKind::Data(None),
+        },
+    ),
+];
+
 #[test]
 fn data_header_is_read_from_its_bits(rt: HostRuntime) {
-    let header = DataHeader {
-        send: 3,
-        receive: 5,
-        more: true,
-        delivery: true,
-        qualified: true,
-    };
-    let packet = on(1281, PacketKind::Data(Some(header)));
-    assert_eq!(rt; decode(&MODULO_8, b"\xd5\x01\xb6\xaa"), packet);
-    let header = DataHeader {
-        send: 63,
-        receive: 65,
-        more: true,
-        delivery: false,
-        qualified: false,
-    };
-    let packet = on(1, PacketKind::Data(Some(header)));
-    assert_eq!(rt; decode(&MODULO_128, b"\x20\x01\x7e\x83"), packet);
-    assert_eq!(rt;
-        decode(&MODULO_128, b"\x20\x01\x7e"),
-        on(1, PacketKind::Data(None))
-    );
+    check_decoded(&rt, &MODULO_8, &DATA_8);
+    check_decoded(&rt, &MODULO_128, &DATA_128);
 }
+
+/// Packets on channel 1, and their kinds.
+fn check_kinds(rt: &impl Abort, interface: &Interface, packets: &[(&[u8], PacketKind)]) {
+    for (octets, kind) in packets {
+        holds_for(rt, decode(interface, octets) == on(1, *kind), octets);
+    }
+}
+
+/// Packets of flow control at modulo 8.
+const FLOW_8: [(&[u8], PacketKind); 3] = [
+    (b"\x10\x01\xe1", PacketKind::Rr(Some(7))),
+    (b"\x10\x01\xa5", PacketKind::Rnr(Some(5))),
+    (b"\x10\x01\xa9", PacketKind::Rej),
+];
+
+/// Packets of flow control at modulo 128.
+const FLOW_128: [(&[u8], PacketKind); 3] = [
+    (b"\x20\x01\x01\xfe", PacketKind::Rr(Some(127))),
+    (b"\x20\x01\x05", PacketKind::Rnr(None)),
+    (b"\x20\x01\xe1", PacketKind::Undefined),
+];
 
 #[test]
 fn flow_control_packets_carry_the_receive_number(rt: HostRuntime) {
-    assert_eq!(rt;
-        decode(&MODULO_8, b"\x10\x01\xe1"),
-        on(1, PacketKind::Rr(Some(7)))
-    );
-    assert_eq!(rt;
-        decode(&MODULO_8, b"\x10\x01\xa5"),
-        on(1, PacketKind::Rnr(Some(5)))
-    );
-    assert_eq!(rt; decode(&MODULO_8, b"\x10\x01\xa9"), on(1, PacketKind::Rej));
-    assert_eq!(rt;
-        decode(&MODULO_128, b"\x20\x01\x01\xfe"),
-        on(1, PacketKind::Rr(Some(127)))
-    );
-    assert_eq!(rt;
-        decode(&MODULO_128, b"\x20\x01\x05"),
-        on(1, PacketKind::Rnr(None))
-    );
-    assert_eq!(rt;
-        decode(&MODULO_128, b"\x20\x01\xe1"),
-        on(1, PacketKind::Undefined)
-    );
+    check_kinds(&rt, &MODULO_8, &FLOW_8);
+    check_kinds(&rt, &MODULO_128, &FLOW_128);
 }
+
+/// Packets at modulo 8, each with a fault that others of the list could hide.
+const ORDER_8: [(&[u8], Packet); 8] = [
+    (b"", Packet::Short),
+    (b"\x20", Packet::Short),
+    (b"\x2f\xff\xfb", Packet::WrongFormat),
+    (b"\x10\x00", Packet::Unassigned),
+    (b"\x10\x00\x0b", Packet::Unassigned),
+    (b"\x10\x00\xfb\x00\x00", Packet::Restart),
+    (b"\x10\x00\xf1", Packet::Diagnostic),
+    (b"\x10\x00\xf7", Packet::Registration),
+];
+
+/// Packets on a channel that have no type there.
+const UNDEFINED_8: [(&[u8], PacketKind); 2] = [
+    (b"\x10\x01", PacketKind::TwoOctets),
+    (b"\x10\x01\xf1", PacketKind::Undefined),
+];
 
 #[test]
 fn classes_are_judged_in_order(rt: HostRuntime) {
-    let cases: [(&[u8], Packet); 10] = [
-        (b"", Packet::Short),
-        (b"\x20", Packet::Short),
-        (b"\x2f\xff\xfb", Packet::WrongFormat),
-        (b"\x10\x00", Packet::Unassigned),
-        (b"\x10\x00\x0b", Packet::Unassigned),
-        (b"\x10\x00\xfb\x00\x00", Packet::Restart),
-        (b"\x10\x00\xf1", Packet::Diagnostic),
-        (b"\x10\x00\xf7", Packet::Registration),
-        (b"\x10\x01", on(1, PacketKind::TwoOctets)),
-        (b"\x10\x01\xf1", on(1, PacketKind::Undefined)),
-    ];
-    for (octets, packet) in cases {
-        assert_eq!(rt; decode(&MODULO_8, octets), packet, "for {octets:?}");
-    }
-    assert_eq!(rt; decode(&MODULO_128, b"\x20\x07\xfb"), Packet::Unassigned);
-    assert_eq!(rt;
-        decode(&MODULO_128, b"\x20\x06\xfb"),
-        on(6, PacketKind::RestartHere)
-    );
+    check_decoded(&rt, &MODULO_8, &ORDER_8);
+    check_kinds(&rt, &MODULO_8, &UNDEFINED_8);
+    assert!(rt; decode(&MODULO_128, b"\x20\x07\xfb") == Packet::Unassigned);
+    assert!(rt; decode(&MODULO_128, b"\x20\x06\xfb") == on(6, PacketKind::RestartHere));
 }
+
+/// Call packets, and the codes of their faults.
+const CALL_FAULTS: [(&[u8], u8); 10] = [
+    (b"\x10\x01\x0b", 38),
+    (b"\x10\x02\x0b\x01\xa0\x00", 67),
+    (b"\x10\x03\x0b\x10\xa0\x00", 68),
+    (b"\x10\x04\x0b\x00\x03\x42", 69),
+    (b"\x10\x05\x0b\x00\x03\x43\x08\x02", 66),
+    (
+        b"\x10\x06\x0b\x00\x00\0\0\0\0\0\0\0\0\0\0\0\0\0\0\0\0\0",
+        39,
+    ),
+    (b"\x10\x06\x0f\x20", 38),
+    (b"\x10\x01\x0b\x00\x06\x42\x03\x07\x42\x07\x07", 66),
+    (b"\x10\x01\x0b\x00\x03\x42\x07\x0d", 66),
+    (b"\x10\x01\x0b\x00\x04\x00\x00\x43\x00", 69),
+];
 
 #[test]
 fn faults_of_call_packets_have_their_codes(rt: HostRuntime) {
-    let cases: [(&[u8], u8); 8] = [
-        (b"\x10\x01\x0b", 38),
-        (b"\x10\x02\x0b\x01\xa0\x00", 67),
-        (b"\x10\x03\x0b\x10\xa0\x00", 68),
-        (b"\x10\x04\x0b\x00\x03\x42", 69),
-        (b"\x10\x05\x0b\x00\x03\x43\x08\x02", 66),
-        (
-            b"\x10\x06\x0b\x00\x00\0\0\0\0\0\0\0\0\0\0\0\0\0\0\0\0\0",
-            39,
-        ),
-        (b"\x10\x06\x0f\x20", 38),
-        (b"\x10\x01\x0b\x00\x06\x42\x03\x07\x42\x07\x07", 66),
-    ];
-    for (octets, code) in cases {
-        assert_eq!(rt; fault(octets, false), Some(code), "for {octets:?}");
+    for (octets, code) in &CALL_FAULTS {
+        holds_for(&rt, fault(octets, false) == Some(*code), octets);
     }
-    assert_eq!(rt; fault(b"\x10\x01\x0b\x00\x03\x42\x07\x0d", false), Some(66));
-    assert_eq!(rt;
-        fault(b"\x10\x01\x0b\x00\x04\x00\x00\x43\x00", false),
-        Some(69)
-    );
 }
 
 #[test]
 fn addresses_and_reverse_charging_are_read(rt: HostRuntime) -> Result<(), Fail> {
     let fields = fields(b"\x10\x01\x0b\x32\x12\x34\x50\x02\x01\x01", false)?;
-    assert_eq!(rt; fields.called.as_bytes(), b"12".as_slice());
-    assert_eq!(rt; fields.calling.as_bytes(), b"345".as_slice());
-    assert!(rt; fields.reverse);
-    assert!(rt; !fields.fast);
-    assert_eq!(rt; fields.sizes, None);
+    assert!(rt; has_addresses(&fields, b"12", b"345"));
+    assert!(rt; fields.reverse && !fields.fast);
+    assert!(rt; fields.sizes.is_none());
     assert!(rt; fields.user_data.is_empty());
     Ok(())
 }
@@ -171,9 +200,9 @@ fn sizes_windows_and_user_data_are_read(rt: HostRuntime) -> Result<(), Fail> {
         b"\x10\x01\x0b\x00\x06\x42\x05\x04\x43\x02\x01\x01\x00",
         false,
     )?;
-    assert_eq!(rt; fields.sizes, Some((32, 16)));
-    assert_eq!(rt; fields.windows, Some((2, 1)));
-    assert_eq!(rt; fields.user_data, b"\x01\x00".as_slice());
+    assert!(rt; fields.sizes == Some((32, 16)));
+    assert!(rt; fields.windows == Some((2, 1)));
+    assert!(rt; fields.user_data == b"\x01\x00".as_slice());
     Ok(())
 }
 
@@ -183,36 +212,62 @@ fn last_of_two_facilities_counts_and_marker_ends_them(rt: HostRuntime) -> Result
     assert!(rt; !twice.reverse);
     assert!(rt; !twice.fast);
     let marked = fields(b"\x10\x01\x0b\x00\x05\x00\x00\x43\x00\x00", false)?;
-    assert_eq!(rt; marked.windows, None);
+    assert!(rt; marked.windows == None);
     Ok(())
+}
+
+/// Packets without fault that end early.
+const WHOLE: [&[u8]; 4] = [
+    b"\x10\x01\x0f",
+    b"\x10\x01\x0f\x11\x12",
+    b"\x10\x01\x0f\x00\x00",
+    b"\x90\x01\x0b\xff",
+];
+
+/// The fields of a packet have these addresses.
+fn has_addresses(fields: &CallFields<'_>, called: &[u8], calling: &[u8]) -> bool {
+    fields.called.as_bytes() == called && fields.calling.as_bytes() == calling
 }
 
 #[test]
 fn accepted_may_end_early_and_the_a_bit_ends_all(rt: HostRuntime) -> Result<(), Fail> {
-    let whole: [&[u8]; 4] = [
-        b"\x10\x01\x0f",
-        b"\x10\x01\x0f\x11\x12",
-        b"\x10\x01\x0f\x00\x00",
-        b"\x90\x01\x0b\xff",
-    ];
-    for octets in whole {
-        assert_eq!(rt; fault(octets, false), None, "for {octets:?}");
+    for octets in &WHOLE {
+        holds_for(&rt, fault(octets, false).is_none(), octets);
     }
     let addressed = fields(b"\x10\x01\x0f\x11\x12", false)?;
-    assert_eq!(rt; addressed.called.as_bytes(), b"1".as_slice());
-    assert_eq!(rt; addressed.calling.as_bytes(), b"2".as_slice());
+    assert!(rt; has_addresses(&addressed, b"1", b"2"));
     Ok(())
 }
 
+/// Packets, whether fast select was asked before, and the codes of their faults.
+const FAST: [(&[u8], bool, Option<u8>); 4] = [
+    (
+        b"\x10\x01\x0f\x00\x00\0\0\0\0\0\0\0\0\0\0\0\0\0\0\0\0\0",
+        false,
+        Some(39),
+    ),
+    (
+        b"\x10\x01\x0f\x00\x00\0\0\0\0\0\0\0\0\0\0\0\0\0\0\0\0\0",
+        true,
+        None,
+    ),
+    (
+        b"\x10\x01\x0f\x00\x02\x01\x80\0\0\0\0\0\0\0\0\0\0\0\0\0\0\0\0\0",
+        false,
+        None,
+    ),
+    (
+        b"\x10\x01\x0b\x00\x00\0\0\0\0\0\0\0\0\0\0\0\0\0\0\0\0\0",
+        true,
+        Some(39),
+    ),
+];
+
 #[test]
 fn fast_select_of_either_packet_gives_room(rt: HostRuntime) {
-    let long = b"\x10\x01\x0f\x00\x00\0\0\0\0\0\0\0\0\0\0\0\0\0\0\0\0\0";
-    assert_eq!(rt; fault(long, false), Some(39));
-    assert_eq!(rt; fault(long, true), None);
-    let asking = b"\x10\x01\x0f\x00\x02\x01\x80\0\0\0\0\0\0\0\0\0\0\0\0\0\0\0\0\0";
-    assert_eq!(rt; fault(asking, false), None);
-    let call = b"\x10\x01\x0b\x00\x00\0\0\0\0\0\0\0\0\0\0\0\0\0\0\0\0\0";
-    assert_eq!(rt; fault(call, true), Some(39));
+    for (octets, before, code) in &FAST {
+        holds_for(&rt, fault(octets, *before) == *code, octets);
+    }
 }
 
 /// What a packet at modulo 8 says on a channel with packet size 16 whose call asked fast select or not.
@@ -240,45 +295,59 @@ fn transfer(octets: &[u8]) -> Result<TransferContents<'_>, u8> {
     }
 }
 
-#[test]
-fn data_has_its_header_and_the_octets_behind_it(rt: HostRuntime) {
-    match transfer(b"\x10\x01\x56\xaa\xbb") {
-        Ok(TransferContents::Data { header, user_data }) => {
-            assert_eq!(rt; header.send, 3);
-            assert_eq!(rt; header.receive, 2);
-            assert!(rt; header.more);
-            assert_eq!(rt; user_data, b"\xaa\xbb".as_slice());
-        }
-        _ => assert!(rt; false),
+/// What a packet says that is read as any other.
+fn transfer_in_order(octets: &[u8]) -> Option<TransferContents<'_>> {
+    match read(octets, false) {
+        Ok(Contents::Transfer(contents)) => Some(contents),
+        _ => None,
     }
-    match read(b"\x10\x01\x56\xaa\xbb", false) {
-        Ok(Contents::Transfer(TransferContents::Data { header, user_data })) => {
-            assert_eq!(rt; header.send, 3);
-            assert_eq!(rt; user_data, b"\xaa\xbb".as_slice());
+}
+
+/// The header at modulo 8 of the send number 3, the receive number 2 and more to come.
+fn is_wanted(contents: Option<TransferContents<'_>>) -> bool {
+    match contents {
+        Some(TransferContents::Data { header, user_data }) => {
+            header.send == 3
+                && header.receive == 2
+                && header.more
+                && user_data == b"\xaa\xbb".as_slice()
         }
-        _ => assert!(rt; false),
+        _ => false,
     }
 }
 
 #[test]
+fn data_has_its_header_and_the_octets_behind_it(rt: HostRuntime) {
+    assert!(rt; is_wanted(transfer(b"\x10\x01\x56\xaa\xbb").ok()));
+    assert!(rt; is_wanted(transfer_in_order(b"\x10\x01\x56\xaa\xbb")));
+}
+
+/// A packet of data transfer by a number of its own: its receive number, 8 for an interrupt and 9 for its confirmation.
+fn number_of(contents: Option<TransferContents<'_>>) -> Option<u8> {
+    match contents {
+        Some(TransferContents::Receive(number)) => Some(number),
+        Some(TransferContents::Interrupt) => Some(8),
+        Some(TransferContents::InterruptConfirm) => Some(9),
+        _ => None,
+    }
+}
+
+/// Packets of data transfer without data, and the numbers of what they say.
+const WITHOUT_DATA: [(&[u8], u8); 4] = [
+    (b"\x10\x01\xe1", 7),
+    (b"\x10\x01\xa5", 5),
+    (b"\x10\x01\x23\x00", 8),
+    (b"\x10\x01\x27", 9),
+];
+
+#[test]
 fn flow_control_and_interrupts_are_told_apart(rt: HostRuntime) {
-    use TransferContents::{Interrupt, InterruptConfirm, Receive};
-    assert!(rt; matches!(transfer(b"\x10\x01\xe1"), Ok(Receive(7))));
-    assert!(rt; matches!(transfer(b"\x10\x01\xa5"), Ok(Receive(5))));
-    assert!(rt; matches!(transfer(b"\x10\x01\x23\x00"), Ok(Interrupt)));
-    assert!(rt; matches!(transfer(b"\x10\x01\x27"), Ok(InterruptConfirm)));
-    assert!(rt;
-        matches!(
-            read(b"\x10\x01\xe1", false),
-            Ok(Contents::Transfer(Receive(7)))
-        )
-    );
-    assert!(rt;
-        matches!(
-            read(b"\x10\x01\x27", false),
-            Ok(Contents::Transfer(InterruptConfirm))
-        )
-    );
+    for (octets, number) in &WITHOUT_DATA {
+        let contents = transfer(octets).ok();
+        holds_for(&rt, number_of(contents) == Some(*number), octets);
+    }
+    assert!(rt; number_of(transfer_in_order(b"\x10\x01\xe1")) == Some(7));
+    assert!(rt; number_of(transfer_in_order(b"\x10\x01\x27")) == Some(9));
     assert!(rt; matches!(read(b"\x10\x01\x13\x00", false), Ok(Contents::Other)));
 }
 
@@ -290,75 +359,101 @@ fn transfer_fault(octets: &[u8]) -> Option<u8> {
     }
 }
 
+/// Packets of data transfer, and the codes of their faults.
+const BOUNDS: [(&[u8], Option<u8>); 8] = [
+    (b"\x10\x01\x00\0\0\0\0\0\0\0\0\0\0\0\0\0\0\0\0", None),
+    (b"\x10\x01\x00\0\0\0\0\0\0\0\0\0\0\0\0\0\0\0\0\0", Some(39)),
+    (b"\x10\x01\x23", Some(38)),
+    (
+        b"\x10\x01\x23\0\0\0\0\0\0\0\0\0\0\0\0\0\0\0\0\0\0\0\0\0\0\0\0\0\0\0\0\0\0\0\0",
+        None,
+    ),
+    (
+        b"\x10\x01\x23\0\0\0\0\0\0\0\0\0\0\0\0\0\0\0\0\0\0\0\0\0\0\0\0\0\0\0\0\0\0\0\0\0",
+        Some(39),
+    ),
+    (b"\x10\x01\x27\x00", Some(39)),
+    (b"\x10\x01\xe1\x00", Some(39)),
+    (b"\x10\x01\xe5\x00", Some(39)),
+];
+
 #[test]
 fn packets_of_data_transfer_have_bounds(rt: HostRuntime) {
-    let cases: [(&[u8], Option<u8>); 8] = [
-        (b"\x10\x01\x00\0\0\0\0\0\0\0\0\0\0\0\0\0\0\0\0", None),
-        (b"\x10\x01\x00\0\0\0\0\0\0\0\0\0\0\0\0\0\0\0\0\0", Some(39)),
-        (b"\x10\x01\x23", Some(38)),
-        (
-            b"\x10\x01\x23\0\0\0\0\0\0\0\0\0\0\0\0\0\0\0\0\0\0\0\0\0\0\0\0\0\0\0\0\0\0\0\0",
-            None,
-        ),
-        (
-            b"\x10\x01\x23\0\0\0\0\0\0\0\0\0\0\0\0\0\0\0\0\0\0\0\0\0\0\0\0\0\0\0\0\0\0\0\0\0",
-            Some(39),
-        ),
-        (b"\x10\x01\x27\x00", Some(39)),
-        (b"\x10\x01\xe1\x00", Some(39)),
-        (b"\x10\x01\xe5\x00", Some(39)),
-    ];
-    for (octets, code) in cases {
-        assert_eq!(rt; transfer_fault(octets), code, "for {octets:?}");
+    for (octets, code) in &BOUNDS {
+        holds_for(&rt, transfer_fault(octets) == *code, octets);
+    }
+}
+
+/// The fields of a call request or of the packet that accepts it, and whether it is the request.
+fn call(octets: &[u8]) -> Option<(CallFields<'_>, bool)> {
+    match read(octets, false) {
+        Ok(Contents::Call(fields)) => Some((fields, true)),
+        Ok(Contents::Accepted(fields)) => Some((fields, false)),
+        _ => None,
     }
 }
 
 #[test]
-fn call_packets_have_their_fields(rt: HostRuntime) {
-    match read(b"\x10\x01\x0b\x32\x12\x34\x50\x02\x01\x01", false) {
-        Ok(Contents::Call(fields)) => assert_eq!(rt; fields.called.as_bytes(), b"12".as_slice()),
-        _ => assert!(rt; false),
-    }
-    match read(b"\x10\x01\x0f\x11\x12", false) {
-        Ok(Contents::Accepted(fields)) => {
-            assert_eq!(rt; fields.calling.as_bytes(), b"2".as_slice());
-        }
-        _ => assert!(rt; false),
-    }
+fn call_packets_have_their_fields(rt: HostRuntime) -> Result<(), Fail> {
+    let Some((fields, true)) = call(b"\x10\x01\x0b\x32\x12\x34\x50\x02\x01\x01") else {
+        return Err("no call request")?;
+    };
+    assert!(rt; fields.called.as_bytes() == b"12".as_slice());
+    let Some((fields, false)) = call(b"\x10\x01\x0f\x11\x12") else {
+        return Err("no call accepted")?;
+    };
+    assert!(rt; fields.calling.as_bytes() == b"2".as_slice());
+    Ok(())
 }
+
+/// Packets, whether their call asked fast select, and the codes of their faults.
+const LENGTHS: [(&[u8], bool, Option<u8>); 9] = [
+    (
+        b"\x10\x01\x00\0\0\0\0\0\0\0\0\0\0\0\0\0\0\0\0\0",
+        false,
+        Some(39),
+    ),
+    (b"\x10\x01\x13", false, Some(38)),
+    (b"\x10\x01\x1b", false, Some(38)),
+    (b"\x10\x01\x1b\x00\x00\x00", false, Some(39)),
+    (b"\x10\x01\x23", false, Some(38)),
+    (b"\x10\x01\x27\x00", false, Some(39)),
+    (b"\x10\x01\xe1\x00", false, Some(39)),
+    (
+        b"\x10\x01\x0f\x00\x00\0\0\0\0\0\0\0\0\0\0\0\0\0\0\0\0\0",
+        false,
+        Some(39),
+    ),
+    (
+        b"\x10\x01\x0f\x00\x00\0\0\0\0\0\0\0\0\0\0\0\0\0\0\0\0\0",
+        true,
+        None,
+    ),
+];
 
 #[test]
 fn lengths_out_of_bounds_have_their_codes(rt: HostRuntime) {
-    let cases: [(&[u8], u8); 7] = [
-        (b"\x10\x01\x00\0\0\0\0\0\0\0\0\0\0\0\0\0\0\0\0\0", 39),
-        (b"\x10\x01\x13", 38),
-        (b"\x10\x01\x1b", 38),
-        (b"\x10\x01\x1b\x00\x00\x00", 39),
-        (b"\x10\x01\x23", 38),
-        (b"\x10\x01\x27\x00", 39),
-        (b"\x10\x01\xe1\x00", 39),
-    ];
-    for (octets, code) in cases {
-        assert_eq!(rt; format_fault(octets, false), Some(code), "for {octets:?}");
+    for (octets, fast, code) in &LENGTHS {
+        holds_for(&rt, format_fault(octets, *fast) == *code, octets);
     }
-    let long = b"\x10\x01\x0f\x00\x00\0\0\0\0\0\0\0\0\0\0\0\0\0\0\0\0\0";
-    assert_eq!(rt; format_fault(long, false), Some(39));
-    assert_eq!(rt; format_fault(long, true), None);
 }
+
+/// What a packet at modulo 128 says on a channel with packet size 128.
+fn read_128(octets: &[u8]) -> Result<Contents<'_>, u8> {
+    let packet = decode(&MODULO_128, octets);
+    let in_force = InForce {
+        fast: false,
+        size: 128,
+    };
+    read_contents(&MODULO_128, &packet, octets, in_force)
+}
+
+/// Packets whose header at modulo 128 is cut.
+const CUT: [&[u8]; 3] = [b"\x20\x01\x7e", b"\x20\x01\x01", b"\x20\x01\x05"];
 
 #[test]
 fn cut_headers_are_too_short(rt: HostRuntime) {
-    let cut: [&[u8]; 3] = [b"\x20\x01\x7e", b"\x20\x01\x01", b"\x20\x01\x05"];
-    for octets in cut {
-        let packet = decode(&MODULO_128, octets);
-        let in_force = InForce {
-            fast: false,
-            size: 128,
-        };
-        let code = match read_contents(&MODULO_128, &packet, octets, in_force) {
-            Ok(_) => None,
-            Err(code) => Some(code),
-        };
-        assert_eq!(rt; code, Some(38), "for {octets:?}");
+    for octets in &CUT {
+        holds_for(&rt, read_128(octets).err() == Some(38), octets);
     }
 }

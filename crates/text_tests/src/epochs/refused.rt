@@ -1,5 +1,6 @@
 //! Cutting whose growths are refused.
 
+use crate::checks::holds_at;
 use crate::epochs::{EPOCH, PLAIN, rows_of};
 use line_model::fault::Fault;
 use restart_epochs::cut::cut;
@@ -11,23 +12,25 @@ use test_devices::scarce::Scarce;
 /// The most growths that this test looks for.
 const GROWTHS: u64 = 1000;
 
-/// Refuses one growth of a cut, and sees that it answers want of memory. Answers whether there was such a growth.
-fn check_growth(rt: &impl Abort, heap: &Scarce<Global>, good: u64) -> Result<bool, Fail> {
+/// Cuts an epoch, with one growth refused after so many: how many pieces there are, and whether one was refused.
+fn cut_with(heap: &Scarce<Global>, good: u64) -> Result<(Result<usize, Fault>, bool), Fail> {
     let rows = rows_of(heap, EPOCH.as_slice())?;
     heap.refuse_one(good);
-    let cut = cut(&PLAIN, rows);
+    let pieces = match cut(&PLAIN, rows) {
+        Ok(cut) => Ok(cut.pieces.len()),
+        Err(fault) => Err(fault),
+    };
     let refused = good < heap.asked();
-    match cut {
-        Ok(cut) => {
-            assert!(rt; !refused, "at {good}");
-            assert_eq!(rt; cut.pieces.len(), 4);
-        }
-        Err(fault) => {
-            assert!(rt; refused, "at {good}");
-            assert_eq!(rt; fault, Fault::Memory);
-        }
-    }
     heap.grant_all();
+    Ok((pieces, refused))
+}
+
+/// Refuses one growth of a cut, and sees that it answers want of memory. Answers whether there was such a growth.
+fn check_growth(rt: &impl Abort, heap: &Scarce<Global>, good: u64) -> Result<bool, Fail> {
+    let (pieces, refused) = cut_with(heap, good)?;
+    let wanted = if refused { Err(Fault::Memory) } else { Ok(4) };
+    holds_at(rt, pieces == wanted, good as usize);
+    holds_at(rt, heap.held() == 0, good as usize);
     Ok(refused)
 }
 
@@ -35,9 +38,7 @@ fn check_growth(rt: &impl Abort, heap: &Scarce<Global>, good: u64) -> Result<boo
 fn each_growth_of_a_cut_may_be_refused(rt: HostRuntime) -> Result<(), Fail> {
     let heap = Scarce::new(rt.alloc());
     for good in 0..GROWTHS {
-        let refused = check_growth(&rt, &heap, good)?;
-        assert_eq!(&rt; heap.held(), 0, "at {good}");
-        if !refused {
+        if !check_growth(&rt, &heap, good)? {
             assert!(&rt; 0 < good);
             return Ok(());
         }

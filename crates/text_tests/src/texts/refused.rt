@@ -1,5 +1,6 @@
 //! A reader and a share whose growths are refused.
 
+use crate::checks::holds_at;
 use crate::texts::HEADER;
 use line_model::fault::Fault;
 use line_model::row::Row;
@@ -22,30 +23,42 @@ fn feed<A: Allocator + Copy>(lines: &mut Lines<A>, rows: &mut Vec<Row<A>, A>) ->
     lines.feed(b"AABBCC\n# the end\n", rows)
 }
 
+/// Feeds a reader, with one growth refused after so many. Answers what it said, and whether one was refused.
+fn feed_with<'a>(
+    heap: &'a Scarce<Global>,
+    lines: &mut Lines<&'a Scarce<Global>>,
+    rows: &mut Vec<Row<&'a Scarce<Global>>, &'a Scarce<Global>>,
+    good: u64,
+) -> (Result<(), Fault>, bool) {
+    heap.refuse_one(good);
+    let answer = feed(lines, rows);
+    let refused = good < heap.asked();
+    heap.grant_all();
+    (answer, refused)
+}
+
+/// A reader answers want of memory.
+fn wants_memory<'a>(
+    lines: Lines<&'a Scarce<Global>>,
+    rows: &mut Vec<Row<&'a Scarce<Global>>, &'a Scarce<Global>>,
+) -> bool {
+    let mut lines = lines;
+    lines.feed(b"4 T -\n", rows) == Err(Fault::Memory)
+        && lines.end(rows).err() == Some(Fault::Memory)
+}
+
 /// Refuses one growth of a reader, and sees that it answers want of memory from then on. Answers whether there was such
 /// a growth.
 fn check_growth(rt: &impl Abort, heap: &Scarce<Global>, good: u64) -> bool {
     let mut lines = Lines::new(heap);
     let mut rows = Vec::new(heap);
-    heap.refuse_one(good);
-    let answer = feed(&mut lines, &mut rows);
-    let refused = good < heap.asked();
-    heap.grant_all();
+    let (answer, refused) = feed_with(heap, &mut lines, &mut rows, good);
     if refused {
-        assert_eq!(rt; answer, Err(Fault::Memory), "at {good}");
-        assert_eq!(rt;
-            lines.feed(b"4 T -\n", &mut rows),
-            Err(Fault::Memory),
-            "at {good}"
-        );
-        assert_eq!(rt;
-            lines.end(&mut rows).err(),
-            Some(Fault::Memory),
-            "at {good}"
-        );
+        holds_at(rt, answer == Err(Fault::Memory), good as usize);
+        holds_at(rt, wants_memory(lines, &mut rows), good as usize);
     } else {
-        assert_eq!(rt; answer, Ok(()));
-        assert_eq!(rt; rows.len(), 3);
+        assert!(rt; answer == Ok(()));
+        assert!(rt; rows.len() == 3);
     }
     refused
 }
@@ -55,7 +68,7 @@ fn a_reader_that_wanted_memory_wants_it_from_then_on(rt: HostRuntime) -> Result<
     let heap = Scarce::new(rt.alloc());
     for good in 0..GROWTHS {
         let refused = check_growth(&rt, &heap, good);
-        assert_eq!(rt; heap.held(), 0, "at {good}");
+        holds_at(&rt, heap.held() == 0, good as usize);
         if !refused {
             assert!(rt; 0 < good);
             return Ok(());
@@ -64,21 +77,26 @@ fn a_reader_that_wanted_memory_wants_it_from_then_on(rt: HostRuntime) -> Result<
     Err("a reader has fewer growths".into())
 }
 
+/// What a new share answers to one row.
+fn next_row(row: &mut Row<&Scarce<Global>>) -> Result<bool, ShareFault> {
+    let mut share = Share::new();
+    match share.next_row(b"1 T 10010B0000\n".as_slice(), row) {
+        Ok(rest) => Ok(rest == Some(b"".as_slice())),
+        Err(fault) => Err(fault),
+    }
+}
+
 #[test]
-fn a_share_that_wanted_memory_is_read_again(rt: HostRuntime) -> Result<(), Fail> {
+fn a_share_that_wanted_memory_is_read_again(rt: HostRuntime) {
     let heap = Scarce::new(rt.alloc());
     let mut row = Row {
         number: 0,
         side: Side::T,
         octets: Vec::new(&heap),
     };
-    let bytes = b"1 T 10010B0000\n".as_slice();
     heap.refuse_one(0);
-    let mut share = Share::new();
-    assert!(rt; share.next_row(bytes, &mut row) == Err(ShareFault::Memory));
+    assert!(rt; next_row(&mut row) == Err(ShareFault::Memory));
     heap.grant_all();
-    let mut share = Share::new();
-    assert!(rt; share.next_row(bytes, &mut row) == Ok(Some(b"".as_slice())));
-    assert_eq!(rt; row.octets.len(), 5);
-    Ok(())
+    assert!(rt; next_row(&mut row) == Ok(true));
+    assert!(rt; row.octets.len() == 5);
 }

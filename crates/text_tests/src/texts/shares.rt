@@ -1,6 +1,7 @@
 //! Shares that are read by themselves, between lines that a reader reads.
 
-use crate::texts::{HEADER, is_wanted, tell};
+use crate::checks::{holds_at, holds_for};
+use crate::texts::{HEADER, blank, is_wanted, take_ended, tell};
 use line_model::fault::{Fault, Kind};
 use line_model::packet::Packet;
 use line_model::row::Row;
@@ -25,14 +26,6 @@ const CLASSES_IN_ORDER: &[u8] =
 const COLLISION: &[u8] =
     b"X25 1 MOD 8 WIN 2 SIZE 128 PVC 0 SVC 4\n1 T 10010B0000\n2 N 10010B0000\n3 N 10010F\n";
 
-fn blank(alloc: Global) -> Row<Global> {
-    Row {
-        number: 0,
-        side: Side::N,
-        octets: Vec::new(alloc),
-    }
-}
-
 /// Cuts a text behind so many lines.
 fn split_lines(text: &[u8], count: usize) -> (&[u8], &[u8]) {
     let mut end = 0;
@@ -49,18 +42,7 @@ fn read_lines(
     bytes: &[u8],
     told: &mut Vec<u8, Global>,
 ) -> Result<(), Fault> {
-    let mut row = blank(alloc);
-    let mut rest = bytes;
-    for _ in 0..bytes.len() {
-        match lines.next_row(rest, &mut row)? {
-            Some(after) => {
-                tell(&row, told)?;
-                rest = after;
-            }
-            None => return Ok(()),
-        }
-    }
-    Ok(())
+    take_ended(lines, &mut blank(alloc), bytes, told)
 }
 
 /// Reads bytes by themselves, and tells their rows.
@@ -92,6 +74,26 @@ fn refusal(alloc: Global, bytes: &[u8]) -> Option<ShareFault> {
     read_share(alloc, bytes, &mut Vec::new(alloc)).err()
 }
 
+/// It holds where a share of so many lines is cut behind so many.
+fn holds_behind(rt: &impl Abort, holds: bool, before: usize, count: usize) {
+    assert!(rt; holds, "{count} lines behind {before}");
+}
+
+/// Whether a share that is without fault passes between two lines.
+fn passes(lines: &mut Lines<Global>, share: Result<Share, ShareFault>) -> bool {
+    match share {
+        Ok(share) => lines.is_between_lines() && lines.pass(&share),
+        Err(_) => false,
+    }
+}
+
+/// How many lines ended at the end of a text.
+fn end_of(lines: Lines<Global>, alloc: Global) -> Result<u32, Fault> {
+    let ended = lines.ended_lines();
+    lines.end_row(&mut blank(alloc))?;
+    Ok(ended)
+}
+
 /// Reads so many lines, so many more by themselves, and the rest as lines, and tells all rows.
 fn read_with_share(
     rt: &impl Abort,
@@ -106,135 +108,179 @@ fn read_with_share(
     let mut lines = Lines::new(alloc);
     read_lines(&mut lines, alloc, front, told)?;
     let share = read_share(alloc, middle, told);
-    assert!(rt; share.is_ok());
-    if let Ok(share) = share {
-        assert!(rt; lines.is_between_lines());
-        assert!(rt; lines.pass(&share), "{count} lines behind {before}");
-    }
+    holds_behind(rt, passes(&mut lines, share), before, count);
     read_lines(&mut lines, alloc, back, told)?;
-    let ended = lines.ended_lines();
-    lines.end_row(&mut blank(alloc))?;
-    Ok(ended)
+    end_of(lines, alloc)
+}
+
+/// Texts, how many lines they have, and the rows that are told of them.
+const TEXTS: [(&[u8], usize, &[u8]); 3] = [
+    (
+        FULL_WINDOW,
+        6,
+        b"\x01T\x05\x10\x01\x0b\x00\x00\x02N\x03\x10\x01\x0f\x03T\x04\x10\x01\x00\xaa\x04T\x04\x10\x01\x02\xaa\x05T\x04\x10\x01\x04\xaa",
+    ),
+    (
+        CLASSES_IN_ORDER,
+        10,
+        b"\x01N\x03\x10\x01\xff\x02T\x01\x20\x03T\x03\x20\x09\x00\x04T\x02\x10\x09\x05T\x04\x10\x01\xfb\x00",
+    ),
+    (
+        COLLISION,
+        4,
+        b"\x01T\x05\x10\x01\x0b\x00\x00\x02N\x05\x10\x01\x0b\x00\x00\x03N\x03\x10\x01\x0f",
+    ),
+];
+
+/// The rows of a text are the same where a share of any length is cut behind so many lines.
+fn check_behind(
+    rt: &impl Abort,
+    alloc: Global,
+    text: &[u8],
+    lines: usize,
+    before: usize,
+    wanted: &[u8],
+) -> Result<(), Fault> {
+    for count in 0..=lines {
+        let mut told = Vec::new(alloc);
+        let ended = read_with_share(rt, alloc, text, before, count, &mut told)?;
+        let same = ended as usize == lines && told.as_slice() == wanted;
+        holds_behind(rt, same, before, count);
+    }
+    Ok(())
+}
+
+/// The rows of a text are the same wherever a share is cut.
+fn check_cuts(
+    rt: &impl Abort,
+    alloc: Global,
+    text: &[u8],
+    lines: usize,
+    wanted: &[u8],
+) -> Result<(), Fault> {
+    for before in 1..=lines {
+        check_behind(rt, alloc, text, lines, before, wanted)?;
+    }
+    Ok(())
 }
 
 #[test]
 fn rows_are_the_same_wherever_a_share_is_cut(rt: HostRuntime) -> Result<(), Fail> {
-    for (text, lines, wanted) in [
-        (
-            FULL_WINDOW,
-            6,
-            b"\x01T\x05\x10\x01\x0b\x00\x00\x02N\x03\x10\x01\x0f\x03T\x04\x10\x01\x00\xaa\x04T\x04\x10\x01\x02\xaa\x05T\x04\x10\x01\x04\xaa".as_slice(),
-        ),
-        (
-            CLASSES_IN_ORDER,
-            10,
-            b"\x01N\x03\x10\x01\xff\x02T\x01\x20\x03T\x03\x20\x09\x00\x04T\x02\x10\x09\x05T\x04\x10\x01\xfb\x00".as_slice(),
-        ),
-        (
-            COLLISION,
-            4,
-            b"\x01T\x05\x10\x01\x0b\x00\x00\x02N\x05\x10\x01\x0b\x00\x00\x03N\x03\x10\x01\x0f".as_slice(),
-        ),
-    ] {
-        for before in 1..=lines {
-            for count in 0..=lines {
-                let mut told = Vec::new(rt.alloc());
-                let ended = read_with_share(
-                    &rt,
-                    rt.alloc(),
-                    text,
-                    before as usize,
-                    count as usize,
-                    &mut told,
-                )?;
-                assert_eq!(rt; ended, lines);
-                assert!(rt; told.as_slice() == wanted, "{count} lines behind {before}");
-            }
-        }
+    for (text, lines, wanted) in &TEXTS {
+        check_cuts(&rt, rt.alloc(), text, *lines, wanted)?;
     }
     Ok(())
 }
 
-/// Whether a share passes behind a row of the number 5; and what the reader answers if it reads the same bytes.
-fn pass_behind_five(alloc: Global, bytes: &[u8]) -> Result<(bool, Option<Fault>), Fail> {
+/// A reader behind a row of the number 5.
+fn reader_behind_five(alloc: Global) -> Result<Lines<Global>, Fault> {
     let mut told = Vec::new(alloc);
-    let share = read_share(alloc, bytes, &mut told).map_err(|_| "the share is faulty")?;
     let mut lines = Lines::new(alloc);
     read_lines(&mut lines, alloc, HEADER, &mut told)?;
     read_lines(&mut lines, alloc, b"5 T 01\n", &mut told)?;
-    let passes = lines.pass(&share);
+    Ok(lines)
+}
+
+/// Whether a share passes behind a row of the number 5; and what the reader answers if it reads the same bytes.
+fn pass_behind_five(alloc: Global, bytes: &[u8]) -> Result<(bool, Option<Fault>), Fault> {
+    let mut told = Vec::new(alloc);
+    let share = read_share(alloc, bytes, &mut told);
+    let mut lines = reader_behind_five(alloc)?;
+    let passes = passes(&mut lines, share);
     let again = read_lines(&mut lines, alloc, bytes, &mut told).err();
     Ok((passes, again))
 }
 
+/// Shares without fault, whether they pass, and the fault of the same bytes behind them.
+const SEAMS: [(&[u8], bool, Option<Fault>); 7] = [
+    (
+        b"6 N 02\n7 T 03\n",
+        true,
+        Some(Fault::Trace(5, Kind::Number)),
+    ),
+    (
+        b"5 N 02\n6 T 03\n",
+        false,
+        Some(Fault::Trace(3, Kind::Number)),
+    ),
+    (
+        b"1 N 02\n6 T 03\n",
+        false,
+        Some(Fault::Trace(3, Kind::Number)),
+    ),
+    (
+        b"# a comment\n5 N 02\n",
+        false,
+        Some(Fault::Trace(4, Kind::Number)),
+    ),
+    (
+        b"# a comment\n6 N 02\n",
+        true,
+        Some(Fault::Trace(6, Kind::Number)),
+    ),
+    (b"# a comment\n", true, None),
+    (b"", true, None),
+];
+
 #[test]
 fn numbers_rise_over_a_seam(rt: HostRuntime) -> Result<(), Fail> {
-    let number = |line| Some(Fault::Trace(line, Kind::Number));
-    for (bytes, passes, again) in [
-        (b"6 N 02\n7 T 03\n".as_slice(), true, number(5)),
-        (b"5 N 02\n6 T 03\n".as_slice(), false, number(3)),
-        (b"1 N 02\n6 T 03\n".as_slice(), false, number(3)),
-        (b"# a comment\n5 N 02\n".as_slice(), false, number(4)),
-        (b"# a comment\n6 N 02\n".as_slice(), true, number(6)),
-        (b"# a comment\n".as_slice(), true, None),
-        (b"".as_slice(), true, None),
-    ] {
+    for (bytes, passes, again) in &SEAMS {
+        assert!(rt; refusal(rt.alloc(), bytes).is_none());
         let answer = pass_behind_five(rt.alloc(), bytes)?;
-        assert!(rt; answer == (passes, again), "{passes}");
+        holds_for(&rt, answer == (*passes, *again), bytes);
     }
     Ok(())
 }
 
+/// Shares, and why they are not read by themselves.
+const SHARES: [(&[u8], Option<ShareFault>); 9] = [
+    (b"1 T 01\n2 N 02\n3 T 03\n", None),
+    (b"1 X 01\n2 N 02\n3 T 03\n", Some(ShareFault::Broken)),
+    (b"1 T 01\n2 N 2\n3 T 03\n", Some(ShareFault::Broken)),
+    (b"1 T 01\n2 N 02\n2 T 03\n", Some(ShareFault::Broken)),
+    (b"0 T 01\n", Some(ShareFault::Broken)),
+    (b"1 T 01\n\n", Some(ShareFault::Broken)),
+    (b"1 T 01\n2 N 02", Some(ShareFault::Broken)),
+    (b"# a comment", Some(ShareFault::Broken)),
+    (HEADER, Some(ShareFault::Broken)),
+];
+
 #[test]
 fn share_with_a_fault_is_refused(rt: HostRuntime) {
-    for (bytes, fault) in [
-        (b"1 T 01\n2 N 02\n3 T 03\n".as_slice(), None),
-        (
-            b"1 X 01\n2 N 02\n3 T 03\n".as_slice(),
-            Some(ShareFault::Broken),
-        ),
-        (
-            b"1 T 01\n2 N 2\n3 T 03\n".as_slice(),
-            Some(ShareFault::Broken),
-        ),
-        (
-            b"1 T 01\n2 N 02\n2 T 03\n".as_slice(),
-            Some(ShareFault::Broken),
-        ),
-        (b"0 T 01\n".as_slice(), Some(ShareFault::Broken)),
-        (b"1 T 01\n\n".as_slice(), Some(ShareFault::Broken)),
-        (b"1 T 01\n2 N 02".as_slice(), Some(ShareFault::Broken)),
-        (b"# a comment".as_slice(), Some(ShareFault::Broken)),
-        (HEADER, Some(ShareFault::Broken)),
-    ] {
-        assert!(rt; refusal(rt.alloc(), bytes) == fault);
+    for (bytes, fault) in &SHARES {
+        holds_for(&rt, refusal(rt.alloc(), bytes) == *fault, bytes);
     }
+}
+
+/// A comment of so many bytes behind its sign, and a row.
+fn comment_and_row(alloc: Global, count: usize) -> Result<Vec<u8>, Fail> {
+    let mut text = Vec::new(alloc);
+    text.push(b'#')?;
+    for _ in 0..count {
+        text.push(b'a')?;
+    }
+    text.extend_from_slice(b"\n1 T 01\n")?;
+    Ok(text)
 }
 
 #[test]
 fn line_of_a_share_has_8500_bytes(rt: HostRuntime) -> Result<(), Fail> {
-    for (count, fault) in [(8499, None), (8500, Some(ShareFault::Broken))] {
-        let mut text = Vec::new(rt.alloc());
-        text.push(b'#')?;
-        for _ in 0..count {
-            text.push(b'a')?;
-        }
-        text.extend_from_slice(b"\n1 T 01\n")?;
-        assert!(rt; refusal(rt.alloc(), text.as_slice()) == fault, "{count}");
-    }
+    let text = comment_and_row(rt.alloc(), 8499)?;
+    assert!(rt; refusal(rt.alloc(), text.as_slice()) == None);
+    let text = comment_and_row(rt.alloc(), 8500)?;
+    assert!(rt; refusal(rt.alloc(), text.as_slice()) == Some(ShareFault::Broken));
     Ok(())
 }
 
 #[test]
-fn room_of_the_octets_is_used_again_by_a_share(rt: HostRuntime) -> Result<(), Fail> {
+fn room_of_the_octets_is_used_again_by_a_share(rt: HostRuntime) {
     let mut share = Share::new();
     let mut row = blank(rt.alloc());
     assert!(rt; share.next_row(b"1 T 01020304\n", &mut row).is_ok());
     let room = row.octets.capacity();
     assert!(rt; share.next_row(b"2 N 05\n", &mut row).is_ok());
-    assert!(rt; is_wanted(&row, 2, Side::N, b"\x05".as_slice()));
-    assert_eq!(rt; row.octets.capacity(), room);
-    Ok(())
+    assert!(rt; is_wanted(&row, 2, Side::N, b"\x05"));
+    assert!(rt; row.octets.capacity() == room);
 }
 
 /// Takes the next row of a share into a fixed row, and tells whether it is this one.
@@ -254,65 +300,80 @@ fn is_next(
     item.number == number && item.side == side && item.octets == octets && row.octets() == octets
 }
 
+/// A row of so many octets, and what comes behind it.
+fn long_row(alloc: Global, front: &[u8], count: usize, back: &[u8]) -> Result<Vec<u8>, Fail> {
+    let mut text = Vec::new(alloc);
+    text.extend_from_slice(front)?;
+    for _ in 0..count {
+        text.extend_from_slice(b"5A")?;
+    }
+    text.extend_from_slice(back)?;
+    Ok(text)
+}
+
+/// Three rows come into a fixed row, the first of which has these octets.
+fn check_three(rt: &impl Abort, share: &mut Share, row: &mut FixedRow, text: &[u8], octets: &[u8]) {
+    let mut rest = text;
+    assert!(rt; is_next(share, &mut rest, row, 1, Side::T, octets));
+    assert!(rt; is_next(share, &mut rest, row, 2, Side::N, b""));
+    assert!(rt; is_next(share, &mut rest, row, 3, Side::T, b"\x0a\xff"));
+    assert!(rt; rest.is_empty());
+}
+
+/// So many octets of the value 5A.
+fn octets_5a(alloc: Global, count: usize) -> Result<Vec<u8>, Fail> {
+    let mut octets = Vec::new(alloc);
+    octets.resize(count, 0x5a)?;
+    Ok(octets)
+}
+
 #[test]
 fn fixed_row_holds_4200_octets(rt: HostRuntime) -> Result<(), Fail> {
-    let mut text = Vec::new(rt.alloc());
-    let mut octets = Vec::new(rt.alloc());
-    text.extend_from_slice(b"1 T ")?;
-    for _ in 0..4200 {
-        text.extend_from_slice(b"5A")?;
-        octets.push(0x5a)?;
-    }
-    text.extend_from_slice(b"\n2 N -\n# a comment\n3 T 0aFF\n")?;
+    let text = long_row(
+        rt.alloc(),
+        b"1 T ",
+        4200,
+        b"\n2 N -\n# a comment\n3 T 0aFF\n",
+    )?;
+    let octets = octets_5a(rt.alloc(), 4200)?;
+    let long = long_row(rt.alloc(), b"4 T ", 4201, b"\n")?;
     let mut share = Share::new();
     let mut row = FixedRow::new();
-    let mut rest = text.as_slice();
-    assert!(rt;
-        is_next(
-            &mut share,
-            &mut rest,
-            &mut row,
-            1,
-            Side::T,
-            octets.as_slice()
-        )
+    check_three(
+        &rt,
+        &mut share,
+        &mut row,
+        text.as_slice(),
+        octets.as_slice(),
     );
-    assert!(rt; is_next(&mut share, &mut rest, &mut row, 2, Side::N, b"".as_slice()));
-    assert!(rt;
-        is_next(
-            &mut share,
-            &mut rest,
-            &mut row,
-            3,
-            Side::T,
-            b"\x0a\xff".as_slice()
-        )
-    );
-    assert!(rt; rest.is_empty());
-    text.clear();
-    text.extend_from_slice(b"4 T ")?;
-    for _ in 0..4201 {
-        text.extend_from_slice(b"5A")?;
-    }
-    text.push(b'\n')?;
-    let refused = share.next_row(text.as_slice(), &mut row);
+    let refused = share.next_row(long.as_slice(), &mut row);
     assert!(rt; refused.is_err_and(|fault| fault == ShareFault::Broken));
     Ok(())
 }
 
+/// Two lines, an empty one between them.
+const LINES: &[u8] = b"ab\n\nc";
+
+/// Each line ends behind its LF.
+fn check_line_ends(rt: &impl Abort) {
+    for (at, end) in [(0, 3), (1, 3), (2, 3), (3, 4), (4, 5), (5, 5)] {
+        holds_at(rt, line_end(LINES, at) == end, at);
+    }
+}
+
+/// Bytes, and where the last line in them ends.
+const LAST_ENDS: [(&[u8], usize); 5] = [
+    (b"", 0),
+    (b"ab", 0),
+    (b"\n", 1),
+    (b"ab\n\nc", 4),
+    (b"ab\nc\n", 5),
+];
+
 #[test]
 fn lines_end_behind_their_lf(rt: HostRuntime) {
-    let bytes = b"ab\n\nc";
-    for (at, end) in [(0, 3), (1, 3), (2, 3), (3, 4), (4, 5), (5, 5)] {
-        assert_eq!(rt; line_end(bytes.as_slice(), at), end);
-    }
-    for (bytes, end) in [
-        (b"".as_slice(), 0),
-        (b"ab".as_slice(), 0),
-        (b"\n".as_slice(), 1),
-        (b"ab\n\nc".as_slice(), 4),
-        (b"ab\nc\n".as_slice(), 5),
-    ] {
-        assert_eq!(rt; last_line_end(bytes), end);
+    check_line_ends(&rt);
+    for (bytes, end) in &LAST_ENDS {
+        holds_for(&rt, last_line_end(bytes) == *end, bytes);
     }
 }
