@@ -1,7 +1,7 @@
 //! Which rows of a trace are told of.
 
 ghost use Rattle.std.specs.Prelude.{◌≡◌};
-ghost use Rattle.annotated_trace.specs.Rows.{choice_of};
+ghost use Rattle.annotated_trace.specs.Rows.{choice_of, is_call, is_channel, tells_interface_row, tells_row};
 
 use crate::choice::Choice;
 use line_model::packet::Packet;
@@ -30,7 +30,9 @@ impl Rows {
     }
 
     /// Whether a row of a logical channel is told of, by the calls that were open before it and after it.
-    pub fn has(self, channel: u16, first: u32, last: u32) -> bool {
+    pub fn has(self, channel: u16, first: u32, last: u32) -> bool
+        ensures { result ≡ tells_row self channel first last }
+    {
         match self {
             Rows::All => true,
             Rows::Chosen {
@@ -41,7 +43,9 @@ impl Rows {
     }
 
     /// Whether a row that the restart machine judged is told of: it belongs to no call.
-    pub fn has_of_interface(self, packet: &Packet) -> bool {
+    pub fn has_of_interface(self, packet: &Packet) -> bool
+        ensures { result ≡ tells_interface_row self packet.now }
+    {
         match packet {
             Packet::Channel { channel, .. } => self.has(*channel, 0, 0),
             _ => match self {
@@ -53,7 +57,9 @@ impl Rows {
 }
 
 /// Whether a logical channel is the one that is named, where one is.
-fn is_channel(named: Option<u16>, channel: u16) -> bool {
+fn is_channel(named: Option<u16>, channel: u16) -> bool
+    ensures { result ≡ is_channel named channel }
+{
     match named {
         Some(named) => named == channel,
         None => true,
@@ -61,7 +67,9 @@ fn is_channel(named: Option<u16>, channel: u16) -> bool {
 }
 
 /// Whether one of two calls is the one that is named, where one is.
-fn is_call(named: Option<u32>, first: u32, last: u32) -> bool {
+fn is_call(named: Option<u32>, first: u32, last: u32) -> bool
+    ensures { result ≡ is_call named first last }
+{
     match named {
         Some(named) => named == first || named == last,
         None => true,
