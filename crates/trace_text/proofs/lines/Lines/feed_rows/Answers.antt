@@ -1,4 +1,4 @@
-use Rattle.std.proofs.Common.{◌≡◌, ◌∙◌, refl, ap, subst, inr, ◌++◌, ℕ, List, Option, arith, length, length-append}
+use Rattle.std.proofs.Common.{◌∙◌, refl, ap, subst, inr, ◌++◌, ℕ, List, Option, arith, length, length-append}
 use Rattle.std.specs.Borrow.{Bor}
 use Rattle.line_model.specs.text.Text.{early, early_head}
 use Rattle.line_model.specs.declared.fault.Fault.TheVariants.{Memory}
