@@ -39,7 +39,7 @@ impl Model for Flow {
 
 /// What a side may send next (X.25 clauses 4.4.1.1 and 4.4.1.2): the packet `next`, where fewer than `window` packets
 /// from `lowest` on are not acknowledged.
-#[derive(Clone, Copy, Debug, PartialEq, Eq)]
+#[derive(Clone, Copy)]
 pub struct SendWindow {
     /// The P(S) of the next packet.
     pub next: u8,

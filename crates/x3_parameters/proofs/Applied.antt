@@ -24,6 +24,7 @@ use Rattle.x29_messages.specs.declared.message.MessageCode.{MessageCode}
 use Rattle.x29_messages.specs.declared.message.MessageCode.TheVariants.{Indication, InvitationToClear, Set, Break, Read, Error, SetAndRead, Reselection, ReselectionWithAddress}
 use Rattle.x29_messages.specs.Codes.{octets_of}
 use Rattle.x3_parameters.specs.Concerns.{concern_of}
+use Rattle.x3_parameters.specs.declared.concern.Concern.{Concern}
 use Rattle.x3_parameters.specs.declared.concern.Concern.TheVariants.{Tells, Sets, Reads, Nothing}
 
 -- the sides
@@ -346,6 +347,59 @@ unasked s ts x c ps stands wf h asked =
         (or_false s.asked (is_side (other s.pad) x && false && is_none (form_fault (0 ∷ ps))) (not_asked (is_side (other s.pad) x) (is_none (form_fault (0 ∷ ps)))))
         (along s s [] (settings_after (message_fault x ts (0 ∷ ps)) x (0 ∷ ps)) (ap (λ f. settings_after f x (0 ∷ ps)) (sym fault))
         (λ ws h k below. h k below ∙ ap (λ l. entry_at s.pad (k + 1) l) (sym (append-nil ws))))
+
+-- a message whose fault the settings of a PAD do not decide
+abbrev pub is_free : Concern → Bool
+is_free Tells = false
+is_free Sets = false
+is_free Reads = true
+is_free Nothing = true
+
+side_swap : (p x : Side) → is_side (other p) x ≡ not (is_side p x)
+side_swap T T = refl
+side_swap T N = refl
+side_swap N T = refl
+side_swap N N = refl
+
+no_concern : (own : Bool) (c : MessageCode) (ps : List ℕ) → is_free (concern_of own c) ≡ true →
+    ((own && is_indication (octets_of c ps)) || (not own && is_set (octets_of c ps))) ≡ false
+no_concern true Indication ps h = cc
+no_concern true InvitationToClear ps h = refl
+no_concern true Set ps h = refl
+no_concern true Break ps h = refl
+no_concern true Read ps h = refl
+no_concern true Error ps h = refl
+no_concern true SetAndRead ps h = refl
+no_concern true Reselection ps h = refl
+no_concern true ReselectionWithAddress ps h = refl
+no_concern false Indication ps h = refl
+no_concern false InvitationToClear ps h = refl
+no_concern false Set ps h = cc
+no_concern false Break ps h = refl
+no_concern false Read ps h = refl
+no_concern false Error ps h = refl
+no_concern false SetAndRead ps h = cc
+no_concern false Reselection ps h = refl
+no_concern false ReselectionWithAddress ps h = refl
+
+pub free_fault : (s : Settings) (ts : List Told) (x : Side) (c : MessageCode) (ps : List ℕ) → is_free (concern_of (is_side s.pad x) c) ≡ true →
+    None ≡ own_fault s.pad ts (record { from = x; message = octets_of c ps })
+free_fault s ts x c ps h =
+    let m : List ℕ = octets_of c ps in
+    sym (ap (λ b. elim ((is_side s.pad x && is_indication m) || (b && is_set m)) [ true ↦ message_fault x ts m | false ↦ None ]) (side_swap s.pad x)
+    ∙ ap (λ b. elim b [ true ↦ message_fault x ts m | false ↦ None ]) (no_concern (is_side s.pad x) c ps h))
+
+-- the fault of an indication of the PAD
+pub telling_fault : (s : Settings) (ts : List Told) (x : Side) (c : MessageCode) (ps : List ℕ) (asked : Bool) → StandsFor s ts → form_fault (octets_of c ps) ≡ None →
+    concern_of (is_side s.pad x) c ≡ Tells → s.asked ≡ asked → cond asked None (Some X4) ≡ own_fault s.pad ts (record { from = x; message = octets_of c ps })
+telling_fault s ts x c ps asked stands wf h is_asked =
+    let k = tells_is (is_side s.pad x) c h in
+    subst (λ d. form_fault (octets_of d ps) ≡ None → cond asked None (Some X4) ≡ own_fault s.pad ts (record { from = x; message = octets_of d ps })) (sym k.1) (at k.0) wf
+  where
+    at : is_side s.pad x ≡ true → form_fault (0 ∷ ps) ≡ None → cond asked None (Some X4) ≡ own_fault s.pad ts (record { from = x; message = 0 ∷ ps })
+    at e wf =
+        sym (ap (λ b. elim ((b && true) || (is_side (other s.pad) x && false)) [ true ↦ message_fault x ts (0 ∷ ps) | false ↦ None ]) e
+        ∙ indication_fault x ts ps asked wf (ap (λ y. was_asked y ts) (side_is s.pad x e) ∙ sym stands.asked ∙ is_asked))
 
 -- a set for the PAD
 set_for : (s new : Settings) (ts : List Told) (x : Side) (c : MessageCode) (ps : List ℕ) → StandsFor s ts → form_fault (octets_of c ps) ≡ None →

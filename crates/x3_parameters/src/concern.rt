@@ -6,7 +6,7 @@ ghost use Rattle.x3_parameters.specs.Concerns.{concern_of};
 use x29_messages::message::MessageCode;
 
 /// What a message is to a PAD: an indication of its own, a set or set and read for it, a read for it, or nothing.
-#[derive(Clone, Copy, PartialEq, Eq, Debug)]
+#[derive(Clone, Copy)]
 pub(crate) enum Concern {
     Tells,
     Sets,

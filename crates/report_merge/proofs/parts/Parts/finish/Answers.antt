@@ -1,4 +1,7 @@
-use Rattle.std.proofs.Common.{◌∙◌, ap, subst, List, ◌++◌}
+use Rattle.std.proofs.Common.{◌≡◌, ◌∙◌, ap, subst, sym, List, ◌++◌}
+use Rattle.std.specs.Prelude.{IfErr}
+use Rattle.std.proofs.lemmas.Result.{IfOk-from_err, err_from_is_err_and}
+use Rattle.line_model.specs.declared.fault.Fault.TheVariants.{Memory}
 use Rattle.std.specs.List.Sorted.{IsPermutation}
 use Rattle.std.proofs.lemmas.List.Sorted.{IsPermutation-append_comm, IsPermutation-trans}
 use Rattle.line_model.specs.basics.Records.{CallRecord}
@@ -34,3 +37,58 @@ pub returns-clause-report : goal.returns-clause-report
 returns-clause-report g c i rs ps is w =
     report_is i rs ps c.args.line.items c.args.packets _ _ w
     (returns-clause-merged g c ps is)
+
+pub returns-in_err-append-clause-merged : goal.returns-in_err-append-clause-merged
+returns-in_err-append-clause-merged g c ps is = IfOk-from_err _ _ c.from_residual.ensures.0
+
+pub returns-in_err-append-clause-report : goal.returns-in_err-append-clause-report
+returns-in_err-append-clause-report g c i rs ps is w = IfOk-from_err _ _ c.from_residual.ensures.0
+
+pub returns-in_err-append-clause-memory : goal.returns-in_err-append-clause-memory
+returns-in_err-append-clause-memory g c =
+    let p = err_from_is_err_and c.from_residual.result c.from_residual.ensures.1 in
+    subst (λ r. IfErr r (λ f. f ≡ Memory)) (sym p.1) p.2
+
+pub returns-in_err-clone-clause-merged : goal.returns-in_err-clone-clause-merged
+returns-in_err-clone-clause-merged g c ps is = IfOk-from_err _ _ c.from_residual-in_err-clone.ensures.0
+
+pub returns-in_err-clone-clause-report : goal.returns-in_err-clone-clause-report
+returns-in_err-clone-clause-report g c i rs ps is w = IfOk-from_err _ _ c.from_residual-in_err-clone.ensures.0
+
+pub returns-in_err-clone-clause-memory : goal.returns-in_err-clone-clause-memory
+returns-in_err-clone-clause-memory g c =
+    let p = err_from_is_err_and c.from_residual-in_err-clone.result c.from_residual-in_err-clone.ensures.1 in
+    subst (λ r. IfErr r (λ f. f ≡ Memory)) (sym p.1) p.2
+
+pub returns-in_err-accounts-clause-merged : goal.returns-in_err-accounts-clause-merged
+returns-in_err-accounts-clause-merged g c ps is = IfOk-from_err _ _ c.from_residual-in_err-accounts.ensures.0
+
+pub returns-in_err-accounts-clause-report : goal.returns-in_err-accounts-clause-report
+returns-in_err-accounts-clause-report g c i rs ps is w = IfOk-from_err _ _ c.from_residual-in_err-accounts.ensures.0
+
+pub returns-in_err-accounts-clause-memory : goal.returns-in_err-accounts-clause-memory
+returns-in_err-accounts-clause-memory g c =
+    let p = err_from_is_err_and c.from_residual-in_err-accounts.result c.from_residual-in_err-accounts.ensures.1 in
+    subst (λ r. IfErr r (λ f. f ≡ Memory)) (sym p.1) (p.2 ∙ c.in_err-accounts.ensures.memory)
+
+pub returns-in_err-clone-2-clause-merged : goal.returns-in_err-clone-2-clause-merged
+returns-in_err-clone-2-clause-merged g c ps is = IfOk-from_err _ _ c.from_residual-in_err-clone-2.ensures.0
+
+pub returns-in_err-clone-2-clause-report : goal.returns-in_err-clone-2-clause-report
+returns-in_err-clone-2-clause-report g c i rs ps is w = IfOk-from_err _ _ c.from_residual-in_err-clone-2.ensures.0
+
+pub returns-in_err-clone-2-clause-memory : goal.returns-in_err-clone-2-clause-memory
+returns-in_err-clone-2-clause-memory g c =
+    let p = err_from_is_err_and c.from_residual-in_err-clone-2.result c.from_residual-in_err-clone-2.ensures.1 in
+    subst (λ r. IfErr r (λ f. f ≡ Memory)) (sym p.1) p.2
+
+pub returns-in_err-peak-clause-merged : goal.returns-in_err-peak-clause-merged
+returns-in_err-peak-clause-merged g c ps is = IfOk-from_err _ _ c.from_residual-in_err-peak.ensures.0
+
+pub returns-in_err-peak-clause-report : goal.returns-in_err-peak-clause-report
+returns-in_err-peak-clause-report g c i rs ps is w = IfOk-from_err _ _ c.from_residual-in_err-peak.ensures.0
+
+pub returns-in_err-peak-clause-memory : goal.returns-in_err-peak-clause-memory
+returns-in_err-peak-clause-memory g c =
+    let p = err_from_is_err_and c.from_residual-in_err-peak.result c.from_residual-in_err-peak.ensures.1 in
+    subst (λ r. IfErr r (λ f. f ≡ Memory)) (sym p.1) (p.2 ∙ c.in_err-peak.ensures.memory)
