@@ -1,7 +1,7 @@
 //! Which rows an annotated trace tells of.
 
 /// Which rows are told of.
-#[derive(Clone, Copy, Debug, PartialEq, Eq)]
+#[derive(Clone, Copy)]
 pub enum Choice {
     /// Behind every row stand the marks of its findings.
     EveryRow,

@@ -1,6 +1,7 @@
 use Rattle.annotated_trace.proofs.CommentLemmas.{always}
 use Rattle.annotated_trace.proofs.MarkingLemmas.{finding_put}
 use Rattle.std.proofs.Common.{◌∙◌, ap, ◌++◌}
+use Rattle.std.proofs.lemmas.Result.{IfOk-from_err}
 use Rattle.annotated_trace.proofs.marks.append_finding.Goals as goal
 use Rattle.trace_text.proofs.FeedLemmas.{on_ok}
 
@@ -17,3 +18,24 @@ returns-clause-packet g c = always c.append_code.result _ c.append_number.ensure
 
 pub returns-clause-code : goal.returns-clause-code
 returns-clause-code g c = always c.append_code.result _ c.append_code.ensures.fits
+
+pub returns-in_err-extend_from_slice : goal.returns-in_err-extend_from_slice
+returns-in_err-extend_from_slice g c = record { ok = IfOk-from_err _ _ c.from_residual.ensures.0; packet = IfOk-from_err _ _ c.from_residual.ensures.0; code = IfOk-from_err _ _ c.from_residual.ensures.0 }
+
+pub returns-in_err-append_number : goal.returns-in_err-append_number
+returns-in_err-append_number g c = record { ok = IfOk-from_err _ _ c.from_residual-in_err-append_number.ensures.0; packet = IfOk-from_err _ _ c.from_residual-in_err-append_number.ensures.0; code = IfOk-from_err _ _ c.from_residual-in_err-append_number.ensures.0 }
+
+pub returns-in_err-push : goal.returns-in_err-push
+returns-in_err-push g c = record { ok = IfOk-from_err _ _ c.from_residual-in_err-push.ensures.0; packet = IfOk-from_err _ _ c.from_residual-in_err-push.ensures.0; code = IfOk-from_err _ _ c.from_residual-in_err-push.ensures.0 }
+
+pub returns-in_err-extend_from_slice-2 : goal.returns-in_err-extend_from_slice-2
+returns-in_err-extend_from_slice-2 g c = record { ok = IfOk-from_err _ _ c.from_residual-in_err-extend_from_slice-2.ensures.0; packet = IfOk-from_err _ _ c.from_residual-in_err-extend_from_slice-2.ensures.0; code = IfOk-from_err _ _ c.from_residual-in_err-extend_from_slice-2.ensures.0 }
+
+pub returns-in_err-push-2 : goal.returns-in_err-push-2
+returns-in_err-push-2 g c = record { ok = IfOk-from_err _ _ c.from_residual-in_err-push-2.ensures.0; packet = IfOk-from_err _ _ c.from_residual-in_err-push-2.ensures.0; code = IfOk-from_err _ _ c.from_residual-in_err-push-2.ensures.0 }
+
+pub returns-in_err-extend_from_slice-3 : goal.returns-in_err-extend_from_slice-3
+returns-in_err-extend_from_slice-3 g c = record { ok = IfOk-from_err _ _ c.from_residual-in_err-extend_from_slice-3.ensures.0; packet = IfOk-from_err _ _ c.from_residual-in_err-extend_from_slice-3.ensures.0; code = IfOk-from_err _ _ c.from_residual-in_err-extend_from_slice-3.ensures.0 }
+
+pub returns-in_err-push-3 : goal.returns-in_err-push-3
+returns-in_err-push-3 g c = record { ok = IfOk-from_err _ _ c.from_residual-in_err-push-3.ensures.0; packet = IfOk-from_err _ _ c.from_residual-in_err-push-3.ensures.0; code = IfOk-from_err _ _ c.from_residual-in_err-push-3.ensures.0 }

@@ -1,5 +1,10 @@
-use Rattle.std.proofs.Common.{◌∙◌, ◌++◌, sym, ap}
-use Rattle.line_model.specs.text.Text.{begun_line}
+use Rattle.std.proofs.Common.{◌≡◌, ◌∙◌, ◌++◌, subst, sym, ap}
+use Rattle.std.specs.Prelude.{IfErr}
+use Rattle.std.proofs.lemmas.Result.{IfOk-from_err, err_from_is_err_and}
+use Rattle.line_model.specs.declared.fault.Fault.TheVariants.{Memory}
+use Rattle.trace_text.specs.StandsFor.{IsFaultOf, IsTextFault}
+use Rattle.trace_text.proofs.FeedLemmas.{on_err}
+use Rattle.line_model.specs.text.Text.{begun_line, early}
 use Rattle.annotated_trace.proofs.AnnotatedLemmas.{line_annotated, none_begun}
 use Rattle.annotated_trace.proofs.annotator.Annotator.take_line.Goals as goal
 
@@ -14,3 +19,66 @@ returns-clause-held g c text front sent s k one h =
     line_annotated c.args.self.now.choice text front c.args.end.now c.args.self.now.begun.items sent c.args.self.now.held.items c.extend_from_slice-2.new.self.items c.append_comments.new.out.items (g.W.Watcher.last_found c.feed.new.self) k one s.begun h
     (c.in-Ok.ensures.found text s.trace)
     (c.in_ok-extend_from_slice-2.ensures.items ∙ ap (λ xs. xs ++ c.args.end.now) (c.in_ok-extend_from_slice.ensures.items ∙ ap (λ xs. c.args.self.now.held.items ++ xs) c.as_slice.ensures.value)) c.in_ok-append_comments.ensures
+
+pub returns-in_err-extend_from_slice-clause-stands : goal.returns-in_err-extend_from_slice-clause-stands
+returns-in_err-extend_from_slice-clause-stands g c text front s k = IfOk-from_err _ _ c.from_residual.ensures.0
+
+pub returns-in_err-extend_from_slice-clause-held : goal.returns-in_err-extend_from_slice-clause-held
+returns-in_err-extend_from_slice-clause-held g c text front sent s k one h = IfOk-from_err _ _ c.from_residual.ensures.0
+
+pub returns-in_err-extend_from_slice-clause-refused : goal.returns-in_err-extend_from_slice-clause-refused
+returns-in_err-extend_from_slice-clause-refused g c text s =
+    let p = err_from_is_err_and c.from_residual.result c.from_residual.ensures.1 in
+    on_err c.from_residual.result (λ f. f ≡ Memory) _ (subst (λ r. IfErr r (λ f. f ≡ Memory)) (sym p.1) p.2) (λ f m. subst (IsFaultOf (early (text ++ c.args.end.now))) (sym m) tt)
+
+pub returns-in_err-extend_from_slice-clause-not_held : goal.returns-in_err-extend_from_slice-clause-not_held
+returns-in_err-extend_from_slice-clause-not_held g c =
+    let p = err_from_is_err_and c.from_residual.result c.from_residual.ensures.1 in
+    on_err c.from_residual.result (λ f. f ≡ Memory) _ (subst (λ r. IfErr r (λ f. f ≡ Memory)) (sym p.1) p.2) (λ f m other. absurd (other m))
+
+pub returns-in_err-extend_from_slice-clause-kinds : goal.returns-in_err-extend_from_slice-clause-kinds
+returns-in_err-extend_from_slice-clause-kinds g c =
+    let p = err_from_is_err_and c.from_residual.result c.from_residual.ensures.1 in
+    on_err c.from_residual.result (λ f. f ≡ Memory) _ (subst (λ r. IfErr r (λ f. f ≡ Memory)) (sym p.1) p.2) (λ f m. subst IsTextFault (sym m) tt)
+
+pub returns-in_err-extend_from_slice-2-clause-stands : goal.returns-in_err-extend_from_slice-2-clause-stands
+returns-in_err-extend_from_slice-2-clause-stands g c text front s k = IfOk-from_err _ _ c.from_residual-in_err-extend_from_slice-2.ensures.0
+
+pub returns-in_err-extend_from_slice-2-clause-held : goal.returns-in_err-extend_from_slice-2-clause-held
+returns-in_err-extend_from_slice-2-clause-held g c text front sent s k one h = IfOk-from_err _ _ c.from_residual-in_err-extend_from_slice-2.ensures.0
+
+pub returns-in_err-extend_from_slice-2-clause-refused : goal.returns-in_err-extend_from_slice-2-clause-refused
+returns-in_err-extend_from_slice-2-clause-refused g c text s =
+    let p = err_from_is_err_and c.from_residual-in_err-extend_from_slice-2.result c.from_residual-in_err-extend_from_slice-2.ensures.1 in
+    on_err c.from_residual-in_err-extend_from_slice-2.result (λ f. f ≡ Memory) _ (subst (λ r. IfErr r (λ f. f ≡ Memory)) (sym p.1) p.2) (λ f m. subst (IsFaultOf (early (text ++ c.args.end.now))) (sym m) tt)
+
+pub returns-in_err-extend_from_slice-2-clause-not_held : goal.returns-in_err-extend_from_slice-2-clause-not_held
+returns-in_err-extend_from_slice-2-clause-not_held g c =
+    let p = err_from_is_err_and c.from_residual-in_err-extend_from_slice-2.result c.from_residual-in_err-extend_from_slice-2.ensures.1 in
+    on_err c.from_residual-in_err-extend_from_slice-2.result (λ f. f ≡ Memory) _ (subst (λ r. IfErr r (λ f. f ≡ Memory)) (sym p.1) p.2) (λ f m other. absurd (other m))
+
+pub returns-in_err-extend_from_slice-2-clause-kinds : goal.returns-in_err-extend_from_slice-2-clause-kinds
+returns-in_err-extend_from_slice-2-clause-kinds g c =
+    let p = err_from_is_err_and c.from_residual-in_err-extend_from_slice-2.result c.from_residual-in_err-extend_from_slice-2.ensures.1 in
+    on_err c.from_residual-in_err-extend_from_slice-2.result (λ f. f ≡ Memory) _ (subst (λ r. IfErr r (λ f. f ≡ Memory)) (sym p.1) p.2) (λ f m. subst IsTextFault (sym m) tt)
+
+pub returns-in_err-append_comments-clause-stands : goal.returns-in_err-append_comments-clause-stands
+returns-in_err-append_comments-clause-stands g c text front s k = IfOk-from_err _ _ c.from_residual-in_err-append_comments.ensures.0
+
+pub returns-in_err-append_comments-clause-held : goal.returns-in_err-append_comments-clause-held
+returns-in_err-append_comments-clause-held g c text front sent s k one h = IfOk-from_err _ _ c.from_residual-in_err-append_comments.ensures.0
+
+pub returns-in_err-append_comments-clause-refused : goal.returns-in_err-append_comments-clause-refused
+returns-in_err-append_comments-clause-refused g c text s =
+    let p = err_from_is_err_and c.from_residual-in_err-append_comments.result c.from_residual-in_err-append_comments.ensures.1 in
+    on_err c.from_residual-in_err-append_comments.result (λ f. f ≡ Memory) _ (subst (λ r. IfErr r (λ f. f ≡ Memory)) (sym p.1) p.2) (λ f m. subst (IsFaultOf (early (text ++ c.args.end.now))) (sym m) tt)
+
+pub returns-in_err-append_comments-clause-not_held : goal.returns-in_err-append_comments-clause-not_held
+returns-in_err-append_comments-clause-not_held g c =
+    let p = err_from_is_err_and c.from_residual-in_err-append_comments.result c.from_residual-in_err-append_comments.ensures.1 in
+    on_err c.from_residual-in_err-append_comments.result (λ f. f ≡ Memory) _ (subst (λ r. IfErr r (λ f. f ≡ Memory)) (sym p.1) p.2) (λ f m other. absurd (other m))
+
+pub returns-in_err-append_comments-clause-kinds : goal.returns-in_err-append_comments-clause-kinds
+returns-in_err-append_comments-clause-kinds g c =
+    let p = err_from_is_err_and c.from_residual-in_err-append_comments.result c.from_residual-in_err-append_comments.ensures.1 in
+    on_err c.from_residual-in_err-append_comments.result (λ f. f ≡ Memory) _ (subst (λ r. IfErr r (λ f. f ≡ Memory)) (sym p.1) p.2) (λ f m. subst IsTextFault (sym m) tt)

@@ -1,12 +1,12 @@
-use Rattle.std.proofs.Common.{◌+◌, sym, subst, refl, length, take, [], ◌++◌, arith}
+use Rattle.std.proofs.Common.{◌∙◌, ◌+◌, ℕ, List, ap, append_assoc, length-append, sym, subst, refl, length, take, [], ◌∷◌, ◌++◌, arith}
 use Rattle.line_model.specs.text.Text.{early}
-use Rattle.annotated_trace.specs.Annotators.{IsAnnotatorFault, IsRefusalOf}
+use Rattle.annotated_trace.specs.Annotators.{IsAnnotatorFault, IsRefusalOf, StandsFor}
 use Rattle.annotated_trace.proofs.CommentLemmas.{always}
-use Rattle.annotated_trace.proofs.PassedLemmas.{line_end, line_passed, line_refusal, line_stopped, much_stopped, rest_annotated, rest_stopped}
+use Rattle.annotated_trace.proofs.PassedLemmas.{line_end, line_passed, line_refusal, line_stopped, much_stopped, nothing_passed, rest_annotated, rest_refusal, rest_stopped}
 use Rattle.annotated_trace.proofs.StopLemmas.{no_write, text_kind}
 use Rattle.annotated_trace.proofs.annotator.Annotator.take_lines.Goals as goal
 use Rattle.line_model.proofs.DeviceLemmas.{with_more-nil}
-use Rattle.trace_text.proofs.FeedLemmas.{on_err}
+use Rattle.trace_text.proofs.FeedLemmas.{on_err, on_ok}
 
 pub returns-in-Err-clause-refused : goal.returns-in-Err-clause-refused
 returns-in-Err-clause-refused g c text s =
@@ -99,3 +99,46 @@ returns-in-Err-send_much-clause-refused g c text s = subst (IsRefusalOf (early (
 
 pub returns-clause-rising : goal.returns-clause-rising
 returns-clause-rising g c = c.loop-front.invariant.rising
+
+pub loop-front-init : goal.loop-front-init
+loop-front-init g c = record { passed = nothing_passed g.W.Watcher.stands_for c.args.self.now (g.K.Sink.taken c.args.sink.now) c.args.chunk.now; rising = omega arith }
+
+pub loop-front-smaller : goal.loop-front-smaller
+loop-front-smaller g c = omega (arith, ap (λ (l : List ℕ). length l) c.in-Some.ensures.0, length-append c.in-Some.front.now (10 ∷ c.in-Some.back.now))
+
+pub take_line-requires : goal.take_line-requires
+take_line-requires g c =
+    let p = c.loop-front.invariant.passed in
+    (c.requires.0 ++ p.fed, p.stands c.requires.0 c.requires.1)
+
+pub begin-requires : goal.begin-requires
+begin-requires g c =
+    let p = c.loop-front.invariant.passed in
+    (c.requires.0 ++ p.fed, p.stands c.requires.0 c.requires.1)
+
+pub returns-clause-stands : goal.returns-clause-stands
+returns-clause-stands g c text s =
+    let p = c.loop-front.invariant.passed in
+    on_ok c.begin.result _ _ (c.begin.ensures.stands (text ++ p.fed) (p.stands text s) c.in_default.ensures)
+    (λ h. subst (StandsFor g.W.Watcher.stands_for c.begin.new.self) (append_assoc text p.fed c.loop-front.rest.now ∙ ap (λ xs. text ++ xs) (sym p.whole)) h)
+
+pub returns-clause-refused : goal.returns-clause-refused
+returns-clause-refused g c text s =
+    let p = c.loop-front.invariant.passed in
+    on_err c.begin.result _ _ (c.begin.ensures.refused (text ++ p.fed) (p.stands text s))
+    (λ f fault. rest_refusal g.W.Watcher.stands_for c.args.self.now c.loop-front.self (g.K.Sink.taken c.args.sink.now) (g.K.Sink.taken c.loop-front.sink) c.args.chunk.now c.loop-front.rest.now text f p fault)
+
+pub returns-clause-choice : goal.returns-clause-choice
+returns-clause-choice g c = c.begin.ensures.choice ∙ c.loop-front.invariant.passed.same
+
+pub returns-clause-kinds : goal.returns-clause-kinds
+returns-clause-kinds g c = on_err c.begin.result _ _ c.begin.ensures.kinds text_kind
+
+pub returns-in-Err-clause-choice : goal.returns-in-Err-clause-choice
+returns-in-Err-clause-choice g c = c.take_line.ensures.choice ∙ c.loop-front.invariant.passed.same
+
+pub returns-in-Err-send_much-clause-choice : goal.returns-in-Err-send_much-clause-choice
+returns-in-Err-send_much-clause-choice g c = c.take_line.ensures.choice ∙ c.loop-front.invariant.passed.same
+
+pub returns-in-Err-send_much-clause-write_failed : goal.returns-in-Err-send_much-clause-write_failed
+returns-in-Err-send_much-clause-write_failed g c w = omega (arith, c.loop-front.invariant.rising, c.in-Err-send_much.ensures.cause)

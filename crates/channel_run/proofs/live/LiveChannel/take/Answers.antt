@@ -57,3 +57,8 @@ returns-clause-finding g c = λ p s.
     let heard_is : c.as_slice.result.now ≡ row_events p.interface p.epoch p.channel before row =
     c.as_slice.ensures.value ∙ c.in_ok-step.ensures.events before s.machine ∙ (λ j. c.clear.ensures.items j ++ row_events (s.interface j) (s.epoch j) (s.number j) before row) in
     one_finding p.interface p.epoch p.channel before row c.as_slice.result.now c.in_ok-found.found heard_is c.in_ok-found.ensures.found
+
+pub returns-clause-events : goal.returns-clause-events
+returns-clause-events g c = λ p s.
+    let before : Channel = channel_so_far p in
+    c.in_ok-step.ensures.events before s.machine ∙ (λ j. c.clear.ensures.items j ++ row_events (s.interface j) (s.epoch j) (s.number j) before c.args.row.now)

@@ -4,8 +4,8 @@ use Rattle.std.specs.Option.{option_to_list}
 use Rattle.line_model.specs.text.Text.{early}
 use Rattle.line_model.specs.declared.fault.Fault.TheVariants.{Memory}
 use Rattle.line_model.specs.declared.finding.Finding.{Finding}
-use Rattle.std.proofs.lemmas.Result.{err_from_is_err_and}
-use Rattle.trace_text.specs.StandsFor.{IsFaultOf, ReadsChunk, TakesRow}
+use Rattle.std.proofs.lemmas.Result.{IfOk-from_err, err_from_is_err_and}
+use Rattle.trace_text.specs.StandsFor.{IsFaultOf, IsTextFault, ReadsChunk, TakesRow}
 use Rattle.live_report.specs.Found.{HasFound, IsFoundBy, IsFoundUpTo, found, found_at}
 use Rattle.live_report.specs.Lives.{IsWatching}
 use Rattle.live_report.proofs.FoundLemmas.{at_most_one, found_next, found_unheaded, found_up_to}
@@ -130,3 +130,51 @@ returns-in-Err-clause-few g c =
     let shorter : length c.in-Some.rest.now < length c.args.chunk.now = rw c.in-Some.is at c.in_ok-rest.ensures.shorter in
     let few = c.watch.ensures.few in
     omega (arith, few, shorter, ap (λ (xs : List Finding). length xs) c.in_ok-note.ensures.ok, length-append c.args.self.now.found.items (option_to_list c.in_ok-first.first), at_most_one c.in_ok-first.first)
+
+pub returns-in_err-rest-clause-stands : goal.returns-in_err-rest-clause-stands
+returns-in_err-rest-clause-stands g c text s = IfOk-from_err _ _ c.from_residual.ensures.0
+
+pub returns-in_err-rest-clause-size : goal.returns-in_err-rest-clause-size
+returns-in_err-rest-clause-size g c = IfOk-from_err _ _ c.from_residual.ensures.0
+
+pub returns-in_err-rest-clause-limit : goal.returns-in_err-rest-clause-limit
+returns-in_err-rest-clause-limit g c = IfOk-from_err _ _ c.from_residual.ensures.0
+
+pub returns-in_err-first-clause-stands : goal.returns-in_err-first-clause-stands
+returns-in_err-first-clause-stands g c text s = IfOk-from_err _ _ c.from_residual-in_err-first.ensures.0
+
+pub returns-in_err-first-clause-size : goal.returns-in_err-first-clause-size
+returns-in_err-first-clause-size g c = IfOk-from_err _ _ c.from_residual-in_err-first.ensures.0
+
+pub returns-in_err-first-clause-limit : goal.returns-in_err-first-clause-limit
+returns-in_err-first-clause-limit g c = IfOk-from_err _ _ c.from_residual-in_err-first.ensures.0
+
+pub returns-in_err-note-clause-stands : goal.returns-in_err-note-clause-stands
+returns-in_err-note-clause-stands g c text s = IfOk-from_err _ _ c.from_residual-in_err-note.ensures.0
+
+pub returns-in_err-note-clause-size : goal.returns-in_err-note-clause-size
+returns-in_err-note-clause-size g c = IfOk-from_err _ _ c.from_residual-in_err-note.ensures.0
+
+pub returns-in_err-note-clause-limit : goal.returns-in_err-note-clause-limit
+returns-in_err-note-clause-limit g c = IfOk-from_err _ _ c.from_residual-in_err-note.ensures.0
+
+pub returns-in_err-first-clause-refused : goal.returns-in_err-first-clause-refused
+returns-in_err-first-clause-refused g c text s =
+    let p = err_from_is_err_and c.from_residual-in_err-first.result c.from_residual-in_err-first.ensures.1 in
+    let memory : c.from_residual-in_err-first.result ≡ Err Memory = p.1 ∙ ap (λ f. Err f) (p.2 ∙ c.in_err-first.ensures.memory) in
+    subst (λ r. IfErr r (IsFaultOf (early (text ++ c.args.chunk.now)))) (sym memory) tt
+
+pub returns-in_err-first-clause-kinds : goal.returns-in_err-first-clause-kinds
+returns-in_err-first-clause-kinds g c =
+    let p = err_from_is_err_and c.from_residual-in_err-first.result c.from_residual-in_err-first.ensures.1 in
+    let memory : c.from_residual-in_err-first.result ≡ Err Memory = p.1 ∙ ap (λ f. Err f) (p.2 ∙ c.in_err-first.ensures.memory) in
+    subst (λ r. IfErr r IsTextFault) (sym memory) tt
+
+pub returns-in_err-note-clause-kinds : goal.returns-in_err-note-clause-kinds
+returns-in_err-note-clause-kinds g c =
+    let p = err_from_is_err_and c.from_residual-in_err-note.result c.from_residual-in_err-note.ensures.1 in
+    let memory : c.from_residual-in_err-note.result ≡ Err Memory = p.1 ∙ ap (λ f. Err f) p.2 in
+    subst (λ r. IfErr r IsTextFault) (sym memory) tt
+
+pub returns-in_err-note-clause-few : goal.returns-in_err-note-clause-few
+returns-in_err-note-clause-few g c = omega (arith, ap (λ (xs : List Finding). length xs) c.in_err-note.ensures.refused)
