@@ -1,4 +1,7 @@
+use Rattle.std.specs.Prelude.{IfErr}
 use Rattle.std.proofs.lemmas.Grind.{elements}
+use Rattle.std.proofs.lemmas.Result.{IfOk-from_err, err_from_is_err_and}
+use Rattle.line_model.specs.declared.fault.Fault.TheVariants.{Memory}
 use Rattle.std.proofs.Common.{◌≡◌, ◌∙◌, ◌++◌, ◌∷◌, ◌<◌, ◌≤◌, length-append, ap, subst, sym, List, [], length, true, arith, rules}
 use Rattle.std.specs.Vec.Iter.{into_iter_items}
 use Rattle.std.proofs.lemmas.List.{map-id}
@@ -81,3 +84,54 @@ returns-clause-few g c =
 
 pub loop-row-init-derived : goal.loop-row-init-derived
 loop-row-init-derived g c = grind (arith, elements) steps 2000000
+
+pub returns-in_err-push-clause-pieces : goal.returns-in_err-push-clause-pieces
+returns-in_err-push-clause-pieces g c = IfOk-from_err _ _ c.from_residual.ensures.0
+
+pub returns-in_err-push-clause-line : goal.returns-in_err-push-clause-line
+returns-in_err-push-clause-line g c = IfOk-from_err _ _ c.from_residual.ensures.0
+
+pub returns-in_err-push-clause-packets : goal.returns-in_err-push-clause-packets
+returns-in_err-push-clause-packets g c = IfOk-from_err _ _ c.from_residual.ensures.0
+
+pub returns-in_err-push-clause-few : goal.returns-in_err-push-clause-few
+returns-in_err-push-clause-few g c = IfOk-from_err _ _ c.from_residual.ensures.0
+
+pub returns-in_err-push-clause-refused : goal.returns-in_err-push-clause-refused
+returns-in_err-push-clause-refused g c =
+    let p = err_from_is_err_and c.from_residual.result c.from_residual.ensures.1 in
+    subst (λ r. IfErr r (λ f. f ≡ Memory)) (sym p.1) (p.2 ∙ c.in_err-push.ensures.refused.0)
+
+pub returns-in_err-open-clause-pieces : goal.returns-in_err-open-clause-pieces
+returns-in_err-open-clause-pieces g c = IfOk-from_err _ _ c.from_residual-in_err-open.ensures.0
+
+pub returns-in_err-open-clause-line : goal.returns-in_err-open-clause-line
+returns-in_err-open-clause-line g c = IfOk-from_err _ _ c.from_residual-in_err-open.ensures.0
+
+pub returns-in_err-open-clause-packets : goal.returns-in_err-open-clause-packets
+returns-in_err-open-clause-packets g c = IfOk-from_err _ _ c.from_residual-in_err-open.ensures.0
+
+pub returns-in_err-open-clause-few : goal.returns-in_err-open-clause-few
+returns-in_err-open-clause-few g c = IfOk-from_err _ _ c.from_residual-in_err-open.ensures.0
+
+pub returns-in_err-open-clause-refused : goal.returns-in_err-open-clause-refused
+returns-in_err-open-clause-refused g c =
+    let p = err_from_is_err_and c.from_residual-in_err-open.result c.from_residual-in_err-open.ensures.1 in
+    subst (λ r. IfErr r (λ f. f ≡ Memory)) (sym p.1) (p.2 ∙ c.in_err-open.ensures.refused)
+
+pub returns-in_err-append-clause-pieces : goal.returns-in_err-append-clause-pieces
+returns-in_err-append-clause-pieces g c = IfOk-from_err _ _ c.from_residual-in_err-append.ensures.0
+
+pub returns-in_err-append-clause-line : goal.returns-in_err-append-clause-line
+returns-in_err-append-clause-line g c = IfOk-from_err _ _ c.from_residual-in_err-append.ensures.0
+
+pub returns-in_err-append-clause-packets : goal.returns-in_err-append-clause-packets
+returns-in_err-append-clause-packets g c = IfOk-from_err _ _ c.from_residual-in_err-append.ensures.0
+
+pub returns-in_err-append-clause-few : goal.returns-in_err-append-clause-few
+returns-in_err-append-clause-few g c = IfOk-from_err _ _ c.from_residual-in_err-append.ensures.0
+
+pub returns-in_err-append-clause-refused : goal.returns-in_err-append-clause-refused
+returns-in_err-append-clause-refused g c =
+    let p = err_from_is_err_and c.from_residual-in_err-append.result c.from_residual-in_err-append.ensures.1 in
+    subst (λ r. IfErr r (λ f. f ≡ Memory)) (sym p.1) p.2

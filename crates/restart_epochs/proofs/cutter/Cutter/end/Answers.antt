@@ -1,5 +1,5 @@
 use Rattle.std.proofs.lemmas.Grind.{common_steps, elements}
-use Rattle.std.proofs.Common.{◌≡◌, ◌∙◌, ap, ◌++◌, [], List, length, rules, None, arith}
+use Rattle.std.proofs.Common.{◌≡◌, ◌∙◌, ap, refl, ◌++◌, [], List, length, rules, None, arith}
 use Rattle.line_model.specs.basics.Records.{Piece}
 use Rattle.restart_epochs.specs.OpenRows.{rows_of}
 use Rattle.restart_epochs.specs.Cutting.{given_of, pieces_out}
@@ -30,19 +30,19 @@ returns-clause-few g c i rows s =
     omega (arith, c.self.invariant.ids, open_channels, given)
 
 pub returns-then-is_err-clause-pieces : goal.returns-then-is_err-clause-pieces
-returns-then-is_err-clause-pieces g c = grind (arith, common_steps) steps 2000000
+returns-then-is_err-clause-pieces g c i rows s = tt
 
 pub returns-then-is_err-clause-line : goal.returns-then-is_err-clause-line
-returns-then-is_err-clause-line g c = grind (arith, common_steps) steps 2000000
+returns-then-is_err-clause-line g c i rows s = tt
 
 pub returns-then-is_err-clause-packets : goal.returns-then-is_err-clause-packets
-returns-then-is_err-clause-packets g c = grind (arith, common_steps) steps 2000000
+returns-then-is_err-clause-packets g c i rows s = tt
 
 pub returns-then-is_err-clause-few : goal.returns-then-is_err-clause-few
-returns-then-is_err-clause-few g c = grind (arith, common_steps) steps 2000000
+returns-then-is_err-clause-few g c i rows s = tt
 
 pub returns-then-is_err-clause-refused : goal.returns-then-is_err-clause-refused
-returns-then-is_err-clause-refused g c = grind (arith, common_steps) steps 2000000
+returns-then-is_err-clause-refused g c = refl
 
 pub same-rows : goal.same-rows
 same-rows g c = grind (arith, common_steps) steps 2000000
@@ -54,10 +54,10 @@ pub give_out-requires-clause-ids : goal.give_out-requires-clause-ids
 give_out-requires-clause-ids g c = grind (arith, common_steps) steps 2000000
 
 pub returns-clause-line : goal.returns-clause-line
-returns-clause-line g c = grind (arith, common_steps) steps 2000000
+returns-clause-line g c i rows s = ap (λ v. v.findings) c.self.view_is ∙ s.findings
 
 pub returns-clause-packets : goal.returns-clause-packets
-returns-clause-packets g c = grind (arith, common_steps) steps 2000000
+returns-clause-packets g c i rows s = ap (λ v. v.packets) c.self.view_is ∙ s.packets
 
 pub returns-clause-refused : goal.returns-clause-refused
-returns-clause-refused g c = grind (arith, common_steps) steps 2000000
+returns-clause-refused g c = tt
