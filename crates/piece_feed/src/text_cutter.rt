@@ -179,6 +179,25 @@ impl<A: Allocator + Copy> TextCutter<A> {
         if let Some(front) = &mut self.front {
             return front.cut_lines(bytes, &mut self.lines, &mut self.row, pieces);
         }
+        self.begin(bytes, pieces)
+    }
+
+    /// Takes the next part of a text of which no row was read, and appends the pieces that are known whole with its rows.
+    fn begin(&mut self, bytes: &[u8], pieces: &mut Vec<Piece<A>, A>) -> Result<(), Fault>
+        requires taken { (text : List ℕ) × HasTaken text self.old }
+        requires bare { self.old.front ≡ None }
+        ensures taken { (text : List ℕ) → HasTaken text self.old
+            → OnOk result (HasTaken (text ++ bytes.now) self.new) }
+        ensures pieces { (text : List ℕ) → HasTaken text self.old
+            → OnOk result (HasAppended pieces.old.items pieces.new.items
+            (known_pieces text) (known_pieces (text ++ bytes.now))) }
+        ensures refused { (text : List ℕ) → HasTaken text self.old
+            → IfErr result (IsFaultOf (early (text ++ bytes.now))) }
+        ensures size { OnOk result (bytes_fed self.new.lines
+            ≡ bytes_fed self.old.lines + length bytes.now) }
+        ensures limit { OnOk result (bytes_fed self.new.lines ≤ 2 ^ 30) }
+        ensures kinds { IfErr result IsTextFault }
+    {
         let Some(rest) = self.lines.next_row(bytes, &mut self.row)? else {
             return Ok(());
         };

@@ -72,8 +72,3 @@ join_all-joined-requires-clause-room g c = c.in-Some.ensures.room
 
 pub returns-in_default-clause-refused : goal.returns-in_default-clause-refused
 returns-in_default-clause-refused g c = (c.back.ensures, inl refl)
-
-pub start_all-requires : goal.start_all-requires
-start_all-requires g c =
-    let b = c.type_bounds in
-    (b.send-P, (b.send-H, (b.send-A, (b.sync-P, (b.sync-A, (b.sync-W, (b.sync-R, (b.frees-A-Allocator, (c.requires.queue, c.requires.handler)))))))))

@@ -1,11 +1,7 @@
-use Rattle.std.proofs.Common.{◌∙◌, ◌++◌, ◌∷◌, [], Some, ap, refl, subst, sym}
-use Rattle.line_model.specs.text.Text.{early, early_rows}
-use Rattle.restart_epochs.specs.Cutting.{HasAppended, given_of}
+use Rattle.std.proofs.Common.{◌∙◌, ◌++◌, Some, ap}
 use Rattle.restart_epochs.proofs.Taken.{on_ok, on_ok_both}
-use Rattle.trace_text.specs.StandsFor.{IsFaultOf, ReadsChunk, StandsFor, TakesRow}
-use Rattle.piece_feed.specs.TextCuts.{IsCutTo}
-use Rattle.piece_feed.proofs.Heads.{cut_of, known_under, no_rows_yet, none_cut, taken_of}
-use Rattle.piece_feed.proofs.Firsts.{appended_as, chunk_text, first_cut, first_pieces, first_trace, no_row_came}
+use Rattle.piece_feed.proofs.Heads.{cut_of, known_under}
+use Rattle.piece_feed.proofs.Firsts.{appended_as}
 use Rattle.piece_feed.proofs.text_cutter.TextCutter.take_into.Goals as goal
 
 pub cut_lines-requires : goal.cut_lines-requires
@@ -27,62 +23,5 @@ returns-in-Some-clause-pieces g c text taken =
 pub returns-in-Some-clause-refused : goal.returns-in-Some-clause-refused
 returns-in-Some-clause-refused g c text taken = c.cut_lines.ensures.refused text (cut_of c.args.self.now text c.in-Some.front taken c.in-Some.is)
 
-pub returns-in_default-2-clause-taken : goal.returns-in_default-2-clause-taken
-returns-in_default-2-clause-taken g c text taken =
-    let end : ReadsChunk c.args.self.now.lines c.next_row.new.self c.args.bytes.now = rw c.in_default-2.is at c.in_ok-rest.ensures.ok in
-    let none = no_rows_yet c.args.self.now text taken c.in_default.is in
-    record {
-      reads = end.stands text taken.reads;
-      cut = none_cut c.args.self.now.front c.next_row.new.self.interface (early_rows (text ++ c.args.bytes.now)) c.in_default.is (end.rows text taken.reads ∙ none);
-    }
-
-pub returns-in_default-2-clause-pieces : goal.returns-in_default-2-clause-pieces
-returns-in_default-2-clause-pieces g c text taken =
-    let end : ReadsChunk c.args.self.now.lines c.next_row.new.self c.args.bytes.now = rw c.in_default-2.is at c.in_ok-rest.ensures.ok in
-    no_row_came c.args.self.now.lines c.next_row.new.self text c.args.bytes.now c.args.pieces.now.items taken.reads (no_rows_yet c.args.self.now text taken c.in_default.is) end
-
-pub cut-requires : goal.cut-requires
-cut-requires g c =
-    let text = c.requires.0 in
-    let none = no_rows_yet c.args.self.now text c.requires.1 c.in_default.is in
-    let t : TakesRow c.args.self.now.lines c.next_row.new.self c.args.bytes.now c.in-Some-2.rest.now c.next_row.new.row = rw c.in-Some-2.is at c.in_ok-rest.ensures.ok in
-    record { next = ([], c.new-front.ensures.cut, first_trace c.args.self.now.lines c.next_row.new.self text c.args.bytes.now c.in-Some-2.rest.now c.next_row.new.row c.requires.1.reads none t) }
-
-pub cut_lines-requires-2 : goal.cut_lines-requires-2
-cut_lines-requires-2 g c =
-    let text = c.requires.0 in
-    let t : TakesRow c.args.self.now.lines c.next_row.new.self c.args.bytes.now c.in-Some-2.rest.now c.next_row.new.row = rw c.in-Some-2.is at c.in_ok-rest.ensures.ok in
-    let begun = first_cut text c.args.bytes.now c.in-Some-2.rest.now c.next_row.new.row c.args.self.now.lines c.next_row.new.self c.in-Some-interface.interface c.cut.new.self c.requires.1.reads (no_rows_yet c.args.self.now text c.requires.1 c.in_default.is) t
-    (c.in-Some-interface.ensures.kept ∙ ap (λ v. v.lines.interface) c.self.view_is) (c.in_ok-cut.ensures.interface ∙ c.new-front.ensures.interface) (c.in_ok-cut.ensures.cut [] c.new-front.ensures.cut) in
-    (text ++ t.taken, begun)
-
-pub returns-in-Err-clause-refused : goal.returns-in-Err-clause-refused
-returns-in-Err-clause-refused g c text taken =
-    let t : TakesRow c.args.self.now.lines c.next_row.new.self c.args.bytes.now c.in-Some-2.rest.now c.next_row.new.row = rw c.in-Some-2.is at c.in_ok-rest.ensures.ok in
-    let begun = first_cut text c.args.bytes.now c.in-Some-2.rest.now c.next_row.new.row c.args.self.now.lines c.next_row.new.self c.in-Some-interface.interface c.cut.new.self taken.reads (no_rows_yet c.args.self.now text taken c.in_default.is) t
-    (c.in-Some-interface.ensures.kept ∙ ap (λ v. v.lines.interface) c.self.view_is) (c.in_ok-cut.ensures.interface ∙ c.new-front.ensures.interface) (c.in_ok-cut.ensures.cut [] c.new-front.ensures.cut) in
-    subst (λ x. IsFaultOf (early x) c.in-Err.fault) (chunk_text c.args.self.now.lines c.next_row.new.self text c.args.bytes.now c.in-Some-2.rest.now c.next_row.new.row t)
-    (c.in-Err.ensures.refused (text ++ t.taken) begun)
-
-pub returns-in-Ok-clause-taken : goal.returns-in-Ok-clause-taken
-returns-in-Ok-clause-taken g c text taken =
-    let t : TakesRow c.args.self.now.lines c.next_row.new.self c.args.bytes.now c.in-Some-2.rest.now c.next_row.new.row = rw c.in-Some-2.is at c.in_ok-rest.ensures.ok in
-    let begun = first_cut text c.args.bytes.now c.in-Some-2.rest.now c.next_row.new.row c.args.self.now.lines c.next_row.new.self c.in-Some-interface.interface c.cut.new.self taken.reads (no_rows_yet c.args.self.now text taken c.in_default.is) t
-    (c.in-Some-interface.ensures.kept ∙ ap (λ v. v.lines.interface) c.self.view_is) (c.in_ok-cut.ensures.interface ∙ c.new-front.ensures.interface) (c.in_ok-cut.ensures.cut [] c.new-front.ensures.cut) in
-    taken_of _ (text ++ c.args.bytes.now) c.cut_lines-2.new.self
-    (subst (λ x. IsCutTo x c.cut_lines-2.new.lines c.cut_lines-2.new.self) (chunk_text c.args.self.now.lines c.next_row.new.self text c.args.bytes.now c.in-Some-2.rest.now c.next_row.new.row t)
-    (c.in-Ok.ensures.cut (text ++ t.taken) begun)) refl
-
-pub returns-in-Ok-clause-pieces : goal.returns-in-Ok-clause-pieces
-returns-in-Ok-clause-pieces g c text taken =
-    let t : TakesRow c.args.self.now.lines c.next_row.new.self c.args.bytes.now c.in-Some-2.rest.now c.next_row.new.row = rw c.in-Some-2.is at c.in_ok-rest.ensures.ok in
-    let begun = first_cut text c.args.bytes.now c.in-Some-2.rest.now c.next_row.new.row c.args.self.now.lines c.next_row.new.self c.in-Some-interface.interface c.cut.new.self taken.reads (no_rows_yet c.args.self.now text taken c.in_default.is) t
-    (c.in-Some-interface.ensures.kept ∙ ap (λ v. v.lines.interface) c.self.view_is) (c.in_ok-cut.ensures.interface ∙ c.new-front.ensures.interface) (c.in_ok-cut.ensures.cut [] c.new-front.ensures.cut) in
-    let i = c.cut.new.self.interface in
-    let after = c.in-Ok.ensures.cut (text ++ t.taken) begun in
-    let all = chunk_text c.args.self.now.lines c.next_row.new.self text c.args.bytes.now c.in-Some-2.rest.now c.next_row.new.row t in
-    first_pieces i text c.args.bytes.now c.in-Some-2.rest.now c.next_row.new.row c.args.self.now.lines c.next_row.new.self c.cut_lines-2.new.lines c.args.pieces.now.items c.cut.new.pieces.items c.cut_lines-2.new.pieces.items taken.reads
-    (no_rows_yet c.args.self.now text taken c.in_default.is) t
-    (subst (λ j. HasAppended c.args.pieces.now.items c.cut.new.pieces.items (given_of j []) (given_of j ([] ++ c.next_row.new.row ∷ []))) (sym c.in_ok-cut.ensures.interface) (c.in_ok-cut.ensures.pieces [] c.new-front.ensures.cut))
-    (c.in-Ok.ensures.pieces (text ++ t.taken) begun)
-    (subst (StandsFor c.cut_lines-2.new.lines) all after.reads) (after.header ∙ ap Some c.in-Ok.ensures.interface)
+pub begin-requires : goal.begin-requires
+begin-requires g c = record { taken = c.requires; bare = c.in_default.is }
