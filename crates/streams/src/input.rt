@@ -8,7 +8,7 @@ use line_model::device::Source;
 use thiserror::Error;
 
 /// Why a trace could not be opened by its name (profile).
-#[derive(Clone, Copy, Debug, PartialEq, Eq, Error)]
+#[derive(Clone, Copy, Debug, Error)]
 pub enum OpenFault {
     /// Nothing has this name.
     #[error("no such file")]

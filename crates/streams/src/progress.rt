@@ -4,7 +4,7 @@ use std::io::Write;
 use std::time::{Clock, Duration, Instant};
 
 /// When it is told how far the reading is (profile).
-#[derive(Clone, Copy, Debug, PartialEq, Eq)]
+#[derive(Clone, Copy, PartialEq, Eq)]
 pub enum Telling {
     /// Not at all.
     Never,

@@ -3,6 +3,7 @@ use Rattle.trace_text.specs.Progress.{Progress}
 use Rattle.line_model.specs.declared.fault.Fault.TheVariants.{Trace}
 use Rattle.line_model.specs.declared.fault.Kind.TheVariants.{HeaderMissing}
 use Rattle.trace_text.proofs.EndLemmas.{end-header, end-header-rows, end-missing, known-end}
+use Rattle.trace_text.proofs.RefusalLemmas.{is-running}
 use Rattle.trace_text.proofs.lines.Lines.end_row.Goals as goal
 
 pub returns-in-Err-clause-known : goal.returns-in-Err-clause-known
@@ -26,3 +27,9 @@ pub returns-clause-known : goal.returns-clause-known
 returns-clause-known g c text s =
     known-end text (Trace (c.in-Ok.end.0 + 1) HeaderMissing) s.sound
     (end-missing c.end_begun.new.self c.in-Ok.end.0 text (c.in-Ok.ensures.ok text s) (ap (λ (p : Progress). p.interface) (sym c.self-2.view_is) ∙ c.in-None.is))
+
+pub returns-in-Some-clause-refused : goal.returns-in-Some-clause-refused
+returns-in-Some-clause-refused g c text s = absurd (is-running c.args.self text c.in-Some.fault s (ap (λ (p : Progress). p.refused) (sym c.self.view_is) ∙ c.in-Some.is))
+
+pub returns-in-Some-clause-known : goal.returns-in-Some-clause-known
+returns-in-Some-clause-known g c text s = absurd (is-running c.args.self text c.in-Some.fault s (ap (λ (p : Progress). p.refused) (sym c.self.view_is) ∙ c.in-Some.is))
