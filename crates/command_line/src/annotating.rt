@@ -5,10 +5,10 @@ ghost use Rattle.annotated_trace.specs.Rows.{choice_of};
 ghost use Rattle.command_line.specs.Annotating.{IsAnnotateAnswer, IsAnnotateStatus};
 ghost use Rattle.command_line.specs.Program.{IsUnread, trace_of};
 
+use crate::annotated_scan::annotate;
 use crate::program::{USAGE, refuse_scan, refuse_trace, summary_status};
 use annotated_trace::rows::Rows;
 use command_options::options::Options;
-use descriptions::scan::annotate;
 use line_model::device::Sink;
 use std::alloc::Global;
 use streams::input::Input;

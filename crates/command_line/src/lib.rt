@@ -2,6 +2,7 @@
 //! fault, and the exit status.
 #![tactic(auto)]
 
+pub mod annotated_scan;
 mod annotating;
 mod explaining;
 mod json;

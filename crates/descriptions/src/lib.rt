@@ -14,5 +14,4 @@ mod names;
 mod packets;
 mod parameters;
 mod prose;
-pub mod scan;
 mod uncounted;

@@ -3,7 +3,7 @@
 ghost use Rattle.std.specs.Prelude.{◌≡◌, ◌<◌};
 
 use annotated_trace::rows::Rows;
-use descriptions::scan::annotate;
+use command_line::annotated_scan::annotate;
 use line_model::count::Count;
 use std::alloc::{AllocError, Global};
 use std::marker::Brand;

@@ -4,10 +4,10 @@ ghost use Rattle.std.specs.Prelude.{◌≡◌, ◌+◌, ◌<◌, ◌≤◌, ◌^
 ghost use Rattle.annotated_trace.specs.Annotating.{Annotates, IsAnnotatingFault, Stops};
 ghost use Rattle.annotated_trace.specs.Rows.{choice_of};
 
-use crate::descriptions::Descriptions;
 use annotated_trace::annotating::annotate as annotate_by;
 use annotated_trace::rows::Rows;
 use channel_machine::channel::PackedChannel;
+use descriptions::descriptions::Descriptions;
 use line_model::device::{Sink, Source};
 use line_model::fault::Fault;
 use line_model::totals::Summary;
