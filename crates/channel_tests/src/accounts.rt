@@ -88,17 +88,14 @@ fn reverse_charging_is_paid_by_the_called_address(rt: HostRuntime) -> Result<(),
         ),
     ];
     let calls = calls_of(alloc, &events)?;
-    assert_eq!(rt; calls.len(), 1);
+    assert!(rt; calls.len() == 1);
     let call = &calls[0];
-    assert_eq!(rt; (call.epoch, call.channel, call.out), (1, 1, true));
-    assert_eq!(rt; call.called.as_bytes(), b"12".as_slice());
-    assert_eq!(rt; call.calling.as_bytes(), b"345".as_slice());
-    assert_eq!(rt;
-        (call.opened, call.up, call.ended, call.how),
-        (1, Some(2), None, None)
-    );
-    assert_eq!(rt; (call.data_t, call.oct_t), (3, 129));
-    assert_eq!(rt; (call.data_n, call.oct_n, call.segments), (0, 0, 3));
+    assert!(rt; (call.epoch, call.channel, call.out) == (1, 1, true));
+    assert!(rt; call.called.as_bytes() == b"12".as_slice());
+    assert!(rt; call.calling.as_bytes() == b"345".as_slice());
+    assert!(rt; (call.opened, call.up, call.ended, call.how) == (1, Some(2), None, None));
+    assert!(rt; (call.data_t, call.oct_t) == (3, 129));
+    assert!(rt; (call.data_n, call.oct_n, call.segments) == (0, 0, 3));
     Ok(())
 }
 
@@ -144,18 +141,15 @@ fn the_last_word_on_a_parameter_stands(rt: HostRuntime) -> Result<(), Fail> {
         ),
     ];
     let calls = calls_of(rt.alloc(), &events)?;
-    assert_eq!(rt; calls.len(), 1);
+    assert!(rt; calls.len() == 1);
     let said = SettingRecord {
         pad: Side::T,
         parameter: 2,
         entry: Entry::Said(1),
     };
-    assert_eq!(rt; calls[0].settings.as_slice(), [said].as_slice());
-    assert_eq!(rt; (calls[0].data_t, calls[0].oct_t), (1, 3));
-    assert_eq!(rt;
-        (calls[0].data_n, calls[0].oct_n, calls[0].segments),
-        (1, 3, 2)
-    );
+    assert!(rt; calls[0].settings.as_slice() == [said].as_slice());
+    assert!(rt; (calls[0].data_t, calls[0].oct_t) == (1, 3));
+    assert!(rt; (calls[0].data_n, calls[0].oct_n, calls[0].segments) == (1, 3, 2));
     Ok(())
 }
 
@@ -169,12 +163,12 @@ fn a_collision_ends_the_incoming_call(rt: HostRuntime) -> Result<(), Fail> {
         event(1, 3, What::Up),
     ];
     let calls = calls_of(rt.alloc(), &events)?;
-    assert_eq!(rt; calls.len(), 2);
+    assert!(rt; calls.len() == 2);
     let (first, second) = (&calls[0], &calls[1]);
-    assert_eq!(rt; (first.out, first.opened, first.up), (false, 1, None));
-    assert_eq!(rt; (first.ended, first.how), (Some(2), Some(How::Collision)));
-    assert_eq!(rt; (second.out, second.opened, second.up), (true, 2, Some(3)));
-    assert_eq!(rt; (second.ended, second.how), (None, None));
+    assert!(rt; (first.out, first.opened, first.up) == (false, 1, None));
+    assert!(rt; (first.ended, first.how) == (Some(2), Some(How::Collision)));
+    assert!(rt; (second.out, second.opened, second.up) == (true, 2, Some(3)));
+    assert!(rt; (second.ended, second.how) == (None, None));
     Ok(())
 }
 
@@ -193,12 +187,12 @@ fn calls_of_many_channels_stand_by_their_openings(rt: HostRuntime) -> Result<(),
         },
     ];
     let calls = calls_of(rt.alloc(), &events)?;
-    assert_eq!(rt; calls.len(), 3);
+    assert!(rt; calls.len() == 3);
     let (first, second, third) = (&calls[0], &calls[1], &calls[2]);
-    assert_eq!(rt; (first.epoch, first.channel, first.ended), (1, 1, Some(3)));
-    assert_eq!(rt; (second.epoch, second.channel, second.up), (1, 2, Some(4)));
-    assert_eq!(rt; (second.ended, second.how), (Some(5), Some(How::Restart)));
-    assert_eq!(rt; (third.epoch, third.channel, third.ended), (2, 1, None));
+    assert!(rt; (first.epoch, first.channel, first.ended) == (1, 1, Some(3)));
+    assert!(rt; (second.epoch, second.channel, second.up) == (1, 2, Some(4)));
+    assert!(rt; (second.ended, second.how) == (Some(5), Some(How::Restart)));
+    assert!(rt; (third.epoch, third.channel, third.ended) == (2, 1, None));
     Ok(())
 }
 
@@ -245,29 +239,23 @@ fn calls_are_told_as_their_events_come(rt: HostRuntime) -> Result<(), Fail> {
         calls.hear(event)?;
     }
     let so_far = calls.calls(alloc)?;
-    assert_eq!(rt; so_far.len(), 1);
-    assert_eq!(rt; (so_far[0].up, so_far[0].ended), (Some(2), None));
-    assert_eq!(rt;
-        (so_far[0].data_n, so_far[0].oct_n, so_far[0].segments),
-        (1, 65, 2)
-    );
+    assert!(rt; so_far.len() == 1);
+    assert!(rt; (so_far[0].up, so_far[0].ended) == (Some(2), None));
+    assert!(rt; (so_far[0].data_n, so_far[0].oct_n, so_far[0].segments) == (1, 65, 2));
     for event in &behind {
         calls.hear(event)?;
     }
     let calls = calls.finish()?;
-    assert_eq!(rt; calls.len(), 2);
-    assert_eq!(rt; (calls[0].ended, calls[0].how), (Some(4), Some(How::T)));
-    assert_eq!(rt; (calls[0].data_n, calls[0].oct_n), (1, 65));
+    assert!(rt; calls.len() == 2);
+    assert!(rt; (calls[0].ended, calls[0].how) == (Some(4), Some(How::T)));
+    assert!(rt; (calls[0].data_n, calls[0].oct_n) == (1, 65));
     let asked = SettingRecord {
         pad: Side::T,
         parameter: 2,
         entry: Entry::Asked(1),
     };
-    assert_eq!(rt; calls[0].settings.as_slice(), [asked].as_slice());
-    assert_eq!(rt;
-        (calls[1].out, calls[1].opened, calls[1].ended),
-        (false, 6, None)
-    );
+    assert!(rt; calls[0].settings.as_slice() == [asked].as_slice());
+    assert!(rt; (calls[1].out, calls[1].opened, calls[1].ended) == (false, 6, None));
     Ok(())
 }
 
@@ -314,11 +302,11 @@ fn accounts_stand_by_the_bytes_of_their_addresses(rt: HostRuntime) -> Result<(),
         call(alloc, address(&[9]), Some(9), None, 1),
     ];
     let accounts = accounts_of(alloc, &calls)?;
-    assert_eq!(rt; accounts.len(), 4);
+    assert!(rt; accounts.len() == 4);
     let expected = [("", 1, 0), ("12", 1, 3), ("7", 1, 2), ("9", 2, 6)];
     for (account, (digits, calls, segments)) in accounts.iter().zip(expected) {
-        assert_eq!(rt; account.address.as_bytes(), digits.as_bytes());
-        assert_eq!(rt; (account.calls, account.segments), (calls, segments));
+        assert!(rt; account.address.as_bytes() == digits.as_bytes());
+        assert!(rt; (account.calls, account.segments) == (calls, segments));
     }
     Ok(())
 }
@@ -333,20 +321,20 @@ fn the_peak_is_first_reached_at_its_row(rt: HostRuntime) -> Result<(), Fail> {
         call(alloc, Address::absent(), Some(8), None, 0),
         call(alloc, Address::absent(), None, None, 0),
     ];
-    assert_eq!(rt;
-        peak_of(alloc, &calls)?,
-        Peak {
-            count: 2,
-            packet: Some(4)
-        }
+    assert!(rt;
+        peak_of(alloc, &calls)?
+            == Peak {
+                count: 2,
+                packet: Some(4)
+            }
     );
     let quiet = [call(alloc, Address::absent(), None, Some(5), 0)];
-    assert_eq!(rt;
-        peak_of(alloc, &quiet)?,
-        Peak {
-            count: 0,
-            packet: None
-        }
+    assert!(rt;
+        peak_of(alloc, &quiet)?
+            == Peak {
+                count: 0,
+                packet: None
+            }
     );
     Ok(())
 }

@@ -99,7 +99,7 @@ const JOINED: Interface = Interface {
 type Line = (u32, Side, &'static str);
 
 /// A call without addresses, as its line tells it.
-#[derive(Clone, Copy, PartialEq, Eq, Debug)]
+#[derive(Clone, Copy, PartialEq, Eq)]
 struct Call {
     channel: u16,
     out: bool,
@@ -192,36 +192,57 @@ fn report_of(
     Ok(run_piece::<Global, PlainChannel>(alloc, &piece)?)
 }
 
-/// A finding.
-fn found(packet: u32, side: Side, state: StateName, code: Code) -> Finding {
-    Finding {
-        packet,
-        side,
-        state,
-        code,
+/// A finding: its row, its side, its state and its code.
+type Found = (u32, Side, StateName, Code);
+
+/// The findings are these, in this order.
+fn findings_are(findings: &[Finding], wanted: &[Found]) -> bool {
+    findings.len() == wanted.len()
+        && findings.iter().zip(wanted).all(|(finding, wanted)| {
+            (finding.packet, finding.side, finding.state, finding.code) == *wanted
+        })
+}
+
+/// What the line of a call tells.
+fn told(call: &CallRecord) -> Call {
+    Call {
+        channel: call.channel,
+        out: call.out,
+        opened: call.opened,
+        up: call.up,
+        ended: call.ended,
+        how: call.how,
+        data_t: call.data_t,
+        oct_t: call.oct_t,
+        data_n: call.data_n,
+        oct_n: call.oct_n,
+        segments: call.segments,
     }
 }
 
-/// What the lines of some calls tell.
-fn told(alloc: Global, calls: &[CallRecord]) -> Result<Vec<Call>, Fail> {
-    let mut told = Vec::new(alloc);
-    for call in calls {
-        told.push(Call {
-            channel: call.channel,
-            out: call.out,
-            opened: call.opened,
-            up: call.up,
-            ended: call.ended,
-            how: call.how,
-            data_t: call.data_t,
-            oct_t: call.oct_t,
-            data_n: call.data_n,
-            oct_n: call.oct_n,
-            segments: call.segments,
-        })?;
-    }
-    Ok(told)
+/// The calls are these, in this order.
+fn calls_are(calls: &[CallRecord], wanted: &[Call]) -> bool {
+    calls.len() == wanted.len()
+        && calls
+            .iter()
+            .zip(wanted)
+            .all(|(call, wanted)| told(call) == *wanted)
 }
+
+/// A call of the DTE that came up with row 2, has not ended, and has no data.
+const PLAIN_CALL: Call = Call {
+    channel: 1,
+    out: true,
+    opened: 1,
+    up: Some(2),
+    ended: None,
+    how: None,
+    data_t: 0,
+    oct_t: 0,
+    data_n: 0,
+    oct_n: 0,
+    segments: 0,
+};
 
 /// A call without data that has not ended.
 fn without_data(channel: u16, out: bool, opened: u32, up: Option<u32>) -> Call {
@@ -230,32 +251,30 @@ fn without_data(channel: u16, out: bool, opened: u32, up: Option<u32>) -> Call {
         out,
         opened,
         up,
-        ended: None,
-        how: None,
-        data_t: 0,
-        oct_t: 0,
-        data_n: 0,
-        oct_n: 0,
-        segments: 0,
+        ..PLAIN_CALL
     }
 }
 
-/// The rows of a channel give these findings and calls.
+/// The rows of a channel, which the row `end` ends, give these findings and calls. Answers their octets and segments.
 fn gives(
     rt: &impl Abort,
     alloc: Global,
     interface: &Interface,
     channel: u16,
     lines: &[Line],
-    findings: &[Finding],
+    end: Option<u32>,
+    findings: &[Found],
     calls: &[Call],
-) -> Result<(), Fail>
+) -> Result<(u64, u64), Fail>
     requires few { length lines.now ≤ 1000 }
 {
-    let report = report_of(alloc, interface, channel, lines, None)?;
-    assert_eq!(rt; report.findings.as_slice(), findings);
-    assert_eq!(rt; told(alloc, &report.calls)?.as_slice(), calls);
-    Ok(())
+    let report = report_of(alloc, interface, channel, lines, end)?;
+    assert!(rt;
+        findings_are(&report.findings, findings),
+        "channel {channel}"
+    );
+    assert!(rt; calls_are(&report.calls, calls), "channel {channel}");
+    Ok((report.octets, report.segments))
 }
 
 /// The settings that are known at the end of the first call.
@@ -269,391 +288,476 @@ fn first_settings<'a>(calls: &'a [CallRecord]) -> &'a [SettingRecord] {
 #[test]
 fn fresh_channels_are_in_p1(rt: HostRuntime) {
     let machine: PlainChannel = PlainChannel::fresh(rt.alloc(), &INTERFACE, 1, 1);
-    assert_eq!(rt; machine.state(), ChannelState::Setup(PState::P1));
+    assert!(rt; machine.state() == ChannelState::Setup(PState::P1));
     assert!(rt; !machine.is_open());
     let joined: PlainChannel = PlainChannel::fresh(rt.alloc(), &JOINED, 1, 1);
-    assert_eq!(rt; joined.state(), ChannelState::Unknown);
+    assert!(rt; joined.state() == ChannelState::Unknown);
 }
+
+/// Data on a channel that is ready, and what comes before it is cleared.
+const DISCARDED: [Line; 4] = [
+    (1, Side::T, "100100AA"),
+    (2, Side::T, "100102AA"),
+    (3, Side::N, "1001130514"),
+    (4, Side::T, "100117"),
+];
 
 #[test]
 fn error_clears_the_channel_and_what_follows_is_discarded(rt: HostRuntime) -> Result<(), Fail> {
-    let alloc = rt.alloc();
-    let lines: [Line; 4] = [
-        (1, Side::T, "100100AA"),
-        (2, Side::T, "100102AA"),
-        (3, Side::N, "1001130514"),
-        (4, Side::T, "100117"),
-    ];
-    let report = report_of(alloc, &INTERFACE, 1, &lines, None)?;
-    assert_eq!(rt;
-        report.findings.as_slice(),
-        [found(1, Side::T, StateName::P1, Code::Number(20))].as_slice()
-    );
-    assert!(rt; report.calls.is_empty());
+    gives(
+        &rt,
+        rt.alloc(),
+        &INTERFACE,
+        1,
+        &DISCARDED,
+        None,
+        &[(1, Side::T, StateName::P1, Code::Number(20))],
+        &[],
+    )?;
     Ok(())
 }
+
+/// Data of the DCE on a channel that is ready, and behind its clear indication.
+const OF_THE_DCE: [Line; 3] = [
+    (1, Side::N, "100100AA"),
+    (2, Side::N, "1001130000"),
+    (3, Side::N, "100100AA"),
+];
 
 #[test]
 fn errors_of_the_dce_keep_the_state(rt: HostRuntime) -> Result<(), Fail> {
-    let alloc = rt.alloc();
-    let lines: [Line; 3] = [
-        (1, Side::N, "100100AA"),
-        (2, Side::N, "1001130000"),
-        (3, Side::N, "100100AA"),
-    ];
-    let report = report_of(alloc, &INTERFACE, 1, &lines, Some(4))?;
-    let findings = [
-        found(1, Side::N, StateName::P1, Code::Number(20)),
-        found(3, Side::N, StateName::P7, Code::Number(26)),
-    ];
-    assert_eq!(rt; report.findings.as_slice(), findings.as_slice());
-    assert!(rt; report.calls.is_empty());
+    gives(
+        &rt,
+        rt.alloc(),
+        &INTERFACE,
+        1,
+        &OF_THE_DCE,
+        Some(4),
+        &[
+            (1, Side::N, StateName::P1, Code::Number(20)),
+            (3, Side::N, StateName::P7, Code::Number(26)),
+        ],
+        &[],
+    )?;
     Ok(())
 }
+
+/// A call request on a permanent circuit, a reset, and two interrupts.
+const CALL_ON_PERMANENT: [Line; 5] = [
+    (1, Side::T, "10010B0000"),
+    (2, Side::N, "10011B0523"),
+    (3, Side::T, "10011F"),
+    (4, Side::T, "10012301"),
+    (5, Side::T, "10012301"),
+];
 
 #[test]
 fn permanent_circuits_carry_no_calls(rt: HostRuntime) -> Result<(), Fail> {
-    let alloc = rt.alloc();
-    let lines: [Line; 5] = [
-        (1, Side::T, "10010B0000"),
-        (2, Side::N, "10011B0523"),
-        (3, Side::T, "10011F"),
-        (4, Side::T, "10012301"),
-        (5, Side::T, "10012301"),
-    ];
-    let report = report_of(alloc, &PERMANENT, 1, &lines, None)?;
-    let findings = [
-        found(1, Side::T, StateName::D1, Code::Number(35)),
-        found(5, Side::T, StateName::D1, Code::Number(44)),
-    ];
-    assert_eq!(rt; report.findings.as_slice(), findings.as_slice());
-    assert!(rt; report.calls.is_empty());
+    gives(
+        &rt,
+        rt.alloc(),
+        &PERMANENT,
+        1,
+        &CALL_ON_PERMANENT,
+        None,
+        &[
+            (1, Side::T, StateName::D1, Code::Number(35)),
+            (5, Side::T, StateName::D1, Code::Number(44)),
+        ],
+        &[],
+    )?;
     Ok(())
 }
+
+/// Interrupts and confirmations on a permanent circuit, too short or too long.
+const INTERRUPTS: [Line; 7] = [
+    (1, Side::N, "100127"),
+    (2, Side::T, "100123"),
+    (3, Side::N, "10011B0526"),
+    (4, Side::T, "10011F"),
+    (
+        5,
+        Side::N,
+        "100123000000000000000000000000000000000000000000000000000000000000000000",
+    ),
+    (6, Side::N, "10012300"),
+    (7, Side::T, "10012700"),
+];
 
 #[test]
 fn permanent_circuits_carry_interrupts(rt: HostRuntime) -> Result<(), Fail> {
-    let alloc = rt.alloc();
-    let lines: [Line; 7] = [
-        (1, Side::N, "100127"),
-        (2, Side::T, "100123"),
-        (3, Side::N, "10011B0526"),
-        (4, Side::T, "10011F"),
-        (
-            5,
-            Side::N,
-            "100123000000000000000000000000000000000000000000000000000000000000000000",
-        ),
-        (6, Side::N, "10012300"),
-        (7, Side::T, "10012700"),
-    ];
-    let report = report_of(alloc, &PERMANENT, 1, &lines, None)?;
-    let findings = [
-        found(1, Side::N, StateName::D1, Code::Number(43)),
-        found(2, Side::T, StateName::D1, Code::Number(38)),
-        found(5, Side::N, StateName::D1, Code::Number(39)),
-        found(7, Side::T, StateName::D1, Code::Number(39)),
-    ];
-    assert_eq!(rt; report.findings.as_slice(), findings.as_slice());
-    assert!(rt; report.calls.is_empty());
+    gives(
+        &rt,
+        rt.alloc(),
+        &PERMANENT,
+        1,
+        &INTERRUPTS,
+        None,
+        &[
+            (1, Side::N, StateName::D1, Code::Number(43)),
+            (2, Side::T, StateName::D1, Code::Number(38)),
+            (5, Side::N, StateName::D1, Code::Number(39)),
+            (7, Side::T, StateName::D1, Code::Number(39)),
+        ],
+        &[],
+    )?;
     Ok(())
 }
+
+/// A call that asks for packet sizes and windows, and data at their bounds.
+const NEGOTIATED: [Line; 5] = [
+    (1, Side::T, "10010B0006420504430201"),
+    (2, Side::N, "10010F"),
+    (
+        3,
+        Side::N,
+        "1001000000000000000000000000000000000000000000000000000000000000000000",
+    ),
+    (4, Side::T, "10012000000000000000000000000000000000"),
+    (5, Side::T, "100122AA"),
+];
 
 #[test]
 fn size_and_window_of_the_call_are_in_force(rt: HostRuntime) -> Result<(), Fail> {
-    let alloc = rt.alloc();
-    let lines: [Line; 5] = [
-        (1, Side::T, "10010B0006420504430201"),
-        (2, Side::N, "10010F"),
-        (
-            3,
-            Side::N,
-            "1001000000000000000000000000000000000000000000000000000000000000000000",
-        ),
-        (4, Side::T, "10012000000000000000000000000000000000"),
-        (5, Side::T, "100122AA"),
-    ];
-    let report = report_of(alloc, &INTERFACE, 1, &lines, None)?;
-    assert_eq!(rt;
-        report.findings.as_slice(),
-        [found(5, Side::T, StateName::D1, Code::Number(1))].as_slice()
-    );
-    let calls = [Call {
-        channel: 1,
-        out: true,
-        opened: 1,
-        up: Some(2),
-        ended: None,
-        how: None,
-        data_t: 1,
-        oct_t: 16,
-        data_n: 1,
-        oct_n: 32,
-        segments: 2,
-    }];
-    assert_eq!(rt; told(alloc, &report.calls)?.as_slice(), calls.as_slice());
-    assert_eq!(rt; (report.octets, report.segments), (48, 2));
+    let counted = gives(
+        &rt,
+        rt.alloc(),
+        &INTERFACE,
+        1,
+        &NEGOTIATED,
+        None,
+        &[(5, Side::T, StateName::D1, Code::Number(1))],
+        &[Call {
+            data_t: 1,
+            oct_t: 16,
+            data_n: 1,
+            oct_n: 32,
+            segments: 2,
+            ..PLAIN_CALL
+        }],
+    )?;
+    assert!(rt; counted == (48, 2));
     Ok(())
 }
+
+/// An incoming call, and its clear request, which is too short.
+const INCOMING: [Line; 5] = [
+    (1, Side::N, "10020B0000"),
+    (2, Side::T, "10020F"),
+    (3, Side::T, "100213"),
+    (4, Side::N, "1002130526"),
+    (5, Side::T, "100217"),
+];
 
 #[test]
 fn incoming_call_is_cleared(rt: HostRuntime) -> Result<(), Fail> {
-    let alloc = rt.alloc();
-    let lines: [Line; 5] = [
-        (1, Side::N, "10020B0000"),
-        (2, Side::T, "10020F"),
-        (3, Side::T, "100213"),
-        (4, Side::N, "1002130526"),
-        (5, Side::T, "100217"),
-    ];
-    let report = report_of(alloc, &INTERFACE, 2, &lines, None)?;
-    assert_eq!(rt;
-        report.findings.as_slice(),
-        [found(3, Side::T, StateName::P4, Code::Number(38))].as_slice()
-    );
-    let calls = [Call {
-        channel: 2,
-        out: false,
-        opened: 1,
-        up: Some(2),
-        ended: Some(3),
-        how: Some(How::N),
-        data_t: 0,
-        oct_t: 0,
-        data_n: 0,
-        oct_n: 0,
-        segments: 0,
-    }];
-    assert_eq!(rt; told(alloc, &report.calls)?.as_slice(), calls.as_slice());
-    assert_eq!(rt; (report.octets, report.segments), (0, 0));
+    let counted = gives(
+        &rt,
+        rt.alloc(),
+        &INTERFACE,
+        2,
+        &INCOMING,
+        None,
+        &[(3, Side::T, StateName::P4, Code::Number(38))],
+        &[Call {
+            channel: 2,
+            out: false,
+            ended: Some(3),
+            how: Some(How::N),
+            ..PLAIN_CALL
+        }],
+    )?;
+    assert!(rt; counted == (0, 0));
     Ok(())
 }
+
+/// A call that comes up.
+const OPEN: [Line; 2] = [(1, Side::T, "10010B0000"), (2, Side::N, "10010F")];
 
 #[test]
 fn restart_ends_the_open_call(rt: HostRuntime) -> Result<(), Fail> {
-    let alloc = rt.alloc();
-    let lines: [Line; 2] = [(1, Side::T, "10010B0000"), (2, Side::N, "10010F")];
-    let report = report_of(alloc, &INTERFACE, 1, &lines, Some(3))?;
-    assert!(rt; report.findings.is_empty());
-    let calls = [Call {
-        channel: 1,
-        out: true,
-        opened: 1,
-        up: Some(2),
-        ended: Some(3),
-        how: Some(How::Restart),
-        data_t: 0,
-        oct_t: 0,
-        data_n: 0,
-        oct_n: 0,
-        segments: 0,
-    }];
-    assert_eq!(rt; told(alloc, &report.calls)?.as_slice(), calls.as_slice());
-    assert_eq!(rt; (report.octets, report.segments), (0, 0));
+    let counted = gives(
+        &rt,
+        rt.alloc(),
+        &INTERFACE,
+        1,
+        &OPEN,
+        Some(3),
+        &[],
+        &[Call {
+            ended: Some(3),
+            how: Some(How::Restart),
+            ..PLAIN_CALL
+        }],
+    )?;
+    assert!(rt; counted == (0, 0));
     Ok(())
 }
+
+/// A PAD call, and messages that are faulty.
+const MESSAGES: [Line; 7] = [
+    (1, Side::T, "10010B000001000000"),
+    (2, Side::N, "10010F"),
+    (3, Side::T, "900100000201"),
+    (4, Side::N, "900120020B01"),
+    (5, Side::N, "90012209"),
+    (6, Side::T, "900142"),
+    (7, Side::N, "90014402"),
+];
 
 #[test]
 fn messages_have_their_faults(rt: HostRuntime) -> Result<(), Fail> {
-    let alloc = rt.alloc();
-    let lines: [Line; 7] = [
-        (1, Side::T, "10010B000001000000"),
-        (2, Side::N, "10010F"),
-        (3, Side::T, "900100000201"),
-        (4, Side::N, "900120020B01"),
-        (5, Side::N, "90012209"),
-        (6, Side::T, "900142"),
-        (7, Side::N, "90014402"),
-    ];
-    let report = report_of(alloc, &INTERFACE, 1, &lines, None)?;
-    let findings = [
-        found(3, Side::T, StateName::D1, Code::Pad(Xcode::X4)),
-        found(4, Side::N, StateName::D1, Code::Pad(Xcode::X3)),
-        found(5, Side::N, StateName::D1, Code::Pad(Xcode::X1)),
-        found(6, Side::T, StateName::D1, Code::Pad(Xcode::X1)),
-    ];
-    assert_eq!(rt; report.findings.as_slice(), findings.as_slice());
-    let calls = [Call {
-        channel: 1,
-        out: true,
-        opened: 1,
-        up: Some(2),
-        ended: None,
-        how: None,
-        data_t: 2,
-        oct_t: 3,
-        data_n: 3,
-        oct_n: 5,
-        segments: 4,
-    }];
-    assert_eq!(rt; told(alloc, &report.calls)?.as_slice(), calls.as_slice());
-    assert_eq!(rt; (report.octets, report.segments), (8, 4));
+    let counted = gives(
+        &rt,
+        rt.alloc(),
+        &INTERFACE,
+        1,
+        &MESSAGES,
+        None,
+        &[
+            (3, Side::T, StateName::D1, Code::Pad(Xcode::X4)),
+            (4, Side::N, StateName::D1, Code::Pad(Xcode::X3)),
+            (5, Side::N, StateName::D1, Code::Pad(Xcode::X1)),
+            (6, Side::T, StateName::D1, Code::Pad(Xcode::X1)),
+        ],
+        &[Call {
+            data_t: 2,
+            oct_t: 3,
+            data_n: 3,
+            oct_n: 5,
+            segments: 4,
+            ..PLAIN_CALL
+        }],
+    )?;
+    assert!(rt; counted == (8, 4));
     Ok(())
 }
+
+/// A PAD call, a message begun, and a reset before its end.
+const RESET: [Line; 6] = [
+    (1, Side::T, "10010B000001000000"),
+    (2, Side::N, "10010F"),
+    (3, Side::N, "90011002020103000400050006000700080009"),
+    (4, Side::T, "10011B0000"),
+    (5, Side::N, "10011F"),
+    (6, Side::N, "9001000A"),
+];
 
 #[test]
 fn reset_drops_the_message_begun(rt: HostRuntime) -> Result<(), Fail> {
-    let alloc = rt.alloc();
-    let lines: [Line; 6] = [
-        (1, Side::T, "10010B000001000000"),
-        (2, Side::N, "10010F"),
-        (3, Side::N, "90011002020103000400050006000700080009"),
-        (4, Side::T, "10011B0000"),
-        (5, Side::N, "10011F"),
-        (6, Side::N, "9001000A"),
-    ];
-    let report = report_of(alloc, &SMALL, 1, &lines, None)?;
-    assert_eq!(rt;
-        report.findings.as_slice(),
-        [found(6, Side::N, StateName::D1, Code::Pad(Xcode::X1))].as_slice()
-    );
-    let calls = [Call {
-        channel: 1,
-        out: true,
-        opened: 1,
-        up: Some(2),
-        ended: None,
-        how: None,
-        data_t: 0,
-        oct_t: 0,
-        data_n: 2,
-        oct_n: 17,
-        segments: 2,
-    }];
-    assert_eq!(rt; told(alloc, &report.calls)?.as_slice(), calls.as_slice());
-    assert_eq!(rt; (report.octets, report.segments), (17, 2));
+    let counted = gives(
+        &rt,
+        rt.alloc(),
+        &SMALL,
+        1,
+        &RESET,
+        None,
+        &[(6, Side::N, StateName::D1, Code::Pad(Xcode::X1))],
+        &[Call {
+            data_n: 2,
+            oct_n: 17,
+            segments: 2,
+            ..PLAIN_CALL
+        }],
+    )?;
+    assert!(rt; counted == (17, 2));
     Ok(())
 }
+
+/// A value that the remote DTE asked for.
+const ASKED: [SettingRecord; 1] = [SettingRecord {
+    pad: Side::T,
+    parameter: 2,
+    entry: Entry::Asked(1),
+}];
+
+/// A PAD call, and messages with cut pairs.
+const CUT_PAIRS: [Line; 7] = [
+    (1, Side::T, "10010B000001000000"),
+    (2, Side::N, "10010F"),
+    (3, Side::N, "9001000202"),
+    (4, Side::N, "900102030802"),
+    (5, Side::T, "100141"),
+    (6, Side::N, "90010403"),
+    (7, Side::N, "90010602020100000B05"),
+];
 
 #[test]
 fn cut_pairs_are_faults_and_an_asked_value_stands(rt: HostRuntime) -> Result<(), Fail> {
-    let alloc = rt.alloc();
-    let lines: [Line; 7] = [
-        (1, Side::T, "10010B000001000000"),
-        (2, Side::N, "10010F"),
-        (3, Side::N, "9001000202"),
-        (4, Side::N, "900102030802"),
-        (5, Side::T, "100141"),
-        (6, Side::N, "90010403"),
-        (7, Side::N, "90010602020100000B05"),
-    ];
-    let report = report_of(alloc, &INTERFACE, 1, &lines, None)?;
-    let findings = [
-        found(3, Side::N, StateName::D1, Code::Pad(Xcode::X2)),
-        found(4, Side::N, StateName::D1, Code::Pad(Xcode::X2)),
-    ];
-    assert_eq!(rt; report.findings.as_slice(), findings.as_slice());
-    let calls = [Call {
-        channel: 1,
-        out: true,
-        opened: 1,
-        up: Some(2),
-        ended: None,
-        how: None,
-        data_t: 0,
-        oct_t: 0,
-        data_n: 4,
-        oct_n: 13,
-        segments: 4,
-    }];
-    assert_eq!(rt; told(alloc, &report.calls)?.as_slice(), calls.as_slice());
-    let settings = [SettingRecord {
-        pad: Side::T,
-        parameter: 2,
-        entry: Entry::Asked(1),
-    }];
-    assert_eq!(rt; first_settings(&report.calls), settings.as_slice());
-    assert_eq!(rt; (report.octets, report.segments), (13, 4));
+    let counted = gives(
+        &rt,
+        rt.alloc(),
+        &INTERFACE,
+        1,
+        &CUT_PAIRS,
+        None,
+        &[
+            (3, Side::N, StateName::D1, Code::Pad(Xcode::X2)),
+            (4, Side::N, StateName::D1, Code::Pad(Xcode::X2)),
+        ],
+        &[Call {
+            data_n: 4,
+            oct_n: 13,
+            segments: 4,
+            ..PLAIN_CALL
+        }],
+    )?;
+    assert!(rt; counted == (13, 4));
+    let report = report_of(rt.alloc(), &INTERFACE, 1, &CUT_PAIRS, None)?;
+    assert!(rt; first_settings(&report.calls) == ASKED.as_slice());
     Ok(())
 }
 
+/// Packets on three permanent circuits, too short or too long.
+const CUT_PACKETS: [Line; 7] = [
+    (1, Side::N, "200102"),
+    (2, Side::N, "200101"),
+    (3, Side::N, "2001010100"),
+    (4, Side::T, "2001"),
+    (5, Side::T, "200127"),
+    (8, Side::N, "2002"),
+    (13, Side::T, "2003FB"),
+];
+
 #[test]
 fn packets_are_cut_on_permanent_circuits(rt: HostRuntime) -> Result<(), Fail> {
-    let alloc = rt.alloc();
-    let lines: [Line; 7] = [
-        (1, Side::N, "200102"),
-        (2, Side::N, "200101"),
-        (3, Side::N, "2001010100"),
-        (4, Side::T, "2001"),
-        (5, Side::T, "200127"),
-        (8, Side::N, "2002"),
-        (13, Side::T, "2003FB"),
-    ];
-    let on_one = [
-        found(1, Side::N, StateName::D1, Code::Number(38)),
-        found(2, Side::N, StateName::D1, Code::Number(38)),
-        found(3, Side::N, StateName::D1, Code::Number(39)),
-        found(4, Side::T, StateName::D1, Code::Number(38)),
-    ];
-    let on_two = [found(8, Side::N, StateName::D1, Code::Number(38))];
-    let on_three = [found(13, Side::T, StateName::D1, Code::Number(41))];
-    gives(&rt, alloc, &LONG, 1, &lines, &on_one, &[])?;
-    gives(&rt, alloc, &LONG, 2, &lines, &on_two, &[])?;
-    gives(&rt, alloc, &LONG, 3, &lines, &on_three, &[])
+    gives(
+        &rt,
+        rt.alloc(),
+        &LONG,
+        1,
+        &CUT_PACKETS,
+        None,
+        &[
+            (1, Side::N, StateName::D1, Code::Number(38)),
+            (2, Side::N, StateName::D1, Code::Number(38)),
+            (3, Side::N, StateName::D1, Code::Number(39)),
+            (4, Side::T, StateName::D1, Code::Number(38)),
+        ],
+        &[],
+    )?;
+    gives(
+        &rt,
+        rt.alloc(),
+        &LONG,
+        2,
+        &CUT_PACKETS,
+        None,
+        &[(8, Side::N, StateName::D1, Code::Number(38))],
+        &[],
+    )?;
+    gives(
+        &rt,
+        rt.alloc(),
+        &LONG,
+        3,
+        &CUT_PACKETS,
+        None,
+        &[(13, Side::T, StateName::D1, Code::Number(41))],
+        &[],
+    )?;
+    Ok(())
 }
+
+/// Calls on channels of one direction and of both.
+const DIRECTIONS: [Line; 4] = [
+    (1, Side::T, "10010B0000"),
+    (2, Side::N, "10030B0000"),
+    (3, Side::N, "10020B0000"),
+    (4, Side::T, "10030B0000"),
+];
 
 #[test]
 fn calls_go_the_way_of_their_channel(rt: HostRuntime) -> Result<(), Fail> {
-    let alloc = rt.alloc();
-    let lines: [Line; 4] = [
-        (1, Side::T, "10010B0000"),
-        (2, Side::N, "10030B0000"),
-        (3, Side::N, "10020B0000"),
-        (4, Side::T, "10030B0000"),
-    ];
-    let on_one = [found(1, Side::T, StateName::P1, Code::Number(34))];
-    let on_three = [found(2, Side::N, StateName::P1, Code::Number(34))];
-    gives(&rt, alloc, &ONE_WAY, 1, &lines, &on_one, &[])?;
     gives(
         &rt,
-        alloc,
+        rt.alloc(),
+        &ONE_WAY,
+        1,
+        &DIRECTIONS,
+        None,
+        &[(1, Side::T, StateName::P1, Code::Number(34))],
+        &[],
+    )?;
+    gives(
+        &rt,
+        rt.alloc(),
         &ONE_WAY,
         2,
-        &lines,
+        &DIRECTIONS,
+        None,
         &[],
         &[without_data(2, false, 3, None)],
     )?;
     gives(
         &rt,
-        alloc,
+        rt.alloc(),
         &ONE_WAY,
         3,
-        &lines,
-        &on_three,
+        &DIRECTIONS,
+        None,
+        &[(2, Side::N, StateName::P1, Code::Number(34))],
         &[without_data(3, true, 4, None)],
-    )
+    )?;
+    Ok(())
 }
+
+/// Packets on channels whose state is not known.
+const IN_THE_MIDDLE: [Line; 11] = [
+    (1, Side::N, "10020B01A000"),
+    (2, Side::N, "10020F"),
+    (3, Side::N, "10020B0000"),
+    (4, Side::T, "10020F"),
+    (5, Side::N, "10040B0000"),
+    (6, Side::N, "100400AA"),
+    (7, Side::T, "10030B"),
+    (8, Side::N, "10030B0000"),
+    (9, Side::N, "10011B"),
+    (10, Side::N, "10011B0526"),
+    (11, Side::T, "10011F"),
+];
 
 #[test]
 fn unknown_channels_let_data_pass(rt: HostRuntime) -> Result<(), Fail> {
-    let alloc = rt.alloc();
-    let lines: [Line; 11] = [
-        (1, Side::N, "10020B01A000"),
-        (2, Side::N, "10020F"),
-        (3, Side::N, "10020B0000"),
-        (4, Side::T, "10020F"),
-        (5, Side::N, "10040B0000"),
-        (6, Side::N, "100400AA"),
-        (7, Side::T, "10030B"),
-        (8, Side::N, "10030B0000"),
-        (9, Side::N, "10011B"),
-        (10, Side::N, "10011B0526"),
-        (11, Side::T, "10011F"),
-    ];
-    let on_one = [found(9, Side::N, StateName::D1, Code::Number(38))];
-    let on_two = [found(1, Side::N, StateName::P1, Code::Number(67))];
-    let on_three = [found(7, Side::T, StateName::P1, Code::Number(38))];
-    let on_four = [found(5, Side::N, StateName::P1, Code::Number(34))];
-    gives(&rt, alloc, &JOINED, 1, &lines, &on_one, &[])?;
     gives(
         &rt,
-        alloc,
+        rt.alloc(),
+        &JOINED,
+        1,
+        &IN_THE_MIDDLE,
+        None,
+        &[(9, Side::N, StateName::D1, Code::Number(38))],
+        &[],
+    )?;
+    gives(
+        &rt,
+        rt.alloc(),
         &JOINED,
         2,
-        &lines,
-        &on_two,
+        &IN_THE_MIDDLE,
+        None,
+        &[(1, Side::N, StateName::P1, Code::Number(67))],
         &[without_data(2, false, 3, Some(4))],
     )?;
-    gives(&rt, alloc, &JOINED, 3, &lines, &on_three, &[])?;
-    gives(&rt, alloc, &JOINED, 4, &lines, &on_four, &[])
+    gives(
+        &rt,
+        rt.alloc(),
+        &JOINED,
+        3,
+        &IN_THE_MIDDLE,
+        None,
+        &[(7, Side::T, StateName::P1, Code::Number(38))],
+        &[],
+    )?;
+    gives(
+        &rt,
+        rt.alloc(),
+        &JOINED,
+        4,
+        &IN_THE_MIDDLE,
+        None,
+        &[(5, Side::N, StateName::P1, Code::Number(34))],
+        &[],
+    )?;
+    Ok(())
 }

@@ -6,6 +6,8 @@ mod accounts;
 #[cfg(test)]
 mod channels;
 #[cfg(test)]
+mod checks;
+#[cfg(test)]
 mod messages;
 #[cfg(test)]
 mod parameters;

@@ -1,5 +1,6 @@
 //! Messages written octet by octet, and what they are.
 
+use crate::checks::holds_for;
 use line_model::finding::Xcode;
 use std::test::Fail;
 use x29_messages::message::{MessageCode, read_message};
@@ -12,31 +13,33 @@ fn code(octets: &[u8]) -> Result<MessageCode, Xcode> {
 
 #[test]
 fn octets_are_read_up_to_1024(rt: HostRuntime) {
-    assert_eq!(rt; code([2; 1023].as_slice()), Ok(MessageCode::Set));
-    assert_eq!(rt; code([2; 1024].as_slice()), Err(Xcode::X2));
-    assert_eq!(rt; code([2; 1025].as_slice()), Err(Xcode::XL));
-    assert_eq!(rt; code([9; 1025].as_slice()), Err(Xcode::X1));
+    assert!(rt; code([2; 1023].as_slice()) == Ok(MessageCode::Set));
+    assert!(rt; code([2; 1024].as_slice()) == Err(Xcode::X2));
+    assert!(rt; code([2; 1025].as_slice()) == Err(Xcode::XL));
+    assert!(rt; code([9; 1025].as_slice()) == Err(Xcode::X1));
 }
+
+/// Messages, and their codes or their faults.
+const WORKED: [(&[u8], Result<MessageCode, Xcode>); 13] = [
+    (b"", Err(Xcode::X1)),
+    (b"\x09", Err(Xcode::X1)),
+    (b"\x42", Err(Xcode::X1)),
+    (b"\x00\x02\x01", Ok(MessageCode::Indication)),
+    (b"\x02\x0b\x01", Ok(MessageCode::Set)),
+    (b"\x02", Ok(MessageCode::Set)),
+    (b"\x02\x02", Err(Xcode::X2)),
+    (b"\x03\x08\x02", Err(Xcode::X2)),
+    (b"\x03\x08\x01", Ok(MessageCode::Break)),
+    (b"\x03", Ok(MessageCode::Break)),
+    (b"\x04\x03", Err(Xcode::X2)),
+    (b"\x06\x02\x02\x01\x00\x00\x0b\x05", Err(Xcode::X2)),
+    (b"\x08\x01", Ok(MessageCode::ReselectionWithAddress)),
+];
 
 #[test]
 fn messages_of_the_worked_traces_have_their_faults(rt: HostRuntime) {
-    let cases: [(&[u8], Result<MessageCode, Xcode>); 13] = [
-        (b"", Err(Xcode::X1)),
-        (b"\x09", Err(Xcode::X1)),
-        (b"\x42", Err(Xcode::X1)),
-        (b"\x00\x02\x01", Ok(MessageCode::Indication)),
-        (b"\x02\x0b\x01", Ok(MessageCode::Set)),
-        (b"\x02", Ok(MessageCode::Set)),
-        (b"\x02\x02", Err(Xcode::X2)),
-        (b"\x03\x08\x02", Err(Xcode::X2)),
-        (b"\x03\x08\x01", Ok(MessageCode::Break)),
-        (b"\x03", Ok(MessageCode::Break)),
-        (b"\x04\x03", Err(Xcode::X2)),
-        (b"\x06\x02\x02\x01\x00\x00\x0b\x05", Err(Xcode::X2)),
-        (b"\x08\x01", Ok(MessageCode::ReselectionWithAddress)),
-    ];
-    for (octets, want) in cases {
-        assert_eq!(rt; code(octets), want, "for {octets:?}");
+    for (octets, wanted) in &WORKED {
+        holds_for(&rt, code(octets) == *wanted, octets);
     }
 }
 
@@ -52,12 +55,12 @@ fn pairs_end_at_the_separator(rt: HostRuntime) -> Result<(), Fail> {
         reference: 0x80,
         value: 5,
     };
-    assert_eq!(rt; pairs.next(), Some(first));
-    assert_eq!(rt; pairs.next(), Some(marked));
-    assert_eq!(rt; pairs.next(), None);
+    assert!(rt; pairs.next() == Some(first));
+    assert!(rt; pairs.next() == Some(marked));
+    assert!(rt; pairs.next() == None);
     let indication = read_message(b"\x00\x02\x01\x80\x05\x0b\x05")?;
     let mut pairs = indication.standard_pairs();
-    assert_eq!(rt; pairs.next(), Some(first));
-    assert_eq!(rt; pairs.next(), None);
+    assert!(rt; pairs.next() == Some(first));
+    assert!(rt; pairs.next() == None);
     Ok(())
 }

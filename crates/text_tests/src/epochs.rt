@@ -277,21 +277,31 @@ fn push_two(rt: &impl Abort, cutter: &mut Cutter, out: &mut Vec<Piece>) -> Resul
     Ok(())
 }
 
-/// The second epoch has a piece, and the last of eight rows a finding.
-fn has_second(rt: &impl Abort, cut: &Cut) {
+/// At the end the second epoch has a piece, and the last of eight rows a finding.
+fn ends_with_second(rt: &impl Abort, cutter: Cutter) -> Result<(), Fail> {
+    let cut = cutter.end()?;
     assert!(rt; cut.packets == 8);
     assert!(rt; shapes_are(&cut.pieces, &[(2, 2, 2, 1, None)]));
     assert!(rt; told(&cut.line) == Some((8, Code::Number(17))));
+    Ok(())
+}
+
+/// The pieces of the first epoch.
+const FIRST_EPOCH: [Shape; 2] = [(0, 1, 1, 1, Some(4)), (1, 1, 2, 2, Some(4))];
+
+/// Pushes two epochs, and sees that the first one was given out.
+fn gives_first(rt: &impl Abort, alloc: Global, cutter: &mut Cutter) -> Result<(), Fail> {
+    let mut out = Vec::new(alloc);
+    push_two(rt, cutter, &mut out)?;
+    assert!(rt; shapes_are(&out, &FIRST_EPOCH));
+    Ok(())
 }
 
 #[test]
 fn row_that_leaves_r1_gives_out_its_epoch(rt: HostRuntime) -> Result<(), Fail> {
     let mut cutter = Cutter::new(rt.alloc(), &PLAIN);
-    let mut out = Vec::new(rt.alloc());
-    push_two(&rt, &mut cutter, &mut out)?;
-    assert!(rt; shapes_are(&out, &[(0, 1, 1, 1, Some(4)), (1, 1, 2, 2, Some(4))]));
-    has_second(&rt, &cutter.end()?);
-    Ok(())
+    gives_first(&rt, rt.alloc(), &mut cutter)?;
+    ends_with_second(&rt, cutter)
 }
 
 /// The rows of a trace, which count from 1.
@@ -352,23 +362,26 @@ fn three_epochs_have_a_piece_for_each_channel(rt: HostRuntime) -> Result<(), Fai
     Ok(())
 }
 
+/// A cutter of a row that goes to a channel, and of one with a finding.
+fn open_cutter(alloc: Global) -> Result<Cutter, Fail> {
+    let mut cutter = Cutter::new(alloc, &PLAIN);
+    let mut pieces = Vec::new(alloc);
+    push(&mut cutter, Side::T, b"\x10\x02\x00\xaa", &mut pieces)?;
+    push(&mut cutter, Side::N, b"\x10\x00\xff", &mut pieces)?;
+    Ok(cutter)
+}
+
 /// The piece of the open epoch is shown, and its row's finding.
 fn shows_the_open_epoch(rt: &impl Abort, cutter: &Cutter) -> Result<(), Fail> {
     let shown = cutter.peek()?;
     assert!(rt; shapes_are(&shown, &[(0, 1, 2, 1, None)]));
-    let [finding] = cutter.line() else {
-        return Err("one row has a finding")?;
-    };
-    assert!(rt; finding.code == Code::Number(17));
+    assert!(rt; told(cutter.line()) == Some((2, Code::Number(17))));
     Ok(())
 }
 
 #[test]
 fn pieces_of_the_open_epoch_are_shown_and_stay(rt: HostRuntime) -> Result<(), Fail> {
-    let mut cutter = Cutter::new(rt.alloc(), &PLAIN);
-    let mut pieces = Vec::new(rt.alloc());
-    push(&mut cutter, Side::T, b"\x10\x02\x00\xaa", &mut pieces)?;
-    push(&mut cutter, Side::N, b"\x10\x00\xff", &mut pieces)?;
+    let cutter = open_cutter(rt.alloc())?;
     shows_the_open_epoch(&rt, &cutter)?;
     shows_the_open_epoch(&rt, &cutter)
 }

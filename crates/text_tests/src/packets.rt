@@ -384,26 +384,26 @@ fn packets_of_data_transfer_have_bounds(rt: HostRuntime) {
     }
 }
 
-/// The fields of a call request or of the packet that accepts it, and whether it is the request.
-fn call(octets: &[u8]) -> Option<(CallFields<'_>, bool)> {
+/// Whether this is a call request to an address.
+fn is_call_to(octets: &[u8], called: &[u8]) -> bool {
     match read(octets, false) {
-        Ok(Contents::Call(fields)) => Some((fields, true)),
-        Ok(Contents::Accepted(fields)) => Some((fields, false)),
-        _ => None,
+        Ok(Contents::Call(fields)) => fields.called.as_bytes() == called,
+        _ => false,
+    }
+}
+
+/// Whether this packet accepts a call of an address.
+fn is_accepted_of(octets: &[u8], calling: &[u8]) -> bool {
+    match read(octets, false) {
+        Ok(Contents::Accepted(fields)) => fields.calling.as_bytes() == calling,
+        _ => false,
     }
 }
 
 #[test]
-fn call_packets_have_their_fields(rt: HostRuntime) -> Result<(), Fail> {
-    let Some((fields, true)) = call(b"\x10\x01\x0b\x32\x12\x34\x50\x02\x01\x01") else {
-        return Err("no call request")?;
-    };
-    assert!(rt; fields.called.as_bytes() == b"12".as_slice());
-    let Some((fields, false)) = call(b"\x10\x01\x0f\x11\x12") else {
-        return Err("no call accepted")?;
-    };
-    assert!(rt; fields.calling.as_bytes() == b"2".as_slice());
-    Ok(())
+fn call_packets_have_their_fields(rt: HostRuntime) {
+    assert!(rt; is_call_to(b"\x10\x01\x0b\x32\x12\x34\x50\x02\x01\x01", b"12"));
+    assert!(rt; is_accepted_of(b"\x10\x01\x0f\x11\x12", b"2"));
 }
 
 /// Packets, whether their call asked fast select, and the codes of their faults.

@@ -1,5 +1,8 @@
 //! What no contract says: the texts of faults, and values from outside.
 
+ghost use Rattle.std.specs.Prelude.{◌≡◌, IfOk};
+
+use crate::checks::holds_at;
 use line_model::address::Address;
 use line_model::call::{CallRecord, SettingRecord, copies};
 use line_model::event::Entry;
@@ -10,6 +13,8 @@ use line_model::packet::{Class, Packet, PacketKind};
 use line_model::piece::PieceReport;
 use line_model::state::{ChannelState, DState, PState, RState, Side, StateName};
 use line_model::table::{Action, table_n, table_t};
+use std::alloc::Global;
+use std::process::Abort;
 use std::test::Fail;
 
 mod items;
@@ -26,149 +31,198 @@ const MIXED: Interface = Interface {
     join: true,
 };
 
+/// Faults, their numbers and their texts.
+const FAULTS: [(Fault, u8, &str); 10] = [
+    (Fault::Memory, 1, "out of memory"),
+    (Fault::Trace(3, Kind::Number), 2, "line 3: kind 25"),
+    (Fault::Trace(1, Kind::HeaderMissing), 2, "line 1: kind 21"),
+    (Fault::Trace(9, Kind::TextLarge), 2, "line 9: kind 29"),
+    (Fault::Read, 3, "read failed"),
+    (Fault::Write, 4, "write failed"),
+    (Fault::Start, 5, "thread refused"),
+    (Fault::Double(0), 6, "piece 0 posted twice"),
+    (Fault::Stranger(12), 7, "piece 12 unknown"),
+    (Fault::Missing(3), 8, "piece 3 missing"),
+];
+
+/// Whether a fault is written so.
+fn says(alloc: Global, fault: &Fault, text: &str) -> Result<bool, Fail> {
+    let said = format!(in alloc; "{fault}")?;
+    Ok(said.as_str() == text)
+}
+
 #[test]
 fn faults_have_their_texts_and_numbers(rt: HostRuntime) -> Result<(), Fail> {
-    let faults = [
-        (Fault::Memory, 1, "out of memory"),
-        (Fault::Trace(3, Kind::Number), 2, "line 3: kind 25"),
-        (Fault::Trace(1, Kind::HeaderMissing), 2, "line 1: kind 21"),
-        (Fault::Trace(9, Kind::TextLarge), 2, "line 9: kind 29"),
-        (Fault::Read, 3, "read failed"),
-        (Fault::Write, 4, "write failed"),
-        (Fault::Start, 5, "thread refused"),
-        (Fault::Double(0), 6, "piece 0 posted twice"),
-        (Fault::Stranger(12), 7, "piece 12 unknown"),
-        (Fault::Missing(3), 8, "piece 3 missing"),
-    ];
-    for (fault, number, text) in faults {
-        let said = format!(in rt.alloc(); "{fault}")?;
-        assert!(rt; said.as_str() == text, "{text}");
-        assert_eq!(rt; fault.number(), number);
+    for (fault, number, text) in &FAULTS {
+        let said = says(rt.alloc(), fault, text)?;
+        holds_at(&rt, said && fault.number() == *number, *number as usize);
     }
     Ok(())
 }
 
+/// Channels, whether they are permanent, and whether a call of the DTE or of the DCE is against their direction.
+const DIRECTIONS: [(u16, bool, bool, bool); 5] = [
+    (1, true, false, false),
+    (2, false, true, false),
+    (3, false, false, false),
+    (4, false, false, false),
+    (5, false, false, true),
+];
+
 #[test]
 fn calls_keep_to_the_direction_of_their_channel(rt: HostRuntime) {
-    for (channel, permanent, against_t, against_n) in [
-        (1, true, false, false),
-        (2, false, true, false),
-        (3, false, false, false),
-        (4, false, false, false),
-        (5, false, false, true),
-    ] {
-        assert_eq!(rt; MIXED.is_permanent(channel), permanent, "channel {channel}");
-        assert_eq!(rt;
-            MIXED.is_against(Side::T, channel),
-            against_t,
-            "channel {channel}"
-        );
-        assert_eq!(rt;
-            MIXED.is_against(Side::N, channel),
-            against_n,
-            "channel {channel}"
+    for (channel, permanent, against_t, against_n) in &DIRECTIONS {
+        let is_permanent = MIXED.is_permanent(*channel);
+        let by_t = MIXED.is_against(Side::T, *channel);
+        let by_n = MIXED.is_against(Side::N, *channel);
+        let answer = (is_permanent, by_t, by_n);
+        holds_at(
+            &rt,
+            answer == (*permanent, *against_t, *against_n),
+            *channel as usize,
         );
     }
 }
 
+/// Epochs, channels, and the state in which these begin.
+const FRESH: [(u32, u16, ChannelState); 4] = [
+    (1, 1, ChannelState::Unknown),
+    (1, 3, ChannelState::Unknown),
+    (2, 1, ChannelState::Transfer(DState::D1)),
+    (2, 3, ChannelState::Setup(PState::P1)),
+];
+
 #[test]
 fn channels_are_unknown_in_the_first_epoch_alone(rt: HostRuntime) {
-    assert!(rt; MIXED.fresh_state(1, 1) == ChannelState::Unknown);
-    assert!(rt; MIXED.fresh_state(1, 3) == ChannelState::Unknown);
-    assert!(rt; MIXED.fresh_state(2, 1) == ChannelState::Transfer(DState::D1));
-    assert!(rt; MIXED.fresh_state(2, 3) == ChannelState::Setup(PState::P1));
+    for (epoch, channel, state) in &FRESH {
+        let fresh = MIXED.fresh_state(*epoch, *channel);
+        holds_at(&rt, fresh == *state, *channel as usize);
+    }
+}
+
+/// An entry is the printed one.
+fn is_printed(rt: &impl Abort, printed: bool, state: StateName, class: Class) {
+    assert!(rt; printed, "{state:?} {class:?}");
+}
+
+/// Entries of the table for packets of the DTE.
+const OF_THE_DTE: [(StateName, Class, Action); 7] = [
+    (StateName::R2, Class::Restart, Action::Discard),
+    (
+        StateName::R3,
+        Class::RestartConfirm,
+        Action::Move(StateName::R1),
+    ),
+    (StateName::P1, Class::Call, Action::Move(StateName::P2)),
+    (StateName::P3, Class::Call, Action::Move(StateName::P5)),
+    (StateName::P6, Class::Data, Action::Error(25)),
+    (StateName::D1, Class::Rej, Action::Error(37)),
+    (StateName::Dash, Class::Diagnostic, Action::Error(36)),
+];
+
+/// Entries of the table for packets of the DCE, by what it owes.
+const OF_THE_DCE: [(StateName, bool, Class, Action); 6] = [
+    (StateName::R3, true, Class::Data, Action::Pass),
+    (StateName::R3, false, Class::Data, Action::Error(19)),
+    (StateName::P7, true, Class::Clear, Action::Ends),
+    (
+        StateName::P5,
+        false,
+        Class::Accepted,
+        Action::Move(StateName::P4),
+    ),
+    (
+        StateName::D2,
+        false,
+        Class::Reset,
+        Action::Move(StateName::D1),
+    ),
+    (StateName::Dash, false, Class::Diagnostic, Action::Pass),
+];
+
+/// The table for packets of the DTE has its printed entries.
+fn check_table_t(rt: &impl Abort) {
+    for (state, class, action) in &OF_THE_DTE {
+        is_printed(rt, table_t(*state, *class) == *action, *state, *class);
+    }
 }
 
 #[test]
 fn tables_have_the_printed_entries(rt: HostRuntime) {
-    for (state, class, action) in [
-        (StateName::R2, Class::Restart, Action::Discard),
-        (
-            StateName::R3,
-            Class::RestartConfirm,
-            Action::Move(StateName::R1),
-        ),
-        (StateName::P1, Class::Call, Action::Move(StateName::P2)),
-        (StateName::P3, Class::Call, Action::Move(StateName::P5)),
-        (StateName::P6, Class::Data, Action::Error(25)),
-        (StateName::D1, Class::Rej, Action::Error(37)),
-        (StateName::Dash, Class::Diagnostic, Action::Error(36)),
-    ] {
-        assert!(rt; table_t(state, class) == action, "{state:?} {class:?}");
-    }
-    for (state, owed, class, action) in [
-        (StateName::R3, true, Class::Data, Action::Pass),
-        (StateName::R3, false, Class::Data, Action::Error(19)),
-        (StateName::P7, true, Class::Clear, Action::Ends),
-        (
-            StateName::P5,
-            false,
-            Class::Accepted,
-            Action::Move(StateName::P4),
-        ),
-        (
-            StateName::D2,
-            false,
-            Class::Reset,
-            Action::Move(StateName::D1),
-        ),
-        (StateName::Dash, false, Class::Diagnostic, Action::Pass),
-    ] {
-        assert!(rt;
-            table_n(state, owed, class) == action,
-            "{state:?} {class:?}"
+    check_table_t(&rt);
+    for (state, owed, class, action) in &OF_THE_DCE {
+        is_printed(
+            &rt,
+            table_n(*state, *owed, *class) == *action,
+            *state,
+            *class,
         );
     }
 }
 
-#[test]
-fn names_and_classes(rt: HostRuntime) {
+/// States have their names, and enter their states.
+fn check_names(rt: &impl Abort) {
     assert!(rt; RState::R3.name() == StateName::R3);
     assert!(rt; PState::P7.name() == StateName::P7);
     assert!(rt; DState::D2.name() == StateName::D2);
     assert!(rt; StateName::P4.entered() == ChannelState::Transfer(DState::D1));
+}
+
+#[test]
+fn names_and_classes(rt: HostRuntime) {
+    check_names(&rt);
     let call = Packet::Channel {
         channel: 4,
         kind: PacketKind::Call,
     };
     assert!(rt; call.class() == Class::Call);
-    assert!(rt; Class::Diagnostic.is_outside());
-    assert!(rt; !Class::Call.is_outside());
+    assert!(rt; Class::Diagnostic.is_outside() && !Class::Call.is_outside());
     assert!(rt; Xcode::X1 != Xcode::XL);
+}
+
+/// Whether an address has these digits.
+fn has_digits(address: &Address, digits: &[u8]) -> bool {
+    address.as_bytes() == digits
 }
 
 #[test]
 fn addresses_are_digits_in_ascii(rt: HostRuntime) {
     let mut address = Address::absent();
-    assert!(rt; address.as_bytes() == b"".as_slice());
+    assert!(rt; has_digits(&address, b""));
     address.push(3);
     let copy = address.copied();
     address.push(4);
-    assert!(rt; address.as_bytes() == b"34".as_slice());
-    assert!(rt; copy.as_bytes() == b"3".as_slice());
+    assert!(rt; has_digits(&address, b"34") && has_digits(&copy, b"3"));
 }
 
-#[test]
-fn a_report_is_copied_with_its_calls(rt: HostRuntime) -> Result<(), Fail> {
-    let alloc = rt.alloc();
-    let asked = SettingRecord {
-        pad: Side::T,
-        parameter: 2,
-        entry: Entry::Asked(1),
-    };
-    let finding = Finding {
-        packet: 3,
-        side: Side::T,
-        state: StateName::D1,
-        code: Code::Number(38),
-    };
-    let mut address = Address::absent();
-    address.push(7);
-    let call = CallRecord {
+/// A value that the remote DTE asked for.
+const ASKED: SettingRecord = SettingRecord {
+    pad: Side::T,
+    parameter: 2,
+    entry: Entry::Asked(1),
+};
+
+/// A packet that is too short.
+const SHORT: Finding = Finding {
+    packet: 3,
+    side: Side::T,
+    state: StateName::D1,
+    code: Code::Number(38),
+};
+
+/// A call to the address 7 of one data packet, with that value.
+fn call(alloc: Global) -> Result<CallRecord, Fail>
+    ensures octets { IfOk result (λ call. (call.oct_t ≡ 5) × (call.oct_n ≡ 0)) }
+    ensures segments { IfOk result (λ call. call.segments ≡ 1) }
+{
+    let mut called = Address::absent();
+    called.push(7);
+    let settings = Vec::from_slice(alloc, &[ASKED])?;
+    Ok(CallRecord {
         epoch: 1,
         channel: 4,
         out: true,
-        called: address,
+        called,
         calling: Address::absent(),
         reverse: false,
         up: Some(2),
@@ -180,25 +234,39 @@ fn a_report_is_copied_with_its_calls(rt: HostRuntime) -> Result<(), Fail> {
         data_n: 0,
         oct_n: 0,
         segments: 1,
-        settings: Vec::from_slice(alloc, &[asked])?,
-    };
-    let mut calls = Vec::new(alloc);
-    calls.push(call)?;
-    let report = PieceReport {
+        settings,
+    })
+}
+
+/// The report of a piece with that finding and that call.
+fn report(alloc: Global) -> Result<PieceReport, Fail> {
+    let calls = vec![in alloc; call(alloc)?]?;
+    let findings = Vec::from_slice(alloc, &[SHORT])?;
+    Ok(PieceReport {
         id: 0,
         epoch: 1,
         channel: 4,
-        findings: Vec::from_slice(alloc, &[finding])?,
+        findings,
         calls,
         octets: 5,
         segments: 1,
-    };
-    let copy = report.copy(alloc)?;
-    assert!(rt; copy.findings.as_slice() == [finding].as_slice());
+    })
+}
+
+/// Whether these are copies of that one call.
+fn are_copies(calls: &[CallRecord]) -> bool {
+    match calls {
+        [call] => has_digits(&call.called, b"7") && call.settings.as_slice() == [ASKED].as_slice(),
+        _ => false,
+    }
+}
+
+#[test]
+fn a_report_is_copied_with_its_calls(rt: HostRuntime) -> Result<(), Fail> {
+    let copy = report(rt.alloc())?.copy(rt.alloc())?;
+    assert!(rt; copy.findings.as_slice() == [SHORT].as_slice());
     assert!(rt; (copy.octets, copy.segments) == (5, 1));
-    let calls = copies(alloc, &copy.calls)?;
-    assert!(rt; calls.len() == 1);
-    assert!(rt; calls[0].called.as_bytes() == b"7".as_slice());
-    assert!(rt; calls[0].settings.as_slice() == [asked].as_slice());
+    let calls = copies(rt.alloc(), &copy.calls)?;
+    assert!(rt; are_copies(&calls));
     Ok(())
 }

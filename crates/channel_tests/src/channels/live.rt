@@ -1,17 +1,19 @@
 //! Channels that take their rows as they come.
 
-use crate::channels::{INTERFACE, Line, first_settings, found, items};
+use crate::channels::refused::LINES;
+use crate::channels::{ASKED, INTERFACE, findings_are, first_settings, items};
 use channel_machine::channel::PlainChannel;
 use channel_run::live::LiveChannel;
 use channel_run::run::Channel;
-use line_model::call::SettingRecord;
-use line_model::event::{Entry, How};
+use line_model::call::CallRecord;
+use line_model::event::How;
 use line_model::fault::Fault;
 use line_model::finding::{Code, Xcode};
 use line_model::piece::{Piece, PieceReport};
 use line_model::row::Row;
 use line_model::state::{Side, StateName};
 use std::alloc::{Allocator, Global};
+use std::process::Abort;
 use std::test::Fail;
 
 /// What is told after a row: the packet of the finding on it, and how many findings, calls and octets there are so far.
@@ -51,57 +53,56 @@ fn followed<A: Allocator + Clone, C: Channel<A>>(
     Ok(report)
 }
 
-/// A PAD call, its messages and their faults, and a restart.
-#[test]
-fn each_row_is_told_at_once(rt: HostRuntime) -> Result<(), Fail> {
-    let alloc = rt.alloc();
-    let lines: [Line; 7] = [
-        (1, Side::T, "10010B000001000000"),
-        (2, Side::N, "10010F"),
-        (3, Side::N, "9001000202"),
-        (4, Side::N, "900102030802"),
-        (5, Side::T, "100141"),
-        (6, Side::N, "90010403"),
-        (7, Side::N, "90010602020100000B05"),
-    ];
+/// What is told after each row of the call.
+const BY_ROW: [Told; 7] = [
+    (None, 0, 1, 0),
+    (None, 0, 1, 0),
+    (Some(3), 1, 1, 2),
+    (Some(4), 2, 1, 5),
+    (None, 2, 1, 5),
+    (None, 2, 1, 6),
+    (None, 2, 1, 13),
+];
+
+/// Follows the call to the restart that ends it.
+fn follow_call(alloc: Global, told: &mut Vec<Told>) -> Result<PieceReport, Fail> {
     let piece = Piece {
         id: 5,
         interface: INTERFACE,
         epoch: 2,
         channel: 1,
-        items: items(alloc, &INTERFACE, 1, &lines)?,
+        items: items(alloc, &INTERFACE, 1, LINES.as_slice())?,
         end: Some(8),
     };
-    let mut told = Vec::new(alloc);
-    let report = followed::<Global, PlainChannel>(alloc, &piece, &mut told)?;
-    let by_row: [Told; 7] = [
-        (None, 0, 1, 0),
-        (None, 0, 1, 0),
-        (Some(3), 1, 1, 2),
-        (Some(4), 2, 1, 5),
-        (None, 2, 1, 5),
-        (None, 2, 1, 6),
-        (None, 2, 1, 13),
-    ];
-    assert_eq!(rt; told.as_slice(), by_row.as_slice());
-    assert_eq!(rt; (report.id, report.epoch, report.channel), (5, 2, 1));
+    Ok(followed::<Global, PlainChannel>(alloc, &piece, told)?)
+}
+
+/// The report has the findings of two rows, and the call that the restart ended.
+fn check_report(rt: &impl Abort, report: &PieceReport) {
+    assert!(rt; (report.id, report.epoch, report.channel) == (5, 2, 1));
     let findings = [
-        found(3, Side::N, StateName::D1, Code::Pad(Xcode::X2)),
-        found(4, Side::N, StateName::D1, Code::Pad(Xcode::X2)),
+        (3, Side::N, StateName::D1, Code::Pad(Xcode::X2)),
+        (4, Side::N, StateName::D1, Code::Pad(Xcode::X2)),
     ];
-    assert_eq!(rt; report.findings.as_slice(), findings.as_slice());
-    let settings = [SettingRecord {
-        pad: Side::T,
-        parameter: 2,
-        entry: Entry::Asked(1),
-    }];
-    assert_eq!(rt; first_settings(&report.calls), settings.as_slice());
-    let [call] = report.calls.as_slice() else {
-        return Err("one call".into());
-    };
-    assert_eq!(rt;
-        (call.up, call.ended, call.how),
-        (Some(2), Some(8), Some(How::Restart))
-    );
+    assert!(rt; findings_are(&report.findings, &findings));
+    assert!(rt; first_settings(&report.calls) == ASKED.as_slice());
+    assert!(rt; ends(&report.calls) == Some((Some(2), Some(8), Some(How::Restart))));
+}
+
+/// When the one call came up, when it ended, and how.
+fn ends(calls: &[CallRecord]) -> Option<(Option<u32>, Option<u32>, Option<How>)> {
+    match calls {
+        [call] => Some((call.up, call.ended, call.how)),
+        _ => None,
+    }
+}
+
+/// A PAD call, its messages and their faults, and a restart.
+#[test]
+fn each_row_is_told_at_once(rt: HostRuntime) -> Result<(), Fail> {
+    let mut told = Vec::new(rt.alloc());
+    let report = follow_call(rt.alloc(), &mut told)?;
+    assert!(rt; told.as_slice() == BY_ROW.as_slice());
+    check_report(&rt, &report);
     Ok(())
 }

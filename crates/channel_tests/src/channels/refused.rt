@@ -1,6 +1,7 @@
 //! The run of a piece whose growths are refused.
 
 use crate::channels::{INTERFACE, Line, items};
+use crate::checks::holds_at;
 use channel_machine::channel::PlainChannel;
 use channel_run::run::run_piece;
 use line_model::fault::Fault;
@@ -25,8 +26,9 @@ pub const LINES: [Line; 7] = [
     (7, Side::N, "90010602020100000B05"),
 ];
 
-/// Refuses one growth of a run, and sees that it answers want of memory. Answers whether there was such a growth.
-fn check_growth(rt: &impl Abort, heap: &Scarce<Global>, good: u64) -> Result<bool, Fail> {
+/// Runs the piece of a call, with one growth refused after so many: how many findings there are, and whether one was
+/// refused.
+fn run_with(heap: &Scarce<Global>, good: u64) -> Result<(Result<usize, Fault>, bool), Fail> {
     let piece = Piece {
         id: 0,
         interface: INTERFACE,
@@ -36,32 +38,38 @@ fn check_growth(rt: &impl Abort, heap: &Scarce<Global>, good: u64) -> Result<boo
         end: Some(8),
     };
     heap.refuse_one(good);
-    let report = run_piece::<&Scarce<Global>, PlainChannel<&Scarce<Global>>>(heap, &piece);
+    let findings = match run_piece::<&Scarce<Global>, PlainChannel<&Scarce<Global>>>(heap, &piece) {
+        Ok(report) => Ok(report.findings.len()),
+        Err(fault) => Err(fault),
+    };
     let refused = good < heap.asked();
-    match report {
-        Ok(report) => {
-            assert!(rt; !refused, "at {good}");
-            assert_eq!(rt; report.findings.len(), 2);
-        }
-        Err(fault) => {
-            assert!(rt; refused, "at {good}");
-            assert_eq!(rt; fault, Fault::Memory);
+    heap.grant_all();
+    Ok((findings, refused))
+}
+
+/// Refuses one growth of a run, and sees that it answers want of memory. Answers whether there was such a growth.
+fn check_growth(rt: &impl Abort, heap: &Scarce<Global>, good: u64) -> Result<bool, Fail> {
+    let (findings, refused) = run_with(heap, good)?;
+    let wanted = if refused { Err(Fault::Memory) } else { Ok(2) };
+    holds_at(rt, findings == wanted, good);
+    holds_at(rt, heap.held() == 0, good);
+    Ok(refused)
+}
+
+/// How many growths a run has, each of which is refused in turn.
+fn growths(rt: &impl Abort, heap: &Scarce<Global>) -> Result<u64, Fail> {
+    for good in 0..GROWTHS {
+        if !check_growth(rt, heap, good)? {
+            return Ok(good);
         }
     }
-    heap.grant_all();
-    Ok(refused)
+    Ok(GROWTHS)
 }
 
 #[test]
 fn each_growth_of_a_run_may_be_refused(rt: HostRuntime) -> Result<(), Fail> {
     let heap = Scarce::new(rt.alloc());
-    for good in 0..GROWTHS {
-        let refused = check_growth(&rt, &heap, good)?;
-        assert_eq!(&rt; heap.held(), 0, "at {good}");
-        if !refused {
-            assert!(&rt; 0 < good);
-            return Ok(());
-        }
-    }
-    Err("a run has fewer growths".into())
+    let growths = growths(&rt, &heap)?;
+    assert!(rt; 0 < growths && growths < GROWTHS);
+    Ok(())
 }

@@ -6,6 +6,7 @@ ghost use Rattle.line_model.specs.channels.Channels as channels;
 
 use crate::channels::refused::LINES;
 use crate::channels::{INTERFACE, items};
+use crate::checks::holds_at;
 use channel_machine::channel::{PackedChannel, PlainChannel};
 use channel_run::run::Channel;
 use line_model::event::Event;
@@ -47,13 +48,12 @@ fn step_until_taken<'a, C: Channel<&'a Scarce<Global>>>(
         let step = channel.step(1, row, packet, events);
         let refused = good < heap.asked();
         heap.grant_all();
-        assert_eq!(rt; step.is_err(), refused, "at {good}");
+        holds_at(rt, step.is_err() == refused, good);
         match step {
             Ok(()) => return Ok(good),
             Err(fault) => {
                 let after: Seen = (channel.state(), channel.is_open(), events.len());
-                assert_eq!(rt; fault, Fault::Memory);
-                assert_eq!(rt; after, before, "at {good}");
+                holds_at(rt, fault == Fault::Memory && after == before, good);
             }
         }
     }
@@ -96,17 +96,21 @@ fn check<'a, C: Channel<&'a Scarce<Global>>>(
     let (refused, seen) = step_through::<C>(rt, heap, &INTERFACE, &items)?;
     assert!(rt; 1 < refused, "{refused} growths");
     let (state, is_open, events) = seen;
-    assert_eq!(rt; state, ChannelState::Transfer(DState::D1));
-    assert!(rt; is_open);
-    assert_eq!(rt; events, 9);
+    assert!(rt; state == ChannelState::Transfer(DState::D1));
+    assert!(rt; is_open && events == 9);
     Ok(())
+}
+
+/// Steps both machines of a channel.
+fn check_both(rt: &impl Abort, heap: &Scarce<Global>) -> Result<(), Fail> {
+    check::<PlainChannel<&Scarce<Global>>>(rt, heap)?;
+    check::<PackedChannel<&Scarce<Global>>>(rt, heap)
 }
 
 #[test]
 fn a_step_that_wants_memory_leaves_the_channel_as_it_was(rt: HostRuntime) -> Result<(), Fail> {
     let heap = Scarce::new(rt.alloc());
-    check::<PlainChannel<&Scarce<Global>>>(&rt, &heap)?;
-    check::<PackedChannel<&Scarce<Global>>>(&rt, &heap)?;
-    assert_eq!(rt; heap.held(), 0);
+    check_both(&rt, &heap)?;
+    assert!(rt; heap.held() == 0);
     Ok(())
 }

@@ -34,14 +34,20 @@ fn check_growth(rt: &impl Abort, heap: &Scarce<Global>, good: u64) -> Result<boo
     Ok(refused)
 }
 
+/// How many growths a cut has, each of which is refused in turn.
+fn growths(rt: &impl Abort, heap: &Scarce<Global>) -> Result<u64, Fail> {
+    for good in 0..GROWTHS {
+        if !check_growth(rt, heap, good)? {
+            return Ok(good);
+        }
+    }
+    Ok(GROWTHS)
+}
+
 #[test]
 fn each_growth_of_a_cut_may_be_refused(rt: HostRuntime) -> Result<(), Fail> {
     let heap = Scarce::new(rt.alloc());
-    for good in 0..GROWTHS {
-        if !check_growth(&rt, &heap, good)? {
-            assert!(&rt; 0 < good);
-            return Ok(());
-        }
-    }
-    Err("a cut has fewer growths".into())
+    let growths = growths(&rt, &heap)?;
+    assert!(rt; 0 < growths && growths < GROWTHS);
+    Ok(())
 }

@@ -7,7 +7,6 @@ use line_model::row::Row;
 use line_model::state::Side;
 use std::alloc::{Allocator, Global};
 use std::process::Abort;
-use std::test::Fail;
 use test_devices::scarce::Scarce;
 use trace_text::lines::Lines;
 use trace_text::shares::{Share, ShareFault};
@@ -47,34 +46,47 @@ fn wants_memory<'a>(
         && lines.end(rows).err() == Some(Fault::Memory)
 }
 
+/// What a reader said to the text is right: where a growth was refused, it wants memory from then on; else there are three
+/// rows.
+fn is_right<'a>(
+    lines: Lines<&'a Scarce<Global>>,
+    rows: &mut Vec<Row<&'a Scarce<Global>>, &'a Scarce<Global>>,
+    answer: Result<(), Fault>,
+    refused: bool,
+) -> bool {
+    if refused {
+        answer == Err(Fault::Memory) && wants_memory(lines, rows)
+    } else {
+        answer == Ok(()) && rows.len() == 3
+    }
+}
+
 /// Refuses one growth of a reader, and sees that it answers want of memory from then on. Answers whether there was such
-/// a growth.
-fn check_growth(rt: &impl Abort, heap: &Scarce<Global>, good: u64) -> bool {
+/// a growth, and whether all was right.
+fn refuse_growth(heap: &Scarce<Global>, good: u64) -> (bool, bool) {
     let mut lines = Lines::new(heap);
     let mut rows = Vec::new(heap);
     let (answer, refused) = feed_with(heap, &mut lines, &mut rows, good);
-    if refused {
-        holds_at(rt, answer == Err(Fault::Memory), good as usize);
-        holds_at(rt, wants_memory(lines, &mut rows), good as usize);
-    } else {
-        assert!(rt; answer == Ok(()));
-        assert!(rt; rows.len() == 3);
+    (refused, is_right(lines, &mut rows, answer, refused))
+}
+
+/// How many growths a reader has, each of which is refused in turn. It keeps no block.
+fn growths(rt: &impl Abort, heap: &Scarce<Global>) -> u64 {
+    for good in 0..GROWTHS {
+        let (refused, right) = refuse_growth(heap, good);
+        holds_at(rt, right && heap.held() == 0, good as usize);
+        if !refused {
+            return good;
+        }
     }
-    refused
+    GROWTHS
 }
 
 #[test]
-fn a_reader_that_wanted_memory_wants_it_from_then_on(rt: HostRuntime) -> Result<(), Fail> {
+fn a_reader_that_wanted_memory_wants_it_from_then_on(rt: HostRuntime) {
     let heap = Scarce::new(rt.alloc());
-    for good in 0..GROWTHS {
-        let refused = check_growth(&rt, &heap, good);
-        holds_at(&rt, heap.held() == 0, good as usize);
-        if !refused {
-            assert!(rt; 0 < good);
-            return Ok(());
-        }
-    }
-    Err("a reader has fewer growths".into())
+    let growths = growths(&rt, &heap);
+    assert!(rt; 0 < growths && growths < GROWTHS);
 }
 
 /// What a new share answers to one row.
@@ -86,17 +98,22 @@ fn next_row(row: &mut Row<&Scarce<Global>>) -> Result<bool, ShareFault> {
     }
 }
 
-#[test]
-fn a_share_that_wanted_memory_is_read_again(rt: HostRuntime) {
-    let heap = Scarce::new(rt.alloc());
+/// A row of a share whose first growth is refused is read by a new share.
+fn is_read_again(rt: &impl Abort, heap: &Scarce<Global>) {
     let mut row = Row {
         number: 0,
         side: Side::T,
-        octets: Vec::new(&heap),
+        octets: Vec::new(heap),
     };
     heap.refuse_one(0);
     assert!(rt; next_row(&mut row) == Err(ShareFault::Memory));
     heap.grant_all();
     assert!(rt; next_row(&mut row) == Ok(true));
     assert!(rt; row.octets.len() == 5);
+}
+
+#[test]
+fn a_share_that_wanted_memory_is_read_again(rt: HostRuntime) {
+    let heap = Scarce::new(rt.alloc());
+    is_read_again(&rt, &heap);
 }

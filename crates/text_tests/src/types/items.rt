@@ -1,10 +1,12 @@
 //! Rows with their packets in two lists, by values from outside.
 
+use crate::checks::holds_at;
 use line_model::items::lent::LentItems;
 use line_model::items::{Head, ItemRef, Items};
 use line_model::packet::{DataHeader, Packet, PacketKind};
 use line_model::row::Row;
 use line_model::state::Side;
+use std::alloc::Global;
 use std::process::Abort;
 use std::test::Fail;
 
@@ -60,18 +62,21 @@ fn push_all(items: &mut Items, lines: &[Line]) -> Result<(), Fail> {
     Ok(())
 }
 
+/// Whether this is the row of a line.
+fn is_line(row: &ItemRef<'_>, line: &Line) -> bool {
+    let (number, side, octets, packet) = line;
+    row.number == *number && row.side == *side && row.octets == *octets && row.packet == *packet
+}
+
 /// The rows are these, in this order.
 fn check_rows(rt: &impl Abort, items: &Items, lines: &[Line]) -> Result<(), Fail> {
-    assert_eq!(rt; items.len(), lines.len());
-    assert_eq!(rt; items.is_empty(), lines.is_empty());
+    assert!(rt; items.len() == lines.len() && items.is_empty() == lines.is_empty());
     let mut rows = items.iter();
-    for (number, side, octets, packet) in lines {
+    for line in lines {
         let Some(row) = rows.next() else {
             return Err("a row is missing")?;
         };
-        assert_eq!(rt; (row.number, row.side), (*number, *side));
-        assert_eq!(rt; row.octets, *octets, "row {number}");
-        assert_eq!(rt; row.packet, *packet, "row {number}");
+        holds_at(rt, is_line(&row, line), row.number as usize);
     }
     assert!(rt; rows.next().is_none());
     Ok(())
@@ -120,9 +125,44 @@ fn push_lent(items: &mut LentItems<'_>, lines: &[Line]) -> usize {
     fits
 }
 
+/// Rows in lent lists that fit are those of the lines.
+fn check_lent(
+    rt: &impl Abort,
+    items: LentItems<'_>,
+    lines: &[Line],
+    fits: usize,
+) -> Result<(), Fail> {
+    let mut rows = items.into_rows();
+    for line in lines.iter().take(fits) {
+        let Some(row) = rows.next() else {
+            return Err("a row is missing")?;
+        };
+        holds_at(rt, is_line(&row, line), row.number as usize);
+    }
+    assert!(rt; rows.next().is_none());
+    Ok(())
+}
+
+/// So many rows fit in lists of so many heads and octets.
+fn check_fits(
+    rt: &impl Abort,
+    alloc: Global,
+    heads: usize,
+    octets: usize,
+    fits: usize,
+) -> Result<(), Fail> {
+    let lines = lines();
+    let mut head_list = Vec::new(alloc);
+    head_list.resize(heads, Head::blank())?;
+    let mut octet_list = Vec::new(alloc);
+    octet_list.resize(octets, 0xeeu8)?;
+    let mut items = LentItems::new(head_list.as_mut_slice(), octet_list.as_mut_slice());
+    holds_at(rt, push_lent(&mut items, lines.as_slice()) == fits, heads);
+    check_lent(rt, items, lines.as_slice(), fits)
+}
+
 #[test]
 fn lent_lists_hold_what_fits(rt: HostRuntime) -> Result<(), Fail> {
-    let lines = lines();
     // 12 octets in four rows; the last row has four, and the third three.
     for (heads, octets, fits) in [
         (4, 12, 4),
@@ -132,28 +172,24 @@ fn lent_lists_hold_what_fits(rt: HostRuntime) -> Result<(), Fail> {
         (4, 7, 2),
         (0, 12, 0),
     ] {
-        let mut head_list = Vec::new(rt.alloc());
-        head_list.resize(heads, Head::blank())?;
-        let mut octet_list = Vec::new(rt.alloc());
-        octet_list.resize(octets, 0xeeu8)?;
-        let mut items = LentItems::new(head_list.as_mut_slice(), octet_list.as_mut_slice());
-        assert_eq!(rt;
-            push_lent(&mut items, lines.as_slice()),
-            fits,
-            "{heads} and {octets}"
-        );
-        let mut rows = items.into_rows();
-        for (number, side, octets, packet) in lines.iter().take(fits) {
-            let Some(row) = rows.next() else {
-                return Err("a row is missing")?;
-            };
-            assert_eq!(rt; (row.number, row.side), (*number, *side));
-            assert_eq!(rt; row.octets, *octets, "row {number}");
-            assert_eq!(rt; row.packet, *packet, "row {number}");
-        }
-        assert!(rt; rows.next().is_none());
+        check_fits(&rt, rt.alloc(), heads, octets, fits)?;
     }
     Ok(())
+}
+
+/// Copies the row of a line into the place of another, and tells whether it is that row.
+fn is_copied(row: &mut Row<Global>, line: Line) -> bool {
+    let (number, side, octets, packet) = line;
+    let item = ItemRef {
+        number,
+        side,
+        octets,
+        packet,
+    };
+    item.copy_to(row).is_ok()
+        && row.number == number
+        && row.side == side
+        && row.octets.as_slice() == octets
 }
 
 #[test]
@@ -163,16 +199,8 @@ fn a_row_is_copied_into_the_place_of_another(rt: HostRuntime) -> Result<(), Fail
         side: Side::N,
         octets: b"\x10\x02\x13\x00\x00\x00".as_slice().to_vec(rt.alloc())?,
     };
-    for (number, side, octets, packet) in lines() {
-        let item = ItemRef {
-            number,
-            side,
-            octets,
-            packet,
-        };
-        item.copy_to(&mut row)?;
-        assert_eq!(rt; (row.number, row.side), (number, side));
-        assert_eq!(rt; row.octets.as_slice(), octets, "row {number}");
+    for line in lines() {
+        assert!(rt; is_copied(&mut row, line));
     }
     Ok(())
 }
@@ -185,9 +213,7 @@ fn a_row_stands_with_the_packet_that_it_is_given(rt: HostRuntime) -> Result<(), 
         side: Side::N,
         octets: octets.to_vec(rt.alloc())?,
     };
-    let item = row.with_packet(on_channel_1(PacketKind::Accepted));
-    assert_eq!(rt; (item.number, item.side), (4, Side::N));
-    assert_eq!(rt; item.octets, octets);
-    assert_eq!(rt; item.packet, on_channel_1(PacketKind::Accepted));
+    let accepted = on_channel_1(PacketKind::Accepted);
+    assert!(rt; is_line(&row.with_packet(accepted), &(4, Side::N, octets, accepted)));
     Ok(())
 }
