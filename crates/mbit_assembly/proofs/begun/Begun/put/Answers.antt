@@ -1,4 +1,7 @@
-use Rattle.std.proofs.Common.{◌≡◌, true, refl, sym, ◌∙◌, ap}
+use Rattle.std.proofs.Common.{◌≡◌, true, refl, sym, ◌∙◌, ap, subst}
+use Rattle.std.specs.Prelude.{IfErr}
+use Rattle.std.proofs.lemmas.Result.{IfOk-from_err, err_from_is_err_and}
+use Rattle.line_model.specs.declared.fault.Fault.TheVariants.{Memory}
 use Rattle.line_model.specs.channels.Channels.{AcceptedData}
 use Rattle.line_model.specs.channels.Sequences.{is_category_a}
 use Rattle.mbit_assembly.specs.Assembly.{heard, is_like}
@@ -30,3 +33,25 @@ returns-clause-put g c gs h =
       refl,
       finished.octets ∙ octets_more old gs p h,
     )
+
+pub returns-in_err-join-clause-put : goal.returns-in_err-join-clause-put
+returns-in_err-join-clause-put g c gs h = IfOk-from_err _ _ c.from_residual.ensures.0
+
+pub returns-in_err-join-clause-mixed : goal.returns-in_err-join-clause-mixed
+returns-in_err-join-clause-mixed g c = IfOk-from_err _ _ c.from_residual.ensures.0
+
+pub returns-in_err-join-clause-memory : goal.returns-in_err-join-clause-memory
+returns-in_err-join-clause-memory g c =
+    let p = err_from_is_err_and c.from_residual.result c.from_residual.ensures.1 in
+    subst (λ r. IfErr r (λ f. f ≡ Memory)) (sym p.1) (p.2 ∙ c.in_err-join.ensures.memory)
+
+pub returns-in_err-octets-clause-put : goal.returns-in_err-octets-clause-put
+returns-in_err-octets-clause-put g c gs h = IfOk-from_err _ _ c.from_residual-in_err-octets.ensures.0
+
+pub returns-in_err-octets-clause-mixed : goal.returns-in_err-octets-clause-mixed
+returns-in_err-octets-clause-mixed g c = IfOk-from_err _ _ c.from_residual-in_err-octets.ensures.0
+
+pub returns-in_err-octets-clause-memory : goal.returns-in_err-octets-clause-memory
+returns-in_err-octets-clause-memory g c =
+    let p = err_from_is_err_and c.from_residual-in_err-octets.result c.from_residual-in_err-octets.ensures.1 in
+    subst (λ r. IfErr r (λ f. f ≡ Memory)) (sym p.1) (p.2 ∙ c.in_err-octets.ensures.memory)

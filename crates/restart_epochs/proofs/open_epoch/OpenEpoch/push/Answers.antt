@@ -3,6 +3,7 @@ use Rattle.std.proofs.lemmas.Bool.{eqb-true, eqb-false}
 use Rattle.restart_epochs.specs.OpenRows.{IsSame}
 use Rattle.restart_epochs.proofs.Lanes.{ok_holds, pushed, lane-get, with_some, with_none}
 use Rattle.restart_epochs.proofs.Taken.{on_ok}
+use Rattle.std.proofs.lemmas.Result.{IfOk-from_err}
 use Rattle.restart_epochs.proofs.open_epoch.OpenEpoch.push.Goals as goal
 
 pub returns-then-not-is_empty-clause-ok : goal.returns-then-not-is_empty-clause-ok
@@ -26,3 +27,9 @@ returns-clause-ok g c =
     (c.index_mut-lane.ensures.value ∙ lane-get c.self.inside.lanes.items c.args.channel _ lt)
     c.in_ok-push.ensures.ok
     (ok_holds c.insert.result _ c.insert.ensures.keys (sym c.is_err.ensures.value ∙ c.if-is_err.false) ∙ with_none lane c.args.channel c.self.inside.channels.keys none)
+
+pub returns-in_err-widen-clause-ok : goal.returns-in_err-widen-clause-ok
+returns-in_err-widen-clause-ok g c = IfOk-from_err _ _ c.from_residual.ensures.0
+
+pub returns-in_err-push-clause-ok : goal.returns-in_err-push-clause-ok
+returns-in_err-push-clause-ok g c = IfOk-from_err _ _ c.from_residual-in_err-push.ensures.0
