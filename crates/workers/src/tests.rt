@@ -5,7 +5,7 @@ mod looking;
 ghost use Rattle.std.specs.Prelude.{◌≡◌, ◌<◌, ◌≤◌, ℕ, None, length};
 ghost use Rattle.workers.specs.Workers.{ArePlanned};
 
-use crate::{Feed, Gate, Worked, feed_piece, feed_pieces, work_through};
+use crate::{Feed, Gate, Gathered, Worked, feed_piece, feed_pieces, work_through};
 use line_model::fault::Fault;
 use line_model::interface::Interface;
 use line_model::items::Items;
@@ -15,6 +15,7 @@ use std::alloc::{Allocator, Global};
 use std::marker::Brand;
 use std::sync::Wait;
 use std::test::Fail;
+use std::thread::Threads;
 use std::time::Clock;
 
 /// The pieces of three epochs on four channels.
@@ -154,53 +155,78 @@ impl Feed<Brand, Global> for Batch {
     }
 }
 
-#[test]
-fn each_piece_is_posted_once_by_any_number_of_workers(rt: HostRuntime) -> Result<(), Fail> {
-    for (workers, capacity) in [(1, 1), (1, 64), (2, 1), (2, 64), (64, 1), (64, 64)] {
-        let Ok(
+/// How many posts, shares and reports there are of a list.
+fn numbers(gathered: &Gathered) -> (u64, usize, usize) {
+    (
+        gathered.totals.posts,
+        gathered.shares.len(),
+        gathered.reports.len(),
+    )
+}
+
+/// How many posts, shares and reports twelve pieces have by so many workers.
+fn by_workers<R: Threads + Wait + Clock + Sync>(
+    rt: &R,
+    alloc: Global,
+    workers: usize,
+    capacity: usize,
+) -> Option<(u64, usize, usize)>
+    requires some { (0 < workers) × (0 < capacity) }
+    requires few { (workers ≤ 64) × (capacity ≤ 4096) }
+{
+    match work_through(rt, alloc, workers, capacity, &EmptyPieces, twelve(alloc)) {
+        Ok(
             Worked {
                 gathered: Ok(gathered),
                 ..
             },
-        ) = work_through(
-            &rt,
-            rt.alloc(),
-            workers,
-            capacity,
-            &EmptyPieces,
-            twelve(rt.alloc()),
-        )
-        else {
-            return Err("refused")?;
-        };
-        assert_eq!(rt; gathered.totals.posts, 12);
-        assert_eq!(rt; gathered.shares.len(), workers);
-        assert_eq!(rt; gathered.reports.len(), 12);
+        ) => Some(numbers(&gathered)),
+        _ => None,
     }
-    Ok(())
 }
 
 #[test]
-fn a_worker_without_memory_stops_at_its_end(rt: HostRuntime) -> Result<(), Fail> {
-    let Ok(worked) = work_through(&rt, rt.alloc(), 2, 1, &NoMemory, twelve(rt.alloc())) else {
-        return Err("refused")?;
+fn each_piece_is_posted_once_by_any_number_of_workers(rt: HostRuntime) {
+    for (workers, capacity) in [(1, 1), (1, 64), (2, 1), (2, 64), (64, 1), (64, 64)] {
+        let numbers = by_workers(&rt, rt.alloc(), workers, capacity);
+        assert!(rt; numbers == Some((12, workers, 12)));
+    }
+}
+
+/// Whether the twelve pieces of two workers want memory.
+fn wants_memory<R: Threads + Wait + Clock + Sync>(rt: &R, alloc: Global) -> bool {
+    match work_through(rt, alloc, 2, 1, &NoMemory, twelve(alloc)) {
+        Ok(worked) => matches!(worked.gathered, Err(Fault::Memory)),
+        Err(_) => false,
+    }
+}
+
+#[test]
+fn a_worker_without_memory_stops_at_its_end(rt: HostRuntime) {
+    assert!(rt; wants_memory(&rt, rt.alloc()));
+}
+
+/// How many posts there are of one piece, and whether its report is the only one.
+fn of_one<R: Threads + Wait + Clock + Sync>(rt: &R, batch: Batch) -> Option<(u64, bool)>
+    requires planned { ArePlanned None 0 batch.pieces.items }
+{
+    let Ok(worked) = work_through(rt, batch.alloc, 4, 2, &EmptyPieces, batch) else {
+        return None;
     };
-    assert!(rt; matches!(worked.gathered, Err(Fault::Memory)));
-    Ok(())
+    let Worked { task: _, gathered } = worked;
+    let Ok(gathered) = gathered else {
+        return None;
+    };
+    Some((
+        gathered.totals.posts,
+        gathered.reports.iter().map(|report| report.id).eq([0]),
+    ))
 }
 
 #[test]
 fn a_list_of_pieces_is_posted(rt: HostRuntime) -> Result<(), Fail> {
     let alloc = rt.alloc();
     let pieces = vec![in alloc; piece(alloc, 0)]?;
-    let Ok(worked) = work_through(&rt, alloc, 4, 2, &EmptyPieces, Batch { alloc, pieces }) else {
-        return Err("refused")?;
-    };
-    let Worked { task: _, gathered } = worked;
-    let Ok(gathered) = gathered else {
-        return Err("a worker wanted memory")?;
-    };
-    assert_eq!(rt; gathered.totals.posts, 1);
-    assert!(rt; gathered.reports.iter().map(|report| report.id).eq([0]));
+    assert!(rt; of_one(&rt, Batch { alloc, pieces }) == Some((1, true)));
     Ok(())
 }
