@@ -1,3 +1,6 @@
+use Rattle.line_model.specs.declared.fault.Fault.TheVariants.{Memory}
+use Rattle.std.specs.Prelude.{IfErr}
+use Rattle.std.proofs.lemmas.Result.{IfOk-from_err, err_from_is_err_and}
 use Rattle.std.proofs.Common.{◌≡◌, ◌∙◌, ◌+◌, ◌++◌, ◌∷◌, [], List, ap, append-nil, arith, drop, map, subst, sym, take}
 use Rattle.std.proofs.lemmas.List.{take-append-drop, take_all, take_more}
 use Rattle.line_model.specs.declared.event.Event.{Event}
@@ -34,3 +37,35 @@ returns-clause-calls g c =
     let whole : take c.loop-event.event-index events ≡ events = take_all c.loop-event.event-index events (omega (arith, c.loop-event-test.false)) in
     c.in_ok-in_order.ensures (calls_of events) (heard_left c.loop-event.places events (subst (AreHeard c.loop-event.places) whole c.loop-event.invariant.heard))
     (c.loop-event.invariant.openings ∙ ap (λ (es : List Event). map place_of (calls_of es)) whole)
+
+pub returns-in_err-places-clause-calls : goal.returns-in_err-places-clause-calls
+returns-in_err-places-clause-calls g c = IfOk-from_err _ _ c.from_residual.ensures.0
+
+pub returns-in_err-clone-clause-calls : goal.returns-in_err-clone-clause-calls
+returns-in_err-clone-clause-calls g c = IfOk-from_err _ _ c.from_residual-in_err-clone.ensures.0
+
+pub returns-in_err-hear-clause-calls : goal.returns-in_err-hear-clause-calls
+returns-in_err-hear-clause-calls g c = IfOk-from_err _ _ c.from_residual-in_err-hear.ensures.0
+
+pub returns-in_err-in_order-clause-calls : goal.returns-in_err-in_order-clause-calls
+returns-in_err-in_order-clause-calls g c = IfOk-from_err _ _ c.from_residual-in_err-in_order.ensures.0
+
+pub returns-in_err-places-clause-memory : goal.returns-in_err-places-clause-memory
+returns-in_err-places-clause-memory g c =
+    let p = err_from_is_err_and c.from_residual.result c.from_residual.ensures.1 in
+    subst (λ r. IfErr r (λ f. f ≡ Memory)) (sym p.1) p.2
+
+pub returns-in_err-clone-clause-memory : goal.returns-in_err-clone-clause-memory
+returns-in_err-clone-clause-memory g c =
+    let p = err_from_is_err_and c.from_residual-in_err-clone.result c.from_residual-in_err-clone.ensures.1 in
+    subst (λ r. IfErr r (λ f. f ≡ Memory)) (sym p.1) p.2
+
+pub returns-in_err-hear-clause-memory : goal.returns-in_err-hear-clause-memory
+returns-in_err-hear-clause-memory g c =
+    let p = err_from_is_err_and c.from_residual-in_err-hear.result c.from_residual-in_err-hear.ensures.1 in
+    subst (λ r. IfErr r (λ f. f ≡ Memory)) (sym p.1) p.2
+
+pub returns-in_err-in_order-clause-memory : goal.returns-in_err-in_order-clause-memory
+returns-in_err-in_order-clause-memory g c =
+    let p = err_from_is_err_and c.from_residual-in_err-in_order.result c.from_residual-in_err-in_order.ensures.1 in
+    subst (λ r. IfErr r (λ f. f ≡ Memory)) (sym p.1) p.2

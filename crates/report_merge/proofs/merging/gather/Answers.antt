@@ -3,6 +3,7 @@ use Rattle.std.proofs.lemmas.List.{map-id}
 use Rattle.std.proofs.lemmas.Iterator.Adapters.{YieldsList-from_vec}
 use Rattle.std.proofs.lemmas.Iterator.Consumers.{YieldsList-turn, YieldsList-end}
 use Rattle.report_merge.specs.Gathered.{gathered}
+use Rattle.std.proofs.lemmas.Result.{IfOk-from_err}
 use Rattle.report_merge.proofs.merging.gather.Goals as goal
 
 pub returns : goal.returns
@@ -22,3 +23,9 @@ add-requires g c =
     let given = c.into_iter-report-iterator.ensures.into_iter_gives in
     let turn = YieldsList-turn (YieldsList-from_vec {s = c.into_iter-report-iterator.result} c.args.reports.items given.0 (given.1 ∙ c.args.reports.ok.0)) c.loop-report.yielded c.loop-report.report-iterator c.loop-report.yielded_by c.next.result c.next.new.self c.in-Some.report c.in-Some.is c.next.ensures.steps in
     omega (arith, turn.0, c.requires.few, ap (λ p. p.pieces) c.loop-report.invariant)
+
+pub returns-in_err-clone : goal.returns-in_err-clone
+returns-in_err-clone g c = IfOk-from_err _ _ c.from_residual.ensures.0
+
+pub returns-in_err-add : goal.returns-in_err-add
+returns-in_err-add g c = IfOk-from_err _ _ c.from_residual-in_err-add.ensures.0

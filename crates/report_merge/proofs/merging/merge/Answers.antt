@@ -1,5 +1,5 @@
 use Rattle.std.proofs.Common.{List, rules, sym, subst}
-use Rattle.std.proofs.lemmas.Result.{IfErr-weaker, IfOk-weaker}
+use Rattle.std.proofs.lemmas.Result.{IfErr-weaker, IfOk-from_err, IfOk-weaker}
 use Rattle.line_model.specs.basics.Records.{PieceReport}
 use Rattle.line_model.specs.work.Book.{ids_of}
 use Rattle.report_merge.specs.Refusal.{IsRefusal, IsWhole}
@@ -33,3 +33,21 @@ returns-clause-refused g c =
 
 pub returns-clause-plan : goal.returns-clause-plan
 returns-clause-plan g c = IfErr-weaker c.finish.result _ _ (λ f h i rs w. h) c.finish.ensures.memory
+
+pub returns-in_err-judge-clause-whole : goal.returns-in_err-judge-clause-whole
+returns-in_err-judge-clause-whole g c = IfOk-from_err _ _ c.from_residual.ensures.0
+
+pub returns-in_err-judge-clause-merged : goal.returns-in_err-judge-clause-merged
+returns-in_err-judge-clause-merged g c = IfOk-from_err _ _ c.from_residual.ensures.0
+
+pub returns-in_err-judge-clause-report : goal.returns-in_err-judge-clause-report
+returns-in_err-judge-clause-report g c = IfOk-from_err _ _ c.from_residual.ensures.0
+
+pub returns-in_err-gather-clause-whole : goal.returns-in_err-gather-clause-whole
+returns-in_err-gather-clause-whole g c = IfOk-from_err _ _ c.from_residual-in_err-gather.ensures.0
+
+pub returns-in_err-gather-clause-merged : goal.returns-in_err-gather-clause-merged
+returns-in_err-gather-clause-merged g c = IfOk-from_err _ _ c.from_residual-in_err-gather.ensures.0
+
+pub returns-in_err-gather-clause-report : goal.returns-in_err-gather-clause-report
+returns-in_err-gather-clause-report g c = IfOk-from_err _ _ c.from_residual-in_err-gather.ensures.0

@@ -1,3 +1,4 @@
+use Rattle.std.proofs.lemmas.Result.{IfOk-from_err}
 use Rattle.std.proofs.Common.{◌≡◌, ◌∙◌, ◌==◌, ◌&&◌, ℕ, false, subst, sym}
 use Rattle.call_accounts.specs.Places.{IsFound, calls_at, own_calls}
 use Rattle.call_accounts.proofs.PlaceLemmas.{last_told, on_result, one_less}
@@ -21,3 +22,9 @@ returns-clause-left g c cs r left epoch channel =
     on_result c.pop.result
     (λ ok. one_less old t c.pop.new.self cs r (turned.turned.0 ∙ sym epoch) (turned.turned.1 ∙ sym channel) others left
     (ok _ (c.pop.ensures.left (own_calls r.epoch r.channel cs) r (last_told old t.here cs r left found))))
+
+pub returns-in_err-turn_to-clause-popped : goal.returns-in_err-turn_to-clause-popped
+returns-in_err-turn_to-clause-popped g c cs r left epoch channel = IfOk-from_err _ _ c.from_residual.ensures.0
+
+pub returns-in_err-turn_to-clause-left : goal.returns-in_err-turn_to-clause-left
+returns-in_err-turn_to-clause-left g c cs r left epoch channel = IfOk-from_err _ _ c.from_residual.ensures.0

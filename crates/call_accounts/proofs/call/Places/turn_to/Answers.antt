@@ -1,3 +1,4 @@
+use Rattle.std.proofs.lemmas.Result.{IfOk-from_err}
 use Rattle.std.proofs.Common.{◌≡◌, ◌∙◌, ◌==◌, ◌&&◌, ℕ, false, [], ap, cond, subst, sym, Some, if◌then◌else◌}
 use Rattle.std.specs.BTreeMap.{get, is_at}
 use Rattle.call_accounts.specs.Places.{IsFound, place_order}
@@ -31,3 +32,21 @@ returns-clause-others g c e k other =
     ap (λ b. if b then Some c.replace-here.new.dest else get place_order c.insert.new.self (e, k)) other
     ∙ turned t.epoch t.channel c.args.epoch c.args.channel t.here t.others c.remove.new.self c.insert.new.self c.remove.ensures.updates.0
     (λ q. c.in_ok-insert.ensures.updates.0 q ∙ ap (λ h. cond (is_at (place_order (t.epoch, t.channel)) q) (Some h) (get place_order c.remove.new.self q)) c.replace-here.ensures.value) e k other
+
+pub returns-in_err-clone-in-None-clause-turned : goal.returns-in_err-clone-in-None-clause-turned
+returns-in_err-clone-in-None-clause-turned g c = IfOk-from_err _ _ c.from_residual.ensures.0
+
+pub returns-in_err-clone-in-None-clause-here : goal.returns-in_err-clone-in-None-clause-here
+returns-in_err-clone-in-None-clause-here g c = IfOk-from_err _ _ c.from_residual.ensures.0
+
+pub returns-in_err-clone-in-None-clause-others : goal.returns-in_err-clone-in-None-clause-others
+returns-in_err-clone-in-None-clause-others g c = IfOk-from_err _ _ c.from_residual.ensures.0
+
+pub returns-in_err-insert-clause-turned : goal.returns-in_err-insert-clause-turned
+returns-in_err-insert-clause-turned g c = IfOk-from_err _ _ c.from_residual-in_err-insert.ensures.0
+
+pub returns-in_err-insert-clause-here : goal.returns-in_err-insert-clause-here
+returns-in_err-insert-clause-here g c = IfOk-from_err _ _ c.from_residual-in_err-insert.ensures.0
+
+pub returns-in_err-insert-clause-others : goal.returns-in_err-insert-clause-others
+returns-in_err-insert-clause-others g c = IfOk-from_err _ _ c.from_residual-in_err-insert.ensures.0

@@ -1,3 +1,4 @@
+use Rattle.std.proofs.lemmas.Result.{IfOk-from_err}
 use Rattle.std.proofs.Common.{◌+◌, ap, subst, length, rules}
 use Rattle.restart_epochs.specs.OpenRows.{HasMore}
 use Rattle.restart_epochs.specs.Cutting.{Cutting, IsCutting}
@@ -28,3 +29,6 @@ invariant_of-self-2 g c =
       open_rows = subst (λ o. HasMore c.args.channel c.args.item.now o c.push.new.self) (ap (λ x. x.open_rows) c.self.view_is) c.in_ok-push.ensures.ok;
     })
     (record { packet = c.requires.packet; channel = c.requires.channel }) c.requires.rising c.requires.number c.requires.octets
+
+pub returns-in_err-push-clause-ok : goal.returns-in_err-push-clause-ok
+returns-in_err-push-clause-ok g c = IfOk-from_err _ _ c.from_residual.ensures.0
