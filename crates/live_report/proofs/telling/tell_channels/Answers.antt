@@ -47,3 +47,8 @@ pub returns-clause-values : goal.returns-clause-values
 returns-clause-values g c i e rows first f l is =
     let was = c.loop-channel.invariant.telling i e rows first f l is in
     was.2 ∙ ap gathered (telling_all i e rows first was.0 c.loop-channel.channel-iterator was.1 c.in-None.ensures.steps.0)
+
+pub add-requires : goal.add-requires
+add-requires g c =
+    let one = ap (λ ks. length ks) c.in-Some.ensures.steps in
+    record { room = omega (arith, one, c.loop-channel.invariant.pieces) }

@@ -34,3 +34,24 @@ returns-clause-read g c text fed =
 
 pub returns-clause-refused : goal.returns-clause-refused
 returns-clause-refused g c text fed = IfErr-weaker c.end_front.result _ _ (λ f h. memory_fault (fault text) f h) c.end_front.ensures.memory
+
+pub feed_pieces-requires-clause-queue : goal.feed_pieces-requires-clause-queue
+feed_pieces-requires-clause-queue g c = c.requires.queue
+
+pub feed_pieces-requires-clause-open : goal.feed_pieces-requires-clause-open
+feed_pieces-requires-clause-open g c = c.requires.open
+
+pub end_front-requires-clause-queue : goal.end_front-requires-clause-queue
+end_front-requires-clause-queue g c = c.feed_pieces.ensures.queue ∙ c.requires.queue
+
+pub end_front-requires-clause-open : goal.end_front-requires-clause-open
+end_front-requires-clause-open g c = c.feed_pieces.ensures.kept.ends
+
+pub returns-clause-queue : goal.returns-clause-queue
+returns-clause-queue g c = c.end_front.ensures.queue ∙ c.feed_pieces.ensures.queue
+
+pub returns-clause-kept : goal.returns-clause-kept
+returns-clause-kept g c =
+    let first = c.feed_pieces.ensures.kept in
+    let then = c.end_front.ensures.kept in
+    record { ends = then.ends; pending = then.pending ∙ first.pending; done = then.done ∙ first.done; taken = then.taken ∙ first.taken }

@@ -1,7 +1,11 @@
-use Rattle.std.proofs.Common.{◌++◌, List, ap, length, arith}
+use Rattle.std.proofs.Common.{◌++◌, List, ap, length, arith, subst, sym}
+use Rattle.std.specs.Prelude.{IfSome}
+use Rattle.std.proofs.lemmas.Result.{IfErr-weaker}
+use Rattle.trace_text.specs.StandsFor.{IsTextFault}
+use Rattle.live_report.specs.Reports.{IsReportFault}
 use Rattle.line_model.specs.declared.finding.Finding.{Finding}
 use Rattle.live_report.specs.Found.{found}
-use Rattle.live_report.proofs.FollowLemmas.{always, fed_few, found_length, told_first}
+use Rattle.live_report.proofs.FollowLemmas.{always, fed_few, found_length, text_report, told_first}
 use Rattle.live_report.proofs.follow.Follower.tell.Goals as goal
 
 pub overflow_add-self : goal.overflow_add-self
@@ -34,3 +38,26 @@ pub returns-in-Err-clause-taken : goal.returns-in-Err-clause-taken
 returns-in-Err-clause-taken g c text before s has =
     told_first c.feed-read.result c.write_findings-written.result before (g.K.Sink.taken c.args.sink.now) (g.K.Sink.taken c.write_findings-written.new.sink) text (text ++ c.args.chunk.now) c.found-found.result.now c.feed-read.new.self.found.items c.found-found.ensures has
     (c.feed-read.ensures.found text s.live) c.write_findings-written.ensures.ok c.write_findings-written.ensures.part
+
+pub feed-read-requires : goal.feed-read-requires
+feed-read-requires g c =
+    let s = c.requires.1 in
+    record { fed = record { fed = λ r. (c.requires.0, s.live); kinds = subst (λ o. IfSome o IsTextFault) (sym s.live.running) tt } }
+
+pub returns-in-Ok-clause-size : goal.returns-in-Ok-clause-size
+returns-in-Ok-clause-size g c = always c.write_findings-written.result _ c.in-Ok.ensures.size
+
+pub returns-in-Ok-clause-limit : goal.returns-in-Ok-clause-limit
+returns-in-Ok-clause-limit g c = always c.write_findings-written.result _ c.in-Ok.ensures.limit
+
+pub returns-in-Ok-clause-kinds : goal.returns-in-Ok-clause-kinds
+returns-in-Ok-clause-kinds g c = IfErr-weaker c.write_findings-written.result _ IsReportFault (λ f w. subst IsReportFault (sym w) tt) c.write_findings-written.ensures.write
+
+pub returns-in-Ok-clause-rising : goal.returns-in-Ok-clause-rising
+returns-in-Ok-clause-rising g c = c.write_findings-written.ensures.rising
+
+pub returns-in-Err-clause-rising : goal.returns-in-Err-clause-rising
+returns-in-Err-clause-rising g c = c.write_findings-written.ensures.rising
+
+pub returns-in-Err-clause-kinds : goal.returns-in-Err-clause-kinds
+returns-in-Err-clause-kinds g c = text_report c.in-Err.fault c.in-Err.ensures.kinds

@@ -1,4 +1,5 @@
 use Rattle.std.proofs.Common.{◌∙◌, ◌++◌, ◌∷◌, [], Some, ap, refl, subst, sym}
+use Rattle.std.proofs.lemmas.Result.{IfOk-from_err}
 use Rattle.line_model.specs.text.Text.{early, early_rows}
 use Rattle.restart_epochs.specs.Cutting.{HasAppended, given_of}
 use Rattle.trace_text.specs.StandsFor.{IsFaultOf, ReadsChunk, StandsFor, TakesRow}
@@ -66,3 +67,27 @@ returns-in-Ok-clause-pieces g c text taken =
     (subst (λ j. HasAppended c.args.pieces.now.items c.cut.new.pieces.items (given_of j []) (given_of j ([] ++ c.next_row.new.row ∷ []))) (sym c.in_ok-cut.ensures.interface) (c.in_ok-cut.ensures.pieces [] c.new-front.ensures.cut))
     (c.in-Ok.ensures.pieces (text ++ t.taken) begun)
     (subst (StandsFor c.cut_lines.new.lines) all after.reads) (after.header ∙ ap Some c.in-Ok.ensures.interface)
+
+pub returns-in_err-rest-clause-taken : goal.returns-in_err-rest-clause-taken
+returns-in_err-rest-clause-taken g c text taken = IfOk-from_err _ _ c.from_residual.ensures.0
+
+pub returns-in_err-rest-clause-pieces : goal.returns-in_err-rest-clause-pieces
+returns-in_err-rest-clause-pieces g c text taken = IfOk-from_err _ _ c.from_residual.ensures.0
+
+pub returns-in_err-rest-clause-size : goal.returns-in_err-rest-clause-size
+returns-in_err-rest-clause-size g c = IfOk-from_err _ _ c.from_residual.ensures.0
+
+pub returns-in_err-rest-clause-limit : goal.returns-in_err-rest-clause-limit
+returns-in_err-rest-clause-limit g c = IfOk-from_err _ _ c.from_residual.ensures.0
+
+pub returns-in_err-cut-clause-taken : goal.returns-in_err-cut-clause-taken
+returns-in_err-cut-clause-taken g c text taken = IfOk-from_err _ _ c.from_residual-in_err-cut.ensures.0
+
+pub returns-in_err-cut-clause-pieces : goal.returns-in_err-cut-clause-pieces
+returns-in_err-cut-clause-pieces g c text taken = IfOk-from_err _ _ c.from_residual-in_err-cut.ensures.0
+
+pub returns-in_err-cut-clause-size : goal.returns-in_err-cut-clause-size
+returns-in_err-cut-clause-size g c = IfOk-from_err _ _ c.from_residual-in_err-cut.ensures.0
+
+pub returns-in_err-cut-clause-limit : goal.returns-in_err-cut-clause-limit
+returns-in_err-cut-clause-limit g c = IfOk-from_err _ _ c.from_residual-in_err-cut.ensures.0
