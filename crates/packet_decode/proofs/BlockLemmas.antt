@@ -119,10 +119,6 @@ pub tail_none : (i : Interface) (fast : Bool) (ys : List ℕ) (a : Asked) → is
 tail_none i fast ys a h r inside short =
     tail_by_length i fast ys a h r inside ∙ ap (λ b. first_fault ((b, PACKET_TOO_LONG) ∷ [])) (le-ltb _ _ short)
 
--- fast select by one of two tests
-pub either_fast : (a b fast : Bool) (now : Bool) → a ≡ b → a ≡ true → now ≡ true → now ≡ (b || fast)
-either_fast a b fast now same is e = e ∙ sym (ap (λ x. x || fast) (sym same ∙ is))
-
 -- the fault that a call refused with
 pub refused_with : {T : Type 0} (r : Result T ℕ) (e : ℕ) (P : T → Type 0) (Q : ℕ → Type 0) → IsErrAnd r (λ y. y ≡ e) → Q e → MatchResult r P Q
 refused_with (Ok x) e P Q h q = absurd h

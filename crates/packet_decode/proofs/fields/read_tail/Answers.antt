@@ -1,10 +1,10 @@
-use Rattle.std.proofs.Common.{◌≡◌, ◌∙◌, sym, ap, subst, ◌<◌, ◌≤◌, ◌+◌, ℕ, List, length, drop}
+use Rattle.std.proofs.lemmas.Grind.{common_steps}
+use Rattle.std.proofs.Common.{arith, ◌≡◌, ◌∙◌, sym, ap, subst, ◌<◌, ◌≤◌, ◌+◌, ℕ, List, length, drop}
 use Rattle.std.specs.Prelude.{◌||◌}
 use Rattle.line_model.specs.basics.Octets.{octet}
 use Rattle.line_model.specs.packets.Facilities.{user_data_limit}
 use Rattle.packet_decode.specs.Reading.{ReadsAs, charges_fast}
-use Rattle.packet_decode.proofs.BlockLemmas.{either_fast, tail_broken, tail_cut, tail_long, tail_none, tail_out}
-use Rattle.packet_decode.proofs.fields.read_tail.Goals.{then-fast, else-fast}
+use Rattle.packet_decode.proofs.BlockLemmas.{tail_broken, tail_cut, tail_long, tail_none, tail_out}
 use Rattle.packet_decode.proofs.fields.read_tail.Goals as goal
 
 pub returns-in_default-clause-fault : goal.returns-in_default-clause-fault
@@ -24,11 +24,7 @@ pub returns-then-user_data-user_data_limit-clause-fault : goal.returns-then-user
 returns-then-user_data-user_data_limit-clause-fault c =
     let xs = c.args.octets.now in
     let asked = c.in-Some-facilities.asked in
-    let fast : c.if-fast.user_data_limit ≡ (charges_fast asked || c.args.fast_before) = elim c.if-fast.branch [
-      | then-fast w ↦ either_fast c.fast.result (charges_fast asked) c.args.fast_before c.if-fast.user_data_limit c.fast.ensures w.if-fast.true (w.user_data_limit-is ∙ w.if-fast.true)
-      | else-fast w ↦ w.user_data_limit-is ∙ sym (ap (λ b. b || c.args.fast_before) (sym c.fast.ensures ∙ w.if-fast.false))
-    ] in
-    let limit = c.user_data_limit.ensures ∙ ap user_data_limit fast in
+    let limit : c.user_data_limit.result ≡ user_data_limit (charges_fast asked || c.args.fast_before) = grind (arith, common_steps) in
     let long : user_data_limit (charges_fast asked || c.args.fast_before) < length (drop (1 + octet 1 xs) xs) =
     rw (← limit, ← c.in-Some.ensures.2) c.if-user_data-user_data_limit.true in
     tail_long c.args.interface.now c.args.fast_before xs asked c.in-Some.ensures.0
@@ -51,11 +47,7 @@ pub returns-clause-fault : goal.returns-clause-fault
 returns-clause-fault c =
     let xs = c.args.octets.now in
     let asked = c.in-Some-facilities.asked in
-    let fast : c.if-fast.user_data_limit ≡ (charges_fast asked || c.args.fast_before) = elim c.if-fast.branch [
-      | then-fast w ↦ either_fast c.fast.result (charges_fast asked) c.args.fast_before c.if-fast.user_data_limit c.fast.ensures w.if-fast.true (w.user_data_limit-is ∙ w.if-fast.true)
-      | else-fast w ↦ w.user_data_limit-is ∙ sym (ap (λ b. b || c.args.fast_before) (sym c.fast.ensures ∙ w.if-fast.false))
-    ] in
-    let limit = c.user_data_limit.ensures ∙ ap user_data_limit fast in
+    let limit : c.user_data_limit.result ≡ user_data_limit (charges_fast asked || c.args.fast_before) = grind (arith, common_steps) in
     let short : length (drop (1 + octet 1 xs) xs) ≤ user_data_limit (charges_fast asked || c.args.fast_before) =
     rw (← limit, ← c.in-Some.ensures.2) c.if-user_data-user_data_limit.false in
     tail_none c.args.interface.now c.args.fast_before xs asked c.in-Some.ensures.0
