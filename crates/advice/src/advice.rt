@@ -3,6 +3,7 @@
 use crate::files::file_advice;
 use crate::header::headers_advice;
 use crate::rows::rows_advice;
+use crate::told::tell;
 use explanations::explanation::{Explanation, Topic};
 use explanations::table::{all, explain};
 use line_model::fault::Kind;
@@ -16,9 +17,7 @@ fn lines_advice(
     whole: bool,
 ) -> Result<Option<String>, AllocError> {
     match kind {
-        Kind::HeaderMissing if whole && text.is_empty() => {
-            Ok(Some(String::from_str(alloc, "The text is empty.")?))
-        }
+        Kind::HeaderMissing if whole && text.is_empty() => tell(alloc, "The text is empty."),
         Kind::HeaderForm | Kind::HeaderRange => headers_advice(alloc, text, whole),
         Kind::LineForm | Kind::Number | Kind::Side | Kind::Hex => {
             rows_advice(alloc, kind, text, whole)

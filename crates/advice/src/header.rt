@@ -3,6 +3,7 @@
 use crate::line::{number_in, space_advice};
 use crate::quoted::quoted;
 use crate::ranges::{Numbers, range_advice};
+use crate::told::{tell, tell_word, told};
 use std::alloc::{AllocError, Global};
 
 /// A header of the first form, as an example.
@@ -37,19 +38,22 @@ fn name_advice(
     word: Option<&[u8]>,
     name: &str,
 ) -> Result<Option<String>, AllocError> {
-    let Some(word) = word else {
-        return Ok(Some(format!(in alloc; "The header ends where {name} belongs.")?));
-    };
-    if word == name.as_bytes() {
-        return Ok(None);
+    match word {
+        None => told(format!(in alloc; "The header ends where {name} belongs.")),
+        Some(word) if word == name.as_bytes() => Ok(None),
+        Some(word) => other_name_advice(alloc, word, name),
     }
+}
+
+/// What is wrong with another word where a name belongs.
+fn other_name_advice(alloc: Global, word: &[u8], name: &str) -> Result<Option<String>, AllocError> {
     let is_same = word.eq_ignore_ascii_case(name.as_bytes());
     let word = quoted(alloc, word)?;
-    Ok(Some(if is_same {
-        format!(in alloc; "The header's words are in capitals: {word} is written {name}.")?
+    told(if is_same {
+        format!(in alloc; "The header's words are in capitals: {word} is written {name}.")
     } else {
-        format!(in alloc; "In the header stands {word} where {name} belongs.")?
-    }))
+        format!(in alloc; "In the header stands {word} where {name} belongs.")
+    })
 }
 
 /// The number behind a name, or what is wrong there.
@@ -59,17 +63,28 @@ fn number_behind(
     name: &str,
 ) -> Result<Result<u32, String>, AllocError> {
     let Some(word) = word else {
-        return Ok(Err(format!(in alloc; "The header ends where the number of {name} belongs.")?));
+        return refused(format!(in alloc; "The header ends where the number of {name} belongs."));
     };
     match number_in(word) {
         Some(number) => Ok(Ok(number)),
-        None => {
-            let word = quoted(alloc, word)?;
-            Ok(Err(format!(in alloc;
-                "Behind {name} stands {word}: a number of 1 to 9 digits without a leading zero belongs there."
-            )?))
-        }
+        None => refused(no_number_advice(alloc, word, name)),
     }
+}
+
+/// No number, and what is told in its place.
+fn refused(told: Result<String, AllocError>) -> Result<Result<u32, String>, AllocError> {
+    match told {
+        Ok(told) => Ok(Err(told)),
+        Err(refused) => Err(refused),
+    }
+}
+
+/// What is wrong with a word behind a name that is no number.
+fn no_number_advice(alloc: Global, word: &[u8], name: &str) -> Result<String, AllocError> {
+    let word = quoted(alloc, word)?;
+    format!(in alloc;
+        "Behind {name} stands {word}: a number of 1 to 9 digits without a leading zero belongs there."
+    )
 }
 
 /// Takes a name and its number off the words, or tells what is wrong there.
@@ -78,10 +93,10 @@ fn next_number(
     words: &mut WordsLeft<'_>,
     name: &str,
 ) -> Result<Result<u32, String>, AllocError> {
-    if let Some(told) = name_advice(alloc, words.next(), name)? {
-        return Ok(Err(told));
+    match name_advice(alloc, words.next(), name)? {
+        Some(told) => Ok(Err(told)),
+        None => number_behind(alloc, words.next(), name),
     }
-    number_behind(alloc, words.next(), name)
 }
 
 /// Takes the names and their numbers off the words, or tells what is wrong with the first that is wrong.
@@ -92,9 +107,10 @@ fn next_numbers(
 ) -> Result<Result<Numbers, String>, AllocError> {
     let mut numbers = Numbers::none();
     for name in names {
-        match next_number(alloc, words, name)? {
-            Ok(number) => numbers.put(name, number),
-            Err(told) => return Ok(Err(told)),
+        match next_number(alloc, words, name) {
+            Ok(Ok(number)) => numbers.put(name, number),
+            Ok(Err(told)) => return Ok(Err(told)),
+            Err(refused) => return Err(refused),
         }
     }
     Ok(Ok(numbers))
@@ -106,17 +122,23 @@ fn end_advice(
     words: &mut WordsLeft<'_>,
     may_join: bool,
 ) -> Result<Option<String>, AllocError> {
-    let Some(word) = words.next() else {
-        return Ok(None);
-    };
-    if !may_join {
-        let word = quoted(alloc, word)?;
-        return Ok(Some(format!(in alloc; "Behind the header's last number stands {word}.")?));
+    match words.next() {
+        None => Ok(None),
+        Some(word) if may_join => join_advice(alloc, word, words),
+        Some(word) => tell_word(alloc, "Behind the header's last number stands ", word, "."),
     }
-    if let Some(told) = name_advice(alloc, Some(word), "JOIN")? {
-        return Ok(Some(told));
+}
+
+/// What is wrong with a word where JOIN may stand and with those behind it, if something is.
+fn join_advice(
+    alloc: Global,
+    word: &[u8],
+    words: &mut WordsLeft<'_>,
+) -> Result<Option<String>, AllocError> {
+    match name_advice(alloc, Some(word), "JOIN") {
+        Ok(None) => end_advice_behind(alloc, words),
+        told => told,
     }
-    end_advice_behind(alloc, words)
 }
 
 /// What is wrong behind JOIN, if something is.
@@ -126,10 +148,7 @@ fn end_advice_behind(
 ) -> Result<Option<String>, AllocError> {
     match words.next() {
         None => Ok(None),
-        Some(word) => {
-            let word = quoted(alloc, word)?;
-            Ok(Some(format!(in alloc; "Behind the header's JOIN stands {word}.")?))
-        }
+        Some(word) => tell_word(alloc, "Behind the header's JOIN stands ", word, "."),
     }
 }
 
@@ -142,9 +161,9 @@ fn numbers_advice(
 ) -> Result<Option<String>, AllocError> {
     match next_numbers(alloc, words, names)? {
         Err(told) => Ok(Some(told)),
-        Ok(numbers) => match end_advice(alloc, words, may_join)? {
-            Some(told) => Ok(Some(told)),
-            None => range_advice(alloc, &numbers, may_join),
+        Ok(numbers) => match end_advice(alloc, words, may_join) {
+            Ok(None) => range_advice(alloc, &numbers, may_join),
+            told => told,
         },
     }
 }
@@ -152,28 +171,35 @@ fn numbers_advice(
 /// What is wrong with the words of a header, if something is.
 fn words_advice(alloc: Global, line: &[u8]) -> Result<Option<String>, AllocError> {
     let mut words = WordsLeft { line: Some(line) };
-    if let Some(told) = name_advice(alloc, words.next(), "X25")? {
-        return Ok(Some(told));
+    match name_advice(alloc, words.next(), "X25") {
+        Ok(None) => form_advice(alloc, &mut words),
+        told => told,
     }
+}
+
+/// What is wrong with the words of a header behind its name, if something is.
+fn form_advice(alloc: Global, words: &mut WordsLeft<'_>) -> Result<Option<String>, AllocError> {
     match words.next() {
-        Some([b'1']) => numbers_advice(alloc, &mut words, FIRST_FORM.as_slice(), false),
-        Some([b'2']) => numbers_advice(alloc, &mut words, SECOND_FORM.as_slice(), true),
-        _ => Ok(Some(String::from_str(
-            alloc,
-            "Behind X25 belongs 1 or 2, the form of the header.",
-        )?)),
+        Some([b'1']) => numbers_advice(alloc, words, FIRST_FORM.as_slice(), false),
+        Some([b'2']) => numbers_advice(alloc, words, SECOND_FORM.as_slice(), true),
+        _ => tell(alloc, "Behind X25 belongs 1 or 2, the form of the header."),
     }
 }
 
 /// What is wrong with a header, if something is.
 fn header_advice(alloc: Global, line: &[u8]) -> Result<Option<String>, AllocError> {
-    if let Some(told) = space_advice(alloc, line)? {
-        return Ok(Some(told));
+    match space_advice(alloc, line) {
+        Ok(None) => first_line_advice(alloc, line),
+        told => told,
     }
+}
+
+/// What is wrong with a header whose words are parted, if something is.
+fn first_line_advice(alloc: Global, line: &[u8]) -> Result<Option<String>, AllocError> {
     match line.first() {
-        Some(byte) if byte.is_ascii_digit() => Ok(Some(format!(in alloc;
+        Some(byte) if byte.is_ascii_digit() => told(format!(in alloc;
             "A row stands before the header, which comes first, as {HEADER}."
-        )?)),
+        )),
         _ => words_advice(alloc, line),
     }
 }

@@ -8,3 +8,4 @@ mod line;
 mod quoted;
 mod ranges;
 mod rows;
+mod told;

@@ -1,5 +1,6 @@
 //! A line, its words and the spaces between them.
 
+use crate::told::{tell, told};
 use memchr::{memchr, memmem};
 use std::alloc::{AllocError, Global};
 
@@ -20,16 +21,16 @@ pub const RETURN: &str =
 /// What is wrong with the bytes between the words of a line, if it is that.
 pub fn space_advice(alloc: Global, line: &[u8]) -> Result<Option<String>, AllocError> {
     if line.is_empty() {
-        return Ok(Some(String::from_str(alloc, "The line is empty.")?));
+        return tell(alloc, "The line is empty.");
     }
     if ends_in_return(line) {
-        return Ok(Some(String::from_str(alloc, RETURN)?));
+        return tell(alloc, RETURN);
     }
     if let Some(place) = memchr(b'\t', line) {
         let column = column(place);
-        return Ok(Some(format!(in alloc;
+        return told(format!(in alloc;
             "There is a tab at column {column}: single spaces part the words."
-        )?));
+        ));
     }
     parting_advice(alloc, line)
 }
@@ -37,16 +38,16 @@ pub fn space_advice(alloc: Global, line: &[u8]) -> Result<Option<String>, AllocE
 /// What is wrong with the spaces of a line, if it is that.
 fn parting_advice(alloc: Global, line: &[u8]) -> Result<Option<String>, AllocError> {
     if line.starts_with(b" ") {
-        return Ok(Some(String::from_str(alloc, "The line begins with a space.")?));
+        return tell(alloc, "The line begins with a space.");
     }
     if let Some(place) = memmem::find(line, b"  ") {
         let column = column(place);
-        return Ok(Some(format!(in alloc;
+        return told(format!(in alloc;
             "There are two spaces at column {column}: single spaces part the words."
-        )?));
+        ));
     }
     if line.ends_with(b" ") {
-        return Ok(Some(String::from_str(alloc, "The line ends in a space.")?));
+        return tell(alloc, "The line ends in a space.");
     }
     Ok(None)
 }

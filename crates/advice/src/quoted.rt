@@ -14,12 +14,17 @@ fn push_byte(text: &mut String, byte: u8) -> Result<(), AllocError> {
     }
 }
 
+/// Appends a word and the quote behind it.
+fn push_word(text: &mut String, word: &[u8]) -> Result<(), AllocError> {
+    for byte in word.iter().take(QUOTED) {
+        push_byte(text, *byte)?;
+    }
+    text.push_str(if word.len() > QUOTED { "..\"" } else { "\"" })
+}
+
 /// A word between quotes, of a long one its beginning, and each byte that is no printable ASCII in hex.
 pub fn quoted(alloc: Global, word: &[u8]) -> Result<String, AllocError> {
     let mut text = String::from_str(alloc, "\"")?;
-    for byte in word.iter().take(QUOTED) {
-        push_byte(&mut text, *byte)?;
-    }
-    text.push_str(if word.len() > QUOTED { "..\"" } else { "\"" })?;
+    push_word(&mut text, word)?;
     Ok(text)
 }

@@ -1,5 +1,6 @@
 //! Which number of a header is out of its range.
 
+use crate::told::told;
 use std::alloc::{AllocError, Global};
 
 /// The greatest number of a logical channel.
@@ -59,49 +60,52 @@ fn bounds_advice(
     if least <= number && number <= most {
         return Ok(None);
     }
-    Ok(Some(if least == most {
-        format!(in alloc; "The header's {name} is {number}: {most} belongs there.")?
+    told(if least == most {
+        format!(in alloc; "The header's {name} is {number}: {most} belongs there.")
     } else {
-        format!(in alloc; "The header's {name} is {number}: {least} to {most} belongs there.")?
-    }))
+        format!(in alloc; "The header's {name} is {number}: {least} to {most} belongs there.")
+    })
 }
 
 /// What is wrong with the numbering and the packet size, if something is.
 fn defaults_advice(alloc: Global, numbers: &Numbers) -> Result<Option<String>, AllocError> {
     let modulus = numbers.modulus;
     if modulus != 8 && modulus != 128 {
-        return Ok(Some(format!(in alloc;
-            "The header's MOD is {modulus}: 8 or 128 belongs there."
-        )?));
+        return told(format!(in alloc; "The header's MOD is {modulus}: 8 or 128 belongs there."));
     }
     let size = numbers.size;
     if !size.is_power_of_two() || size < 16 || size > 4096 {
-        return Ok(Some(format!(in alloc;
+        return told(format!(in alloc;
             "The header's SIZE is {size}: a power of two from 16 to 4096 belongs there."
-        )?));
+        ));
     }
     bounds_advice(alloc, "WIN", numbers.window, 1, modulus.saturating_sub(1))
 }
 
 /// What is wrong with the channels of the first form, if something is.
 fn first_form_advice(alloc: Global, numbers: &Numbers) -> Result<Option<String>, AllocError> {
-    match bounds_advice(alloc, "SVC", numbers.svc, 1, CHANNELS)? {
-        Some(told) => Ok(Some(told)),
-        None => bounds_advice(alloc, "PVC", numbers.pvc, 0, numbers.svc),
+    match bounds_advice(alloc, "SVC", numbers.svc, 1, CHANNELS) {
+        Ok(None) => bounds_advice(alloc, "PVC", numbers.pvc, 0, numbers.svc),
+        told => told,
     }
 }
 
 /// What is wrong with the channels of the second form, if something is.
 fn second_form_advice(alloc: Global, numbers: &Numbers) -> Result<Option<String>, AllocError> {
-    if let Some(told) = bounds_advice(alloc, "OUT", numbers.outgoing, 1, CHANNELS)? {
-        return Ok(Some(told));
+    match bounds_advice(alloc, "OUT", numbers.outgoing, 1, CHANNELS) {
+        Ok(None) => match bounds_advice(alloc, "TWO", numbers.two_way, 0, numbers.outgoing) {
+            Ok(None) => incoming_advice(alloc, numbers),
+            told => told,
+        },
+        told => told,
     }
-    if let Some(told) = bounds_advice(alloc, "TWO", numbers.two_way, 0, numbers.outgoing)? {
-        return Ok(Some(told));
-    }
-    match bounds_advice(alloc, "IN", numbers.incoming, 0, numbers.two_way)? {
-        Some(told) => Ok(Some(told)),
-        None => bounds_advice(alloc, "PVC", numbers.pvc, 0, numbers.incoming),
+}
+
+/// What is wrong with the channels of incoming calls and the permanent ones of the second form, if something is.
+fn incoming_advice(alloc: Global, numbers: &Numbers) -> Result<Option<String>, AllocError> {
+    match bounds_advice(alloc, "IN", numbers.incoming, 0, numbers.two_way) {
+        Ok(None) => bounds_advice(alloc, "PVC", numbers.pvc, 0, numbers.incoming),
+        told => told,
     }
 }
 
@@ -111,9 +115,9 @@ pub fn range_advice(
     numbers: &Numbers,
     is_second: bool,
 ) -> Result<Option<String>, AllocError> {
-    match defaults_advice(alloc, numbers)? {
-        Some(told) => Ok(Some(told)),
-        None if is_second => second_form_advice(alloc, numbers),
-        None => first_form_advice(alloc, numbers),
+    match defaults_advice(alloc, numbers) {
+        Ok(None) if is_second => second_form_advice(alloc, numbers),
+        Ok(None) => first_form_advice(alloc, numbers),
+        told => told,
     }
 }

@@ -2,6 +2,7 @@
 
 use crate::line::{RETURN, ends_in_return, number_in, space_advice};
 use crate::quoted::quoted;
+use crate::told::{tell, tell_word, told};
 use line_model::fault::Kind;
 use std::alloc::{AllocError, Global};
 
@@ -32,14 +33,19 @@ fn row_words(line: &[u8]) -> Option<RowWords<'_>> {
 }
 
 fn form_advice(alloc: Global, line: &[u8]) -> Result<Option<String>, AllocError> {
-    if let Some(told) = space_advice(alloc, line)? {
-        return Ok(Some(told));
+    match space_advice(alloc, line) {
+        Ok(None) => word_count_advice(alloc, line),
+        told => told,
     }
+}
+
+/// What is told of a row by how many words it has.
+fn word_count_advice(alloc: Global, line: &[u8]) -> Result<Option<String>, AllocError> {
     let count = line.split(|byte| *byte == b' ').count();
     let words = if count == 1 { "word" } else { "words" };
-    Ok(Some(format!(in alloc;
+    told(format!(in alloc;
         "The line has {count} {words}, and a row has three: its number, its side and its octets."
-    )?))
+    ))
 }
 
 /// What is wrong with a number behind that of the row before, if it is wrong.
@@ -48,20 +54,28 @@ fn number_advice(
     word: &[u8],
     before: Option<u32>,
 ) -> Result<Option<String>, AllocError> {
-    let Some(number) = number_in(word) else {
-        let word = quoted(alloc, word)?;
-        return Ok(Some(format!(in alloc;
-            "The row's number is {word}: 1 to 999999999 without a leading zero belongs there."
-        )?));
-    };
-    match before {
-        _ if number == 0 => Ok(Some(String::from_str(
+    match number_in(word) {
+        None => tell_word(
             alloc,
-            "The row's number is 0: rows are numbered from 1.",
-        )?)),
-        Some(before) if number <= before => Ok(Some(format!(in alloc;
+            "The row's number is ",
+            word,
+            ": 1 to 999999999 without a leading zero belongs there.",
+        ),
+        Some(0) => tell(alloc, "The row's number is 0: rows are numbered from 1."),
+        Some(number) => rise_advice(alloc, number, before),
+    }
+}
+
+/// What is wrong with a number that does not rise above that of the row before.
+fn rise_advice(
+    alloc: Global,
+    number: u32,
+    before: Option<u32>,
+) -> Result<Option<String>, AllocError> {
+    match before {
+        Some(before) if number <= before => told(format!(in alloc;
             "The row's number is {number}, and that of the row before is {before}: numbers rise."
-        )?)),
+        )),
         _ => Ok(None),
     }
 }
@@ -69,14 +83,14 @@ fn number_advice(
 fn side_advice(alloc: Global, word: &[u8]) -> Result<Option<String>, AllocError> {
     match word {
         [b'T'] | [b'N'] => Ok(None),
-        [b't'] => Ok(Some(String::from_str(alloc, "The side t is written T.")?)),
-        [b'n'] => Ok(Some(String::from_str(alloc, "The side n is written N.")?)),
-        _ => {
-            let word = quoted(alloc, word)?;
-            Ok(Some(format!(in alloc;
-                "The side is {word}: T for the DTE or N for the DCE belongs there."
-            )?))
-        }
+        [b't'] => tell(alloc, "The side t is written T."),
+        [b'n'] => tell(alloc, "The side n is written N."),
+        _ => tell_word(
+            alloc,
+            "The side is ",
+            word,
+            ": T for the DTE or N for the DCE belongs there.",
+        ),
     }
 }
 
@@ -86,34 +100,40 @@ fn octets_advice(alloc: Global, word: &[u8], front: usize) -> Result<Option<Stri
         return Ok(None);
     }
     if ends_in_return(word) {
-        return Ok(Some(String::from_str(alloc, RETURN)?));
+        return tell(alloc, RETURN);
     }
-    if let Some(place) = word.iter().position(|byte| !byte.is_ascii_hexdigit()) {
-        let column = front.saturating_add(place).saturating_add(1);
-        let byte = quoted(
-            alloc,
-            word.get(place..place.saturating_add(1)).unwrap_or(b""),
-        )?;
-        return Ok(Some(format!(in alloc;
-            "At column {column} stands {byte}, which is no hex digit."
-        )?));
+    match word.iter().position(|byte| !byte.is_ascii_hexdigit()) {
+        Some(place) => digit_advice(alloc, word, place, front),
+        None => count_advice(alloc, word.len(), front),
     }
-    count_advice(alloc, word.len(), front)
+}
+
+/// What is told of a place among the octets that holds no hex digit.
+fn digit_advice(
+    alloc: Global,
+    word: &[u8],
+    place: usize,
+    front: usize,
+) -> Result<Option<String>, AllocError> {
+    let column = front.saturating_add(place).saturating_add(1);
+    let byte = word.get(place..place.saturating_add(1)).unwrap_or(b"");
+    let byte = quoted(alloc, byte)?;
+    told(format!(in alloc; "At column {column} stands {byte}, which is no hex digit."))
 }
 
 /// What is wrong with the number of hex digits, if it is wrong.
 fn count_advice(alloc: Global, count: usize, front: usize) -> Result<Option<String>, AllocError> {
     let octets = count / 2;
     if octets > OCTET_LIMIT {
-        return Ok(Some(format!(in alloc;
+        return told(format!(in alloc;
             "The row has {octets} octets, and {OCTET_LIMIT} are the most."
-        )?));
+        ));
     }
     if count % 2 == 1 {
         let column = front.saturating_add(count);
-        return Ok(Some(format!(in alloc;
+        return told(format!(in alloc;
             "The octets have {count} hex digits, an odd number: the last one, at column {column}, stands alone."
-        )?));
+        ));
     }
     Ok(None)
 }
@@ -180,10 +200,10 @@ pub fn rows_advice(
         header_came = header_came || !is_other;
         line_began = true;
         if is_row {
-            if let Some(told) = row_advice(alloc, kind, line, before)? {
-                return Ok(Some(told));
+            match row_advice(alloc, kind, line, before) {
+                Ok(None) => before = row_number(line),
+                told => return told,
             }
-            before = row_number(line);
         }
     }
     Ok(None)
