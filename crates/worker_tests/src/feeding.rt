@@ -12,6 +12,7 @@ use piece_feed::text_cutter::TextCutter;
 use piece_feed::{Read, Reading};
 use std::alloc::{Allocator, Global};
 use std::marker::Brand;
+use std::process::Abort;
 use std::sync::Wait;
 use std::sync::ledger::{Blank, Ledger};
 use std::test::Fail;
@@ -117,84 +118,136 @@ fn read<R: Threads + Wait + Clock + Sync>(
     read_on::<Brand, Brand, Brand, R>(rt, alloc, text, step, good, Blank::new(1), Blank::new(1))
 }
 
+/// The rows of a text, and how many packets, pieces and findings of the line they have.
+struct Fed {
+    rows: &'static str,
+    packets: u32,
+    pieces: u32,
+    findings: usize,
+}
+
+const FED: [Fed; 5] = [
+    Fed {
+        rows: "",
+        packets: 0,
+        pieces: 0,
+        findings: 0,
+    },
+    Fed {
+        rows: "1 T 100100AA\n",
+        packets: 1,
+        pieces: 1,
+        findings: 0,
+    },
+    Fed {
+        rows: "1 T 10010B0000\n2 N 10010F\n3 T 1000FB0000\n4 N 1000FF",
+        packets: 4,
+        pieces: 1,
+        findings: 0,
+    },
+    Fed {
+        rows: "1 T 1000FF\n2 N 1000FF\n3 N 1000FB0000\n4 N 1000FF\n5 T 1000FF\n",
+        packets: 5,
+        pieces: 0,
+        findings: 2,
+    },
+    Fed {
+        rows: "1 T 100100AA\n2 T 100200AA\n3 T 100300AA\n4 T 100400AA\n5 T 1000FB0000\n6 N 1000FF\n7 T 100100AA\n8 T 100200AA\n9 T 100300AA\n10 T 100400AA\n11 T 1000FB0000\n12 N 1000FF\n13 T 100100AA\n14 T 100200AA\n15 T 100300AA\n16 T 100400AA\n",
+        packets: 16,
+        pieces: 12,
+        findings: 0,
+    },
+];
+
+/// Whether this is what was read of an interface with four channels for switched calls.
+fn is_fed(read: Option<Result<Read, Fault>>, fed: &Fed) -> bool {
+    match read {
+        Some(Ok(read)) => {
+            read.packets == fed.packets
+                && read.pieces == fed.pieces
+                && read.line.len() == fed.findings
+                && read.interface.svc == 4
+        }
+        _ => false,
+    }
+}
+
+/// Reads a text in steps of each size.
+fn check_fed<R: Threads + Wait + Clock + Sync + Abort>(
+    rt: &R,
+    alloc: Global,
+    fed: &Fed,
+) -> Result<(), Fail> {
+    let rows = fed.rows;
+    let text = format!(in alloc; "X25 1 MOD 8 WIN 2 SIZE 128 PVC 0 SVC 4\n{rows}")?;
+    for step in STEPS {
+        let read = read(rt, alloc, text.as_bytes(), step, usize::MAX);
+        assert!(rt; is_fed(read, fed), "{rows} by {step}");
+    }
+    Ok(())
+}
+
 #[test]
 fn all_pieces_are_fed(rt: HostRuntime) -> Result<(), Fail> {
-    for (text, packets, pieces, findings) in [
-        ("", 0, 0, 0),
-        ("1 T 100100AA\n", 1, 1, 0),
-        (
-            "1 T 10010B0000\n2 N 10010F\n3 T 1000FB0000\n4 N 1000FF",
-            4,
-            1,
-            0,
-        ),
-        (
-            "1 T 1000FF\n2 N 1000FF\n3 N 1000FB0000\n4 N 1000FF\n5 T 1000FF\n",
-            5,
-            0,
-            2,
-        ),
-        (
-            "1 T 100100AA\n2 T 100200AA\n3 T 100300AA\n4 T 100400AA\n5 T 1000FB0000\n6 N 1000FF\n7 T 100100AA\n8 T 100200AA\n9 T 100300AA\n10 T 100400AA\n11 T 1000FB0000\n12 N 1000FF\n13 T 100100AA\n14 T 100200AA\n15 T 100300AA\n16 T 100400AA\n",
-            16,
-            12,
-            0,
-        ),
-    ] {
-        let whole = format!(in rt.alloc(); "X25 1 MOD 8 WIN 2 SIZE 128 PVC 0 SVC 4\n{text}")?;
-        for step in STEPS {
-            let Some(Ok(read)) = read(&rt, rt.alloc(), whole.as_bytes(), step, usize::MAX) else {
-                return Err("refused")?;
-            };
-            assert_eq!(rt; read.packets, packets, "{text} by {step}");
-            assert_eq!(rt; read.pieces, pieces, "{text} by {step}");
-            assert_eq!(rt; read.line.len(), findings, "{text} by {step}");
-            assert_eq!(rt; read.interface.svc, 4);
-        }
+    for fed in &FED {
+        check_fed(&rt, rt.alloc(), fed)?;
     }
     Ok(())
 }
 
-#[test]
-fn a_faulty_text_is_refused_by_its_first_faulty_line(rt: HostRuntime) -> Result<(), Fail> {
-    for (text, line, kind) in [
-        ("", 1, Kind::HeaderMissing),
-        (
-            "X25 2 MOD 8 WIN 2 SIZE 128 PVC 0 SVC 4\n",
-            1,
-            Kind::HeaderForm,
-        ),
-        (
-            "X25 1 MOD 8 WIN 2 SIZE 128 PVC 0 SVC 4\n1 T 1000FB0000\n2 X 1000FF\n3 T 5\n",
-            3,
-            Kind::Side,
-        ),
-        (
-            "X25 1 MOD 8 WIN 2 SIZE 128 PVC 0 SVC 4\n5 T -\n5 T -",
-            3,
-            Kind::Number,
-        ),
-    ] {
-        for step in STEPS {
-            let Some(Err(fault)) = read(&rt, rt.alloc(), text.as_bytes(), step, usize::MAX) else {
-                return Err("accepted")?;
-            };
-            assert_eq!(rt; fault, Fault::Trace(line, kind), "{text} by {step}");
-        }
+/// Whether a text was refused for a reason.
+fn is_refused(read: Option<Result<Read, Fault>>, wanted: Fault) -> bool {
+    match read {
+        Some(Err(fault)) => fault == wanted,
+        _ => false,
     }
-    Ok(())
 }
 
-#[test]
-fn a_source_that_fails_is_told(rt: HostRuntime) -> Result<(), Fail> {
-    let text = "X25 1 MOD 8 WIN 2 SIZE 128 PVC 0 SVC 4\n1 T 100100AA\n2 T 1000FB0000\n3 N 1000FF\n";
+/// Reads a text in steps of each size, from a source that fails after so many bytes, and is refused.
+fn check_refused<R: Threads + Wait + Clock + Sync + Abort>(
+    rt: &R,
+    alloc: Global,
+    text: &str,
+    good: usize,
+    wanted: Fault,
+) {
     for step in STEPS {
-        let Some(Err(fault)) = read(&rt, rt.alloc(), text.as_bytes(), step, 70) else {
-            return Err("read")?;
-        };
-        assert_eq!(rt; fault, Fault::Read, "by {step}");
+        let read = read(rt, alloc, text.as_bytes(), step, good);
+        assert!(rt; is_refused(read, wanted), "{text} by {step}");
     }
-    Ok(())
+}
+
+/// Texts with their first faulty lines.
+const FAULTY: [(&str, u32, Kind); 4] = [
+    ("", 1, Kind::HeaderMissing),
+    (
+        "X25 2 MOD 8 WIN 2 SIZE 128 PVC 0 SVC 4\n",
+        1,
+        Kind::HeaderForm,
+    ),
+    (
+        "X25 1 MOD 8 WIN 2 SIZE 128 PVC 0 SVC 4\n1 T 1000FB0000\n2 X 1000FF\n3 T 5\n",
+        3,
+        Kind::Side,
+    ),
+    (
+        "X25 1 MOD 8 WIN 2 SIZE 128 PVC 0 SVC 4\n5 T -\n5 T -",
+        3,
+        Kind::Number,
+    ),
+];
+
+#[test]
+fn a_faulty_text_is_refused_by_its_first_faulty_line(rt: HostRuntime) {
+    for (text, line, kind) in FAULTY {
+        check_refused(&rt, rt.alloc(), text, usize::MAX, Fault::Trace(line, kind));
+    }
+}
+
+#[test]
+fn a_source_that_fails_is_told(rt: HostRuntime) {
+    let text = "X25 1 MOD 8 WIN 2 SIZE 128 PVC 0 SVC 4\n1 T 100100AA\n2 T 1000FB0000\n3 N 1000FF\n";
+    check_refused(&rt, rt.alloc(), text, 70, Fault::Read);
 }
 
 /// The pieces that are known whole with each of two parts of a text, and those that it leaves at its end.
@@ -223,35 +276,52 @@ fn is_piece(piece: &Piece, id: u32, end: Option<u32>, channel: u16, rows: &[(u32
     })
 }
 
+/// A text of three pieces, of which two are known whole at its restart.
+const CUT: &[u8] =
+    b"X25 1 MOD 8 WIN 2 SIZE 128 PVC 0 SVC 4\n1 T 10030B0000\n2 T 10010B0000\n3 N 10030F\n4 T 1000FB0000\n5 N 1000FF\n6 T 100100AA";
+
+/// Whether these are the two pieces before the restart, in the order of their channels.
+fn are_closed(pieces: &[Piece]) -> bool {
+    let [one, three] = pieces else {
+        return false;
+    };
+    let call: &[u8] = &[0x10, 3, 0x0B, 0, 0];
+    let accepted: &[u8] = &[0x10, 3, 0x0F];
+    is_piece(one, 0, Some(4), 1, &[(2, &[0x10, 1, 0x0B, 0, 0])])
+        && is_piece(three, 1, Some(4), 3, &[(1, call), (3, accepted)])
+}
+
+/// Whether this is the piece behind the restart.
+fn is_open(pieces: &[Piece]) -> bool {
+    match pieces {
+        [open] => is_piece(open, 2, None, 1, &[(6, &[0x10, 1, 0, 0xAA])]),
+        _ => false,
+    }
+}
+
+/// The pieces of the text, in two parts of which the first ends at a place.
+fn check_cut(
+    rt: &impl Abort,
+    alloc: Global,
+    first: &[u8],
+    rest: &[u8],
+    at: usize,
+) -> Result<(), Fail> {
+    let [mut closed, mut late, open] = cut(alloc, first, rest)?;
+    closed.append(&mut late)?;
+    assert!(rt; are_closed(&closed), "known whole, at {at}");
+    assert!(rt; is_open(&open), "at {at}");
+    Ok(())
+}
+
 #[test]
 fn rows_of_a_text_that_is_cut_anywhere_come_with_their_octets_and_packets(
     rt: HostRuntime,
 ) -> Result<(), Fail> {
-    let text: &[u8] =
-        b"X25 1 MOD 8 WIN 2 SIZE 128 PVC 0 SVC 4\n1 T 10030B0000\n2 T 10010B0000\n3 N 10030F\n4 T 1000FB0000\n5 N 1000FF\n6 T 100100AA";
+    let text = CUT;
     for at in 0..text.len() {
         let (first, rest) = text.split_at(at);
-        let [mut pieces, mut late, mut last] = cut(rt.alloc(), first, rest)?;
-        pieces.append(&mut late)?;
-        assert_eq!(rt; pieces.len(), 2, "known whole, at {at}");
-        pieces.append(&mut last)?;
-        let [one, three, open] = pieces.as_slice() else {
-            return Err("not three pieces")?;
-        };
-        let call: &[u8] = &[0x10, 3, 0x0B, 0, 0];
-        let accepted: &[u8] = &[0x10, 3, 0x0F];
-        assert!(rt;
-            is_piece(one, 0, Some(4), 1, &[(2, &[0x10, 1, 0x0B, 0, 0])]),
-            "at {at}"
-        );
-        assert!(rt;
-            is_piece(three, 1, Some(4), 3, &[(1, call), (3, accepted)]),
-            "at {at}"
-        );
-        assert!(rt;
-            is_piece(open, 2, None, 1, &[(6, &[0x10, 1, 0, 0xAA])]),
-            "at {at}"
-        );
+        check_cut(&rt, rt.alloc(), first, rest, at)?;
     }
     Ok(())
 }
@@ -278,16 +348,21 @@ fn calls_of(piece: &Piece) -> usize {
         .count()
 }
 
+/// How many rows of all pieces are such calls.
+fn calls_of_all(pieces: &[Piece]) -> usize {
+    let mut rows: usize = 0;
+    for piece in pieces {
+        rows = rows.saturating_add(calls_of(piece));
+    }
+    rows
+}
+
 #[test]
 fn each_row_of_a_large_part_lies_in_the_piece_of_its_channel(rt: HostRuntime) -> Result<(), Fail> {
     let text = calls(rt.alloc())?;
     let [early, late, last] = cut(rt.alloc(), text.as_slice(), b"")?;
     assert!(rt; early.is_empty() && late.is_empty());
-    assert_eq!(rt; last.len(), 199);
-    let mut rows: usize = 0;
-    for piece in &last {
-        rows = rows.saturating_add(calls_of(piece));
-    }
-    assert_eq!(rt; rows, 5000);
+    assert!(rt; last.len() == 199);
+    assert!(rt; calls_of_all(&last) == 5000);
     Ok(())
 }

@@ -1,4 +1,4 @@
-//! The tests of what the workers share: the queue of pieces, the book of findings, and the task that feeds them.
+//! The tests of what the workers share: the queue of pieces, the book of findings, the workers over both, and the task that feeds them.
 #![tactic(auto)]
 
 #[cfg(test)]
@@ -7,3 +7,5 @@ mod feeding;
 mod posting;
 #[cfg(test)]
 mod queue;
+#[cfg(test)]
+mod working;

@@ -1,13 +1,11 @@
-//! Reports that are posted in turn, and from two threads side by side, and posts whose growths are refused.
+//! Reports that two shares post to one book, in turn or from two threads.
 
-mod in_turn;
 mod refused;
-mod side_by_side;
+mod scenarios;
 
-ghost use Rattle.std.specs.Prelude.{◌≡◌, ◌≤◌, ◌^◌, ◌+◌, IfOk, vec_len};
+ghost use Rattle.std.specs.Prelude.{◌≡◌, ◌≤◌, IfOk, vec_len};
 
-use crate::posting::in_turn::{has_one, has_three_epochs, posted_twice, three_epochs};
-use crate::posting::side_by_side::{has_both, has_twelve, post_and_look, twelve_pieces};
+use crate::posting::scenarios::{Post, Round, Scenario, Step};
 use findings_book::{AnyReport, Blanks, Book, Ledgers, LockedPosts, Share};
 use line_model::fault::Fault;
 use line_model::finding::{Code, Finding};
@@ -19,15 +17,8 @@ use std::marker::Brand;
 use std::process::Abort;
 use std::sync::Wait;
 use std::test::Fail;
+use std::thread;
 use std::thread::Threads;
-
-/// The totals of three epochs on four channels, where each piece has one finding.
-const THREE_EPOCHS: Totals = Totals {
-    posts: 12,
-    findings: 12,
-    octets: 0,
-    segments: 0,
-};
 
 /// A data packet of the DTE came while the channel was ready.
 fn finding(packet: u32) -> Finding {
@@ -39,52 +30,32 @@ fn finding(packet: u32) -> Finding {
     }
 }
 
-/// The report of a piece without calls.
-fn report_of<A: Allocator + Copy>(
-    alloc: A,
-    id: u32,
-    findings: Vec<Finding, A>,
-    octets: u16,
-    segments: u16,
-) -> PieceReport<A>
-    requires few { vec_len findings ≤ 2 ^ 31 }
+/// One finding, or two.
+fn findings<A: Allocator>(alloc: A, two: bool) -> Result<Vec<Finding, A>, Fault>
+    ensures few { IfOk result (λ findings. vec_len findings ≤ 2) }
 {
-    PieceReport {
-        id,
-        epoch: 1,
-        channel: 1,
-        findings,
-        calls: Vec::new(alloc),
-        octets: octets as u64,
-        segments: segments as u64,
-    }
+    Ok(match two {
+        false => vec![in alloc; finding(1)]?,
+        true => vec![in alloc; finding(1), finding(2)]?,
+    })
 }
 
-/// The report of a piece with one finding.
-fn report<A: Allocator + Copy>(
-    alloc: A,
-    id: u32,
-    octets: u16,
-    segments: u16,
-) -> Result<PieceReport<A>, Fault> {
-    let findings = vec![in alloc; finding(1)]?;
-    Ok(report_of(alloc, id, findings, octets, segments))
+/// The report of a piece without calls.
+fn report<A: Allocator + Copy>(alloc: A, post: Post) -> Result<PieceReport<A>, Fault> {
+    Ok(PieceReport {
+        id: post.id,
+        epoch: 1,
+        channel: 1,
+        findings: findings(alloc, post.two_findings)?,
+        calls: Vec::new(alloc),
+        octets: post.octets as u64,
+        segments: post.segments as u64,
+    })
 }
 
 /// What was counted is what was wanted.
 fn totals_are<R: Abort>(rt: &R, counted: Totals, wanted: Totals) {
     assert_eq!(rt; counted, wanted);
-}
-
-/// The share has these totals, and a look by it sees the same.
-fn share_has<R: Wait + Abort, L: Ledgers, A: Allocator>(
-    rt: &R,
-    locked_posts: &LockedPosts<Brand, L, A>,
-    share: &mut Share<L>,
-    wanted: Totals,
-) {
-    totals_are(rt, share.totals(), wanted);
-    totals_are(rt, locked_posts.look(rt, share), wanted);
 }
 
 /// Each number that is seen is at least that of what was posted.
@@ -109,33 +80,22 @@ fn post_one<R: Wait + Abort, L: Ledgers>(
     Ok(())
 }
 
-/// The id, the octets and the fault of a report that comes back.
-fn refusal<R: Wait, L: Ledgers>(
+/// Whether a report comes back as it was, since one of its id was posted.
+fn comes_back<R: Wait, L: Ledgers>(
     rt: &R,
     locked_posts: &LockedPosts<Brand, L>,
-    report: PieceReport,
     share: &mut Share<L>,
-) -> Option<(u32, u64, Fault)> {
+    report: PieceReport,
+) -> bool {
+    let (id, octets) = (report.id, report.octets);
     match locked_posts.post(rt, report, share, AnyReport) {
-        Ok(()) => None,
-        Err((back, fault)) => Some((back.id, back.octets, fault)),
+        Ok(()) => false,
+        Err((back, fault)) => back.id == id && back.octets == octets && fault == Fault::Double(id),
     }
 }
 
-/// A report of an id that was posted comes back.
-fn comes_back<R: Wait + Abort, L: Ledgers>(
-    rt: &R,
-    locked_posts: &LockedPosts<Brand, L>,
-    report: PieceReport,
-    share: &mut Share<L>,
-) {
-    let (id, octets) = (report.id, report.octets);
-    let refused = refusal(rt, locked_posts, report, share);
-    assert!(rt; refused == Some((id, octets, Fault::Double(id))));
-}
-
-/// Posts the reports of some pieces. After each post no number that is seen is below that of the share.
-fn post_all<R: Wait + Abort, L: Ledgers>(
+/// Posts the reports of some pieces, each with one finding and no octets.
+fn post_each<R: Wait + Abort, L: Ledgers>(
     rt: &R,
     alloc: Global,
     locked_posts: &LockedPosts<Brand, L>,
@@ -143,70 +103,123 @@ fn post_all<R: Wait + Abort, L: Ledgers>(
     ids: &[u32],
 ) -> Result<(), Fault> {
     for id in ids {
-        post_one(rt, locked_posts, share, report(alloc, *id, 0, 0)?)?;
+        post_one(rt, locked_posts, share, report(alloc, Post::plain(*id))?)?;
     }
     Ok(())
 }
 
-/// What a test posts to a book without posts, by two shares.
-#[derive(Clone, Copy)]
-enum Scenario {
-    ThreeEpochs,
-    PostedTwice,
-    TwelvePieces,
-    PostAndLook,
-}
-
-/// The two shares of a book that gave none.
-fn two_shares<L: Ledgers>(alloc: Global, book: &mut Book<Brand, L>) -> Result<Vec<Share<L>>, Fail>
-    requires fresh { book.old ≡ 0 }
-    ensures all { IfOk result (λ shares. vec_len shares ≡ book.new) }
-{
-    Ok(vec![in alloc; book.share(), book.share()]?)
-}
-
-/// Posts and looks by two shares.
-fn play_in_two<R: Threads + Wait + Abort + Sync, L: Ledgers + Sync>(
+/// Takes a step by a share.
+fn take_step<R: Wait + Abort, L: Ledgers>(
     rt: &R,
     alloc: Global,
-    scenario: Scenario,
+    locked_posts: &LockedPosts<Brand, L>,
+    share: &mut Share<L>,
+    step: Step,
+) -> Result<(), Fault> {
+    match step {
+        Step::PostsEach(ids) => post_each(rt, alloc, locked_posts, share, ids)?,
+        Step::Posts(post) => post_one(rt, locked_posts, share, report(alloc, post)?)?,
+        Step::PostsAgain(post) => {
+            assert!(rt; comes_back(rt, locked_posts, share, report(alloc, post)?));
+        }
+        Step::Has(totals) => totals_are(rt, share.totals(), totals),
+        Step::Sees(totals) => totals_are(rt, locked_posts.look(rt, share), totals),
+    }
+    Ok(())
+}
+
+/// Takes steps by a share, one behind the other.
+fn take_steps<R: Wait + Abort, L: Ledgers>(
+    rt: &R,
+    alloc: Global,
+    locked_posts: &LockedPosts<Brand, L>,
+    share: &mut Share<L>,
+    steps: &[Step],
+) -> Result<(), Fault> {
+    for step in steps {
+        take_step(rt, alloc, locked_posts, share, *step)?;
+    }
+    Ok(())
+}
+
+/// Takes the steps of both shares in two threads.
+fn take_side_by_side<R: Threads + Wait + Abort + Sync, L: Ledgers + Sync>(
+    rt: &R,
+    alloc: Global,
+    locked_posts: &LockedPosts<Brand, L>,
+    first: &mut Share<L>,
+    second: &mut Share<L>,
+    round: &Round,
+) -> Result<(), Fault> {
+    let (one, other) = thread::join(
+        rt,
+        move || take_steps(rt, alloc, locked_posts, first, round.first),
+        move || take_steps(rt, alloc, locked_posts, second, round.second),
+    );
+    one?;
+    other
+}
+
+/// Takes the steps of both shares, those of the first before those of the second.
+fn take_in_turn<R: Wait + Abort, L: Ledgers>(
+    rt: &R,
+    alloc: Global,
+    locked_posts: &LockedPosts<Brand, L>,
+    first: &mut Share<L>,
+    second: &mut Share<L>,
+    round: &Round,
+) -> Result<(), Fault> {
+    take_steps(rt, alloc, locked_posts, first, round.first)?;
+    take_steps(rt, alloc, locked_posts, second, round.second)
+}
+
+/// Takes the steps of all rounds.
+fn take_rounds<R: Threads + Wait + Abort + Sync, L: Ledgers + Sync>(
+    rt: &R,
+    alloc: Global,
     locked_posts: &LockedPosts<Brand, L>,
     shares: &mut [Share<L>],
+    rounds: &[Round],
 ) -> Result<(), Fail> {
     let [first, second] = shares else {
         return Err("there are not two shares")?;
     };
-    match scenario {
-        Scenario::ThreeEpochs => three_epochs(rt, alloc, locked_posts, first, second),
-        Scenario::PostedTwice => posted_twice(rt, alloc, locked_posts, first),
-        Scenario::TwelvePieces => twelve_pieces(rt, alloc, locked_posts, first, second),
-        Scenario::PostAndLook => post_and_look(rt, alloc, locked_posts, first, second),
+    for round in rounds {
+        if round.side_by_side {
+            take_side_by_side(rt, alloc, locked_posts, first, second, round)?;
+        } else {
+            take_in_turn(rt, alloc, locked_posts, first, second, round)?;
+        }
     }
+    Ok(())
 }
 
-/// Looks at the totals and the reports of the whole.
-fn end<R: Abort>(rt: &R, scenario: Scenario, totals: Totals, reports: &[PieceReport]) {
-    match scenario {
-        Scenario::ThreeEpochs => has_three_epochs(rt, totals, reports),
-        Scenario::PostedTwice => has_one(rt, totals, reports),
-        Scenario::TwelvePieces => has_twelve(rt, totals, reports),
-        Scenario::PostAndLook => has_both(rt, totals, reports),
-    }
+/// The book has what a scenario leaves in it.
+fn has_all<R: Abort>(rt: &R, totals: Totals, reports: &[PieceReport], scenario: &Scenario) {
+    totals_are(rt, totals, scenario.totals);
+    assert!(rt; reports.len() == scenario.reports.len());
+    assert!(rt; scenario.in_any_order || are_in_order(reports, scenario.reports));
+}
+
+/// Whether these are reports of such ids and octets, in their order.
+fn are_in_order(reports: &[PieceReport], wanted: &[(u32, u64)]) -> bool {
+    reports.iter().zip(wanted).all(|(report, wanted)| report.id == wanted.0
+        && report.octets == wanted.1)
 }
 
 /// Plays a scenario with a book and two shares, and with the whole.
 fn play_with<R: Threads + Wait + Abort + Sync, L: Ledgers + Sync>(
     rt: &R,
     alloc: Global,
-    scenario: Scenario,
+    scenario: &Scenario,
     mut book: Book<Brand, L>,
 ) -> Result<(), Fail>
     requires fresh { book ≡ 0 }
 {
-    let mut shares = two_shares(alloc, &mut book)?;
-    let played = play_in_two(rt, alloc, scenario, book.locked_posts(), &mut shares);
+    let mut shares = vec![in alloc; book.share(), book.share()]?;
+    let played = take_rounds(rt, alloc, book.locked_posts(), &mut shares, scenario.rounds);
     let (totals, reports, _) = book.gather(shares);
-    end(rt, scenario, totals, &reports);
+    has_all(rt, totals, &reports, scenario);
     played
 }
 
@@ -214,7 +227,7 @@ fn play_with<R: Threads + Wait + Abort + Sync, L: Ledgers + Sync>(
 fn play_in<R: Threads + Wait + Abort + Sync, L: Ledgers + Sync>(
     rt: &R,
     alloc: Global,
-    scenario: Scenario,
+    scenario: &Scenario,
     blanks: Blanks,
 ) -> Result<(), Fail>
     requires posts { (blanks.posts.name ≡ L.posts) × (blanks.posts.parts ≡ 4096) }
@@ -234,7 +247,7 @@ fn play_in<R: Threads + Wait + Abort + Sync, L: Ledgers + Sync>(
 fn play<R: Threads + Wait + Abort + Sync>(
     rt: &R,
     alloc: Global,
-    scenario: Scenario,
+    scenario: &Scenario,
 ) -> Result<(), Fail> {
     play_in::<R, Brand>(rt, alloc, scenario, Blanks::new())
 }

@@ -15,8 +15,8 @@ mod worker;
 
 pub use feeding::{Feed, feed_piece, feed_pieces};
 pub use gate::Gate;
-pub use gathering::Gathered;
+pub use gathering::{Gathered, gather};
+pub use handler::{Handler, Posted};
+pub use run::{RunOutcome, run_scoped};
+pub use starting::{Crew, crew_for};
 pub use whole::{Worked, work_through};
-
-#[cfg(test)]
-mod tests;

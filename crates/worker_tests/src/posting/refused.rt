@@ -2,7 +2,8 @@
 
 ghost use Rattle.std.specs.Prelude.{◌≡◌};
 
-use crate::posting::{finding, report, share_has, totals_are};
+use crate::posting::scenarios::Post;
+use crate::posting::{finding, report, totals_are};
 use findings_book::{AnyReport, Blanks, Book, Ledgers, LockedPosts, Share};
 use line_model::fault::Fault;
 use line_model::piece::PieceReport;
@@ -28,10 +29,12 @@ const ALL: Totals = Totals {
 /// The most growths that these tests look for in a post.
 const GROWTHS: u64 = 1000;
 
-/// A report that came back is the one that was posted.
-fn is_whole<R: Abort>(rt: &R, back: &PieceReport<&Scarce<Global>>, id: u32) {
-    assert_eq!(rt; (back.id, back.octets, back.segments), (id, 130, 2));
-    assert_eq!(rt; back.findings.as_slice(), [finding(1)].as_slice());
+/// Whether a report that came back is the one that was posted.
+fn is_whole(back: &PieceReport<&Scarce<Global>>, id: u32) -> bool {
+    back.id == id
+        && back.octets == 130
+        && back.segments == 2
+        && back.findings.as_slice() == [finding(1)].as_slice()
 }
 
 /// The report of this id that came back for want of memory, if one did.
@@ -43,8 +46,7 @@ fn back_for_memory<'a, R: Abort>(
     match answer {
         Ok(()) => None,
         Err((back, fault)) => {
-            assert!(rt; fault == Fault::Memory);
-            is_whole(rt, &back, id);
+            assert!(rt; fault == Fault::Memory && is_whole(&back, id));
             Some(back)
         }
     }
@@ -81,7 +83,8 @@ fn post_refused<'a, R: Wait + Abort, L: Ledgers>(
     let (back, refused) = post_with(rt, heap, locked_posts, share, report, good);
     assert!(rt; back.is_some() == refused);
     if refused {
-        share_has(rt, locked_posts, share, before);
+        totals_are(rt, share.totals(), before);
+        totals_are(rt, locked_posts.look(rt, share), before);
     }
     back
 }
@@ -112,7 +115,13 @@ fn post_id<'a, R: Wait + Abort, L: Ledgers>(
     share: &mut Share<L>,
     id: u32,
 ) -> Result<u64, Fault> {
-    let report = report(heap, id, 130, 2)?;
+    let post = Post {
+        id,
+        two_findings: false,
+        octets: 130,
+        segments: 2,
+    };
+    let report = report(heap, post)?;
     let came_back = post_until_taken(rt, heap, locked_posts, share, report);
     assert!(rt; came_back < GROWTHS, "report {id}");
     Ok(came_back)

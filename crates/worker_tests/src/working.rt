@@ -5,7 +5,6 @@ mod looking;
 ghost use Rattle.std.specs.Prelude.{◌≡◌, ◌<◌, ◌≤◌, ℕ, None, length};
 ghost use Rattle.workers.specs.Workers.{ArePlanned};
 
-use crate::{Feed, Gate, Gathered, Worked, feed_piece, feed_pieces, work_through};
 use line_model::fault::Fault;
 use line_model::interface::Interface;
 use line_model::items::Items;
@@ -17,6 +16,7 @@ use std::sync::Wait;
 use std::test::Fail;
 use std::thread::Threads;
 use std::time::Clock;
+use workers::{Feed, Gate, Gathered, Worked, feed_piece, feed_pieces, work_through};
 
 /// The pieces of three epochs on four channels.
 const PIECES: u32 = 12;

@@ -2,11 +2,7 @@
 
 ghost use Rattle.std.specs.Prelude.{◌≡◌, ◌≤◌, IfOk, vec_len};
 
-use crate::gathering::{Gathered, gather};
-use crate::handler::Handler;
-use crate::run::{RunOutcome, run_scoped};
-use crate::starting::crew_for;
-use crate::tests::Plain;
+use crate::working::Plain;
 use findings_book::{AnyReport, Blanks, Book, Ledgers, LockedPosts, Share};
 use line_model::fault::Fault;
 use line_model::finding::{Code, Finding};
@@ -23,6 +19,7 @@ use std::sync::atomic::Ordering::SeqCst;
 use std::test::Fail;
 use std::thread::Threads;
 use std::time::Clock;
+use workers::{Gathered, Handler, RunOutcome, crew_for, gather, run_scoped};
 
 /// How many workers there are.
 const WORKERS: usize = 4;

@@ -1,5 +1,5 @@
 use Rattle.std.specs.Prelude.{◌≡◌, length}
-use Rattle.workers.proofs.tests.PlainFeedBrandGlobal.feed.Given as goal
+use Rattle.worker_tests.proofs.working.PlainFeedBrandGlobal.feed.Given as goal
 
 abbrev pub invariant-loop-id : goal.invariant-loop-id
 invariant-loop-id g l = record {

@@ -1,0 +1,233 @@
+//! What two shares post to one book, round by round: the reports of three epochs, a report that comes twice, and two
+//! threads that post side by side.
+
+use crate::posting::play;
+use line_model::totals::Totals;
+use std::test::Fail;
+
+/// A report of a piece, with one finding or two, and so many octets and segments.
+#[derive(Clone, Copy)]
+pub(super) struct Post {
+    pub(super) id: u32,
+    pub(super) two_findings: bool,
+    pub(super) octets: u16,
+    pub(super) segments: u16,
+}
+
+impl Post {
+    /// One finding, and no octets.
+    pub(super) fn plain(id: u32) -> Post {
+        Post {
+            id,
+            two_findings: false,
+            octets: 0,
+            segments: 0,
+        }
+    }
+}
+
+/// What a share does.
+#[derive(Clone, Copy)]
+pub(super) enum Step {
+    /// The reports of these pieces are taken, each with one finding and no octets.
+    PostsEach(&'static [u32]),
+    /// A report is taken.
+    Posts(Post),
+    /// A report comes back, since one of its id was posted.
+    PostsAgain(Post),
+    /// The share has these totals.
+    Has(Totals),
+    /// A look by the share sees these totals.
+    Sees(Totals),
+}
+
+/// What the two shares do, in turn or from two threads.
+pub(super) struct Round {
+    pub(super) first: &'static [Step],
+    pub(super) second: &'static [Step],
+    pub(super) side_by_side: bool,
+}
+
+/// What two shares do with a book, and what it has in the end: its totals, and the ids and octets of its reports.
+pub(super) struct Scenario {
+    pub(super) rounds: &'static [Round],
+    pub(super) totals: Totals,
+    pub(super) reports: &'static [(u32, u64)],
+    pub(super) in_any_order: bool,
+}
+
+/// The totals of six pieces with one finding each.
+const SIX: Totals = Totals {
+    posts: 6,
+    findings: 6,
+    octets: 0,
+    segments: 0,
+};
+
+/// The totals of three epochs on four channels, where each piece has one finding.
+const TWELVE: Totals = Totals {
+    posts: 12,
+    findings: 12,
+    octets: 0,
+    segments: 0,
+};
+
+/// The reports of twelve pieces.
+const EACH_ONCE: &[(u32, u64)] = &[
+    (0, 0),
+    (1, 0),
+    (2, 0),
+    (3, 0),
+    (4, 0),
+    (5, 0),
+    (6, 0),
+    (7, 0),
+    (8, 0),
+    (9, 0),
+    (10, 0),
+    (11, 0),
+];
+
+/// The reports of twelve pieces, six by either share.
+const THREE_EPOCHS: Scenario = Scenario {
+    rounds: &[Round {
+        first: &[Step::PostsEach(&[0, 1, 2, 3, 4, 5]), Step::Has(SIX)],
+        second: &[Step::PostsEach(&[6, 7, 8, 9, 10, 11]), Step::Sees(TWELVE)],
+        side_by_side: false,
+    }],
+    totals: TWELVE,
+    reports: EACH_ONCE,
+    in_any_order: false,
+};
+
+#[test]
+fn reports_of_three_epochs_in_two_shares(rt: HostRuntime) -> Result<(), Fail> {
+    play(&rt, rt.alloc(), &THREE_EPOCHS)
+}
+
+/// The reports of twelve pieces, those of even ids by one thread and the others by another.
+const EVEN_AND_ODD: Scenario = Scenario {
+    rounds: &[Round {
+        first: &[Step::PostsEach(&[0, 2, 4, 6, 8, 10]), Step::Has(SIX)],
+        second: &[Step::PostsEach(&[1, 3, 5, 7, 9, 11]), Step::Has(SIX)],
+        side_by_side: true,
+    }],
+    totals: TWELVE,
+    reports: EACH_ONCE,
+    in_any_order: true,
+};
+
+#[test]
+fn two_threads_post_side_by_side(rt: HostRuntime) -> Result<(), Fail> {
+    play(&rt, rt.alloc(), &EVEN_AND_ODD)
+}
+
+/// The totals of the report that was taken.
+const ONCE: Totals = Totals {
+    posts: 1,
+    findings: 1,
+    octets: 130,
+    segments: 2,
+};
+
+/// A report that is taken, and one of its id that comes back.
+const POSTED_TWICE: Scenario = Scenario {
+    rounds: &[Round {
+        first: &[
+            Step::Posts(Post {
+                id: 3,
+                two_findings: false,
+                octets: 130,
+                segments: 2,
+            }),
+            Step::PostsAgain(Post {
+                id: 3,
+                two_findings: false,
+                octets: 7,
+                segments: 1,
+            }),
+            Step::Has(ONCE),
+            Step::Sees(ONCE),
+        ],
+        second: &[],
+        side_by_side: false,
+    }],
+    totals: ONCE,
+    reports: &[(3, 130)],
+    in_any_order: false,
+};
+
+#[test]
+fn a_report_that_comes_twice_is_given_back(rt: HostRuntime) -> Result<(), Fail> {
+    play(&rt, rt.alloc(), &POSTED_TWICE)
+}
+
+/// What the first thread posts.
+const FIRST: Totals = Totals {
+    posts: 1,
+    findings: 2,
+    octets: 3,
+    segments: 1,
+};
+
+/// What the second thread posts.
+const SECOND: Totals = Totals {
+    posts: 1,
+    findings: 1,
+    octets: 0,
+    segments: 0,
+};
+
+/// What both threads post.
+const BOTH: Totals = Totals {
+    posts: 2,
+    findings: 3,
+    octets: 3,
+    segments: 1,
+};
+
+/// Each of two threads posts a report and looks, both look once more, and a report of an id that was posted comes back.
+const POST_AND_LOOK: Scenario = Scenario {
+    rounds: &[
+        Round {
+            first: &[
+                Step::Posts(Post {
+                    id: 0,
+                    two_findings: true,
+                    octets: 3,
+                    segments: 1,
+                }),
+                Step::Has(FIRST),
+            ],
+            second: &[Step::PostsEach(&[1]), Step::Has(SECOND)],
+            side_by_side: true,
+        },
+        Round {
+            first: &[Step::Sees(BOTH)],
+            second: &[
+                Step::Sees(BOTH),
+                Step::PostsAgain(Post {
+                    id: 0,
+                    two_findings: false,
+                    octets: 7,
+                    segments: 1,
+                }),
+                Step::Sees(BOTH),
+            ],
+            side_by_side: false,
+        },
+        Round {
+            first: &[Step::Sees(BOTH)],
+            second: &[],
+            side_by_side: false,
+        },
+    ],
+    totals: BOTH,
+    reports: &[(0, 3), (1, 0)],
+    in_any_order: true,
+};
+
+#[test]
+fn two_threads_post_and_look(rt: HostRuntime) -> Result<(), Fail> {
+    play(&rt, rt.alloc(), &POST_AND_LOOK)
+}
