@@ -2,13 +2,15 @@
 
 ghost use Rattle.std.specs.Prelude.{◌≡◌, [], false};
 
+use crate::calls::{ASKED, Call, PLAIN_CALL, calls_are, first_settings};
 use call_accounts::account::accounts_of;
 use call_accounts::call::calls_of;
 use call_accounts::peak::peak_of;
 use call_accounts::so_far::CallsSoFar;
 use line_model::address::Address;
-use line_model::call::{CallRecord, SettingRecord};
+use line_model::call::{Account, CallRecord, SettingRecord};
 use line_model::event::{Entry, Event, How, What};
+use line_model::fault::Fault;
 use line_model::report::Peak;
 use line_model::state::Side;
 use std::alloc::Global;
@@ -26,6 +28,42 @@ fn event(channel: u16, packet: u32, what: What) -> Event
     }
 }
 
+/// A call request without addresses and facilities.
+fn open(epoch: u32, channel: u16, packet: u32, out: bool) -> Event
+    ensures { result ≡ record { epoch = epoch; channel = channel; packet = packet; what = What.Open out [] [] false } }
+{
+    Event {
+        epoch,
+        channel,
+        packet,
+        what: What::Open {
+            out,
+            called: Address::absent(),
+            calling: Address::absent(),
+            reverse: false,
+        },
+    }
+}
+
+/// A data packet on channel 1.
+fn data(packet: u32, side: Side, octets: u32) -> Event
+    ensures { result ≡ record { epoch = 1; channel = 1; packet = packet; what = What.Data side octets } }
+{
+    event(1, packet, What::Data { side, octets })
+}
+
+/// A message on channel 1 of parameter 2 of the PAD of the DTE.
+fn setting(packet: u32, entry: Entry) -> Event
+    ensures { result ≡ record { epoch = 1; channel = 1; packet = packet; what = What.Setting Side.T 2 entry } }
+{
+    let what = What::Setting {
+        pad: Side::T,
+        parameter: 2,
+        entry,
+    };
+    event(1, packet, what)
+}
+
 /// The address with some digits, as far as there is room.
 fn address(digits: &[u8]) -> Address {
     let mut address = Address::absent();
@@ -37,22 +75,8 @@ fn address(digits: &[u8]) -> Address {
     address
 }
 
-/// What a call request without addresses and facilities opens.
-fn open(out: bool) -> What
-    ensures { result ≡ What.Open out [] [] false }
-{
-    What::Open {
-        out,
-        called: Address::absent(),
-        calling: Address::absent(),
-        reverse: false,
-    }
-}
-
-/// A call request from the DTE, its confirmation, and data packets of 0, 64 and 65 octets; it asks reverse charging.
-#[test]
-fn reverse_charging_is_paid_by_the_called_address(rt: HostRuntime) -> Result<(), Fail> {
-    let alloc = rt.alloc();
+/// The calls of a request that asks reverse charging, its confirmation, and data packets of 0, 64 and 65 octets.
+fn reversed_calls(alloc: Global) -> Result<Vec<CallRecord>, Fault> {
     let asked = What::Open {
         out: true,
         called: address(&[1, 2]),
@@ -62,207 +86,225 @@ fn reverse_charging_is_paid_by_the_called_address(rt: HostRuntime) -> Result<(),
     let events = [
         event(1, 1, asked),
         event(1, 2, What::Up),
-        event(
-            1,
-            3,
-            What::Data {
-                side: Side::T,
-                octets: 0,
-            },
-        ),
-        event(
-            1,
-            4,
-            What::Data {
-                side: Side::T,
-                octets: 64,
-            },
-        ),
-        event(
-            1,
-            5,
-            What::Data {
-                side: Side::T,
-                octets: 65,
-            },
-        ),
+        data(3, Side::T, 0),
+        data(4, Side::T, 64),
+        data(5, Side::T, 65),
     ];
-    let calls = calls_of(alloc, &events)?;
-    assert!(rt; calls.len() == 1);
-    let call = &calls[0];
-    assert!(rt; (call.epoch, call.channel, call.out) == (1, 1, true));
-    assert!(rt; call.called.as_bytes() == b"12".as_slice());
-    assert!(rt; call.calling.as_bytes() == b"345".as_slice());
-    assert!(rt; (call.opened, call.up, call.ended, call.how) == (1, Some(2), None, None));
-    assert!(rt; (call.data_t, call.oct_t) == (3, 129));
-    assert!(rt; (call.data_n, call.oct_n, call.segments) == (0, 0, 3));
+    calls_of(alloc, &events)
+}
+
+/// Whether the first call has these addresses.
+fn first_has_addresses(calls: &[CallRecord], called: &[u8], calling: &[u8]) -> bool {
+    match calls {
+        [first, ..] => first.called.as_bytes() == called && first.calling.as_bytes() == calling,
+        [] => false,
+    }
+}
+
+/// A call request from the DTE, its confirmation, and data packets of 0, 64 and 65 octets; it asks reverse charging.
+#[test]
+fn reverse_charging_is_paid_by_the_called_address(rt: HostRuntime) -> Result<(), Fail> {
+    let calls = reversed_calls(rt.alloc())?;
+    let wanted = Call {
+        data_t: 3,
+        oct_t: 129,
+        segments: 3,
+        ..PLAIN_CALL
+    };
+    assert!(rt; calls_are(&calls, &[wanted]));
+    assert!(rt; first_has_addresses(&calls, b"12", b"345"));
     Ok(())
 }
+
+/// The calls of a request, its confirmation, and two messages.
+fn asked_and_said(alloc: Global) -> Result<Vec<CallRecord>, Fault> {
+    let events = [
+        open(1, 1, 1, true),
+        event(1, 2, What::Up),
+        data(3, Side::N, 3),
+        setting(3, Entry::Asked(1)),
+        data(4, Side::T, 3),
+        setting(4, Entry::Said(1)),
+    ];
+    calls_of(alloc, &events)
+}
+
+/// A value that the PAD of the DTE indicated.
+const SAID: [SettingRecord; 1] = [SettingRecord {
+    pad: Side::T,
+    parameter: 2,
+    entry: Entry::Said(1),
+}];
 
 /// A set and read from the DCE and the indication of the DTE, each a data packet with Q 1.
 #[test]
 fn the_last_word_on_a_parameter_stands(rt: HostRuntime) -> Result<(), Fail> {
-    let events = [
-        event(1, 1, open(true)),
-        event(1, 2, What::Up),
-        event(
-            1,
-            3,
-            What::Data {
-                side: Side::N,
-                octets: 3,
-            },
-        ),
-        event(
-            1,
-            3,
-            What::Setting {
-                pad: Side::T,
-                parameter: 2,
-                entry: Entry::Asked(1),
-            },
-        ),
-        event(
-            1,
-            4,
-            What::Data {
-                side: Side::T,
-                octets: 3,
-            },
-        ),
-        event(
-            1,
-            4,
-            What::Setting {
-                pad: Side::T,
-                parameter: 2,
-                entry: Entry::Said(1),
-            },
-        ),
-    ];
-    let calls = calls_of(rt.alloc(), &events)?;
-    assert!(rt; calls.len() == 1);
-    let said = SettingRecord {
-        pad: Side::T,
-        parameter: 2,
-        entry: Entry::Said(1),
+    let calls = asked_and_said(rt.alloc())?;
+    let wanted = Call {
+        data_t: 1,
+        oct_t: 3,
+        data_n: 1,
+        oct_n: 3,
+        segments: 2,
+        ..PLAIN_CALL
     };
-    assert!(rt; calls[0].settings.as_slice() == [said].as_slice());
-    assert!(rt; (calls[0].data_t, calls[0].oct_t) == (1, 3));
-    assert!(rt; (calls[0].data_n, calls[0].oct_n, calls[0].segments) == (1, 3, 2));
+    assert!(rt; calls_are(&calls, &[wanted]));
+    assert!(rt; first_settings(&calls) == SAID.as_slice());
     Ok(())
 }
+
+/// The calls of an incoming call, the call request that cancels it, and the confirmation of the request.
+fn collided(alloc: Global) -> Result<Vec<CallRecord>, Fault> {
+    let events = [
+        open(1, 1, 1, false),
+        event(1, 2, What::End(How::Collision)),
+        open(1, 1, 2, true),
+        event(1, 3, What::Up),
+    ];
+    calls_of(alloc, &events)
+}
+
+/// An incoming call, and the call that cancelled it.
+const COLLIDED: [Call; 2] = [
+    Call {
+        out: false,
+        up: None,
+        ended: Some(2),
+        how: Some(How::Collision),
+        ..PLAIN_CALL
+    },
+    Call {
+        opened: 2,
+        up: Some(3),
+        ..PLAIN_CALL
+    },
+];
 
 /// An incoming call, the call request that cancels it, and the confirmation of the request.
 #[test]
 fn a_collision_ends_the_incoming_call(rt: HostRuntime) -> Result<(), Fail> {
-    let events = [
-        event(1, 1, open(false)),
-        event(1, 2, What::End(How::Collision)),
-        event(1, 2, open(true)),
-        event(1, 3, What::Up),
-    ];
-    let calls = calls_of(rt.alloc(), &events)?;
-    assert!(rt; calls.len() == 2);
-    let (first, second) = (&calls[0], &calls[1]);
-    assert!(rt; (first.out, first.opened, first.up) == (false, 1, None));
-    assert!(rt; (first.ended, first.how) == (Some(2), Some(How::Collision)));
-    assert!(rt; (second.out, second.opened, second.up) == (true, 2, Some(3)));
-    assert!(rt; (second.ended, second.how) == (None, None));
+    let calls = collided(rt.alloc())?;
+    assert!(rt; calls_are(&calls, &COLLIDED));
     Ok(())
 }
+
+/// The calls of two channels whose events come by turns.
+fn by_turns(alloc: Global) -> Result<Vec<CallRecord>, Fault> {
+    let events = [
+        open(1, 1, 1, true),
+        open(1, 2, 2, false),
+        event(1, 3, What::End(How::T)),
+        event(2, 4, What::Up),
+        event(2, 5, What::End(How::Restart)),
+        open(2, 1, 6, true),
+    ];
+    calls_of(alloc, &events)
+}
+
+/// A call of the first channel, one of the second, and one of the first after a restart.
+const BY_TURNS: [Call; 3] = [
+    Call {
+        up: None,
+        ended: Some(3),
+        how: Some(How::T),
+        ..PLAIN_CALL
+    },
+    Call {
+        channel: 2,
+        out: false,
+        opened: 2,
+        up: Some(4),
+        ended: Some(5),
+        how: Some(How::Restart),
+        ..PLAIN_CALL
+    },
+    Call {
+        epoch: 2,
+        opened: 6,
+        up: None,
+        ..PLAIN_CALL
+    },
+];
 
 /// Two channels whose events come by turns, and the first one again after a restart.
 #[test]
 fn calls_of_many_channels_stand_by_their_openings(rt: HostRuntime) -> Result<(), Fail> {
-    let events = [
-        event(1, 1, open(true)),
-        event(2, 2, open(false)),
-        event(1, 3, What::End(How::T)),
-        event(2, 4, What::Up),
-        event(2, 5, What::End(How::Restart)),
-        Event {
-            epoch: 2,
-            ..event(1, 6, open(true))
-        },
-    ];
-    let calls = calls_of(rt.alloc(), &events)?;
-    assert!(rt; calls.len() == 3);
-    let (first, second, third) = (&calls[0], &calls[1], &calls[2]);
-    assert!(rt; (first.epoch, first.channel, first.ended) == (1, 1, Some(3)));
-    assert!(rt; (second.epoch, second.channel, second.up) == (1, 2, Some(4)));
-    assert!(rt; (second.ended, second.how) == (Some(5), Some(How::Restart)));
-    assert!(rt; (third.epoch, third.channel, third.ended) == (2, 1, None));
+    let calls = by_turns(rt.alloc())?;
+    assert!(rt; calls_are(&calls, &BY_TURNS));
     Ok(())
 }
+
+/// Hears events in their order.
+fn hear_all(calls: &mut CallsSoFar<Global>, events: &[Event]) -> Result<(), Fail> {
+    for event in events {
+        calls.hear(event)?;
+    }
+    Ok(())
+}
+
+/// Hears an outgoing call with a set of the DCE.
+fn hear_opening(calls: &mut CallsSoFar<Global>) -> Result<(), Fail> {
+    let events = [
+        open(1, 1, 1, true),
+        event(1, 2, What::Up),
+        data(3, Side::N, 65),
+        setting(3, Entry::Asked(1)),
+    ];
+    hear_all(calls, &events)
+}
+
+/// Hears the clear request of the call, data behind it, and an incoming call.
+fn hear_end(calls: &mut CallsSoFar<Global>) -> Result<(), Fail> {
+    let events = [
+        event(1, 4, What::End(How::T)),
+        data(5, Side::N, 7),
+        open(1, 1, 6, false),
+    ];
+    hear_all(calls, &events)
+}
+
+/// The call before its end.
+const SO_FAR: Call = Call {
+    data_n: 1,
+    oct_n: 65,
+    segments: 2,
+    ..PLAIN_CALL
+};
+
+/// The call at its end, and the incoming one.
+const AT_LAST: [Call; 2] = [
+    Call {
+        ended: Some(4),
+        how: Some(How::T),
+        ..SO_FAR
+    },
+    Call {
+        out: false,
+        opened: 6,
+        up: None,
+        ..PLAIN_CALL
+    },
+];
 
 /// An outgoing call with a set of the DCE, which is asked for while it is open, and its clear request; and a call that
 /// is open at the end.
 #[test]
 fn calls_are_told_as_their_events_come(rt: HostRuntime) -> Result<(), Fail> {
-    let alloc = rt.alloc();
-    let before = [
-        event(1, 1, open(true)),
-        event(1, 2, What::Up),
-        event(
-            1,
-            3,
-            What::Data {
-                side: Side::N,
-                octets: 65,
-            },
-        ),
-        event(
-            1,
-            3,
-            What::Setting {
-                pad: Side::T,
-                parameter: 2,
-                entry: Entry::Asked(1),
-            },
-        ),
-    ];
-    let behind = [
-        event(1, 4, What::End(How::T)),
-        event(
-            1,
-            5,
-            What::Data {
-                side: Side::N,
-                octets: 7,
-            },
-        ),
-        event(1, 6, open(false)),
-    ];
-    let mut calls = CallsSoFar::new(alloc);
-    for event in &before {
-        calls.hear(event)?;
-    }
-    let so_far = calls.calls(alloc)?;
-    assert!(rt; so_far.len() == 1);
-    assert!(rt; (so_far[0].up, so_far[0].ended) == (Some(2), None));
-    assert!(rt; (so_far[0].data_n, so_far[0].oct_n, so_far[0].segments) == (1, 65, 2));
-    for event in &behind {
-        calls.hear(event)?;
-    }
+    let mut calls = CallsSoFar::new(rt.alloc());
+    hear_opening(&mut calls)?;
+    assert!(rt; calls_are(&calls.calls(rt.alloc())?, &[SO_FAR]));
+    hear_end(&mut calls)?;
     let calls = calls.finish()?;
-    assert!(rt; calls.len() == 2);
-    assert!(rt; (calls[0].ended, calls[0].how) == (Some(4), Some(How::T)));
-    assert!(rt; (calls[0].data_n, calls[0].oct_n) == (1, 65));
-    let asked = SettingRecord {
-        pad: Side::T,
-        parameter: 2,
-        entry: Entry::Asked(1),
-    };
-    assert!(rt; calls[0].settings.as_slice() == [asked].as_slice());
-    assert!(rt; (calls[1].out, calls[1].opened, calls[1].ended) == (false, 6, None));
+    assert!(rt; calls_are(&calls, &AT_LAST));
+    assert!(rt; first_settings(&calls) == ASKED.as_slice());
     Ok(())
 }
 
-/// The record of a call that came up and has so many segments.
+/// The record of a call from an address to the address 7, which came up and has so many segments.
 fn call(
     alloc: Global,
-    calling: Address,
+    calling: &[u8],
+    reverse: bool,
     up: Option<u32>,
     ended: Option<u32>,
     segments: u64,
@@ -274,8 +316,8 @@ fn call(
         channel: 1,
         out: true,
         called: address(&[7]),
-        calling,
-        reverse: false,
+        calling: address(calling),
+        reverse,
         up,
         opened: 1,
         ended,
@@ -289,52 +331,71 @@ fn call(
     }
 }
 
+/// What five calls cost, of which one is reversed and one has no calling address.
+fn accounts(alloc: Global) -> Result<Vec<Account>, Fault> {
+    let calls = [
+        call(alloc, &[9], false, None, None, 5),
+        call(alloc, &[1, 2], false, Some(4), None, 3),
+        call(alloc, &[9], true, Some(8), None, 2),
+        call(alloc, &[], false, Some(2), Some(5), 0),
+        call(alloc, &[9], false, Some(9), None, 1),
+    ];
+    accounts_of(alloc, &calls)
+}
+
+/// An account: its address, its calls and their segments.
+type Paid = (&'static str, u64, u64);
+
+/// Whether this is the account.
+fn is_account(account: &Account, wanted: &Paid) -> bool {
+    let (digits, calls, segments) = wanted;
+    account.address.as_bytes() == digits.as_bytes()
+        && account.calls == *calls
+        && account.segments == *segments
+}
+
+/// The accounts are these, in this order.
+fn accounts_are(accounts: &[Account], wanted: &[Paid]) -> bool {
+    accounts.len() == wanted.len()
+        && accounts
+            .iter()
+            .zip(wanted)
+            .all(|(account, wanted)| is_account(account, wanted))
+}
+
+/// The accounts of the five calls.
+const ACCOUNTS: [Paid; 4] = [("", 1, 0), ("12", 1, 3), ("7", 1, 2), ("9", 2, 6)];
+
 #[test]
 fn accounts_stand_by_the_bytes_of_their_addresses(rt: HostRuntime) -> Result<(), Fail> {
-    let alloc = rt.alloc();
-    let mut reversed = call(alloc, address(&[9]), Some(8), None, 2);
-    reversed.reverse = true;
-    let calls = [
-        call(alloc, address(&[9]), None, None, 5),
-        call(alloc, address(&[1, 2]), Some(4), None, 3),
-        reversed,
-        call(alloc, Address::absent(), Some(2), Some(5), 0),
-        call(alloc, address(&[9]), Some(9), None, 1),
-    ];
-    let accounts = accounts_of(alloc, &calls)?;
-    assert!(rt; accounts.len() == 4);
-    let expected = [("", 1, 0), ("12", 1, 3), ("7", 1, 2), ("9", 2, 6)];
-    for (account, (digits, calls, segments)) in accounts.iter().zip(expected) {
-        assert!(rt; account.address.as_bytes() == digits.as_bytes());
-        assert!(rt; (account.calls, account.segments) == (calls, segments));
-    }
+    let accounts = accounts(rt.alloc())?;
+    assert!(rt; accounts_are(&accounts, &ACCOUNTS));
     Ok(())
 }
+
+/// The peak of calls that came up and ended with these rows.
+fn peak(alloc: Global, rows: &[(Option<u32>, Option<u32>)]) -> Result<Peak, Fail> {
+    let mut calls = Vec::new(alloc);
+    for (up, ended) in rows {
+        calls.push(call(alloc, &[], false, *up, *ended, 0))?;
+    }
+    Ok(peak_of(alloc, &calls)?)
+}
+
+/// Up from row 2 to row 5, from row 4 on and from row 8 on; and never.
+const BUSY: [(Option<u32>, Option<u32>); 4] = [
+    (Some(2), Some(5)),
+    (Some(4), None),
+    (Some(8), None),
+    (None, None),
+];
 
 /// Three calls: up from row 2 to row 5, from row 4 on and from row 8 on; and one that never came up.
 #[test]
 fn the_peak_is_first_reached_at_its_row(rt: HostRuntime) -> Result<(), Fail> {
-    let alloc = rt.alloc();
-    let calls = [
-        call(alloc, Address::absent(), Some(2), Some(5), 0),
-        call(alloc, Address::absent(), Some(4), None, 0),
-        call(alloc, Address::absent(), Some(8), None, 0),
-        call(alloc, Address::absent(), None, None, 0),
-    ];
-    assert!(rt;
-        peak_of(alloc, &calls)?
-            == Peak {
-                count: 2,
-                packet: Some(4)
-            }
-    );
-    let quiet = [call(alloc, Address::absent(), None, Some(5), 0)];
-    assert!(rt;
-        peak_of(alloc, &quiet)?
-            == Peak {
-                count: 0,
-                packet: None
-            }
-    );
+    let busy = peak(rt.alloc(), &BUSY)?;
+    assert!(rt; (busy.count, busy.packet) == (2, Some(4)));
+    let quiet = peak(rt.alloc(), &[(None, Some(5))])?;
+    assert!(rt; (quiet.count, quiet.packet) == (0, None));
     Ok(())
 }

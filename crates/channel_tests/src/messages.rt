@@ -2,6 +2,7 @@
 
 use crate::checks::holds_for;
 use line_model::finding::Xcode;
+use std::process::Abort;
 use std::test::Fail;
 use x29_messages::message::{MessageCode, read_message};
 use x29_messages::pairs::Pair;
@@ -11,12 +12,19 @@ fn code(octets: &[u8]) -> Result<MessageCode, Xcode> {
     Ok(read_message(octets)?.code)
 }
 
+/// The first so many of 1,025 octets of this value are read so.
+fn check_length(rt: &impl Abort, octet: u8, count: usize, wanted: Result<MessageCode, Xcode>) {
+    let octets = [octet; 1025];
+    let octets = &octets[..count.min(1025)];
+    assert!(rt; code(octets) == wanted, "{count} of {octet}");
+}
+
 #[test]
 fn octets_are_read_up_to_1024(rt: HostRuntime) {
-    assert!(rt; code([2; 1023].as_slice()) == Ok(MessageCode::Set));
-    assert!(rt; code([2; 1024].as_slice()) == Err(Xcode::X2));
-    assert!(rt; code([2; 1025].as_slice()) == Err(Xcode::XL));
-    assert!(rt; code([9; 1025].as_slice()) == Err(Xcode::X1));
+    check_length(&rt, 2, 1023, Ok(MessageCode::Set));
+    check_length(&rt, 2, 1024, Err(Xcode::X2));
+    check_length(&rt, 2, 1025, Err(Xcode::XL));
+    check_length(&rt, 9, 1025, Err(Xcode::X1));
 }
 
 /// Messages, and their codes or their faults.

@@ -1,19 +1,11 @@
 //! Data packets, and the sequences that they complete.
 
+use crate::checks::holds_for;
 use line_model::state::Side;
 use mbit_assembly::assembler::Assembler;
 use mbit_assembly::sequence::{DataField, Put};
 use std::alloc::Global;
-
-/// A data packet with D 0.
-fn field(qualified: bool, more: bool, octets: &[u8]) -> DataField<'_> {
-    DataField {
-        qualified,
-        more,
-        delivery: false,
-        octets,
-    }
-}
+use std::process::Abort;
 
 /// What a data packet does: more follows, it completes a sequence of so many octets that are kept, or it is mixed.
 #[derive(Clone, Copy, PartialEq, Eq)]
@@ -52,66 +44,108 @@ fn completes(
     }
 }
 
+/// A data packet: its side, its Q, M and D bits and its octets; and what it does.
+type Answered = (Side, bool, bool, bool, &'static [u8], Told);
+
+/// Each data packet does what it has to.
+fn check_put(rt: &impl Abort, assembler: &mut Assembler<Global>, packets: &[Answered]) {
+    for (side, qualified, more, delivery, octets, told) in packets {
+        let field = DataField {
+            qualified: *qualified,
+            more: *more,
+            delivery: *delivery,
+            octets,
+        };
+        holds_for(rt, put(assembler, *side, &field) == Some(*told), octets);
+    }
+}
+
+/// A full packet with the M bit.
+const FULL: [Answered; 1] = [(Side::T, true, true, false, b"abcd", Told::Going)];
+
+/// The last packet of a qualified sequence.
+const LAST: DataField<'static> = DataField {
+    qualified: true,
+    more: false,
+    delivery: false,
+    octets: b"e",
+};
+
 #[test]
 fn full_packets_with_the_m_bit_are_joined(rt: HostRuntime) {
     let mut assembler = Assembler::new(rt.alloc(), 4, 16);
-    assert!(rt; put(&mut assembler, Side::T, &field(true, true, b"abcd")) == Some(Told::Going));
-    assert!(rt; completes(&mut assembler, &field(true, false, b"e"), b"abcde", 5));
+    check_put(&rt, &mut assembler, &FULL);
+    assert!(rt; completes(&mut assembler, &LAST, b"abcde", 5));
 }
+
+/// A short packet, one with the D bit, and one without octets.
+const COMPLETE: [Answered; 3] = [
+    (Side::T, false, true, false, b"abc", Told::Complete(3)),
+    (Side::T, false, true, true, b"abcd", Told::Complete(4)),
+    (Side::T, false, false, false, b"", Told::Complete(0)),
+];
 
 #[test]
 fn short_packets_and_those_with_the_d_bit_are_complete(rt: HostRuntime) {
-    let mut assembler = Assembler::new(rt.alloc(), 4, 16);
-    let short = put(&mut assembler, Side::T, &field(false, true, b"abc"));
-    assert!(rt; short == Some(Told::Complete(3)));
-    let delivery = DataField {
-        qualified: false,
-        more: true,
-        delivery: true,
-        octets: b"abcd",
-    };
-    assert!(rt; put(&mut assembler, Side::T, &delivery) == Some(Told::Complete(4)));
-    let empty = put(&mut assembler, Side::T, &field(false, false, b""));
-    assert!(rt; empty == Some(Told::Complete(0)));
+    check_put(&rt, &mut Assembler::new(rt.alloc(), 4, 16), &COMPLETE);
 }
+
+/// A packet of another kind within a sequence, one of the other side, and the last one of the sequence.
+const MIXED: [Answered; 4] = [
+    (Side::T, false, true, false, b"abcd", Told::Going),
+    (Side::T, true, false, false, b"x", Told::Mixed),
+    (Side::N, true, false, false, b"x", Told::Complete(1)),
+    (Side::T, false, false, false, b"ef", Told::Complete(6)),
+];
 
 #[test]
 fn mixed_packet_leaves_the_sequence_begun(rt: HostRuntime) {
-    let mut assembler = Assembler::new(rt.alloc(), 4, 4);
-    let first = put(&mut assembler, Side::T, &field(false, true, b"abcd"));
-    assert!(rt; first == Some(Told::Going));
-    let mixed = put(&mut assembler, Side::T, &field(true, false, b"x"));
-    assert!(rt; mixed == Some(Told::Mixed));
-    let other_side = put(&mut assembler, Side::N, &field(true, false, b"x"));
-    assert!(rt; other_side == Some(Told::Complete(1)));
-    let last = put(&mut assembler, Side::T, &field(false, false, b"ef"));
-    assert!(rt; last == Some(Told::Complete(6)));
+    check_put(&rt, &mut Assembler::new(rt.alloc(), 4, 4), &MIXED);
 }
+
+/// A packet that begins a sequence.
+const BEGUN: [Answered; 1] = [(Side::N, true, true, false, b"abcd", Told::Going)];
+
+/// A packet that is a sequence by itself.
+const ALONE: [Answered; 1] = [(Side::N, true, false, false, b"e", Told::Complete(1))];
+
+/// A packet that is full where packets have two octets.
+const FULL_OF_TWO: [Answered; 1] = [(Side::N, true, true, false, b"ab", Told::Going)];
 
 #[test]
 fn what_was_begun_before_a_reset_is_dropped(rt: HostRuntime) {
     let mut assembler = Assembler::new(rt.alloc(), 4, 4);
-    let first = put(&mut assembler, Side::N, &field(true, true, b"abcd"));
-    assert!(rt; first == Some(Told::Going));
+    check_put(&rt, &mut assembler, &BEGUN);
     assembler.reset();
-    let last = put(&mut assembler, Side::N, &field(true, false, b"e"));
-    assert!(rt; last == Some(Told::Complete(1)));
+    check_put(&rt, &mut assembler, &ALONE);
     assembler.renew(4, 2);
-    let full = put(&mut assembler, Side::N, &field(true, true, b"ab"));
-    assert!(rt; full == Some(Told::Going));
+    check_put(&rt, &mut assembler, &FULL_OF_TWO);
 }
+
+/// A packet of 1,026 octets, and a full one of 1,024.
+const LONG: [Answered; 2] = [
+    (
+        Side::N,
+        true,
+        false,
+        false,
+        &[7; 1026],
+        Told::Complete(1025),
+    ),
+    (Side::T, true, true, false, &[7; 1024], Told::Going),
+];
+
+/// The last packet of a sequence of 1,026 octets.
+const LAST_OF_LONG: DataField<'static> = DataField {
+    qualified: true,
+    more: false,
+    delivery: false,
+    octets: b"yz",
+};
 
 #[test]
 fn first_1025_octets_are_kept(rt: HostRuntime) {
-    let octets = [7; 1026];
     let mut assembler = Assembler::new(rt.alloc(), 1024, 1026);
-    let lent = put(
-        &mut assembler,
-        Side::N,
-        &field(true, false, octets.as_slice()),
-    );
-    assert!(rt; lent == Some(Told::Complete(1025)));
-    let first = put(&mut assembler, Side::T, &field(true, true, &octets[..1024]));
-    assert!(rt; first == Some(Told::Going));
-    assert!(rt; completes(&mut assembler, &field(true, false, b"yz"), b"y", 1025));
+    check_put(&rt, &mut assembler, &LONG);
+    assert!(rt; completes(&mut assembler, &LAST_OF_LONG, b"y", 1025));
 }

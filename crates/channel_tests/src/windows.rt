@@ -1,15 +1,85 @@
 //! Worked sequences of numbers, windows and interrupts.
 
+use crate::checks::holds_at;
 use line_model::state::Side;
+use std::process::Abort;
 use std::test::Fail;
 use window_check::flow::Flow;
 use window_check::packed::FlowWord;
 
+/// A step of a channel's windows and interrupts.
+#[derive(Clone, Copy)]
+enum Step {
+    /// A data packet of this send number, whose receive number is 0.
+    Data(Side, u8),
+    /// A receive number.
+    Ack(Side, u8),
+    Interrupt(Side),
+    Confirm(Side),
+    Reset,
+}
+
+/// Takes a step.
+fn take(flow: &mut Flow, step: Step) -> Result<(), u8> {
+    match step {
+        Step::Data(side, send) => flow.data(side, send, 0),
+        Step::Ack(side, receive) => flow.ack(side, receive),
+        Step::Interrupt(side) => flow.interrupt(side),
+        Step::Confirm(side) => flow.confirm(side),
+        Step::Reset => {
+            flow.reset();
+            Ok(())
+        }
+    }
+}
+
+/// Takes a step of what is packed.
+fn take_packed(word: &mut FlowWord, step: Step) -> Result<(), u8> {
+    match step {
+        Step::Data(side, send) => word.data(side, send, 0),
+        Step::Ack(side, receive) => word.ack(side, receive),
+        Step::Interrupt(side) => word.interrupt(side),
+        Step::Confirm(side) => word.confirm(side),
+        Step::Reset => {
+            word.reset();
+            Ok(())
+        }
+    }
+}
+
+/// A step, and what is answered to it.
+type Answered = (Step, Result<(), u8>);
+
+/// Each step is answered so. Answers what comes of the steps.
+fn after(rt: &impl Abort, flow: Flow, steps: &[Answered]) -> Flow {
+    let mut flow = flow;
+    let mut number = 0u64;
+    for (next, answer) in steps {
+        holds_at(rt, take(&mut flow, *next) == *answer, number);
+        number = number.saturating_add(1);
+    }
+    flow
+}
+
+/// Each step of what is packed is answered so. Answers what comes of the steps.
+fn after_packed(rt: &impl Abort, word: FlowWord, steps: &[Answered]) -> FlowWord {
+    let mut word = word;
+    let mut number = 0u64;
+    for (next, answer) in steps {
+        holds_at(rt, take_packed(&mut word, *next) == *answer, number);
+        number = number.saturating_add(1);
+    }
+    word
+}
+
+/// The first data packet of the DTE.
+const FIRST: [Answered; 1] = [(Step::Data(Side::T, 0), Ok(()))];
+
 #[test]
 fn packs_to_the_stated_words(rt: HostRuntime) -> Result<(), Fail> {
-    let mut flow = Flow::new(8, 2, 3);
+    let flow = Flow::new(8, 2, 3);
     assert!(rt; flow.pack() == 207_232_172_032);
-    assert!(rt; flow.data(Side::T, 0, 0) == Ok(()));
+    let flow = after(&rt, flow, &FIRST);
     assert!(rt; flow.pack() == 207_232_172_034);
     assert!(rt; Flow::unpack(0).is_none());
     let unpacked = Flow::unpack(207_232_172_034).ok_or("refused")?;
@@ -17,85 +87,110 @@ fn packs_to_the_stated_words(rt: HostRuntime) -> Result<(), Fail> {
     Ok(())
 }
 
+/// Words: the window of T is 0; the window of N is the modulus; a residue is the modulus; three packets are unacknowledged
+/// in a window of 2; a higher bit.
+const NO_CHANNEL: [u64; 5] = [
+    3 << 36,
+    (2 << 29) + (8 << 36),
+    (2 << 29) + (3 << 36) + (8 << 1),
+    (2 << 29) + (3 << 36) + (3 << 1),
+    (2 << 29) + (3 << 36) + (1 << 45),
+];
+
 #[test]
 fn words_of_no_channel_are_refused(rt: HostRuntime) {
-    let refused = [
-        ("the window of T is 0", 3 << 36),
-        ("the window of N is the modulus", (2 << 29) + (8 << 36)),
-        ("a residue is the modulus", (2 << 29) + (3 << 36) + (8 << 1)),
-        (
-            "three packets are unacknowledged in a window of 2",
-            (2 << 29) + (3 << 36) + (3 << 1),
-        ),
-        ("a higher bit", (2 << 29) + (3 << 36) + (1 << 45)),
-    ];
-    for (why, word) in refused {
-        assert!(rt; Flow::unpack(word).is_none(), "{why}");
+    for word in &NO_CHANNEL {
+        holds_at(&rt, Flow::unpack(*word).is_none(), *word);
     }
 }
+
+/// Three packets in a window of two.
+const WINDOW_OF_TWO: [Answered; 5] = [
+    (Step::Data(Side::T, 0), Ok(())),
+    (Step::Data(Side::T, 1), Ok(())),
+    (Step::Data(Side::T, 2), Err(1)),
+    (Step::Ack(Side::N, 1), Ok(())),
+    (Step::Data(Side::T, 2), Ok(())),
+];
 
 #[test]
 fn third_packet_in_a_window_of_two_is_refused(rt: HostRuntime) {
-    let mut flow = Flow::new(8, 2, 2);
-    assert!(rt; flow.data(Side::T, 0, 0) == Ok(()));
-    assert!(rt; flow.data(Side::T, 1, 0) == Ok(()));
-    assert!(rt; flow.data(Side::T, 2, 0) == Err(1));
-    assert!(rt; flow.ack(Side::N, 1) == Ok(()));
-    assert!(rt; flow.data(Side::T, 2, 0) == Ok(()));
+    after(&rt, Flow::new(8, 2, 2), &WINDOW_OF_TWO);
 }
+
+/// A receive number of nothing that was sent, and a first packet after a reset.
+const NOTHING_SENT: [Answered; 3] = [
+    (Step::Ack(Side::T, 1), Err(2)),
+    (Step::Reset, Ok(())),
+    (Step::Data(Side::T, 0), Ok(())),
+];
 
 #[test]
 fn receive_number_of_nothing_sent_is_refused(rt: HostRuntime) {
-    let mut flow = Flow::new(8, 2, 2);
-    assert!(rt; flow.ack(Side::T, 1) == Err(2));
-    flow.reset();
-    assert!(rt; flow.data(Side::T, 0, 0) == Ok(()));
+    after(&rt, Flow::new(8, 2, 2), &NOTHING_SENT);
 }
+
+/// Nine packets in a window of seven.
+const WINDOW_OF_SEVEN: [Answered; 11] = [
+    (Step::Data(Side::T, 0), Ok(())),
+    (Step::Data(Side::T, 1), Ok(())),
+    (Step::Data(Side::T, 2), Ok(())),
+    (Step::Data(Side::T, 3), Ok(())),
+    (Step::Data(Side::T, 4), Ok(())),
+    (Step::Data(Side::T, 5), Ok(())),
+    (Step::Data(Side::T, 6), Ok(())),
+    (Step::Data(Side::T, 7), Err(1)),
+    (Step::Ack(Side::N, 7), Ok(())),
+    (Step::Data(Side::T, 7), Ok(())),
+    (Step::Data(Side::T, 0), Ok(())),
+];
 
 #[test]
 fn numbers_wrap_around_in_a_window_of_seven(rt: HostRuntime) {
-    let mut flow = Flow::new(8, 7, 7);
-    for number in 0..7 {
-        assert!(rt; flow.data(Side::T, number, 0) == Ok(()), "at {number}");
-    }
-    assert!(rt; flow.data(Side::T, 7, 0) == Err(1));
-    assert!(rt; flow.ack(Side::N, 7) == Ok(()));
-    assert!(rt; flow.data(Side::T, 7, 0) == Ok(()));
-    assert!(rt; flow.data(Side::T, 0, 0) == Ok(()));
+    after(&rt, Flow::new(8, 7, 7), &WINDOW_OF_SEVEN);
 }
+
+/// Two interrupts, a confirmation of the wrong side, one of the right side, and a reset.
+const INTERRUPTS: [Answered; 7] = [
+    (Step::Interrupt(Side::T), Ok(())),
+    (Step::Interrupt(Side::T), Err(44)),
+    (Step::Confirm(Side::T), Err(43)),
+    (Step::Confirm(Side::N), Ok(())),
+    (Step::Interrupt(Side::T), Ok(())),
+    (Step::Reset, Ok(())),
+    (Step::Interrupt(Side::T), Ok(())),
+];
 
 #[test]
 fn interrupts_are_confirmed_one_by_one(rt: HostRuntime) {
-    let mut flow = Flow::new(128, 2, 2);
-    assert!(rt; flow.interrupt(Side::T) == Ok(()));
-    assert!(rt; flow.interrupt(Side::T) == Err(44));
-    assert!(rt; flow.confirm(Side::T) == Err(43));
-    assert!(rt; flow.confirm(Side::N) == Ok(()));
-    assert!(rt; flow.interrupt(Side::T) == Ok(()));
-    flow.reset();
-    assert!(rt; flow.interrupt(Side::T) == Ok(()));
+    after(&rt, Flow::new(128, 2, 2), &INTERRUPTS);
 }
 
 #[test]
 fn word_is_judged_as_what_it_is_packed_of(rt: HostRuntime) {
-    let mut word = FlowWord::new(&Flow::new(8, 2, 3), 0);
+    let word = FlowWord::new(&Flow::new(8, 2, 3), 0);
     assert!(rt; word.word() == 207_232_172_032);
-    assert!(rt; word.data(Side::T, 0, 0) == Ok(()));
+    let mut word = after_packed(&rt, word, &FIRST);
     assert!(rt; word.word() == 207_232_172_034);
     word.reset();
     assert!(rt; word.word() == 207_232_172_032);
 }
 
+/// An acknowledgement, an interrupt and its confirmation, and a reset.
+const OF_AN_OWNER: [Answered; 4] = [
+    (Step::Ack(Side::N, 1), Ok(())),
+    (Step::Interrupt(Side::N), Ok(())),
+    (Step::Confirm(Side::T), Ok(())),
+    (Step::Reset, Ok(())),
+];
+
 #[test]
 fn number_of_the_owner_stays(rt: HostRuntime) {
-    let mut word = FlowWord::new(&Flow::new(8, 2, 3), 5);
+    let word = FlowWord::new(&Flow::new(8, 2, 3), 5);
     assert!(rt; word.word() == 207_232_172_032 + (5 << 45));
-    assert!(rt; word.data(Side::T, 0, 0) == Ok(()));
+    let word = after_packed(&rt, word, &FIRST);
     assert!(rt; word.word() == 207_232_172_034 + (5 << 45));
-    assert!(rt; word.ack(Side::N, 1) == Ok(()));
-    assert!(rt; word.interrupt(Side::N) == Ok(()));
-    assert!(rt; word.confirm(Side::T) == Ok(()));
-    word.reset();
+    let mut word = after_packed(&rt, word, &OF_AN_OWNER);
     assert!(rt; word.above() == 5);
     word.set_above(524_287);
     assert!(rt; word.above() == 524_287);
@@ -104,42 +199,20 @@ fn number_of_the_owner_stays(rt: HostRuntime) {
 
 #[test]
 fn third_packet_in_a_packed_window_of_two_is_refused(rt: HostRuntime) {
-    let mut word = FlowWord::new(&Flow::new(8, 2, 2), 0);
-    assert!(rt; word.data(Side::T, 0, 0) == Ok(()));
-    assert!(rt; word.data(Side::T, 1, 0) == Ok(()));
-    assert!(rt; word.data(Side::T, 2, 0) == Err(1));
-    assert!(rt; word.ack(Side::N, 1) == Ok(()));
-    assert!(rt; word.data(Side::T, 2, 0) == Ok(()));
+    after_packed(&rt, FlowWord::new(&Flow::new(8, 2, 2), 0), &WINDOW_OF_TWO);
 }
 
 #[test]
 fn receive_number_of_nothing_sent_is_refused_of_a_word(rt: HostRuntime) {
-    let mut word = FlowWord::new(&Flow::new(8, 2, 2), 0);
-    assert!(rt; word.ack(Side::T, 1) == Err(2));
-    word.reset();
-    assert!(rt; word.data(Side::T, 0, 0) == Ok(()));
+    after_packed(&rt, FlowWord::new(&Flow::new(8, 2, 2), 0), &NOTHING_SENT);
 }
 
 #[test]
 fn numbers_wrap_around_in_a_packed_window_of_seven(rt: HostRuntime) {
-    let mut word = FlowWord::new(&Flow::new(8, 7, 7), 0);
-    for number in 0..7 {
-        assert!(rt; word.data(Side::T, number, 0) == Ok(()), "at {number}");
-    }
-    assert!(rt; word.data(Side::T, 7, 0) == Err(1));
-    assert!(rt; word.ack(Side::N, 7) == Ok(()));
-    assert!(rt; word.data(Side::T, 7, 0) == Ok(()));
-    assert!(rt; word.data(Side::T, 0, 0) == Ok(()));
+    after_packed(&rt, FlowWord::new(&Flow::new(8, 7, 7), 0), &WINDOW_OF_SEVEN);
 }
 
 #[test]
 fn interrupts_of_a_word_are_confirmed_one_by_one(rt: HostRuntime) {
-    let mut word = FlowWord::new(&Flow::new(128, 2, 2), 0);
-    assert!(rt; word.interrupt(Side::T) == Ok(()));
-    assert!(rt; word.interrupt(Side::T) == Err(44));
-    assert!(rt; word.confirm(Side::T) == Err(43));
-    assert!(rt; word.confirm(Side::N) == Ok(()));
-    assert!(rt; word.interrupt(Side::T) == Ok(()));
-    word.reset();
-    assert!(rt; word.interrupt(Side::T) == Ok(()));
+    after_packed(&rt, FlowWord::new(&Flow::new(128, 2, 2), 0), &INTERRUPTS);
 }

@@ -2,8 +2,6 @@
 #![tactic(auto)]
 
 pub mod scarce;
-#[cfg(test)]
-mod tests;
 
 use line_model::count::Count;
 use line_model::device::{Sink, Source};

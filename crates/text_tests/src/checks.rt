@@ -8,6 +8,6 @@ pub(crate) fn holds_for(rt: &impl Abort, holds: bool, octets: &[u8]) {
 }
 
 /// It holds at this number.
-pub(crate) fn holds_at(rt: &impl Abort, holds: bool, number: usize) {
+pub(crate) fn holds_at(rt: &impl Abort, holds: bool, number: u64) {
     assert!(rt; holds, "at {number}");
 }

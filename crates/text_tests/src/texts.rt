@@ -50,7 +50,7 @@ fn read_in_chunks(
     assert!(rt; told == rows);
     for size in [1, 7, 4096] {
         let (again, told) = read_counted(alloc, text, size);
-        holds_at(rt, again == answer && told == rows, size);
+        holds_at(rt, again == answer && told == rows, size as u64);
     }
     answer
 }
@@ -251,17 +251,18 @@ fn lines_and_rows_have_their_limits(rt: HostRuntime) -> Result<(), Fail> {
         let text = filled(rt.alloc(), front, fill, *count)?;
         let (answer, _) = read_counted(rt.alloc(), text.as_slice(), 1000);
         let fault = kind.map(|kind| Fault::Trace(2, kind));
-        holds_at(&rt, answer.err() == fault, *count);
+        holds_at(&rt, answer.err() == fault, *count as u64);
     }
     Ok(())
 }
 
 /// Whether the rows have these numbers, sides and octets.
 fn rows_are(rows: &[Row<Global>], wanted: &[(u32, Side, &[u8])]) -> bool {
-    rows.len() == wanted.len()
-        && rows.iter().zip(wanted).all(|(row, (number, side, octets))| is_wanted(
-            row, *number, *side, octets,
-        ))
+    let mut same = rows.len() == wanted.len();
+    for (row, (number, side, octets)) in rows.iter().zip(wanted) {
+        same = same && is_wanted(row, *number, *side, octets);
+    }
+    same
 }
 
 fn is_wanted(row: &Row<Global>, number: u32, side: Side, octets: &[u8]) -> bool {
@@ -372,8 +373,8 @@ fn check_taken(
 ) {
     let mut told = Vec::new(alloc);
     let answer = take_rows(alloc, text, size, &mut told);
-    holds_at(rt, answer.err() == end, size);
-    holds_at(rt, told.as_slice() == wanted, size);
+    let right = answer.err() == end && told.as_slice() == wanted;
+    holds_at(rt, right, size as u64);
 }
 
 #[test]
@@ -410,15 +411,18 @@ fn room_of_the_octets_is_used_again(rt: HostRuntime) -> Result<(), Fail> {
     Ok(())
 }
 
+/// Whether no row is taken out of these bytes, and so many lines have ended then.
+fn ends(lines: &mut Lines<Global>, row: &mut Row<Global>, bytes: &[u8], count: u32) -> bool {
+    takes(lines, row, bytes) == Ok(false) && lines.ended_lines() == count
+}
+
 /// Three lines that ended, the last of which is the header.
 fn check_ended(rt: &impl Abort, lines: &mut Lines<Global>, row: &mut Row<Global>) {
     assert!(rt; lines.ended_lines() == 0);
-    assert!(rt; takes(lines, row, b"# one\n# tw") == Ok(false));
-    assert!(rt; lines.ended_lines() == 1);
+    assert!(rt; ends(lines, row, b"# one\n# tw", 1));
     assert!(rt; lines.ended_header() == Err(Fault::Trace(2, Kind::HeaderMissing)));
-    assert!(rt; takes(lines, row, b"o\n") == Ok(false));
-    assert!(rt; takes(lines, row, HEADER) == Ok(false));
-    assert!(rt; lines.ended_lines() == 3);
+    assert!(rt; ends(lines, row, b"o\n", 2));
+    assert!(rt; ends(lines, row, HEADER, 3));
 }
 
 /// A row whose number does not rise is refused, and all that comes behind it.

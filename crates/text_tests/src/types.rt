@@ -46,18 +46,19 @@ const FAULTS: [(Fault, u8, &str); 10] = [
 ];
 
 /// Whether a fault is written so.
-fn says(alloc: Global, fault: &Fault, text: &str) -> Result<bool, Fail> {
-    let said = format!(in alloc; "{fault}")?;
-    Ok(said.as_str() == text)
+fn says(alloc: Global, fault: &Fault, text: &str) -> bool {
+    match format!(in alloc; "{fault}") {
+        Ok(said) => said.as_str() == text,
+        Err(_) => false,
+    }
 }
 
 #[test]
-fn faults_have_their_texts_and_numbers(rt: HostRuntime) -> Result<(), Fail> {
+fn faults_have_their_texts_and_numbers(rt: HostRuntime) {
     for (fault, number, text) in &FAULTS {
-        let said = says(rt.alloc(), fault, text)?;
-        holds_at(&rt, said && fault.number() == *number, *number as usize);
+        let right = says(rt.alloc(), fault, text) && fault.number() == *number;
+        holds_at(&rt, right, u64::from(*number));
     }
-    Ok(())
 }
 
 /// Channels, whether they are permanent, and whether a call of the DTE or of the DCE is against their direction.
@@ -69,18 +70,20 @@ const DIRECTIONS: [(u16, bool, bool, bool); 5] = [
     (5, false, false, true),
 ];
 
+/// A channel, whether it is permanent, and whether a call of the DTE or of the DCE is against its direction.
+fn direction(channel: u16) -> (u16, bool, bool, bool) {
+    (
+        channel,
+        MIXED.is_permanent(channel),
+        MIXED.is_against(Side::T, channel),
+        MIXED.is_against(Side::N, channel),
+    )
+}
+
 #[test]
 fn calls_keep_to_the_direction_of_their_channel(rt: HostRuntime) {
-    for (channel, permanent, against_t, against_n) in &DIRECTIONS {
-        let is_permanent = MIXED.is_permanent(*channel);
-        let by_t = MIXED.is_against(Side::T, *channel);
-        let by_n = MIXED.is_against(Side::N, *channel);
-        let answer = (is_permanent, by_t, by_n);
-        holds_at(
-            &rt,
-            answer == (*permanent, *against_t, *against_n),
-            *channel as usize,
-        );
+    for wanted in &DIRECTIONS {
+        holds_at(&rt, direction(wanted.0) == *wanted, u64::from(wanted.0));
     }
 }
 
@@ -96,7 +99,7 @@ const FRESH: [(u32, u16, ChannelState); 4] = [
 fn channels_are_unknown_in_the_first_epoch_alone(rt: HostRuntime) {
     for (epoch, channel, state) in &FRESH {
         let fresh = MIXED.fresh_state(*epoch, *channel);
-        holds_at(&rt, fresh == *state, *channel as usize);
+        holds_at(&rt, fresh == *state, u64::from(*channel));
     }
 }
 
@@ -240,7 +243,8 @@ fn call(alloc: Global) -> Result<CallRecord, Fail>
 
 /// The report of a piece with that finding and that call.
 fn report(alloc: Global) -> Result<PieceReport, Fail> {
-    let calls = vec![in alloc; call(alloc)?]?;
+    let mut calls = Vec::new(alloc);
+    calls.push(call(alloc)?)?;
     let findings = Vec::from_slice(alloc, &[SHORT])?;
     Ok(PieceReport {
         id: 0,

@@ -1,56 +1,60 @@
 //! Channels that take their rows as they come.
 
-use crate::channels::refused::LINES;
-use crate::channels::{ASKED, INTERFACE, findings_are, first_settings, items};
+ghost use Rattle.line_model.specs.basics.Records as records;
+ghost use Rattle.channel_run.specs.Live.{StandsFor};
+
+use crate::calls::{ASKED, first_settings};
+use crate::channels::{CUT_PAIRS, Found, INTERFACE, findings_are, piece_of};
 use channel_machine::channel::PlainChannel;
 use channel_run::live::LiveChannel;
 use channel_run::run::Channel;
 use line_model::call::CallRecord;
-use line_model::event::How;
+use line_model::event::{Event, How};
 use line_model::fault::Fault;
-use line_model::finding::{Code, Xcode};
+use line_model::finding::{Code, Finding, Xcode};
 use line_model::piece::{Piece, PieceReport};
 use line_model::row::Row;
 use line_model::state::{Side, StateName};
 use std::alloc::{Allocator, Global};
-use std::process::Abort;
 use std::test::Fail;
 
 /// What is told after a row: the packet of the finding on it, and how many findings, calls and octets there are so far.
 type Told = (Option<u32>, usize, usize, u64);
 
-/// What is told of a piece at its end; and after each of its rows.
-fn followed<A: Allocator + Clone, C: Channel<A>>(
+/// What is told after a row, on which this was found.
+fn told_of<A: Allocator + Copy, C: Channel<A>>(
+    live: &LiveChannel<A, C>,
+    alloc: A,
+    id: u32,
+    finding: Option<Finding>,
+) -> Result<Told, Fault>
+    requires stands { (p : records.Piece) × StandsFor C.interface_of C.number_of C.stands_for live.now p }
+{
+    let report = live.report(alloc, id)?;
+    let packet = finding.map(|finding| finding.packet);
+    Ok((
+        packet,
+        live.findings().len(),
+        report.calls.len(),
+        report.octets,
+    ))
+}
+
+/// What is told of a piece at its end; and after each of its rows. A row and a list of events are lent.
+fn followed<A: Allocator + Copy, C: Channel<A>>(
     alloc: A,
     piece: &Piece<A>,
+    row: &mut Row<A>,
+    events: &mut Vec<Event, A>,
     told: &mut Vec<Told, A>,
 ) -> Result<PieceReport<A>, Fault> {
-    let mut live = LiveChannel::<A, C>::fresh(
-        alloc.clone()?,
-        &piece.interface,
-        piece.channel,
-        piece.epoch,
-    )?;
-    let mut row = Row {
-        number: 0,
-        side: Side::T,
-        octets: Vec::new(alloc.clone()?),
-    };
-    let mut events = Vec::new(alloc.clone()?);
+    let mut live = LiveChannel::<A, C>::fresh(alloc, &piece.interface, piece.channel, piece.epoch)?;
     for item in piece.items.iter() {
-        item.copy_to(&mut row)?;
-        let finding = live.take(&row, &item.packet, &mut events)?;
-        let report = live.report(alloc.clone()?, piece.id)?;
-        let findings = live.findings().len();
-        told.push((
-            finding.map(|finding| finding.packet),
-            findings,
-            report.calls.len(),
-            report.octets,
-        ))?;
+        item.copy_to(row)?;
+        let finding = live.take(row, &item.packet, events)?;
+        told.push(told_of(&live, alloc, piece.id, finding)?)?;
     }
-    let report = live.end(piece.id, piece.end)?;
-    Ok(report)
+    live.end(piece.id, piece.end)
 }
 
 /// What is told after each row of the call.
@@ -64,29 +68,37 @@ const BY_ROW: [Told; 7] = [
     (None, 2, 1, 13),
 ];
 
-/// Follows the call to the restart that ends it.
-fn follow_call(alloc: Global, told: &mut Vec<Told>) -> Result<PieceReport, Fail> {
-    let piece = Piece {
-        id: 5,
-        interface: INTERFACE,
-        epoch: 2,
-        channel: 1,
-        items: items(alloc, &INTERFACE, 1, LINES.as_slice())?,
-        end: Some(8),
+/// What is told of a piece at its end; and after each of its rows.
+fn follow(alloc: Global, piece: &Piece, told: &mut Vec<Told>) -> Result<PieceReport, Fault> {
+    let mut row = Row {
+        number: 0,
+        side: Side::T,
+        octets: Vec::new(alloc),
     };
-    Ok(followed::<Global, PlainChannel>(alloc, &piece, told)?)
+    let mut events = Vec::new(alloc);
+    followed::<Global, PlainChannel>(alloc, piece, &mut row, &mut events, told)
 }
 
-/// The report has the findings of two rows, and the call that the restart ended.
-fn check_report(rt: &impl Abort, report: &PieceReport) {
-    assert!(rt; (report.id, report.epoch, report.channel) == (5, 2, 1));
-    let findings = [
-        (3, Side::N, StateName::D1, Code::Pad(Xcode::X2)),
-        (4, Side::N, StateName::D1, Code::Pad(Xcode::X2)),
-    ];
-    assert!(rt; findings_are(&report.findings, &findings));
-    assert!(rt; first_settings(&report.calls) == ASKED.as_slice());
-    assert!(rt; ends(&report.calls) == Some((Some(2), Some(8), Some(How::Restart))));
+/// Follows the call to the restart that ends it.
+fn follow_call(alloc: Global, told: &mut Vec<Told>) -> Result<PieceReport, Fail> {
+    let mut piece = piece_of(alloc, &INTERFACE, 1, &CUT_PAIRS, Some(8))?;
+    piece.id = 5;
+    piece.epoch = 2;
+    Ok(follow(alloc, &piece, told)?)
+}
+
+/// The findings of two rows.
+const FINDINGS: [Found; 2] = [
+    (3, Side::N, StateName::D1, Code::Pad(Xcode::X2)),
+    (4, Side::N, StateName::D1, Code::Pad(Xcode::X2)),
+];
+
+/// Whether the report has the findings of two rows, and the call that the restart ended.
+fn is_right(report: &PieceReport) -> bool {
+    (report.id, report.epoch, report.channel) == (5, 2, 1)
+        && findings_are(&report.findings, &FINDINGS)
+        && first_settings(&report.calls) == ASKED.as_slice()
+        && ends(&report.calls) == Some((Some(2), Some(8), Some(How::Restart)))
 }
 
 /// When the one call came up, when it ended, and how.
@@ -103,6 +115,6 @@ fn each_row_is_told_at_once(rt: HostRuntime) -> Result<(), Fail> {
     let mut told = Vec::new(rt.alloc());
     let report = follow_call(rt.alloc(), &mut told)?;
     assert!(rt; told.as_slice() == BY_ROW.as_slice());
-    check_report(&rt, &report);
+    assert!(rt; is_right(&report));
     Ok(())
 }

@@ -1,12 +1,11 @@
 //! The run of a piece whose growths are refused.
 
-use crate::channels::{INTERFACE, Line, items};
+use crate::channels::{CUT_PAIRS, INTERFACE, piece_of};
 use crate::checks::holds_at;
 use channel_machine::channel::PlainChannel;
 use channel_run::run::run_piece;
 use line_model::fault::Fault;
 use line_model::piece::Piece;
-use line_model::state::Side;
 use std::alloc::Global;
 use std::process::Abort;
 use std::test::Fail;
@@ -15,33 +14,21 @@ use test_devices::scarce::Scarce;
 /// The most growths that this test looks for.
 const GROWTHS: u64 = 1000;
 
-/// A PAD call, its messages and their faults.
-pub const LINES: [Line; 7] = [
-    (1, Side::T, "10010B000001000000"),
-    (2, Side::N, "10010F"),
-    (3, Side::N, "9001000202"),
-    (4, Side::N, "900102030802"),
-    (5, Side::T, "100141"),
-    (6, Side::N, "90010403"),
-    (7, Side::N, "90010602020100000B05"),
-];
+/// How many findings the run of a piece has.
+fn findings_of<'a>(
+    heap: &'a Scarce<Global>,
+    piece: &Piece<&'a Scarce<Global>>,
+) -> Result<usize, Fault> {
+    let report = run_piece::<&Scarce<Global>, PlainChannel<&Scarce<Global>>>(heap, piece)?;
+    Ok(report.findings.len())
+}
 
 /// Runs the piece of a call, with one growth refused after so many: how many findings there are, and whether one was
 /// refused.
 fn run_with(heap: &Scarce<Global>, good: u64) -> Result<(Result<usize, Fault>, bool), Fail> {
-    let piece = Piece {
-        id: 0,
-        interface: INTERFACE,
-        epoch: 1,
-        channel: 1,
-        items: items(heap, &INTERFACE, 1, LINES.as_slice())?,
-        end: Some(8),
-    };
+    let piece = piece_of(heap, &INTERFACE, 1, &CUT_PAIRS, Some(8))?;
     heap.refuse_one(good);
-    let findings = match run_piece::<&Scarce<Global>, PlainChannel<&Scarce<Global>>>(heap, &piece) {
-        Ok(report) => Ok(report.findings.len()),
-        Err(fault) => Err(fault),
-    };
+    let findings = findings_of(heap, &piece);
     let refused = good < heap.asked();
     heap.grant_all();
     Ok((findings, refused))

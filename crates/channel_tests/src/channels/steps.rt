@@ -4,8 +4,7 @@ ghost use Rattle.std.specs.Prelude.{◌≡◌, All, OnOk};
 ghost use Rattle.line_model.specs.basics.Bounds.{IsItem};
 ghost use Rattle.line_model.specs.channels.Channels as channels;
 
-use crate::channels::refused::LINES;
-use crate::channels::{INTERFACE, items};
+use crate::channels::{CUT_PAIRS, INTERFACE, items};
 use crate::checks::holds_at;
 use channel_machine::channel::{PackedChannel, PlainChannel};
 use channel_run::run::Channel;
@@ -27,6 +26,11 @@ const GROWTHS: u64 = 1000;
 /// What is seen of a channel: its state, whether a call is open, and how many events it told.
 type Seen = (ChannelState, bool, usize);
 
+/// What is seen of a channel that told so many events.
+fn seen_of<'a, C: Channel<&'a Scarce<Global>>>(channel: &C, events: usize) -> Seen {
+    (channel.state(), channel.is_open(), events)
+}
+
 /// Steps a channel with each growth refused in turn, until none is: after a refusal it is as it was. Answers how often one
 /// was refused.
 fn step_until_taken<'a, C: Channel<&'a Scarce<Global>>>(
@@ -42,7 +46,7 @@ fn step_until_taken<'a, C: Channel<&'a Scarce<Global>>>(
     ensures number { (c : channels.Channel) → C.stands_for channel.old c → OnOk result (C.number_of channel.new ≡ C.number_of channel.old) }
     ensures stands { (c : channels.Channel) → C.stands_for channel.old c → OnOk result ((d : channels.Channel) × C.stands_for channel.new d) }
 {
-    let before: Seen = (channel.state(), channel.is_open(), events.len());
+    let before = seen_of(channel, events.len());
     for good in 0..GROWTHS {
         heap.refuse_one(good);
         let step = channel.step(1, row, packet, events);
@@ -52,7 +56,7 @@ fn step_until_taken<'a, C: Channel<&'a Scarce<Global>>>(
         match step {
             Ok(()) => return Ok(good),
             Err(fault) => {
-                let after: Seen = (channel.state(), channel.is_open(), events.len());
+                let after = seen_of(channel, events.len());
                 holds_at(rt, fault == Fault::Memory && after == before, good);
             }
         }
@@ -83,28 +87,32 @@ fn step_through<'a, C: Channel<&'a Scarce<Global>>>(
         let growths = step_until_taken(rt, heap, &mut channel, &row, &item.packet, &mut events)?;
         refused = refused.saturating_add(growths);
     }
-    Ok((refused, (channel.state(), channel.is_open(), events.len())))
+    Ok((refused, seen_of(&channel, events.len())))
 }
 
-/// Steps a machine through a PAD call: it opens and comes up, four data packets are heard, of which two are faulty messages
-/// and one sets a parameter.
-fn check<'a, C: Channel<&'a Scarce<Global>>>(
+/// Steps a machine through a PAD call. Answers how often a growth was refused, and what is seen at the end.
+fn step_call<'a, C: Channel<&'a Scarce<Global>>>(
     rt: &impl Abort,
     heap: &'a Scarce<Global>,
-) -> Result<(), Fail> {
-    let items = items(heap, &INTERFACE, 1, LINES.as_slice())?;
-    let (refused, seen) = step_through::<C>(rt, heap, &INTERFACE, &items)?;
-    assert!(rt; 1 < refused, "{refused} growths");
-    let (state, is_open, events) = seen;
-    assert!(rt; state == ChannelState::Transfer(DState::D1));
-    assert!(rt; is_open && events == 9);
-    Ok(())
+) -> Result<(u64, Seen), Fail> {
+    let items = items(heap, &INTERFACE, 1, CUT_PAIRS.as_slice())?;
+    step_through::<C>(rt, heap, &INTERFACE, &items)
+}
+
+/// A PAD call was stepped through: it opened and came up, four data packets were heard, of which two are faulty messages and
+/// one sets a parameter.
+fn check_call(rt: &impl Abort, refused: u64, seen: Seen) {
+    holds_at(rt, 1 < refused, refused);
+    assert!(rt; seen == (ChannelState::Transfer(DState::D1), true, 9));
 }
 
 /// Steps both machines of a channel.
 fn check_both(rt: &impl Abort, heap: &Scarce<Global>) -> Result<(), Fail> {
-    check::<PlainChannel<&Scarce<Global>>>(rt, heap)?;
-    check::<PackedChannel<&Scarce<Global>>>(rt, heap)
+    let (refused, seen) = step_call::<PlainChannel<&Scarce<Global>>>(rt, heap)?;
+    check_call(rt, refused, seen);
+    let (refused, seen) = step_call::<PackedChannel<&Scarce<Global>>>(rt, heap)?;
+    check_call(rt, refused, seen);
+    Ok(())
 }
 
 #[test]

@@ -29,8 +29,8 @@ fn cut_with(heap: &Scarce<Global>, good: u64) -> Result<(Result<usize, Fault>, b
 fn check_growth(rt: &impl Abort, heap: &Scarce<Global>, good: u64) -> Result<bool, Fail> {
     let (pieces, refused) = cut_with(heap, good)?;
     let wanted = if refused { Err(Fault::Memory) } else { Ok(4) };
-    holds_at(rt, pieces == wanted, good as usize);
-    holds_at(rt, heap.held() == 0, good as usize);
+    holds_at(rt, pieces == wanted, good);
+    holds_at(rt, heap.held() == 0, good);
     Ok(refused)
 }
 

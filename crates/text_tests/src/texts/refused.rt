@@ -22,42 +22,28 @@ fn feed<A: Allocator + Copy>(lines: &mut Lines<A>, rows: &mut Vec<Row<A>, A>) ->
     lines.feed(b"AABBCC\n# the end\n", rows)
 }
 
-/// Feeds a reader, with one growth refused after so many. Answers what it said, and whether one was refused.
-fn feed_with<'a>(
-    heap: &'a Scarce<Global>,
-    lines: &mut Lines<&'a Scarce<Global>>,
-    rows: &mut Vec<Row<&'a Scarce<Global>>, &'a Scarce<Global>>,
-    good: u64,
-) -> (Result<(), Fault>, bool) {
-    heap.refuse_one(good);
-    let answer = feed(lines, rows);
-    let refused = good < heap.asked();
-    heap.grant_all();
-    (answer, refused)
-}
-
-/// A reader answers want of memory.
-fn wants_memory<'a>(
-    lines: Lines<&'a Scarce<Global>>,
-    rows: &mut Vec<Row<&'a Scarce<Global>>, &'a Scarce<Global>>,
-) -> bool {
+/// What a reader says to a further row, and to the end of the text.
+fn say_further<A: Allocator + Copy>(
+    lines: Lines<A>,
+    rows: &mut Vec<Row<A>, A>,
+) -> (Result<(), Fault>, Option<Fault>) {
     let mut lines = lines;
-    lines.feed(b"4 T -\n", rows) == Err(Fault::Memory)
-        && lines.end(rows).err() == Some(Fault::Memory)
+    let answer = lines.feed(b"4 T -\n", rows);
+    (answer, lines.end(rows).err())
 }
 
-/// What a reader said to the text is right: where a growth was refused, it wants memory from then on; else there are three
-/// rows.
-fn is_right<'a>(
-    lines: Lines<&'a Scarce<Global>>,
-    rows: &mut Vec<Row<&'a Scarce<Global>>, &'a Scarce<Global>>,
-    answer: Result<(), Fault>,
+/// What a reader said to the text and further is right: where a growth was refused, it wants memory from then on; else there
+/// are three rows.
+fn is_right(
     refused: bool,
+    answer: Result<(), Fault>,
+    rows: usize,
+    further: (Result<(), Fault>, Option<Fault>),
 ) -> bool {
     if refused {
-        answer == Err(Fault::Memory) && wants_memory(lines, rows)
+        answer == Err(Fault::Memory) && further == (Err(Fault::Memory), Some(Fault::Memory))
     } else {
-        answer == Ok(()) && rows.len() == 3
+        answer == Ok(()) && rows == 3
     }
 }
 
@@ -66,15 +52,20 @@ fn is_right<'a>(
 fn refuse_growth(heap: &Scarce<Global>, good: u64) -> (bool, bool) {
     let mut lines = Lines::new(heap);
     let mut rows = Vec::new(heap);
-    let (answer, refused) = feed_with(heap, &mut lines, &mut rows, good);
-    (refused, is_right(lines, &mut rows, answer, refused))
+    heap.refuse_one(good);
+    let answer = feed(&mut lines, &mut rows);
+    let refused = good < heap.asked();
+    heap.grant_all();
+    let count = rows.len();
+    let further = say_further(lines, &mut rows);
+    (refused, is_right(refused, answer, count, further))
 }
 
 /// How many growths a reader has, each of which is refused in turn. It keeps no block.
 fn growths(rt: &impl Abort, heap: &Scarce<Global>) -> u64 {
     for good in 0..GROWTHS {
         let (refused, right) = refuse_growth(heap, good);
-        holds_at(rt, right && heap.held() == 0, good as usize);
+        holds_at(rt, right && heap.held() == 0, good);
         if !refused {
             return good;
         }
@@ -90,30 +81,33 @@ fn a_reader_that_wanted_memory_wants_it_from_then_on(rt: HostRuntime) {
 }
 
 /// What a new share answers to one row.
-fn next_row(row: &mut Row<&Scarce<Global>>) -> Result<bool, ShareFault> {
-    let mut share = Share::new();
-    match share.next_row(b"1 T 10010B0000\n".as_slice(), row) {
+fn next_row<A: Allocator>(row: &mut Row<A>) -> Result<bool, ShareFault> {
+    match Share::new().next_row(b"1 T 10010B0000\n", row) {
         Ok(rest) => Ok(rest == Some(b"".as_slice())),
         Err(fault) => Err(fault),
     }
 }
 
-/// A row of a share whose first growth is refused is read by a new share.
-fn is_read_again(rt: &impl Abort, heap: &Scarce<Global>) {
+/// What a share answers to a row whose first growth is refused, what a new share answers, and how many octets there are then.
+fn read_again(
+    heap: &Scarce<Global>,
+) -> (Result<bool, ShareFault>, Result<bool, ShareFault>, usize) {
     let mut row = Row {
         number: 0,
         side: Side::T,
         octets: Vec::new(heap),
     };
     heap.refuse_one(0);
-    assert!(rt; next_row(&mut row) == Err(ShareFault::Memory));
+    let refused = next_row(&mut row);
     heap.grant_all();
-    assert!(rt; next_row(&mut row) == Ok(true));
-    assert!(rt; row.octets.len() == 5);
+    let again = next_row(&mut row);
+    (refused, again, row.octets.len())
 }
 
 #[test]
 fn a_share_that_wanted_memory_is_read_again(rt: HostRuntime) {
     let heap = Scarce::new(rt.alloc());
-    is_read_again(&rt, &heap);
+    let (refused, again, octets) = read_again(&heap);
+    assert!(rt; refused == Err(ShareFault::Memory));
+    assert!(rt; again == Ok(true) && octets == 5);
 }

@@ -354,10 +354,13 @@ fn fixed_row_holds_4200_octets(rt: HostRuntime) -> Result<(), Fail> {
 /// Two lines, an empty one between them.
 const LINES: &[u8] = b"ab\n\nc";
 
+/// Places in them, and where the lines of these end.
+const ENDS: [(usize, usize); 6] = [(0, 3), (1, 3), (2, 3), (3, 4), (4, 5), (5, 5)];
+
 /// Each line ends behind its LF.
 fn check_line_ends(rt: &impl Abort) {
-    for (at, end) in [(0, 3), (1, 3), (2, 3), (3, 4), (4, 5), (5, 5)] {
-        holds_at(rt, line_end(LINES, at) == end, at);
+    for (at, end) in &ENDS {
+        holds_at(rt, line_end(LINES, *at) == *end, *at as u64);
     }
 }
 

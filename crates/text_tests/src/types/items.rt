@@ -13,41 +13,47 @@ use std::test::Fail;
 /// A row: its number, its side, its octets and what they are.
 type Line = (u32, Side, &'static [u8], Packet);
 
-/// A call request on channel 1, a row without octets, a call that is connected, and data.
-fn lines() -> [Line; 4] {
-    [
-        (
-            1,
-            Side::T,
-            b"\x10\x01\x0b\x00\x00".as_slice(),
-            on_channel_1(PacketKind::Call),
-        ),
-        (2, Side::T, b"".as_slice(), Packet::Short),
-        (
-            4,
-            Side::N,
-            b"\x10\x01\x0f".as_slice(),
-            on_channel_1(PacketKind::Accepted),
-        ),
-        (
-            9,
-            Side::T,
-            b"\x10\x01\x22\xaa".as_slice(),
-            on_channel_1(PacketKind::Data(Some(DataHeader {
-                send: 1,
-                receive: 1,
-                more: false,
-                delivery: false,
-                qualified: false,
-            }))),
-        ),
-    ]
-}
+/// A call request on channel 1.
+const CALL: Line = (
+    1,
+    Side::T,
+    b"\x10\x01\x0b\x00\x00",
+    Packet::Channel {
+        channel: 1,
+        kind: PacketKind::Call,
+    },
+);
 
-/// A packet on channel 1.
-fn on_channel_1(kind: PacketKind) -> Packet {
-    Packet::Channel { channel: 1, kind }
-}
+/// A call that is connected.
+const ACCEPTED: Line = (
+    4,
+    Side::N,
+    b"\x10\x01\x0f",
+    Packet::Channel {
+        channel: 1,
+        kind: PacketKind::Accepted,
+    },
+);
+
+/// Data.
+const DATA: Line = (
+    9,
+    Side::T,
+    b"\x10\x01\x22\xaa",
+    Packet::Channel {
+        channel: 1,
+        kind: PacketKind::Data(Some(DataHeader {
+            send: 1,
+            receive: 1,
+            more: false,
+            delivery: false,
+            qualified: false,
+        })),
+    },
+);
+
+/// A call request on channel 1, a row without octets, a call that is connected, and data.
+const LINES: [Line; 4] = [CALL, (2, Side::T, b"", Packet::Short), ACCEPTED, DATA];
 
 /// Appends rows.
 fn push_all(items: &mut Items, lines: &[Line]) -> Result<(), Fail> {
@@ -68,44 +74,44 @@ fn is_line(row: &ItemRef<'_>, line: &Line) -> bool {
     row.number == *number && row.side == *side && row.octets == *octets && row.packet == *packet
 }
 
-/// The rows are these, in this order.
-fn check_rows(rt: &impl Abort, items: &Items, lines: &[Line]) -> Result<(), Fail> {
-    assert!(rt; items.len() == lines.len() && items.is_empty() == lines.is_empty());
+/// Whether the rows are these, in this order.
+fn rows_are(items: &Items, lines: &[Line]) -> bool {
+    let mut same = items.len() == lines.len() && items.is_empty() == lines.is_empty();
     let mut rows = items.iter();
     for line in lines {
-        let Some(row) = rows.next() else {
-            return Err("a row is missing")?;
-        };
-        holds_at(rt, is_line(&row, line), row.number as usize);
+        match rows.next() {
+            Some(row) => same = same && is_line(&row, line),
+            None => return false,
+        }
     }
-    assert!(rt; rows.next().is_none());
-    Ok(())
+    same && rows.next().is_none()
 }
 
 #[test]
 fn rows_stand_in_order_with_their_octets(rt: HostRuntime) -> Result<(), Fail> {
-    let lines = lines();
     let mut items = Items::new(rt.alloc());
-    check_rows(&rt, &items, &[])?;
-    push_all(&mut items, lines.as_slice())?;
-    check_rows(&rt, &items, lines.as_slice())?;
+    assert!(rt; rows_are(&items, &[]));
+    push_all(&mut items, &LINES)?;
     // A walk takes no row away.
-    check_rows(&rt, &items, lines.as_slice())
+    assert!(rt; rows_are(&items, &LINES) && rows_are(&items, &LINES));
+    Ok(())
+}
+
+/// The same rows, of which a copy was made.
+fn copied(items: &mut Items) -> Result<Items, Fail> {
+    push_all(items, &LINES)?;
+    Ok(items.copy()?)
 }
 
 #[test]
 fn a_copy_has_the_rows_and_a_cleared_list_has_none(rt: HostRuntime) -> Result<(), Fail> {
-    let lines = lines();
-    let [call, .., data] = lines;
     let mut items = Items::new(rt.alloc());
-    push_all(&mut items, lines.as_slice())?;
-    let copy = items.copy()?;
+    let copy = copied(&mut items)?;
     items.clear();
-    check_rows(&rt, &items, &[])?;
-    check_rows(&rt, &copy, lines.as_slice())?;
-    push_all(&mut items, &[data, call])?;
-    check_rows(&rt, &items, &[data, call])?;
-    check_rows(&rt, &copy, lines.as_slice())
+    assert!(rt; rows_are(&items, &[]) && rows_are(&copy, &LINES));
+    push_all(&mut items, &[DATA, CALL])?;
+    assert!(rt; rows_are(&items, &[DATA, CALL]) && rows_are(&copy, &LINES));
+    Ok(())
 }
 
 /// Appends rows to lent lists, and counts those that fit.
@@ -125,22 +131,26 @@ fn push_lent(items: &mut LentItems<'_>, lines: &[Line]) -> usize {
     fits
 }
 
-/// Rows in lent lists that fit are those of the lines.
-fn check_lent(
-    rt: &impl Abort,
-    items: LentItems<'_>,
-    lines: &[Line],
-    fits: usize,
-) -> Result<(), Fail> {
+/// Whether the rows in lent lists are the first so many of the lines.
+fn lent_are(items: LentItems<'_>, lines: &[Line], fits: usize) -> bool {
+    let mut same = true;
     let mut rows = items.into_rows();
     for line in lines.iter().take(fits) {
-        let Some(row) = rows.next() else {
-            return Err("a row is missing")?;
-        };
-        holds_at(rt, is_line(&row, line), row.number as usize);
+        match rows.next() {
+            Some(row) => same = same && is_line(&row, line),
+            None => return false,
+        }
     }
-    assert!(rt; rows.next().is_none());
-    Ok(())
+    same && rows.next().is_none()
+}
+
+/// Lists to lend, of so many heads and octets.
+fn lists(alloc: Global, heads: usize, octets: usize) -> Result<(Vec<Head>, Vec<u8>), Fail> {
+    let mut head_list = Vec::new(alloc);
+    head_list.resize(heads, Head::blank())?;
+    let mut octet_list = Vec::new(alloc);
+    octet_list.resize(octets, 0xeeu8)?;
+    Ok((head_list, octet_list))
 }
 
 /// So many rows fit in lists of so many heads and octets.
@@ -151,55 +161,59 @@ fn check_fits(
     octets: usize,
     fits: usize,
 ) -> Result<(), Fail> {
-    let lines = lines();
-    let mut head_list = Vec::new(alloc);
-    head_list.resize(heads, Head::blank())?;
-    let mut octet_list = Vec::new(alloc);
-    octet_list.resize(octets, 0xeeu8)?;
+    let (mut head_list, mut octet_list) = lists(alloc, heads, octets)?;
     let mut items = LentItems::new(head_list.as_mut_slice(), octet_list.as_mut_slice());
-    holds_at(rt, push_lent(&mut items, lines.as_slice()) == fits, heads);
-    check_lent(rt, items, lines.as_slice(), fits)
+    let pushed = push_lent(&mut items, &LINES);
+    let right = pushed == fits && lent_are(items, &LINES, fits);
+    holds_at(rt, right, heads as u64);
+    Ok(())
 }
+
+/// How many heads and octets the lists have, and how many rows fit. There are 12 octets in four rows; the last row has four,
+/// and the third three.
+const FITS: [(usize, usize, usize); 6] = [
+    (4, 12, 4),
+    (9, 20, 4),
+    (3, 12, 3),
+    (4, 11, 3),
+    (4, 7, 2),
+    (0, 12, 0),
+];
 
 #[test]
 fn lent_lists_hold_what_fits(rt: HostRuntime) -> Result<(), Fail> {
-    // 12 octets in four rows; the last row has four, and the third three.
-    for (heads, octets, fits) in [
-        (4, 12, 4),
-        (9, 20, 4),
-        (3, 12, 3),
-        (4, 11, 3),
-        (4, 7, 2),
-        (0, 12, 0),
-    ] {
-        check_fits(&rt, rt.alloc(), heads, octets, fits)?;
+    for (heads, octets, fits) in &FITS {
+        check_fits(&rt, rt.alloc(), *heads, *octets, *fits)?;
     }
     Ok(())
 }
 
+/// A row of the DCE.
+fn row_of(alloc: Global, number: u32, octets: &[u8]) -> Result<Row<Global>, Fail> {
+    let octets = octets.to_vec(alloc)?;
+    Ok(Row {
+        number,
+        side: Side::N,
+        octets,
+    })
+}
+
 /// Copies the row of a line into the place of another, and tells whether it is that row.
-fn is_copied(row: &mut Row<Global>, line: Line) -> bool {
+fn is_copied(row: &mut Row<Global>, line: &Line) -> bool {
     let (number, side, octets, packet) = line;
     let item = ItemRef {
-        number,
-        side,
+        number: *number,
+        side: *side,
         octets,
-        packet,
+        packet: *packet,
     };
-    item.copy_to(row).is_ok()
-        && row.number == number
-        && row.side == side
-        && row.octets.as_slice() == octets
+    item.copy_to(row).is_ok() && is_line(&row.with_packet(*packet), line)
 }
 
 #[test]
 fn a_row_is_copied_into_the_place_of_another(rt: HostRuntime) -> Result<(), Fail> {
-    let mut row = Row {
-        number: 7,
-        side: Side::N,
-        octets: b"\x10\x02\x13\x00\x00\x00".as_slice().to_vec(rt.alloc())?,
-    };
-    for line in lines() {
+    let mut row = row_of(rt.alloc(), 7, b"\x10\x02\x13\x00\x00\x00")?;
+    for line in &LINES {
         assert!(rt; is_copied(&mut row, line));
     }
     Ok(())
@@ -207,13 +221,8 @@ fn a_row_is_copied_into_the_place_of_another(rt: HostRuntime) -> Result<(), Fail
 
 #[test]
 fn a_row_stands_with_the_packet_that_it_is_given(rt: HostRuntime) -> Result<(), Fail> {
-    let octets = b"\x10\x01\x0f".as_slice();
-    let row = Row {
-        number: 4,
-        side: Side::N,
-        octets: octets.to_vec(rt.alloc())?,
-    };
-    let accepted = on_channel_1(PacketKind::Accepted);
-    assert!(rt; is_line(&row.with_packet(accepted), &(4, Side::N, octets, accepted)));
+    let row = row_of(rt.alloc(), 4, b"\x10\x01\x0f")?;
+    let (_, _, _, packet) = ACCEPTED;
+    assert!(rt; is_line(&row.with_packet(packet), &ACCEPTED));
     Ok(())
 }

@@ -20,8 +20,8 @@ take-requires g c =
     let whole : IsPiece p.interface p.channel p.items = subst (λ q. IsPiece q.interface q.channel q.items) c.piece.view_is c.piece.invariant in
     record { room = (record p { items = c.loop-item.yielded }, c.loop-item.invariant.stands, next_item p.interface p.channel p.items c.loop-item.yielded _ c.next.new.self c.in-Some.item _ whole c.loop-item.invariant.left c.in-Some.ensures.steps taken) }
 
-pub report-requires : goal.report-requires
-report-requires g c =
+pub told_of-requires : goal.told_of-requires
+told_of-requires g c =
     let p = c.args.piece.now in
     let item : Item = record { row = c.copy_to.new.row; packet = c.item.inside.packet } in
     let taken : item ≡ c.in-Some.item = λ j. record { row = c.in_ok-copy_to.ensures j; packet = ap (λ i. i.packet) c.item.view_is j } in
