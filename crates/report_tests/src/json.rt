@@ -146,12 +146,17 @@ const OBJECTS: &[u8] =
 {\"line\":\"peak\",\"count\":0,\"packet\":null}\n\
 {\"line\":\"sums\",\"packets\":5,\"findings\":1,\"calls\":1,\"octets\":2,\"segments\":2}\n";
 
+/// Sees that a text was taken whole, and that these objects were written.
+fn agree(rt: &impl Abort, told: &Conversion, objects: &[u8]) {
+    assert!(rt; told.answer.is_ok());
+    assert!(rt; told.bytes.as_slice() == objects);
+}
+
 /// Sees that a text becomes some objects, in parts of any size.
 fn check(rt: &impl Abort, alloc: Global, text: &[u8], objects: &[u8]) {
-    for size in [1, 7, 65536] {
-        let told = converted(alloc, text, size, WHOLE);
-        assert_eq!(rt; told.answer, Ok(()));
-        assert_eq!(rt; told.bytes.as_slice(), objects);
+    for size in &[1, 7, 65536] {
+        let told = converted(alloc, text, *size, WHOLE);
+        agree(rt, &told, objects);
     }
 }
 
@@ -161,43 +166,53 @@ fn lines_of_every_kind_become_objects(rt: HostRuntime) {
     check(&rt, rt.alloc(), b"", b"");
 }
 
+/// Takes a byte a call.
+const SLOW: Takes = Takes {
+    step: 1,
+    good_calls: usize::MAX,
+};
+
 #[test]
 fn a_sink_that_takes_one_byte_a_call_takes_the_same(rt: HostRuntime) {
-    let slow = Takes {
-        step: 1,
-        good_calls: usize::MAX,
-    };
-    let told = converted(rt.alloc(), REPORT, 7, slow);
-    assert_eq!(rt; told.answer, Ok(()));
-    assert_eq!(rt; told.bytes.as_slice(), OBJECTS);
-    assert_eq!(rt; told.calls, OBJECTS.len());
+    let told = converted(rt.alloc(), REPORT, 7, SLOW);
+    agree(&rt, &told, OBJECTS);
+    assert!(rt; told.calls == OBJECTS.len());
 }
 
 #[test]
 fn a_line_is_written_as_soon_as_it_has_ended(rt: HostRuntime) {
     let told = converted(rt.alloc(), REPORT, 1, WHOLE);
-    assert_eq!(rt; told.calls, 11);
+    assert!(rt; told.calls == 11);
 }
 
 #[test]
 fn a_portion_of_many_lines_is_one_write(rt: HostRuntime) {
     let told = converted(rt.alloc(), REPORT, 65536, WHOLE);
-    assert_eq!(rt; told.calls, 1);
+    assert!(rt; told.calls == 1);
+}
+
+/// Sees that a sink failed after so many good calls, and has a first part of the objects.
+fn agree_on_failure(rt: &impl Abort, told: &Conversion, good_calls: usize) {
+    assert!(rt; told.answer == Err(Fault::Write));
+    assert!(rt; told.calls == good_calls);
+    assert!(rt; OBJECTS.starts_with(told.bytes.as_slice()));
+}
+
+/// Writes the report in parts of some size to a sink that fails after so many good calls.
+fn check_failure(rt: &impl Abort, alloc: Global, size: usize, good_calls: usize) {
+    let takes = Takes {
+        step: 90,
+        good_calls,
+    };
+    let told = converted(alloc, REPORT, size, takes);
+    agree_on_failure(rt, &told, good_calls);
 }
 
 #[test]
 fn a_sink_that_fails_has_a_first_part_and_is_told(rt: HostRuntime) {
     for good_calls in 0..11 {
-        for size in [1, 65536] {
-            let takes = Takes {
-                step: 90,
-                good_calls,
-            };
-            let told = converted(rt.alloc(), REPORT, size, takes);
-            assert_eq!(rt; told.answer, Err(Fault::Write));
-            assert_eq!(rt; told.calls, good_calls);
-            assert!(rt; OBJECTS.starts_with(told.bytes.as_slice()));
-        }
+        check_failure(&rt, rt.alloc(), 1, good_calls);
+        check_failure(&rt, rt.alloc(), 65536, good_calls);
     }
 }
 
@@ -211,21 +226,27 @@ fn a_line_that_has_not_ended_is_not_told(rt: HostRuntime) {
     );
 }
 
-#[test]
-fn a_line_that_no_report_has_is_unknown(rt: HostRuntime) {
+/// A line that is longer than any of a report.
+fn long_line() -> [u8; 260] {
     let mut long = [b'1'; 260];
     long[0] = b'P';
     long[1] = b' ';
     long[259] = b'\n';
-    let unknown = b"{\"line\":\"unknown\"}\n";
-    check(&rt, rt.alloc(), &long, unknown);
-    check(&rt, rt.alloc(), b"\n", unknown);
-    check(&rt, rt.alloc(), b"Q 1\n", unknown);
+    long
+}
+
+/// The object of a line that no report has.
+const UNKNOWN: &[u8] = b"{\"line\":\"unknown\"}\n";
+
+#[test]
+fn a_line_that_no_report_has_is_unknown(rt: HostRuntime) {
+    check(&rt, rt.alloc(), &long_line(), UNKNOWN);
+    check(&rt, rt.alloc(), b"\n", UNKNOWN);
+    check(&rt, rt.alloc(), b"Q 1\n", UNKNOWN);
 }
 
 #[test]
 fn a_whole_text_is_written(rt: HostRuntime) {
     let told = whole::<Brand>(Blank::new(1), rt.alloc(), REPORT);
-    assert_eq!(rt; told.answer, Ok(()));
-    assert_eq!(rt; told.bytes.as_slice(), OBJECTS);
+    agree(&rt, &told, OBJECTS);
 }

@@ -103,12 +103,12 @@ fn ended<A: Allocator + Copy, C: Channel<A>>(alloc: Global, trace: Live<A, C>) -
 
 /// Sees that a fault is the one that is wanted, if any is.
 fn same_fault(rt: &impl Abort, fault: Option<Fault>, wanted: Option<Fault>) {
-    assert_eq!(rt; fault, wanted);
+    assert!(rt; fault == wanted);
 }
 
 /// Sees that these bytes were written.
 fn same_bytes(rt: &impl Abort, bytes: &[u8], wanted: &[u8]) {
-    assert_eq!(rt; bytes, wanted);
+    assert!(rt; bytes == wanted);
 }
 
 /// Sees that an answer is the one that is wanted.

@@ -17,27 +17,32 @@ use line_model::state::{Side, StateName};
 use report_merge::merging::merge;
 use report_merge::parts::Parts;
 use report_merge::text::write_report;
-use std::alloc::Global;
+use std::alloc::{AllocError, Global};
 use std::marker::Brand;
 use std::process::Abort;
 use std::sync::ledger::{Blank, Ledger};
 use std::test::Fail;
 
-/// The bytes that are written of a report.
-fn written<L: Ledger>(blank: Blank, alloc: Global, report: &Report) -> Result<Vec<u8>, Fail>
+/// Whether these bytes are written of a report.
+fn writes<L: Ledger>(
+    blank: Blank,
+    alloc: Global,
+    report: &Report,
+    expected: &[u8],
+) -> Result<bool, Fault>
     requires name { blank.name ≡ L.name }
     requires parts { blank.parts ≡ L.parts }
     requires some { 0 < L.parts }
 {
     let mut sink: VecSink<Global, L> = VecSink::new(Vec::new(alloc), Count::open(blank));
     write_report(report, &mut sink)?;
-    Ok(Vec::from_slice(alloc, sink.as_slice())?)
+    Ok(sink.as_slice() == expected)
 }
 
 /// Sees that the text of a report is the one that is expected.
-fn check(rt: &impl Abort, alloc: Global, report: &Report, expected: &[u8]) -> Result<(), Fail> {
-    let text = written::<Brand>(Blank::new(1), alloc, report)?;
-    assert_eq!(rt; text.as_slice(), expected);
+fn check(rt: &impl Abort, alloc: Global, report: &Report, expected: &[u8]) -> Result<(), Fault> {
+    let same = writes::<Brand>(Blank::new(1), alloc, report, expected)?;
+    assert!(rt; same);
     Ok(())
 }
 
@@ -120,7 +125,7 @@ fn finding_report(
     epoch: u32,
     channel: u16,
     packet: u32,
-) -> Result<PieceReport, Fail> {
+) -> Result<PieceReport, AllocError> {
     let finding = Finding {
         packet,
         side: Side::T,
@@ -171,28 +176,44 @@ P 0 -
 Z 16 12 0 0 0
 ";
 
+/// Posts the report of a piece, but with another id for the piece 3, or without it.
+fn post(
+    alloc: Global,
+    reports: &mut Vec<PieceReport>,
+    piece: (u32, u32, u16, u32),
+    third: Option<u32>,
+) -> Result<(), AllocError> {
+    let (id, epoch, channel, packet) = piece;
+    let posted = if id == 3 { third } else { Some(id) };
+    if let Some(id) = posted {
+        reports.push(finding_report(alloc, id, epoch, channel, packet)?)?;
+    }
+    Ok(())
+}
+
 /// The reports of the twelve pieces, the last first, but with another id for the piece 3, or without it.
-fn three_epochs(alloc: Global, third: Option<u32>) -> Result<Vec<PieceReport>, Fail> {
+fn three_epochs(alloc: Global, third: Option<u32>) -> Result<Vec<PieceReport>, AllocError> {
     let mut reports = Vec::new(alloc);
-    for (id, epoch, channel, packet) in PIECES.iter().rev().copied() {
-        let posted = if id == 3 { third } else { Some(id) };
-        if let Some(id) = posted {
-            reports.push(finding_report(alloc, id, epoch, channel, packet)?)?;
-        }
+    for piece in PIECES.iter().rev() {
+        post(alloc, &mut reports, *piece, third)?;
     }
     Ok(reports)
 }
 
+/// Sees that the reports of the twelve pieces give that of the three epochs.
+fn check_merged(rt: &impl Abort, alloc: Global, reports: Vec<PieceReport>) -> Result<(), Fault> {
+    let report = merge(alloc, reports, Vec::new(alloc), 16, 12)?;
+    check(rt, alloc, &report, THREE_EPOCHS)
+}
+
 #[test]
 fn pieces_in_any_order_give_the_report_of_the_trace(rt: HostRuntime) -> Result<(), Fail> {
-    let alloc = rt.alloc();
-    let backwards = three_epochs(alloc, Some(3))?;
-    let report = merge(alloc, backwards, Vec::new(alloc), 16, 12)?;
-    check(&rt, alloc, &report, THREE_EPOCHS)?;
-    let mut forwards = three_epochs(alloc, Some(3))?;
+    let backwards = three_epochs(rt.alloc(), Some(3))?;
+    check_merged(&rt, rt.alloc(), backwards)?;
+    let mut forwards = three_epochs(rt.alloc(), Some(3))?;
     forwards.reverse();
-    let report = merge(alloc, forwards, Vec::new(alloc), 16, 12)?;
-    check(&rt, alloc, &report, THREE_EPOCHS)
+    check_merged(&rt, rt.alloc(), forwards)?;
+    Ok(())
 }
 
 #[test]
@@ -210,55 +231,108 @@ fn pieces_that_come_one_by_one_give_the_report_so_far(rt: HostRuntime) -> Result
         alloc,
         &two,
         b"F 2 T p1 20\nF 3 T p1 20\nP 0 -\nZ 5 2 0 0 0\n",
-    )
+    )?;
+    Ok(())
 }
+
+/// Why the reports of the twelve pieces are refused, if they are, with another id for the piece 3, or without it, where
+/// the plan has so many pieces.
+fn refusal(alloc: Global, third: Option<u32>, pieces: u32) -> Result<Option<Fault>, AllocError> {
+    let reports = three_epochs(alloc, third)?;
+    Ok(merge(alloc, reports, Vec::new(alloc), 16, pieces).err())
+}
+
+/// The ids of the piece 3, how many pieces the plan has, and why the reports are refused.
+const REFUSALS: [(Option<u32>, u32, Fault); 4] = [
+    (Some(5), 12, Fault::Double(5)),
+    (Some(5), 11, Fault::Stranger(11)),
+    (Some(12), 12, Fault::Stranger(12)),
+    (None, 12, Fault::Missing(3)),
+];
 
 #[test]
 fn reports_that_are_not_the_plans_are_refused(rt: HostRuntime) -> Result<(), Fail> {
-    let alloc = rt.alloc();
-    let cases = [
-        (Some(5), 12, Fault::Double(5)),
-        (Some(5), 11, Fault::Stranger(11)),
-        (Some(12), 12, Fault::Stranger(12)),
-        (None, 12, Fault::Missing(3)),
-    ];
-    for (third, pieces, fault) in cases {
-        let reports = three_epochs(alloc, third)?;
-        match merge(alloc, reports, Vec::new(alloc), 16, pieces) {
-            Ok(_) => assert!(rt; false, "no refusal"),
-            Err(refusal) => assert_eq!(rt; refusal, fault),
-        }
+    for (third, pieces, fault) in &REFUSALS {
+        let refusal = refusal(rt.alloc(), *third, *pieces)?;
+        assert!(rt; refusal == Some(*fault));
     }
     Ok(())
 }
 
-#[test]
-fn the_octets_of_a_call_are_paid_by_the_called_address(rt: HostRuntime) -> Result<(), Fail> {
-    let alloc = rt.alloc();
-    let mut only = call(alloc, 1, true, 1);
-    only.called = address(&[1, 2]);
-    only.calling = address(&[3, 4, 5]);
-    only.reverse = true;
-    only.up = Some(2);
-    only.data_t = 3;
-    only.oct_t = 129;
-    only.segments = 3;
-    let piece = PieceReport {
+/// A call of the DTE that came up, and of which nothing was heard then.
+fn up_call(alloc: Global, channel: u16, opened: u32, up: u32) -> CallRecord
+    ensures octets { (result.oct_t ≡ 0) × (result.oct_n ≡ 0) }
+    ensures segments { result.segments ≡ 0 }
+{
+    let mut record = call(alloc, channel, true, opened);
+    record.up = Some(up);
+    record
+}
+
+/// A call that has ended.
+fn ended_call(record: CallRecord, ended: u32, how: How) -> CallRecord
+    requires octets { (record.oct_t ≡ 0) × (record.oct_n ≡ 0) }
+    requires segments { record.segments ≡ 0 }
+    ensures octets { (result.oct_t ≡ 0) × (result.oct_n ≡ 0) }
+    ensures segments { result.segments ≡ 0 }
+{
+    let mut record = record;
+    record.ended = Some(ended);
+    record.how = Some(how);
+    record
+}
+
+/// A call with reverse charging, with three data packets of 129 octets.
+fn reverse_call(alloc: Global) -> CallRecord
+    ensures octets { (result.oct_t ≡ 129) × (result.oct_n ≡ 0) }
+    ensures segments { result.segments ≡ 3 }
+{
+    let mut record = up_call(alloc, 1, 1, 2);
+    record.called = address(&[1, 2]);
+    record.calling = address(&[3, 4, 5]);
+    record.reverse = true;
+    record.data_t = 3;
+    record.oct_t = 129;
+    record.segments = 3;
+    record
+}
+
+/// The report of the piece with that call.
+fn reverse_report(alloc: Global) -> Result<PieceReport, AllocError> {
+    Ok(PieceReport {
         id: 0,
         epoch: 1,
         channel: 1,
         findings: Vec::new(alloc),
-        calls: vec![in alloc; only]?,
+        calls: vec![in alloc; reverse_call(alloc)]?,
         octets: 129,
         segments: 3,
-    };
-    let report = merge(alloc, vec![in alloc; piece]?, Vec::new(alloc), 5, 1)?;
+    })
+}
+
+/// Sees what is reported of so many packets by the reports of so many pieces.
+fn check_report(
+    rt: &impl Abort,
+    alloc: Global,
+    reports: Vec<PieceReport>,
+    packets: u32,
+    pieces: u32,
+    expected: &[u8],
+) -> Result<(), Fault> {
+    let report = merge(alloc, reports, Vec::new(alloc), packets, pieces)?;
+    check(rt, alloc, &report, expected)
+}
+
+#[test]
+fn the_octets_of_a_call_are_paid_by_the_called_address(rt: HostRuntime) -> Result<(), Fail> {
+    let reports = vec![in rt.alloc(); reverse_report(rt.alloc())?]?;
     let expected = b"C 1 1 1 out 12 345 1 2 - open 3 129 0 0 3
 A 12 1 3
 P 1 2
 Z 5 0 1 129 3
 ";
-    check(&rt, alloc, &report, expected)
+    check_report(&rt, rt.alloc(), reports, 5, 1, expected)?;
+    Ok(())
 }
 
 /// The report of a piece whose calls count nothing.
@@ -277,23 +351,47 @@ fn calls_report(alloc: Global, id: u32, channel: u16, calls: Vec<CallRecord>) ->
     }
 }
 
+/// The report of a piece with one call, which counts nothing.
+fn call_report(
+    alloc: Global,
+    id: u32,
+    channel: u16,
+    only: CallRecord,
+) -> Result<PieceReport, AllocError>
+    requires octets { (only.oct_t ≡ 0) × (only.oct_n ≡ 0) }
+    requires segments { only.segments ≡ 0 }
+{
+    Ok(calls_report(alloc, id, channel, vec![in alloc; only]?))
+}
+
+/// Posts the report of a piece with one call, which counts nothing.
+fn post_call(
+    alloc: Global,
+    reports: &mut Vec<PieceReport>,
+    id: u32,
+    channel: u16,
+    only: CallRecord,
+) -> Result<(), AllocError>
+    requires octets { (only.oct_t ≡ 0) × (only.oct_n ≡ 0) }
+    requires segments { only.segments ≡ 0 }
+{
+    reports.push(call_report(alloc, id, channel, only)?)?;
+    Ok(())
+}
+
+/// The reports of three pieces with a call each.
+fn three_channels(alloc: Global) -> Result<Vec<PieceReport>, AllocError> {
+    let mut reports = Vec::new(alloc);
+    post_call(alloc, &mut reports, 2, 3, up_call(alloc, 3, 7, 8))?;
+    let first = ended_call(up_call(alloc, 1, 1, 2), 5, How::T);
+    post_call(alloc, &mut reports, 0, 1, first)?;
+    post_call(alloc, &mut reports, 1, 2, up_call(alloc, 2, 3, 4))?;
+    Ok(reports)
+}
+
 #[test]
 fn calls_of_several_channels_stand_by_their_opening_packets(rt: HostRuntime) -> Result<(), Fail> {
-    let alloc = rt.alloc();
-    let mut first = call(alloc, 1, true, 1);
-    first.up = Some(2);
-    first.ended = Some(5);
-    first.how = Some(How::T);
-    let mut second = call(alloc, 2, true, 3);
-    second.up = Some(4);
-    let mut third = call(alloc, 3, true, 7);
-    third.up = Some(8);
-    let reports = vec![in alloc;
-        calls_report(alloc, 2, 3, vec![in alloc; third]?),
-        calls_report(alloc, 0, 1, vec![in alloc; first]?),
-        calls_report(alloc, 1, 2, vec![in alloc; second]?),
-    ]?;
-    let report = merge(alloc, reports, Vec::new(alloc), 8, 3)?;
+    let reports = three_channels(rt.alloc())?;
     let expected = b"C 1 1 1 out - - 1 2 5 T 0 0 0 0 0
 C 2 1 2 out - - 3 4 - open 0 0 0 0 0
 C 3 1 3 out - - 7 8 - open 0 0 0 0 0
@@ -301,43 +399,40 @@ A - 3 0
 P 2 4
 Z 8 0 3 0 0
 ";
-    check(&rt, alloc, &report, expected)
+    check_report(&rt, rt.alloc(), reports, 8, 3, expected)?;
+    Ok(())
+}
+
+/// The report of a piece in which a call is taken by another of its channel.
+fn collision_report(alloc: Global) -> Result<PieceReport, AllocError> {
+    let cancelled = ended_call(call(alloc, 1, false, 1), 2, How::Collision);
+    let taken = up_call(alloc, 1, 2, 3);
+    Ok(calls_report(alloc, 0, 1, vec![in alloc; cancelled, taken]?))
 }
 
 #[test]
 fn a_collision_has_two_calls_on_one_channel(rt: HostRuntime) -> Result<(), Fail> {
-    let alloc = rt.alloc();
-    let mut cancelled = call(alloc, 1, false, 1);
-    cancelled.ended = Some(2);
-    cancelled.how = Some(How::Collision);
-    let mut taken = call(alloc, 1, true, 2);
-    taken.up = Some(3);
-    let piece = calls_report(alloc, 0, 1, vec![in alloc; cancelled, taken]?);
-    let report = merge(alloc, vec![in alloc; piece]?, Vec::new(alloc), 3, 1)?;
+    let reports = vec![in rt.alloc(); collision_report(rt.alloc())?]?;
     let expected = b"C 1 1 1 in - - 1 - 2 collision 0 0 0 0 0
 C 2 1 1 out - - 2 3 - open 0 0 0 0 0
 A - 2 0
 P 1 3
 Z 3 0 2 0 0
 ";
-    check(&rt, alloc, &report, expected)
+    check_report(&rt, rt.alloc(), reports, 3, 1, expected)?;
+    Ok(())
+}
+
+/// Sees what is answered where a sink has room for so many bytes.
+fn check_room(rt: &impl Abort, room: usize, report: &Report, wanted: Result<(), Fault>) {
+    assert!(rt; answered::<Brand>(Blank::new(1), room, report) == wanted);
 }
 
 #[test]
 fn a_sink_that_is_full_is_told(rt: HostRuntime) -> Result<(), Fail> {
-    let alloc = rt.alloc();
-    let report = merge(
-        alloc,
-        three_epochs(alloc, Some(3))?,
-        Vec::new(alloc),
-        16,
-        12,
-    )?;
-    let length = THREE_EPOCHS.len();
-    assert_eq!(rt; answered::<Brand>(Blank::new(1), length, &report), Ok(()));
-    assert_eq!(rt;
-        answered::<Brand>(Blank::new(1), length - 1, &report),
-        Err(Fault::Write)
-    );
+    let reports = three_epochs(rt.alloc(), Some(3))?;
+    let report = merge(rt.alloc(), reports, Vec::new(rt.alloc()), 16, 12)?;
+    check_room(&rt, THREE_EPOCHS.len(), &report, Ok(()));
+    check_room(&rt, THREE_EPOCHS.len() - 1, &report, Err(Fault::Write));
     Ok(())
 }

@@ -81,7 +81,7 @@ fn check_growth<A: Allocator + Copy, C: Channel<A>>(
     let answer = told(alloc, trace);
     let refused = good < heap.asked();
     heap.grant_all();
-    assert_eq!(rt; heap.held(), held);
+    assert!(rt; heap.held() == held);
     agree(rt, &answer, wanted(refused));
     check(rt, alloc, trace, wanted(false));
     refused
@@ -192,7 +192,7 @@ fn check_new(
 fn count(rt: &impl Abort, alloc: Global, heap: &Scarce<Global>, growths: Growths) -> u64 {
     for good in 0..GROWTHS {
         let found = check_new(rt, alloc, heap, growths, good);
-        assert_eq!(rt; heap.held(), 0);
+        assert!(rt; heap.held() == 0);
         if let Some(found) = found {
             return found;
         }

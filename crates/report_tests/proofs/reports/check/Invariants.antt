@@ -1,4 +1,4 @@
 use Rattle.report_tests.proofs.reports.check.Given as goal
 
-abbrev pub ghosts-written : goal.ghosts-written
-ghosts-written g a = record { name = a.blank.name; parts = a.blank.parts }
+abbrev pub ghosts-writes : goal.ghosts-writes
+ghosts-writes g a = record { name = a.blank.name; parts = a.blank.parts }
