@@ -169,8 +169,8 @@ fn report(alloc: Global, text: &[u8]) -> Answer {
 
 /// Sees what was answered.
 fn agree(rt: &impl Abort, answer: &Answer, fault: Option<Fault>, bytes: &[u8]) {
-    assert_eq!(rt; answer.fault, fault);
-    assert_eq!(rt; answer.bytes.as_slice(), bytes);
+    assert!(rt; answer.fault == fault);
+    assert!(rt; answer.bytes.as_slice() == bytes);
 }
 
 /// A comment, two rows that are too short, and a last line without an LF.

@@ -6,6 +6,8 @@ mod advising;
 #[cfg(test)]
 mod annotations;
 #[cfg(test)]
+mod checks;
+#[cfg(test)]
 mod describing;
 #[cfg(test)]
 mod explaining;

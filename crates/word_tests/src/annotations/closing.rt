@@ -23,6 +23,9 @@ const WORDS: &str = "ten bytes ";
 
 const AGAIN: &str = "A line that is said again and again.";
 
+/// That line, as it is written.
+const WRITTEN: &str = "# A line that is said again and again.\n";
+
 /// The lines that are said behind the first one.
 const TIMES: usize = 300;
 
@@ -67,19 +70,21 @@ fn lines(alloc: Global) -> Result<String, AllocError> {
     Ok(text)
 }
 
+/// Adds words to a text so many times.
+fn push_again(text: &mut String, words: &str, times: usize) -> Result<(), AllocError> {
+    for _ in 0..times {
+        text.push_str(words)?;
+    }
+    Ok(())
+}
+
 /// The lines and their closing: its first line has the 8,000 bytes that there is room for.
 fn whole(alloc: Global, times: usize) -> Result<String, AllocError> {
     let mut text = lines(alloc)?;
     text.push_str("# ")?;
-    for _ in 0..800 {
-        text.push_str(WORDS)?;
-    }
+    push_again(&mut text, WORDS, 800)?;
     text.push_str("\n")?;
-    for _ in 0..times {
-        text.push_str("# ")?;
-        text.push_str(AGAIN)?;
-        text.push_str("\n")?;
-    }
+    push_again(&mut text, WRITTEN, times)?;
     Ok(text)
 }
 
@@ -108,13 +113,23 @@ fn annotated<A: Allocator + Copy>(heap: A, alloc: Global, cuts: Cuts, times: usi
     )
 }
 
+/// It holds for this number.
+fn holds_for(rt: &impl Abort, holds: bool, number: usize) {
+    assert!(rt; holds, "for {number}");
+}
+
+/// Sees that a sink that takes so many bytes a call takes all of a text.
+fn check_step(rt: &impl Abort, alloc: Global, wanted: &str, step: usize) {
+    let answer = annotated(alloc, alloc, Cuts::of_steps(7, step), TIMES);
+    holds_for(rt, answer.is_whole(wanted), step);
+}
+
 #[test]
 fn a_long_closing_is_written_whole(rt: HostRuntime) -> Result<(), Fail> {
     let wanted = whole(rt.alloc(), TIMES)?;
     assert!(rt; 4 * 4096 < wanted.len());
-    for step in [1, 7, 4096, usize::MAX] {
-        let answer = annotated(rt.alloc(), rt.alloc(), Cuts::of_steps(7, step), TIMES);
-        assert!(rt; answer.is_whole(&wanted), "in steps of {step}");
+    for step in &[1, 7, 4096, usize::MAX] {
+        check_step(&rt, rt.alloc(), &wanted, *step);
     }
     Ok(())
 }
@@ -126,23 +141,34 @@ fn check_failure(rt: &impl Abort, alloc: Global, wanted: &str, step: usize, good
         ..Cuts::of_steps(7, step)
     };
     let answer = annotated(alloc, alloc, cuts, TIMES);
-    let whole = answer.is_whole(wanted);
     let part = answer.is_part(Fault::Write, wanted);
-    assert!(rt; whole || part, "in steps of {step}, after {good}");
+    holds_for(rt, part || answer.is_whole(wanted), good);
     part
+}
+
+/// Fails the sink at each call that it needs, and at one that it does not.
+fn check_failures(rt: &impl Abort, alloc: Global, wanted: &str, step: usize) {
+    for good in 0..wanted.len() / step.max(1) {
+        holds_for(rt, check_failure(rt, alloc, wanted, step, good), good);
+    }
+    holds_for(rt, !check_failure(rt, alloc, wanted, step, MOST), MOST);
 }
 
 #[test]
 fn a_sink_that_fails_at_any_call_has_a_first_part(rt: HostRuntime) -> Result<(), Fail> {
     let wanted = whole(rt.alloc(), TIMES)?;
-    for step in [100, 1000] {
-        let calls = wanted.len() / step;
-        for good in 0..calls {
-            assert!(rt; check_failure(&rt, rt.alloc(), &wanted, step, good));
-        }
-        assert!(rt; !check_failure(&rt, rt.alloc(), &wanted, step, MOST));
-    }
+    check_failures(&rt, rt.alloc(), &wanted, 100);
+    check_failures(&rt, rt.alloc(), &wanted, 1000);
     Ok(())
+}
+
+/// What was answered is right: where a growth was refused, the closing is not written, else it is.
+fn is_right(alloc: Global, answer: &Answer, refused: bool) -> Result<bool, AllocError> {
+    if refused {
+        Ok(answer.is_part(Fault::Memory, &lines(alloc)?))
+    } else {
+        Ok(answer.is_whole(&whole(alloc, TIMES)?))
+    }
 }
 
 /// Refuses one growth, and sees that nothing of the closing was written. Answers whether there was such a growth.
@@ -150,29 +176,34 @@ fn check_growth(
     rt: &impl Abort,
     alloc: Global,
     heap: &Scarce<Global>,
-    good: u64,
+    good: usize,
 ) -> Result<bool, AllocError> {
-    heap.refuse_one(good);
+    heap.refuse_one(good as u64);
     let answer = annotated(heap, alloc, Cuts::of_steps(7, 7), TIMES);
-    if good < heap.asked() {
-        let lines = lines(alloc)?;
-        assert!(rt; answer.is_part(Fault::Memory, &lines), "after {good}");
-        return Ok(true);
+    let refused = (good as u64) < heap.asked();
+    holds_for(rt, is_right(alloc, &answer, refused)?, good);
+    Ok(refused)
+}
+
+/// How many growths there are, each of which is refused in turn.
+fn refused_growths(
+    rt: &impl Abort,
+    alloc: Global,
+    heap: &Scarce<Global>,
+) -> Result<usize, AllocError> {
+    for good in 0..MOST {
+        if !check_growth(rt, alloc, heap, good)? {
+            return Ok(good);
+        }
     }
-    let wanted = whole(alloc, TIMES)?;
-    assert!(rt; answer.is_whole(&wanted), "after {good}");
-    Ok(false)
+    Ok(MOST)
 }
 
 #[test]
 fn where_memory_runs_out_nothing_of_the_closing_is_written(rt: HostRuntime) -> Result<(), Fail> {
     let heap = Scarce::new(rt.alloc());
-    for good in 0..MOST as u64 {
-        if !check_growth(&rt, rt.alloc(), &heap, good)? {
-            return Ok(());
-        }
-    }
-    assert!(rt; false, "no end of growths");
+    let growths = refused_growths(&rt, rt.alloc(), &heap)?;
+    assert!(rt; growths < MOST, "no end of growths");
     Ok(())
 }
 
@@ -185,5 +216,5 @@ fn growths(alloc: Global, times: usize) -> u64 {
 
 #[test]
 fn a_longer_closing_takes_no_more_memory(rt: HostRuntime) {
-    assert_eq!(rt; growths(rt.alloc(), 0), growths(rt.alloc(), TIMES));
+    assert!(rt; growths(rt.alloc(), 0) == growths(rt.alloc(), TIMES));
 }

@@ -1,7 +1,10 @@
 //! The rows of the diagnostic codes beside the constants of the codes.
 
+use crate::checks::holds_for;
+use explanations::explanation::Explanation;
 use explanations::table::{all, explain};
 use line_model::diagnostic;
+use std::alloc::{AllocError, Global};
 use std::test::Fail;
 
 /// The constants, each with the words of X.25 Annex E.
@@ -114,14 +117,19 @@ const NAMES: [(u8, &str); 31] = [
     ),
 ];
 
+/// Whether a row is that of a code, by its number and name.
+fn is_of(alloc: Global, row: &Explanation, number: u8, name: &str) -> Result<bool, AllocError> {
+    let word = format!(in alloc; "{number}")?;
+    Ok(row.word == word.as_str() && row.name == name)
+}
+
 #[test]
 fn diagnostic_codes_have_the_names_of_their_constants(rt: HostRuntime) -> Result<(), Fail> {
     let codes = explain(rt.alloc(), all().as_slice(), "code")?;
-    assert_eq!(rt; codes.len(), NAMES.len());
+    assert!(rt; codes.len() == NAMES.len());
     for (row, (number, name)) in codes.iter().zip(NAMES.iter()) {
-        let word = format!(in rt.alloc(); "{number}")?;
-        assert_eq!(rt; row.word, word.as_str());
-        assert_eq!(rt; row.name, *name);
+        let is_of = is_of(rt.alloc(), row, *number, name)?;
+        holds_for(&rt, is_of, name);
     }
     Ok(())
 }

@@ -1,0 +1,8 @@
+//! Assertions that say where they failed.
+
+use std::process::Abort;
+
+/// It holds for these words.
+pub(crate) fn holds_for(rt: &impl Abort, holds: bool, words: &str) {
+    assert!(rt; holds, "for {words}");
+}
