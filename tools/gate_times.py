@@ -38,6 +38,11 @@ class Process:
     def name(self):
         return os.path.basename(self.words[0]) if self.words else ""
 
+    @property
+    def key(self):
+        """What tells a process from others, and from what it was before it began to run another program."""
+        return self.number, self.started, tuple(self.words)
+
 
 @dataclass
 class Run:
@@ -73,21 +78,28 @@ def below(process, ancestor, found):
     return process is not None
 
 
+def edited(edit, folder):
+    """The texts of the files that a must-fail edit changes, by their path in the crate."""
+    texts, file, old = {}, "", ""
+    for line in edit.read_text().split("\n"):
+        name, _, value = line.partition(":")
+        value = value.removeprefix(" ")
+        if name == "file":
+            file = value.strip()
+            texts.setdefault(file, (folder / file).read_text())
+        elif name == "old":
+            old = value
+        elif name == "new" and old:
+            texts[file], old = texts[file].replace(old, value), ""
+    return texts
+
+
 def edit_of(crate, room):
-    """The name of the must-fail edit whose text stands in the copy of a crate that is being checked; None for the crate as it stands."""
-    for edit in sorted((ROOT / "crates" / crate / "must-fail").glob("*.edit")):
-        file, old = None, None
-        for line in edit.read_text().split("\n"):
-            if line.startswith("file: "):
-                file = line.removeprefix("file: ").strip()
-            elif line.startswith("old: "):
-                old = line.removeprefix("old: ")
-            elif line.startswith("new:") and file and old:
-                new = line.removeprefix("new:").removeprefix(" ")
-                whole, copy = ROOT / "crates" / crate / file, pathlib.Path(room) / file
-                if whole.exists() and copy.exists() and whole.read_text().replace(old, new) == copy.read_text():
-                    return edit.stem
-                break
+    """The name of the must-fail edit whose texts stand in the copy of a crate that is being checked; None for the crate as it stands."""
+    folder = ROOT / "crates" / crate
+    for edit in sorted((folder / "must-fail").glob("*.edit")):
+        if all((pathlib.Path(room) / file).read_text() == text for file, text in edited(edit, folder).items()):
+            return edit.stem
     return None
 
 
@@ -122,18 +134,17 @@ def watch(file, ancestor):
     while going:
         now, found = time.time(), processes()
         for process in found.values():
-            key = f"{process.number}-{process.started}"
-            if key not in parts:
+            if process.key not in parts:
                 try:
-                    parts[key] = kind_of(process) if below(process, ancestor, found) else None
+                    parts[process.key] = kind_of(process) if below(process, ancestor, found) else None
                 except OSError:
                     continue
                 parent = found.get(process.parent)
-                if parent and parts.get(f"{parent.number}-{parent.started}"):
-                    parts[key] = None
-            if parts[key]:
-                begun = runs[key].begun if key in runs else now
-                runs[key] = Run(*parts[key], begun, now + PAUSE, process.seconds)
+                if parent and parts.get(parent.key):
+                    parts[process.key] = None
+            if parts[process.key]:
+                begun = runs[process.key].begun if process.key in runs else now
+                runs[process.key] = Run(*parts[process.key], begun, now + PAUSE, process.seconds)
         time.sleep(PAUSE)
     pathlib.Path(file).write_text(json.dumps([vars(run) for run in runs.values()]))
 

@@ -3,14 +3,15 @@
 ghost use Rattle.std.specs.Prelude.{◌≡◌, ◌<◌, Some};
 ghost use Rattle.line_model.specs.traces.Traces.{trace_plan};
 
+use crate::working::NoMemory;
 use line_model::count::Count;
 use line_model::device::Source;
 use line_model::fault::{Fault, Kind};
 use line_model::packet::Packet;
-use line_model::piece::{Piece, PieceReport, Plan};
+use line_model::piece::{Piece, Plan};
 use piece_feed::text_cutter::TextCutter;
 use piece_feed::{Read, Reading};
-use std::alloc::{Allocator, Global};
+use std::alloc::Global;
 use std::marker::Brand;
 use std::process::Abort;
 use std::sync::Wait;
@@ -18,7 +19,7 @@ use std::sync::ledger::{Blank, Ledger};
 use std::test::Fail;
 use std::thread::Threads;
 use std::time::Clock;
-use workers::{Gate, Worked, work_through};
+use workers::{Worked, work_through};
 
 /// How many bytes a source gives at once.
 const STEPS: [usize; 3] = [1, 7, usize::MAX];
@@ -58,19 +59,7 @@ impl<C: Ledger, F: Ledger> Source for CutSource<'_, C, F> {
     }
 }
 
-/// Wants memory for each piece, so that only the feeding counts.
-struct NoMemory;
-
-impl Gate for NoMemory {
-    fn run<A: Allocator + Copy>(
-        &self,
-        _alloc: A,
-        _piece: &Piece<A>,
-    ) -> Result<PieceReport<A>, Fault> {
-        Err(Fault::Memory)
-    }
-}
-
+/// Reads a text, with workers that want memory for each piece, so that only the feeding counts.
 fn read_on<P: Plan + Send + Sync, C: Ledger, F: Ledger, R: Threads + Wait + Clock + Sync>(
     rt: &R,
     alloc: Global,

@@ -4,6 +4,8 @@
 #[cfg(test)]
 mod feeding;
 #[cfg(test)]
+mod pieces;
+#[cfg(test)]
 mod posting;
 #[cfg(test)]
 mod queue;

@@ -3,8 +3,7 @@
 ghost use Rattle.std.specs.Prelude.{◌≡◌, ◌+◌, ◌<◌, ◌≤◌, [], false, OnOk};
 ghost use Rattle.piece_queue.specs.Rule.{worker};
 
-use line_model::interface::Interface;
-use line_model::items::Items;
+use crate::pieces::{PIECES, piece};
 use line_model::piece::Piece;
 use piece_queue::{FeederPass, Taken, Work, WorkerPass};
 use std::alloc::Global;
@@ -14,34 +13,6 @@ use std::sync::{Mutex, Wait};
 use std::test::Fail;
 use std::thread;
 use std::thread::{Scope, Threads};
-
-/// The pieces of three epochs on four channels.
-const PIECES: u32 = 12;
-
-const PLAIN: Interface = Interface {
-    modulus: 8,
-    window: 2,
-    size: 128,
-    pvc: 0,
-    incoming: 0,
-    two_way: 4,
-    svc: 4,
-    join: false,
-};
-
-/// A piece without rows.
-fn piece(alloc: Global, id: u32) -> Piece
-    ensures { result.id ≡ id }
-{
-    Piece {
-        id,
-        interface: PLAIN,
-        epoch: 1,
-        channel: 1,
-        items: Items::new(alloc),
-        end: None,
-    }
-}
 
 /// The id of the piece that a worker takes, if one waits. No end waits.
 fn take_one<R: Wait>(rt: &R, work: &Work<Brand>, pass: &mut WorkerPass) -> Result<Option<u32>, Fail>

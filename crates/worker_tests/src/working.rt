@@ -5,9 +5,8 @@ mod looking;
 ghost use Rattle.std.specs.Prelude.{◌≡◌, ◌<◌, ◌≤◌, ℕ, None, length};
 ghost use Rattle.workers.specs.Workers.{ArePlanned};
 
+use crate::pieces::{PIECES, piece};
 use line_model::fault::Fault;
-use line_model::interface::Interface;
-use line_model::items::Items;
 use line_model::piece::{Piece, PieceReport};
 use piece_queue::{FeederPass, Work};
 use std::alloc::{Allocator, Global};
@@ -17,34 +16,6 @@ use std::test::Fail;
 use std::thread::Threads;
 use std::time::Clock;
 use workers::{Feed, Gate, Gathered, Worked, feed_piece, feed_pieces, work_through};
-
-/// The pieces of three epochs on four channels.
-const PIECES: u32 = 12;
-
-const PLAIN: Interface = Interface {
-    modulus: 8,
-    window: 2,
-    size: 128,
-    pvc: 0,
-    incoming: 0,
-    two_way: 4,
-    svc: 4,
-    join: false,
-};
-
-/// A piece without rows.
-fn piece(alloc: Global, id: u32) -> Piece
-    ensures { result.id ≡ id }
-{
-    Piece {
-        id,
-        interface: PLAIN,
-        epoch: 1,
-        channel: 1,
-        items: Items::new(alloc),
-        end: None,
-    }
-}
 
 /// Runs pieces without rows, and wants memory for all others.
 struct EmptyPieces;
@@ -71,7 +42,7 @@ impl Gate for EmptyPieces {
 }
 
 /// Wants memory for each piece.
-struct NoMemory;
+pub(crate) struct NoMemory;
 
 impl Gate for NoMemory {
     fn run<A: Allocator + Copy>(

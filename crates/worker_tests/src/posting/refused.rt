@@ -2,8 +2,8 @@
 
 ghost use Rattle.std.specs.Prelude.{◌≡◌};
 
-use crate::posting::scenarios::Post;
-use crate::posting::{finding, report, totals_are};
+use crate::pieces::FINDING;
+use crate::posting::{Post, report, totals_are, two_shares};
 use findings_book::{AnyReport, Blanks, Book, Ledgers, LockedPosts, Share};
 use line_model::fault::Fault;
 use line_model::piece::PieceReport;
@@ -34,7 +34,7 @@ fn is_whole(back: &PieceReport<&Scarce<Global>>, id: u32) -> bool {
     back.id == id
         && back.octets == 130
         && back.segments == 2
-        && back.findings.as_slice() == [finding(1)].as_slice()
+        && back.findings.as_slice() == [FINDING].as_slice()
 }
 
 /// The report of this id that came back for want of memory, if one did.
@@ -117,7 +117,7 @@ fn post_id<'a, R: Wait + Abort, L: Ledgers>(
 ) -> Result<u64, Fault> {
     let post = Post {
         id,
-        two_findings: false,
+        findings: 1,
         octets: 130,
         segments: 2,
     };
@@ -141,15 +141,15 @@ fn post_each<'a, R: Wait + Abort, L: Ledgers>(
     Ok(refused)
 }
 
-/// Posts all reports by the one share.
-fn post_by_one<'a, R: Wait + Abort, L: Ledgers>(
+/// Posts all reports by the first of the shares.
+fn post_by_first<'a, R: Wait + Abort, L: Ledgers>(
     rt: &R,
     heap: &'a Scarce<Global>,
     locked_posts: &LockedPosts<Brand, L, &'a Scarce<Global>>,
     shares: &mut [Share<L>],
 ) -> Result<(), Fail> {
-    let [share] = shares else {
-        return Err("there is not one share")?;
+    let Some(share) = shares.first_mut() else {
+        return Err("there is no share")?;
     };
     let refused = post_each(rt, heap, locked_posts, share)?;
     assert!(rt; 1 < refused, "posts have {refused} growths");
@@ -171,8 +171,8 @@ fn play_with<'a, R: Wait + Abort, L: Ledgers>(
 ) -> Result<(), Fail>
     requires fresh { book ≡ 0 }
 {
-    let mut shares = vec![in heap; book.share()]?;
-    let played = post_by_one(rt, heap, book.locked_posts(), &mut shares);
+    let mut shares = two_shares(heap, &mut book)?;
+    let played = post_by_first(rt, heap, book.locked_posts(), &mut shares);
     let (totals, reports, _) = book.gather(shares);
     has_each_once(rt, totals, &reports);
     played
@@ -189,11 +189,8 @@ fn play_refused<'a, R: Wait + Abort, L: Ledgers>(
     requires octets { (blanks.octets.name ≡ L.octets) × (blanks.octets.parts ≡ 4096) }
     requires segments { (blanks.segments.name ≡ L.segments) × (blanks.segments.parts ≡ 4096) }
 {
-    play_with(
-        rt,
-        heap,
-        Book::<Brand, L, &'a Scarce<Global>>::new(heap, blanks, AnyReport),
-    )
+    let book = Book::<Brand, L, &'a Scarce<Global>>::new(heap, blanks, AnyReport);
+    play_with(rt, heap, book)
 }
 
 /// Posts all reports to a book over four new ledgers.

@@ -1,30 +1,10 @@
 //! What two shares post to one book, round by round: the reports of three epochs, a report that comes twice, and two
 //! threads that post side by side.
 
-use crate::posting::play;
+use crate::posting::Post;
+use crate::posting::steps::play;
 use line_model::totals::Totals;
 use std::test::Fail;
-
-/// A report of a piece, with one finding or two, and so many octets and segments.
-#[derive(Clone, Copy)]
-pub(super) struct Post {
-    pub(super) id: u32,
-    pub(super) two_findings: bool,
-    pub(super) octets: u16,
-    pub(super) segments: u16,
-}
-
-impl Post {
-    /// One finding, and no octets.
-    pub(super) fn plain(id: u32) -> Post {
-        Post {
-            id,
-            two_findings: false,
-            octets: 0,
-            segments: 0,
-        }
-    }
-}
 
 /// What a share does.
 #[derive(Clone, Copy)]
@@ -136,13 +116,13 @@ const POSTED_TWICE: Scenario = Scenario {
         first: &[
             Step::Posts(Post {
                 id: 3,
-                two_findings: false,
+                findings: 1,
                 octets: 130,
                 segments: 2,
             }),
             Step::PostsAgain(Post {
                 id: 3,
-                two_findings: false,
+                findings: 1,
                 octets: 7,
                 segments: 1,
             }),
@@ -193,7 +173,7 @@ const POST_AND_LOOK: Scenario = Scenario {
             first: &[
                 Step::Posts(Post {
                     id: 0,
-                    two_findings: true,
+                    findings: 2,
                     octets: 3,
                     segments: 1,
                 }),
@@ -208,7 +188,7 @@ const POST_AND_LOOK: Scenario = Scenario {
                 Step::Sees(BOTH),
                 Step::PostsAgain(Post {
                     id: 0,
-                    two_findings: false,
+                    findings: 1,
                     octets: 7,
                     segments: 1,
                 }),

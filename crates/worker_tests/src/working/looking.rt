@@ -1,13 +1,12 @@
 //! Four workers that post reports of their own to one book, and look after each post.
 
-ghost use Rattle.std.specs.Prelude.{◌≡◌, ◌≤◌, IfOk, vec_len};
+ghost use Rattle.std.specs.Prelude.{◌≡◌};
 
+use crate::pieces::{findings, sees_all};
 use crate::working::Plain;
 use findings_book::{AnyReport, Blanks, Book, Ledgers, LockedPosts, Share};
 use line_model::fault::Fault;
-use line_model::finding::{Code, Finding};
 use line_model::piece::{Piece, PieceReport};
-use line_model::state::{Side, StateName};
 use line_model::totals::Totals;
 use piece_queue::{Work, WorkerPass};
 use std::alloc::Global;
@@ -44,25 +43,6 @@ const NONE: Totals = Totals {
     segments: 0,
 };
 
-/// A data packet of the DTE came while the channel was ready.
-const FINDING: Finding = Finding {
-    packet: 1,
-    side: Side::T,
-    state: StateName::P1,
-    code: Code::Number(20),
-};
-
-/// No finding, one or two.
-fn findings(alloc: Global, count: u32) -> Result<Vec<Finding>, Fault>
-    ensures few { IfOk result (λ findings. vec_len findings ≤ 2) }
-{
-    Ok(match count {
-        0 => Vec::new(alloc),
-        1 => vec![in alloc; FINDING]?,
-        _ => vec![in alloc; FINDING, FINDING]?,
-    })
-}
-
 /// The report of a piece.
 fn report_of(alloc: Global, piece: &Piece) -> Result<PieceReport, Fault> {
     let id = piece.id;
@@ -75,14 +55,6 @@ fn report_of(alloc: Global, piece: &Piece) -> Result<PieceReport, Fault> {
         octets: (id % 1000) as u64,
         segments: (id % 5) as u64,
     })
-}
-
-/// Whether no number of the first is above that of the second.
-fn is_within(own: Totals, seen: Totals) -> bool {
-    own.posts <= seen.posts
-        && own.findings <= seen.findings
-        && own.octets <= seen.octets
-        && own.segments <= seen.segments
 }
 
 /// Posts a report for each piece and looks. Counts the looks, and those that were below the worker's own share.
@@ -116,7 +88,7 @@ impl<'a, L: Ledgers> Handler<Brand, Global, Share<L>> for Looking<'a, L> {
         }
         let seen = self.locked_posts.look(rt, share);
         self.looks.fetch_add(1, SeqCst);
-        if !is_within(share.totals(), seen) {
+        if !sees_all(seen, share.totals()) {
             self.below.fetch_add(1, SeqCst);
         }
         Ok(())
