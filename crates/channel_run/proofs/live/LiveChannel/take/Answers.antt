@@ -1,7 +1,8 @@
-use Rattle.std.proofs.Common.{◌≡◌, ◌∙◌, ◌++◌, List, sym, subst}
+use Rattle.std.proofs.Common.{◌≡◌, ◌∙◌, ◌++◌, ℕ, List, [], sym, subst}
 use Rattle.std.specs.List.{AllByRecursion}
 use Rattle.line_model.specs.declared.event.Event.{Event}
-use Rattle.line_model.specs.basics.Records.{Item}
+use Rattle.line_model.specs.declared.interface.Interface.{Interface}
+use Rattle.line_model.specs.basics.Records.{Item, Row}
 use Rattle.line_model.specs.basics.Bounds.{IsItem}
 use Rattle.line_model.specs.channels.Channels.{Channel, fresh}
 use Rattle.line_model.specs.channels.ChannelStep.{channel_step}
@@ -13,6 +14,12 @@ use Rattle.channel_run.specs.Live.{channel_so_far, so_far, with_item}
 use Rattle.channel_run.specs.Run.{row_events}
 use Rattle.channel_run.proofs.LiveLemmas.{last_item, piece_more, channel_more, row_of_channel, one_finding, piece_countable}
 use Rattle.channel_run.proofs.live.LiveChannel.take.Goals as goal
+
+-- Events that were added to none, under the channel's own names for the interface, the epoch and the number. It takes
+-- the equalities one by one, so that a wrong one is refused before any event is computed.
+told_is : {i i' : Interface} {e e' k k' : ℕ} {none es : List Event} (c : Channel) (r : Row)
+    → es ≡ none ++ row_events i e k c r → none ≡ [] → i ≡ i' → e ≡ e' → k ≡ k' → es ≡ row_events i' e' k' c r
+told_is c r told is_none interface epoch number = told ∙ (λ j. is_none j ++ row_events (interface j) (epoch j) (number j) c r)
 
 pub step-requires : goal.step-requires
 step-requires g c =
@@ -33,7 +40,7 @@ returns-clause-stands g c = λ p s small.
     let es : List Event = piece_events (so_far p) in
     let told : List Event = row_events p.interface p.epoch p.channel before row in
     let heard_is : c.as_slice.result.now ≡ told =
-    c.as_slice.ensures.value ∙ step.events before s.machine ∙ (λ j. c.clear.ensures.items j ++ row_events (s.interface j) (s.epoch j) (s.number j) before row) in
+    c.as_slice.ensures.value ∙ told_is before row (step.events before s.machine) c.clear.ensures.items s.interface s.epoch s.number in
     let counts : List Event → Type 0 = Counts c.hear_all.new.self p.epoch p.channel in
     let all = subst (AllByRecursion (IsOf p.epoch p.channel)) (sym heard_is) (row_of_channel p.interface p.epoch p.channel before row) in
     let few = subst (λ (l : List Event). IsCountable (es ++ l)) (sym heard_is) (subst IsCountable (piece_more p item) (piece_countable (so_far (with_item p item)) small)) in
@@ -55,10 +62,9 @@ returns-clause-finding g c = λ p s.
     let row = c.args.row.now in
     let before : Channel = channel_so_far p in
     let heard_is : c.as_slice.result.now ≡ row_events p.interface p.epoch p.channel before row =
-    c.as_slice.ensures.value ∙ c.in_ok-step.ensures.events before s.machine ∙ (λ j. c.clear.ensures.items j ++ row_events (s.interface j) (s.epoch j) (s.number j) before row) in
+    c.as_slice.ensures.value ∙ told_is before row (c.in_ok-step.ensures.events before s.machine) c.clear.ensures.items s.interface s.epoch s.number in
     one_finding p.interface p.epoch p.channel before row c.as_slice.result.now c.in_ok-found.found heard_is c.in_ok-found.ensures.found
 
 pub returns-clause-events : goal.returns-clause-events
 returns-clause-events g c = λ p s.
-    let before : Channel = channel_so_far p in
-    c.in_ok-step.ensures.events before s.machine ∙ (λ j. c.clear.ensures.items j ++ row_events (s.interface j) (s.epoch j) (s.number j) before c.args.row.now)
+    told_is (channel_so_far p) c.args.row.now (c.in_ok-step.ensures.events (channel_so_far p) s.machine) c.clear.ensures.items s.interface s.epoch s.number
