@@ -270,13 +270,13 @@ fn up_call(alloc: Global, channel: u16, opened: u32, up: u32) -> CallRecord
 }
 
 /// A call that has ended.
-fn ended_call(record: CallRecord, ended: u32, how: How) -> CallRecord
-    requires octets { (record.oct_t ≡ 0) × (record.oct_n ≡ 0) }
-    requires segments { record.segments ≡ 0 }
+fn ended_call(open_call: CallRecord, ended: u32, how: How) -> CallRecord
+    requires octets { (open_call.oct_t ≡ 0) × (open_call.oct_n ≡ 0) }
+    requires segments { open_call.segments ≡ 0 }
     ensures octets { (result.oct_t ≡ 0) × (result.oct_n ≡ 0) }
     ensures segments { result.segments ≡ 0 }
 {
-    let mut record = record;
+    let mut record = open_call;
     record.ended = Some(ended);
     record.how = Some(how);
     record
