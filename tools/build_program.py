@@ -3,16 +3,17 @@
 
 Libraries that do not stand on each other are proved side by side, as many as there are processors and memory for, and
 first those with the longest chain of others above them; processors that no library waits for help those that are being
-proved. `rt` holds the locks of all libraries below the one that it proves, so each is proved in a copy of its own: links
-to its sources and to the libraries below it. What it made is then moved to the crate's out/.
+proved. What is made of a library is what crates above it can cite, its statements and not its proofs, which each crate
+above would read again. It stands in crates/x25scan/out/libraries; `rt` keeps its own in the out/ of each crate.
 """
+import fcntl
+import functools
 import os
 import pathlib
 import re
 import shutil
 import subprocess
 import sys
-import tempfile
 import threading
 import time
 
@@ -20,6 +21,7 @@ ROOT = pathlib.Path(__file__).resolve().parent.parent
 CRATES = ROOT / "crates"
 OUT = CRATES / "x25scan" / "out"
 PROGRAM = OUT / "x25scan"
+LIBRARIES, FRESH = OUT / "libraries", OUT / "fresh"
 PARTS = ("src", "specs", "proofs")
 # What the proof of one crate takes at the most, in bytes, and what a further processor for it takes.
 MEMORY, MORE_MEMORY = 3_000_000_000, 1_500_000_000
@@ -31,15 +33,26 @@ def say(text):
     print(f"x25scan: {text}", file=sys.stderr, flush=True)
 
 
-def lines():
-    """The lines of crates.txt, by the name of their crate."""
-    found = (ROOT / "crates.txt").read_text().split("\n")
-    return {line.split()[0].rstrip(":"): line for line in found if line and line[0] != "#"}
+@functools.cache
+def kit():
+    """The folder of the kit whose rt is on the path."""
+    found = shutil.which("rt")
+    if not found:
+        say("rt is not on the path: the program is proved and built by its kit")
+        sys.exit(3)
+    return pathlib.Path(found).resolve().parent.parent
+
+
+def uses():
+    """The libraries that each crate of crates.txt names, the kit's among them."""
+    lines = (ROOT / "crates.txt").read_text().split("\n")
+    pairs = (line.partition(":") for line in lines if line and line[0] != "#")
+    return {head.split()[0]: tail.split() for head, _, tail in pairs}
 
 
 def libraries():
     """The repository's libraries that the program uses, each with those below it, lowest first."""
-    used = {name: line.partition(":")[2].split() for name, line in lines().items()}
+    used = uses()
 
     def below(name):
         mine = [it for it in used[name] if it in used]
@@ -63,13 +76,31 @@ def chains(below):
     return found
 
 
+def form(name):
+    """The file of a built library that tells when its build began."""
+    return LIBRARIES / f"{name}.rlib" / "format"
+
+
+def is_older(file, others):
+    """Whether a file is not there, or older than one of the others."""
+    if not file.exists():
+        return True
+    made = file.stat().st_mtime
+    return any(it.stat().st_mtime > made for it in others)
+
+
 def is_stale():
     """Whether the program is not built, or older than a source of it."""
-    if not PROGRAM.exists():
-        return True
-    built = PROGRAM.stat().st_mtime
-    files = [ROOT / "crates.txt", *(it for name in [*libraries(), "x25scan"] for it in sources(name))]
-    return any(it.stat().st_mtime > built for it in files)
+    return is_older(PROGRAM, [ROOT / "crates.txt", *(it for name in [*libraries(), "x25scan"] for it in sources(name))])
+
+
+def stale_libraries(below):
+    """Those libraries that are not built, or older than a source of theirs or than a library that they stand on."""
+    found = set()
+    for name, lower in below.items():
+        if lower & found or is_older(form(name), [*sources(name), *map(form, lower)]):
+            found.add(name)
+    return found
 
 
 def lanes():
@@ -79,41 +110,51 @@ def lanes():
     return max(1, min(len(os.sched_getaffinity(0)), room))
 
 
-def link_or_copy(one, other):
-    try:
-        os.link(one, other)
-    except OSError:
-        shutil.copy2(one, other)
-
-
-def copy(folder, to):
-    """Gives each file of a folder, if it is there, a second name below another: rt replaces files and changes none."""
-    if folder.is_dir():
-        shutil.copytree(folder, to, copy_function=link_or_copy)
-
-
 def run(folder, *words):
-    """Runs rt in a folder, and returns its exit status and what it said."""
+    """Runs a program of the kit in a folder, and returns whether it succeeded and what it said."""
     how = {"stdin": subprocess.DEVNULL, "stdout": subprocess.PIPE, "stderr": subprocess.STDOUT, "text": True}
-    ended = subprocess.run(["rt", *words], cwd=folder, check=False, **how)
-    return ended.returncode, ended.stdout
+    ended = subprocess.run([str(it) for it in words], cwd=folder, check=False, **how)
+    return ended.returncode == 0, ended.stdout
 
 
-def prove(name, below, jobs):
-    """Proves and builds a library over those below it, which are built, and returns whether that succeeded and what was said."""
-    with tempfile.TemporaryDirectory(prefix="build-", dir=OUT) as room:
-        top = pathlib.Path(room)
-        (top / "crates.txt").write_text("\n".join(lines()[it] for it in [*below, name]) + "\n")
-        for it in [*below, name]:
-            for part in PARTS:
-                copy(CRATES / it / part, top / "crates" / it / part)
-            kept = "out" if it == name else "out/rlib"
-            copy(CRATES / it / kept, top / "crates" / it / kept)
-        status, said = run(top / "crates" / name, "lib", "--jobs", str(jobs))
-        if status == 0:
-            shutil.rmtree(CRATES / name / "out", ignore_errors=True)
-            os.rename(top / "crates" / name / "out", CRATES / name / "out")
-    return status == 0, said
+def rattle(name, root, jobs, *how):
+    """Has the kit's prover prove a crate over the libraries below it, which are built, and build it."""
+    used = uses()
+    words = [kit() / "bin" / "rattle", "build", "--crate-name", name, root]
+    for it in ["std", *used[name]]:
+        words += ["--extern", f"{it}={(LIBRARIES if it in used else kit() / 'rlibs') / it}.rlib"]
+    words += ["-L", f"dependency={LIBRARIES}", "-L", f"dependency={kit() / 'rlibs'}"]
+    words += ["--antt-project", kit() / "rattle" / "logic" / "antt-project.json", "--logic-built", kit() / "logic_built"]
+    words += ["--links", f"{name}=", "--jobs", jobs]
+    return run(CRATES / name, *words, *how)
+
+
+def prove(name, jobs):
+    """Proves and builds a library over those below it."""
+    began, fresh = time.time(), FRESH / f"{name}.rlib"
+    shutil.rmtree(fresh, ignore_errors=True)
+    is_proved, said = rattle(name, "src/lib.rt", jobs, "--statements", "-o", fresh)
+    if is_proved:
+        os.utime(fresh / "format", (began, began))
+        shutil.rmtree(LIBRARIES / f"{name}.rlib", ignore_errors=True)
+        os.rename(fresh, LIBRARIES / f"{name}.rlib")
+    return is_proved, said
+
+
+def prove_program(jobs, began):
+    """Proves the program over its libraries, has LLVM compile it, and links it. Its age is that of the build."""
+    tools, code = kit() / "toolchain", FRESH / "x25scan.o"
+    is_proved, said = rattle("x25scan", "src/main.rt", jobs, "--toolchain", tools, "--backend", "llvm", "-o", code)
+    if not is_proved:
+        return False, said
+    fresh = FRESH / "x25scan"
+    libraries_of_c = [kit() / "c" / it for it in ("libos_c.a", "liblibc_c.a")]
+    words = ["--target", "x86_64-unknown-linux-gnu", "--toolchain", tools, "-o", fresh, code, *libraries_of_c]
+    is_linked, said = run(OUT, kit() / "bin" / "rattle-link", *words)
+    if is_linked:
+        os.utime(fresh, (began, began))
+        os.rename(fresh, PROGRAM)
+    return is_linked, said
 
 
 class Build:
@@ -121,8 +162,9 @@ class Build:
 
     def __init__(self):
         self.began, self.below, self.lanes = time.monotonic(), libraries(), lanes()
-        chain = chains(self.below)
-        self.left, self.running, self.proved = sorted(self.below, key=lambda it: -chain[it]), {}, set()
+        chain, stale = chains(self.below), stale_libraries(self.below)
+        self.left, self.running, self.proved = sorted(stale, key=lambda it: -chain[it]), {}, set(self.below) - stale
+        self.count = len(stale)
         self.failed, self.turn = [], threading.Condition()
 
     def seconds(self):
@@ -140,12 +182,12 @@ class Build:
 
     def work(self, name, jobs):
         """Proves one library, and tells that it is done."""
-        is_proved, said = prove(name, self.below[name], jobs)
+        is_proved, said = prove(name, jobs)
         with self.turn:
             del self.running[name]
             if is_proved:
                 self.proved.add(name)
-                say(f"{len(self.proved)} of {len(self.below)}: {name}, {self.seconds()}")
+                say(f"{self.count - len(self.left) - len(self.running)} of {self.count}: {name}, {self.seconds()}")
             else:
                 self.failed.append(said)
             self.turn.notify()
@@ -170,14 +212,17 @@ class Build:
 
 def build():
     """Builds the program, and returns whether it stands."""
+    kit()
     say("proving and building the program, which takes some minutes the first time")
-    OUT.mkdir(parents=True, exist_ok=True)
+    began = time.time()
+    for folder in (LIBRARIES, FRESH):
+        folder.mkdir(parents=True, exist_ok=True)
     going = Build()
     said = going.prove_libraries()
     if not said:
-        # The run is on an empty text, which the program refuses: what counts is the program itself.
-        said = [run(CRATES / "x25scan", "run", "--jobs", str(going.lanes))[1]]
-    if is_stale():
+        is_built, last = prove_program(going.lanes, began)
+        said = [] if is_built else [last]
+    if said:
         sys.stderr.writelines(line + "\n" for it in said for line in it.split("\n")[-60:])
         say("the program was not built")
         return False
@@ -185,5 +230,15 @@ def build():
     return True
 
 
+def main():
+    """Builds the program unless it stands; a run waits for another that builds it."""
+    if not is_stale():
+        return 0
+    OUT.mkdir(parents=True, exist_ok=True)
+    with (OUT / "lock").open("w") as lock:
+        fcntl.flock(lock, fcntl.LOCK_EX)
+        return 0 if not is_stale() or build() else 3
+
+
 if __name__ == "__main__":
-    sys.exit(0 if not is_stale() or build() else 3)
+    sys.exit(main())
