@@ -4,7 +4,7 @@
 Libraries that do not stand on each other are proved side by side, as many as there are processors and memory for, and
 first those with the longest chain of others above them; processors that no library waits for help those that are being
 proved. What is made of a library is what crates above it can cite, its statements and not its proofs, which each crate
-above would read again. It stands in crates/x25scan/out/libraries; `rt` keeps its own in the out/ of each crate.
+above would read again. It stands in out/ at the top, which `rt` does not touch: it keeps its own in the out/ of each crate.
 """
 import fcntl
 import functools
@@ -19,8 +19,8 @@ import time
 
 ROOT = pathlib.Path(__file__).resolve().parent.parent
 CRATES = ROOT / "crates"
-OUT = CRATES / "x25scan" / "out"
-PROGRAM = OUT / "x25scan"
+PROGRAM = CRATES / "x25scan" / "out" / "x25scan"
+OUT = ROOT / "out"
 LIBRARIES, FRESH = OUT / "libraries", OUT / "fresh"
 PARTS = ("src", "specs", "proofs")
 # What the proof of one crate takes at the most, in bytes, and what a further processor for it takes.
@@ -215,7 +215,7 @@ def build():
     kit()
     say("proving and building the program, which takes some minutes the first time")
     began = time.time()
-    for folder in (LIBRARIES, FRESH):
+    for folder in (LIBRARIES, FRESH, PROGRAM.parent):
         folder.mkdir(parents=True, exist_ok=True)
     going = Build()
     said = going.prove_libraries()
