@@ -165,7 +165,7 @@ class Build:
         chain, stale = chains(self.below), stale_libraries(self.below)
         self.left, self.running, self.proved = sorted(stale, key=lambda it: -chain[it]), {}, set(self.below) - stale
         self.count = len(stale)
-        self.failed, self.turn = [], threading.Condition()
+        self.failed, self.turn = {}, threading.Condition()
 
     def seconds(self):
         return f"{time.monotonic() - self.began:.0f} s"
@@ -189,7 +189,7 @@ class Build:
                 self.proved.add(name)
                 say(f"{self.count - len(self.left) - len(self.running)} of {self.count}: {name}, {self.seconds()}")
             else:
-                self.failed.append(said)
+                self.failed[name] = said
             self.turn.notify()
 
     def begin(self):
@@ -201,7 +201,7 @@ class Build:
             threading.Thread(target=self.work, args=(name, jobs)).start()
 
     def prove_libraries(self):
-        """Proves all libraries, and returns what was said of those that failed."""
+        """Proves all libraries, and returns what was said of those that failed, by their names."""
         with self.turn:
             self.begin()
             while self.running:
@@ -218,13 +218,13 @@ def build():
     for folder in (LIBRARIES, FRESH, PROGRAM.parent):
         folder.mkdir(parents=True, exist_ok=True)
     going = Build()
-    said = going.prove_libraries()
-    if not said:
-        is_built, last = prove_program(going.lanes, began)
-        said = [] if is_built else [last]
-    if said:
-        sys.stderr.writelines(line + "\n" for it in said for line in it.split("\n")[-60:])
-        say("the program was not built")
+    failed = going.prove_libraries()
+    if not failed:
+        is_built, said = prove_program(going.lanes, began)
+        failed = {} if is_built else {"x25scan": said}
+    if failed:
+        sys.stderr.writelines(line + "\n" for said in failed.values() for line in said.split("\n")[-60:])
+        say(f"the program was not built, since this was not proved or not built: {', '.join(failed)}")
         return False
     say(f"built, {going.seconds()}")
     return True
