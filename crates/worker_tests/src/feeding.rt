@@ -5,7 +5,6 @@ ghost use Rattle.line_model.specs.traces.Traces.{trace_plan};
 
 use crate::working::NoMemory;
 use line_model::count::Count;
-use line_model::device::Source;
 use line_model::fault::{Fault, Kind};
 use line_model::packet::Packet;
 use line_model::piece::{Piece, Plan};
@@ -19,45 +18,11 @@ use std::sync::ledger::{Blank, Ledger};
 use std::test::Fail;
 use std::thread::Threads;
 use std::time::Clock;
+use test_devices::CutSource;
 use workers::{Worked, work_through};
 
 /// How many bytes a source gives at once.
 const STEPS: [usize; 3] = [1, 7, usize::MAX];
-
-/// Gives the bytes of a slice, at most `step` a call, and fails once `good` of them were given.
-#[derive(Drop)]
-struct CutSource<'a, C: Ledger, F: Ledger> {
-    rest: &'a [u8],
-    step: usize,
-    good: usize,
-    calls: Count<C>,
-    failures: Count<F>,
-}
-
-impl<C: Ledger, F: Ledger> Source for CutSource<'_, C, F> {
-    ghost use Rattle.std.specs.Prelude.{Some};
-
-    ghost left = { λ s. Some s.rest.now };
-
-    ghost calls = { λ s. s.calls };
-
-    ghost failures = { λ s. s.failures };
-
-    fn read(&mut self, buffer: &mut [u8]) -> Result<usize, ()> {
-        self.calls.add_one();
-        if self.good == 0 {
-            self.failures.add_one();
-            return Err(());
-        }
-        let most = self.rest.len().min(buffer.len());
-        let n = most.min(self.step.max(1)).min(self.good);
-        let (front, back) = self.rest.split_at(n);
-        buffer[..n].copy_from_slice(front);
-        self.rest = back;
-        self.good -= n;
-        Ok(n)
-    }
-}
 
 /// Reads a text, with workers that want memory for each piece, so that only the feeding counts.
 fn read_on<P: Plan + Send + Sync, C: Ledger, F: Ledger, R: Threads + Wait + Clock + Sync>(
