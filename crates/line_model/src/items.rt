@@ -1,7 +1,5 @@
 //! Rows with their packets, in two lists: what stands before the octets of each row, and all octets.
 
-pub mod lent;
-
 ghost use Rattle.std.specs.Prelude.{◌≡◌, ◌<◌, ◌≤◌, ◌^◌, ◌++◌, ◌∷◌, [], length, OnErr, OnOk, IfErr, IfOk, ◌==◌};
 ghost use Rattle.line_model.specs.declared.fault.Fault.TheVariants.{Memory};
 
@@ -20,23 +18,6 @@ pub struct Head {
     packet: Packet,
     /// How many octets the row has.
     octets: usize,
-}
-
-impl Head {
-    ghost use Rattle.line_model.specs.declared.state.Side.TheVariants.{T};
-    ghost use Rattle.line_model.specs.declared.packet.Packet.TheVariants.{Short};
-
-    /// A head to be written over: number 0, from T, no octets.
-    pub fn blank() -> Self
-        ensures { result ≡ record { number = 0; side = T; packet = Short; octets = 0 } }
-    {
-        Head {
-            number: 0,
-            side: Side::T,
-            packet: Packet::Short,
-            octets: 0,
-        }
-    }
 }
 
 /// Rows with their packets, in order. It takes memory for all heads and for all octets, and none for a single row.

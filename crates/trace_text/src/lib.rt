@@ -5,14 +5,10 @@ mod content;
 pub mod cuts;
 mod digits;
 mod header;
-pub mod line_ends;
 pub mod lines;
 mod number;
-pub mod places;
+mod places;
 mod reading;
 mod row_line;
-pub mod shares;
-#[cfg(test)]
-mod tests;
 pub mod watcher;
 mod words;

@@ -74,7 +74,7 @@ fn blank_row<A: Allocator + Clone>(alloc: &A) -> Result<Row<A>, AllocError> {
 
 /// The rule on sizes that a line of so many bytes breaks, after `start` bytes; `lf` is 1 where an LF ends it.
 #[tactic(auto, unfolding(line_model::specs::text::Text::size_kind))]
-pub(crate) fn size_fault(start: u32, lf: usize, len: usize) -> Option<Kind>
+fn size_fault(start: u32, lf: usize, len: usize) -> Option<Kind>
     requires start { start ≤ 2 ^ 30 }
     requires lf { lf ≤ 1 }
     requires len { len + lf < 2 ^ 64 }
@@ -501,7 +501,3 @@ impl<A: Allocator + Clone> Lines<A> {
         Ok(end.interface)
     }
 }
-
-mod seams;
-#[cfg(test)]
-mod sizes;

@@ -1,18 +1,12 @@
 //! Where a row is read into.
 
 ghost use Rattle.std.specs.Prelude.{◌≡◌, ◌<◌, ◌≤◌, ◌+◌, ◌-◌, ◌++◌, ◌∷◌, [], ℕ, List, OnOk, length, vec_capacity, vec_len};
-ghost use Rattle.arrayvec.specs.ArrayVec.{array_vec_len};
 
 use crate::content::LineFault;
 use crate::digits::read_digits;
-use crate::row_line::OCTET_LIMIT;
-use arrayvec::ArrayVec;
-use line_model::items::ItemRef;
-use line_model::packet::Packet;
 use line_model::row::Row;
 use line_model::state::Side;
 use std::alloc::{AllocError, Allocator};
-use std::marker::Model;
 
 /// A list that octets are read into.
 pub trait OctetList {
@@ -58,32 +52,6 @@ impl<A: Allocator> OctetList for Vec<u8, A> {
         match self.extend_from_slice(more) {
             Ok(()) => Ok(()),
             Err(refused) => Err(refused),
-        }
-    }
-}
-
-impl OctetList for ArrayVec<u8, OCTET_LIMIT> {
-    ghost octets = { λ v. v.items };
-
-    ghost room = { λ v. 4200 - array_vec_len v };
-
-    fn begin(&mut self, count: usize) -> Result<(), AllocError> {
-        self.truncate(0);
-        if count <= OCTET_LIMIT {
-            Ok(())
-        } else {
-            Err(AllocError)
-        }
-    }
-
-    fn put(&mut self, octet: u8) {
-        self.push(octet);
-    }
-
-    fn put_all(&mut self, more: &[u8]) -> Result<(), AllocError> {
-        match self.try_extend_from_slice(more) {
-            Ok(()) => Ok(()),
-            Err(_) => Err(AllocError),
         }
     }
 }
@@ -142,74 +110,5 @@ impl<A: Allocator> RowPlace for Row<A> {
 
     fn read_digits(&mut self, digits: &[u8]) -> Result<(), LineFault> {
         read_digits(digits, &mut self.octets)
-    }
-}
-
-/// A row that takes no memory: its octets lie in the value itself.
-#[derive(Drop)]
-pub struct FixedRow {
-    number: u32,
-    side: Side,
-    octets: ArrayVec<u8, OCTET_LIMIT>,
-}
-
-impl Model for FixedRow {
-    ghost use Rattle.line_model.specs.basics.Records as records;
-
-    ghost Value = { records.Row };
-
-    ghost view = { λ r. record { number = r.number; side = r.side; octets = r.octets.items } };
-}
-
-impl RowPlace for FixedRow {
-    ghost held = { λ r. r };
-
-    fn number(&self) -> u32 {
-        self.number
-    }
-
-    fn name(&mut self, number: u32, side: Side) {
-        self.number = number;
-        self.side = side;
-    }
-
-    fn clear(&mut self) {
-        self.octets.clear();
-    }
-
-    fn read_digits(&mut self, digits: &[u8]) -> Result<(), LineFault> {
-        read_digits(digits, &mut self.octets)
-    }
-}
-
-impl FixedRow {
-    /// A row to put others in: of number 0, from T, without octets.
-    pub fn new() -> Self
-        ensures { result.octets ≡ [] }
-    {
-        FixedRow {
-            number: 0,
-            side: Side::T,
-            octets: ArrayVec::new(),
-        }
-    }
-
-    /// Its octets.
-    pub fn octets(&self) -> &[u8]
-        ensures { result.now ≡ self.now.octets }
-    {
-        self.octets.as_slice()
-    }
-
-    /// The row with its packet, where its octets lie.
-    pub fn with_packet(&self, packet: Packet) -> ItemRef<'_>
-        ensures { result ≡ record { row = self.now; packet = packet } }
-    {
-        ItemRef {
-            number: self.number,
-            side: self.side,
-            octets: self.octets.as_slice(),
-            packet,
-        }
     }
 }
