@@ -2,7 +2,7 @@
 """gate_times.py watch FILE PARENT: notes into FILE, until it is ended, what each check and each run below the process PARENT costs.
 gate_times.py table FILE: prints what each part of the gate cost, with the ten dearest of each.
 
-`rt ci` says nothing of time, so the watcher reads /proc a few times a second: which checks run, of which crate and with
+`rt ci` says nothing of time, so the watcher reads /proc once a second: which checks run, of which crate and with
 which edit, and the processor seconds that each took until it was last seen.
 """
 import collections
@@ -15,10 +15,9 @@ import time
 from dataclasses import dataclass
 
 ROOT = pathlib.Path(__file__).resolve().parent.parent
-PAUSE = 0.2
+PAUSE = 1.0
 TICKS = os.sysconf("SC_CLK_TCK")
-# The folders of tests/ whose traces the built program is run on.
-SUITES = ("traces", "program", "guide", "annotated", "follow", "hostile", "refused", "captures")
+SUITES = tuple(sorted(it.parent.name for it in (ROOT / "tests").glob("*/compare")))
 # A seed is the check of a crate as it stands that its edits begin with.
 PARTS = ("libraries", "tests", "seeds", "edits", "programs", *SUITES)
 DEAREST = 10
