@@ -4,8 +4,9 @@ import re
 import signal
 import subprocess
 import time
-from dataclasses import dataclass, field
-from typing import Callable, Optional
+
+from case import Case
+from explain_cases import explain_cases
 
 HEADER = b"X25 1 MOD 8 WIN 2 SIZE 128 PVC 0 SVC 4\n"
 CLEAN = HEADER
@@ -15,25 +16,6 @@ FOUND_REPORT = b"F 1 T - 38\nP 0 -\nZ 1 1 0 0 0\n"
 ANY = re.compile(rb".*", re.DOTALL)
 SHOWN = b" lines a second"
 NUMBERS = rb"x25scan: \d+ bytes read, \d+ lines, \d+ lines a second\n"
-
-
-@dataclass
-class Case:
-    """Words and a text, and what is wanted of the program."""
-
-    name: str
-    words: tuple = ()
-    text: bytes = b""
-    status: int = 0
-    report: object = b""
-    errors: object = b""
-    # Files beside it, a folder where there is no text; and their modes, which do not hold for root: so nobody runs it.
-    files: dict = field(default_factory=dict)
-    modes: dict = field(default_factory=dict)
-    # Where standard output goes, if not to the test.
-    output: Optional[str] = None
-    # A run of its own, which says what is wrong.
-    run: Optional[Callable] = None
 
 
 def pattern(text):
@@ -127,49 +109,6 @@ def annotation_cases():
     yield Case("a full device at an annotation", ("--annotate",), FOUND, 3, b"", b"x25scan: write failed\n", output="/dev/full")
 
 
-def row_cases():
-    """Rows that are refused, and what is told of them."""
-    for name, row, kind, told in [
-        ("a carriage return", b"1 T 10\r\n", 27, "The line ends in a carriage return, and a line feed alone ends a line: tr -d '\\r' < FILE | x25scan reads the text."),
-        ("a tab", b"1\tT\t10\n", 24, "There is a tab at column 2: single spaces part the words."),
-        ("two spaces", b"1 T  10\n", 24, "There are two spaces at column 4: single spaces part the words."),
-        ("a space at the end", b"1 T 10 \n", 24, "The line ends in a space."),
-        ("a word too few", b"1 10\n", 24, "The line has 2 words, and a row has three: its number, its side and its octets."),
-        ("an empty line", b"\n", 24, "The line is empty."),
-        ("a leading zero", b"01 T -\n", 25, "The row's number is \"01\": 1 to 999999999 without a leading zero belongs there."),
-        ("a lower-case side", b"1 n -\n", 26, "The side n is written N."),
-        ("another side", b"1 DTE -\n", 26, "The side is \"DTE\": T for the DTE or N for the DCE belongs there."),
-        ("no hex digit", b"1 T 10x0\n", 27, "At column 7 stands \"x\", which is no hex digit."),
-        ("an odd number of digits", b"1 T 100\n", 27, "The octets have 3 hex digits, an odd number: the last one, at column 7, stands alone."),
-    ]:
-        yield Case(f"refused by {name}", (), HEADER + row, 2, b"", refused(2, kind, told))
-        yield Case(f"followed and refused by {name}", ("--follow",), HEADER + row, 2, b"", refused(2, kind, told))
-    rising = "The row's number is 7, and that of the row before is 9: numbers rise."
-    yield Case("refused by a number that does not rise", (), HEADER + b"9 T 1000FB0000\n# a comment\n7 N 1000FF\n", 2, b"", refused(4, 25, rising))
-    many = HEADER + b"".join(b"%d T 1000FB0000\n" % number for number in range(1, 20000))
-    rising = "The row's number is 19999, and that of the row before is 19999: numbers rise."
-    for words in ((), ("--alone",), ("--follow",)):
-        yield Case(f"refused far behind the beginning {words}", words, many + b"19999 T -\n1 N -\n", 2, ANY, refused(20001, 25, rising))
-
-
-def header_cases():
-    """Headers that are refused, and files that are no trace."""
-    for name, text, line, kind, told in [
-        ("an empty text", b"", 1, 21, "The text is empty."),
-        ("comments alone", b"# a\n# b\n", 3, 21, "The text has no line that is not a comment."),
-        ("lower-case words", b"# a\nX25 1 mod 8 win 2 size 128 pvc 0 svc 4\n", 2, 22, "The header's words are in capitals: \"mod\" is written MOD."),
-        ("a row in place of the header", b"1 T 10\n", 1, 22, "A row stands before the header, which comes first, as X25 1 MOD 8 WIN 2 SIZE 128 PVC 0 SVC 4."),
-        ("a word that is missing", b"X25 1 MOD 8 SIZE 128 PVC 0 SVC 4\n", 1, 22, "In the header stands \"SIZE\" where WIN belongs."),
-        ("a window that is too wide", b"X25 1 MOD 8 WIN 8 SIZE 128 PVC 0 SVC 4\n", 1, 23, "The header's WIN is 8: 1 to 7 belongs there."),
-        ("a byte order mark", b"\xef\xbb\xbf" + HEADER, 1, 22, "The text begins with a byte order mark: tail -c +4 FILE | x25scan reads it."),
-        ("a gzip file", b"\x1f\x8b\x08\x00\n", 1, 22, "This is a gzip file: gzip -dc FILE | x25scan reads what is in it."),
-        ("a pcap file", b"\xd4\xc3\xb2\xa1\x02\x00\x04\x00\n", 1, 22, "This is a capture: tools/x25trace FILE | x25scan reads it."),
-        ("a pcapng file", b"\x0a\x0d\x0d\x0a\x1c\x00\x00\x00", 1, 22, "This is a capture: tools/x25trace FILE | x25scan reads it."),
-        ("a line without an end", b"x" * 9000, 1, 28, "The line has more than 8,500 bytes without its line feed, comments too."),
-    ]:
-        yield Case(f"refused by {name}", (), text, 2, b"", refused(line, kind, told))
-
-
 def folder_as_input(program):
     """A folder stands on standard input."""
     folder = os.open("/", os.O_RDONLY)
@@ -237,5 +176,5 @@ def device_cases():
 
 def cases():
     """All cases."""
-    for family in (file_cases, word_cases, object_cases, annotation_cases, progress_cases, row_cases, header_cases, device_cases):
+    for family in (file_cases, word_cases, object_cases, annotation_cases, progress_cases, explain_cases, device_cases):
         yield from family()

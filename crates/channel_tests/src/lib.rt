@@ -10,10 +10,4 @@ mod channels;
 #[cfg(test)]
 mod checks;
 #[cfg(test)]
-mod messages;
-#[cfg(test)]
-mod parameters;
-#[cfg(test)]
-mod sequences;
-#[cfg(test)]
 mod windows;

@@ -104,78 +104,6 @@ fn words_of_no_channel_are_refused(rt: HostRuntime) {
     }
 }
 
-/// Three packets in a window of two.
-const WINDOW_OF_TWO: [Answered; 5] = [
-    (Step::Data(Side::T, 0), Ok(())),
-    (Step::Data(Side::T, 1), Ok(())),
-    (Step::Data(Side::T, 2), Err(1)),
-    (Step::Ack(Side::N, 1), Ok(())),
-    (Step::Data(Side::T, 2), Ok(())),
-];
-
-#[test]
-fn third_packet_in_a_window_of_two_is_refused(rt: HostRuntime) {
-    after(&rt, Flow::new(8, 2, 2), &WINDOW_OF_TWO);
-}
-
-/// A receive number of nothing that was sent, and a first packet after a reset.
-const NOTHING_SENT: [Answered; 3] = [
-    (Step::Ack(Side::T, 1), Err(2)),
-    (Step::Reset, Ok(())),
-    (Step::Data(Side::T, 0), Ok(())),
-];
-
-#[test]
-fn receive_number_of_nothing_sent_is_refused(rt: HostRuntime) {
-    after(&rt, Flow::new(8, 2, 2), &NOTHING_SENT);
-}
-
-/// Nine packets in a window of seven.
-const WINDOW_OF_SEVEN: [Answered; 11] = [
-    (Step::Data(Side::T, 0), Ok(())),
-    (Step::Data(Side::T, 1), Ok(())),
-    (Step::Data(Side::T, 2), Ok(())),
-    (Step::Data(Side::T, 3), Ok(())),
-    (Step::Data(Side::T, 4), Ok(())),
-    (Step::Data(Side::T, 5), Ok(())),
-    (Step::Data(Side::T, 6), Ok(())),
-    (Step::Data(Side::T, 7), Err(1)),
-    (Step::Ack(Side::N, 7), Ok(())),
-    (Step::Data(Side::T, 7), Ok(())),
-    (Step::Data(Side::T, 0), Ok(())),
-];
-
-#[test]
-fn numbers_wrap_around_in_a_window_of_seven(rt: HostRuntime) {
-    after(&rt, Flow::new(8, 7, 7), &WINDOW_OF_SEVEN);
-}
-
-/// Two interrupts, a confirmation of the wrong side, one of the right side, and a reset.
-const INTERRUPTS: [Answered; 7] = [
-    (Step::Interrupt(Side::T), Ok(())),
-    (Step::Interrupt(Side::T), Err(44)),
-    (Step::Confirm(Side::T), Err(43)),
-    (Step::Confirm(Side::N), Ok(())),
-    (Step::Interrupt(Side::T), Ok(())),
-    (Step::Reset, Ok(())),
-    (Step::Interrupt(Side::T), Ok(())),
-];
-
-#[test]
-fn interrupts_are_confirmed_one_by_one(rt: HostRuntime) {
-    after(&rt, Flow::new(128, 2, 2), &INTERRUPTS);
-}
-
-#[test]
-fn word_is_judged_as_what_it_is_packed_of(rt: HostRuntime) {
-    let word = FlowWord::new(&Flow::new(8, 2, 3), 0);
-    assert!(rt; word.word() == 207_232_172_032);
-    let mut word = after_packed(&rt, word, &FIRST);
-    assert!(rt; word.word() == 207_232_172_034);
-    word.reset();
-    assert!(rt; word.word() == 207_232_172_032);
-}
-
 /// An acknowledgement, an interrupt and its confirmation, and a reset.
 const OF_AN_OWNER: [Answered; 4] = [
     (Step::Ack(Side::N, 1), Ok(())),
@@ -195,24 +123,4 @@ fn number_of_the_owner_stays(rt: HostRuntime) {
     word.set_above(524_287);
     assert!(rt; word.above() == 524_287);
     assert!(rt; word.word() == 207_232_172_032 + (524_287 << 45));
-}
-
-#[test]
-fn third_packet_in_a_packed_window_of_two_is_refused(rt: HostRuntime) {
-    after_packed(&rt, FlowWord::new(&Flow::new(8, 2, 2), 0), &WINDOW_OF_TWO);
-}
-
-#[test]
-fn receive_number_of_nothing_sent_is_refused_of_a_word(rt: HostRuntime) {
-    after_packed(&rt, FlowWord::new(&Flow::new(8, 2, 2), 0), &NOTHING_SENT);
-}
-
-#[test]
-fn numbers_wrap_around_in_a_packed_window_of_seven(rt: HostRuntime) {
-    after_packed(&rt, FlowWord::new(&Flow::new(8, 7, 7), 0), &WINDOW_OF_SEVEN);
-}
-
-#[test]
-fn interrupts_of_a_word_are_confirmed_one_by_one(rt: HostRuntime) {
-    after_packed(&rt, FlowWord::new(&Flow::new(128, 2, 2), 0), &INTERRUPTS);
 }

@@ -3,7 +3,6 @@
 ghost use Rattle.std.specs.Prelude.{◌≡◌, ◌<◌};
 
 use json_lines::sink::{JsonSink, Lent, Origin, Returned};
-use json_lines::text::write_json_lines;
 use line_model::count::Count;
 use line_model::device::Sink;
 use line_model::fault::Fault;
@@ -19,12 +18,6 @@ struct Takes {
     step: usize,
     good_calls: usize,
 }
-
-/// Takes all.
-const WHOLE: Takes = Takes {
-    step: usize::MAX,
-    good_calls: usize::MAX,
-};
 
 /// What was answered, how many calls were good, and the bytes that were taken.
 #[derive(Drop)]
@@ -96,26 +89,6 @@ fn outcome<L: Ledger>(
     }
 }
 
-/// What becomes of a text that is written at once.
-fn whole<L: Ledger>(blank: Blank, alloc: Global, text: &[u8]) -> Conversion
-    requires name { blank.name ≡ L.name }
-    requires parts { blank.parts ≡ L.parts }
-    requires some { 0 < L.parts }
-{
-    let mut sink: CutSink<L> = CutSink {
-        taken: Vec::new(alloc),
-        step: WHOLE.step,
-        good_calls: WHOLE.good_calls,
-        failures: Count::open(blank),
-    };
-    let answer = write_json_lines(text, &mut sink);
-    Conversion {
-        answer,
-        calls: WHOLE.good_calls.saturating_sub(sink.good_calls),
-        bytes: sink.taken,
-    }
-}
-
 /// What becomes of a text in parts of some size.
 fn converted(alloc: Global, text: &[u8], size: usize, takes: Takes) -> Conversion {
     outcome::<Brand>(Blank::new(1), alloc, text, size, takes)
@@ -152,20 +125,6 @@ fn agree(rt: &impl Abort, told: &Conversion, objects: &[u8]) {
     assert!(rt; told.bytes.as_slice() == objects);
 }
 
-/// Sees that a text becomes some objects, in parts of any size.
-fn check(rt: &impl Abort, alloc: Global, text: &[u8], objects: &[u8]) {
-    for size in &[1, 7, 65536] {
-        let told = converted(alloc, text, *size, WHOLE);
-        agree(rt, &told, objects);
-    }
-}
-
-#[test]
-fn lines_of_every_kind_become_objects(rt: HostRuntime) {
-    check(&rt, rt.alloc(), REPORT, OBJECTS);
-    check(&rt, rt.alloc(), b"", b"");
-}
-
 /// Takes a byte a call.
 const SLOW: Takes = Takes {
     step: 1,
@@ -177,18 +136,6 @@ fn a_sink_that_takes_one_byte_a_call_takes_the_same(rt: HostRuntime) {
     let told = converted(rt.alloc(), REPORT, 7, SLOW);
     agree(&rt, &told, OBJECTS);
     assert!(rt; told.calls == OBJECTS.len());
-}
-
-#[test]
-fn a_line_is_written_as_soon_as_it_has_ended(rt: HostRuntime) {
-    let told = converted(rt.alloc(), REPORT, 1, WHOLE);
-    assert!(rt; told.calls == 11);
-}
-
-#[test]
-fn a_portion_of_many_lines_is_one_write(rt: HostRuntime) {
-    let told = converted(rt.alloc(), REPORT, 65536, WHOLE);
-    assert!(rt; told.calls == 1);
 }
 
 /// Sees that a sink failed after so many good calls, and has a first part of the objects.
@@ -214,39 +161,4 @@ fn a_sink_that_fails_has_a_first_part_and_is_told(rt: HostRuntime) {
         check_failure(&rt, rt.alloc(), 1, good_calls);
         check_failure(&rt, rt.alloc(), 65536, good_calls);
     }
-}
-
-#[test]
-fn a_line_that_has_not_ended_is_not_told(rt: HostRuntime) {
-    check(
-        &rt,
-        rt.alloc(),
-        b"P 2 4\nZ 5 1 1 2 2",
-        b"{\"line\":\"peak\",\"count\":2,\"packet\":4}\n",
-    );
-}
-
-/// A line that is longer than any of a report.
-fn long_line() -> [u8; 260] {
-    let mut long = [b'1'; 260];
-    long[0] = b'P';
-    long[1] = b' ';
-    long[259] = b'\n';
-    long
-}
-
-/// The object of a line that no report has.
-const UNKNOWN: &[u8] = b"{\"line\":\"unknown\"}\n";
-
-#[test]
-fn a_line_that_no_report_has_is_unknown(rt: HostRuntime) {
-    check(&rt, rt.alloc(), &long_line(), UNKNOWN);
-    check(&rt, rt.alloc(), b"\n", UNKNOWN);
-    check(&rt, rt.alloc(), b"Q 1\n", UNKNOWN);
-}
-
-#[test]
-fn a_whole_text_is_written(rt: HostRuntime) {
-    let told = whole::<Brand>(Blank::new(1), rt.alloc(), REPORT);
-    agree(&rt, &told, OBJECTS);
 }

@@ -3,14 +3,13 @@
 ghost use Rattle.std.specs.Prelude.{◌≡◌, ◌<◌};
 ghost use Rattle.live_report.specs.Lives.{IsFed};
 
-mod findings;
 mod follows;
 mod wanting;
 
 use channel_machine::channel::PlainChannel;
 use channel_run::run::Channel;
 use line_model::count::Count;
-use line_model::fault::{Fault, Kind};
+use line_model::fault::Fault;
 use live_report::live::Live;
 use std::alloc::{Allocator, Global};
 use std::marker::Brand;
@@ -170,34 +169,6 @@ fn play(rt: &impl Abort, alloc: Global, steps: &[Step], end: Wanted) {
     agree(rt, &answer, end);
 }
 
-/// The fault of a third row that no side wrote.
-const NO_SIDE: Fault = Fault::Trace(4, Kind::Side);
-
-const UP_TO_THE_LAST_LINE: [Step; 12] = [
-    Step::Report(Err(Fault::Trace(1, Kind::HeaderMissing))),
-    Step::Feed(b"X25 1 MOD 8 WIN 2 SIZE 128 PVC 0 SVC 4\n", None),
-    Step::Feed(b"1 T -\n", None),
-    Step::Report(Ok(b"F 1 T - 38\nP 0 -\nZ 1 1 0 0 0\n")),
-    Step::Feed(b"2 T 2", None),
-    Step::Report(Ok(b"F 1 T - 38\nP 0 -\nZ 1 1 0 0 0\n")),
-    Step::Feed(b"0010B0000\n", None),
-    Step::Report(Ok(b"F 1 T - 38\nF 2 T - 40\nP 0 -\nZ 2 2 0 0 0\n")),
-    Step::Feed(b"3 X -\n", Some(NO_SIDE)),
-    Step::Report(Err(NO_SIDE)),
-    Step::Feed(b"4 T -\n", Some(NO_SIDE)),
-    Step::Report(Err(NO_SIDE)),
-];
-
-#[test]
-fn reports_go_up_to_the_last_line_that_ended(rt: HostRuntime) {
-    play(
-        &rt,
-        rt.alloc(),
-        UP_TO_THE_LAST_LINE.as_slice(),
-        Err(NO_SIDE),
-    )
-}
-
 /// The report of a call that a restart ended.
 const ENDED_CALL: &[u8] = b"C 1 1 1 out - - 1 2 3 restart 0 0 0 0 0\nA - 1 0\nP 1 2\nZ 4 0 1 0 0\n";
 
@@ -213,31 +184,4 @@ const CALL_AND_ITS_END: [Step; 6] = [
 #[test]
 fn an_open_call_and_its_end_are_told(rt: HostRuntime) {
     play(&rt, rt.alloc(), CALL_AND_ITS_END.as_slice(), Ok(ENDED_CALL))
-}
-
-const LAST_LINE: [Step; 2] = [
-    Step::Feed(b"X25 1 MOD 8 WIN 2 SIZE 128 PVC 0 SVC 4\n1 T -", None),
-    Step::Report(Ok(b"P 0 -\nZ 0 0 0 0 0\n")),
-];
-
-#[test]
-fn a_last_line_that_nothing_ended_is_a_row(rt: HostRuntime) {
-    play(
-        &rt,
-        rt.alloc(),
-        LAST_LINE.as_slice(),
-        Ok(b"F 1 T - 38\nP 0 -\nZ 1 1 0 0 0\n"),
-    )
-}
-
-const NO_HEADER: [Step; 1] = [Step::Feed(b"# nothing\n", None)];
-
-#[test]
-fn a_trace_that_ends_before_its_header_is_refused(rt: HostRuntime) {
-    play(
-        &rt,
-        rt.alloc(),
-        NO_HEADER.as_slice(),
-        Err(Fault::Trace(2, Kind::HeaderMissing)),
-    )
 }

@@ -1,23 +1,20 @@
 //! The restart packets of worked traces, and the rows of an epoch by channel.
 
-ghost use Rattle.std.specs.Prelude.{◌≡◌, ◌≤◌, ◌∷◌, ◌^◌, All, IfOk, length, map, sum_by};
+ghost use Rattle.std.specs.Prelude.{◌≤◌, ◌∷◌, ◌^◌, All, IfOk, length, map, sum_by};
 ghost use Rattle.std.specs.List.Sorted.{IsStrictlyIncreasing};
 
 mod refused;
 
-use crate::checks::{holds_at, holds_for};
+use crate::checks::holds_for;
 use line_model::finding::{Code, Finding};
 use line_model::interface::Interface;
 use line_model::items::ItemRef;
-use line_model::packet::Packet;
 use line_model::piece::Piece;
 use line_model::row::Row;
-use line_model::state::{RState, Side, StateName};
+use line_model::state::Side;
 use packet_decode::decode::decode;
 use restart_epochs::cut::cut;
 use restart_epochs::cutter::{Cut, Cutter};
-use restart_epochs::open_epoch::OpenEpoch;
-use restart_epochs::restart::{Restart, Route};
 use std::alloc::{Allocator, Global};
 use std::process::Abort;
 use std::test::Fail;
@@ -33,180 +30,6 @@ const PLAIN: Interface = Interface {
     svc: 4,
     join: false,
 };
-
-/// Where a row goes, and the state after it.
-fn step(machine: &mut Restart, octets: &[u8], side: Side) -> (Route, RState) {
-    let route = machine.step(&decode(&PLAIN, octets), octets.len(), side);
-    (route, machine.state())
-}
-
-/// A packet and its side, where it goes, and the state after it.
-type Step = (&'static [u8], Side, Route, RState);
-
-/// Each packet goes where it has to, and leaves its state.
-fn check_steps(rt: &impl Abort, machine: Restart, steps: &[Step]) {
-    let mut machine = machine;
-    for (octets, side, route, state) in steps {
-        let answer = step(&mut machine, octets, *side);
-        holds_for(rt, answer == (*route, *state), octets);
-    }
-}
-
-/// A packet of a channel while a restart is asked for.
-const LEFT_BY_DATA: [Step; 4] = [
-    (
-        b"\x10\x00\xfb\x00\x00",
-        Side::T,
-        Route::Leave(None),
-        RState::R2,
-    ),
-    (
-        b"\x10\x01\x00",
-        Side::T,
-        Route::Found(StateName::R2, 18),
-        RState::R3,
-    ),
-    (b"\x10\x00\xfb\x00\x00", Side::T, Route::Enter, RState::R1),
-    (
-        b"\x10\x00\xff",
-        Side::N,
-        Route::Found(StateName::R1, 17),
-        RState::R1,
-    ),
-];
-
-#[test]
-fn a_channel_packet_decides_the_restart_machine(rt: HostRuntime) {
-    check_steps(&rt, Restart::new(), &LEFT_BY_DATA);
-}
-
-/// Restart packets, some of which are too short or too long.
-const FORMATS: [Step; 5] = [
-    (
-        b"\x10\x00\xfb",
-        Side::T,
-        Route::Found(StateName::R1, 38),
-        RState::R1,
-    ),
-    (
-        b"\x10\x00\xfb\x00\x00\x00",
-        Side::N,
-        Route::Found(StateName::R1, 39),
-        RState::R1,
-    ),
-    (
-        b"\x10\x00\xfb\x00\x00",
-        Side::N,
-        Route::Leave(None),
-        RState::R3,
-    ),
-    (
-        b"\x10\x00\xff\x00",
-        Side::T,
-        Route::Found(StateName::R3, 39),
-        RState::R3,
-    ),
-    (b"\x10\x00\xff", Side::T, Route::Enter, RState::R1),
-];
-
-#[test]
-fn restart_packets_have_their_formats(rt: HostRuntime) {
-    check_steps(&rt, Restart::new(), &FORMATS);
-}
-
-/// A confirmation of the DTE that comes first, and what comes behind it.
-const OWED: [Step; 9] = [
-    (b"\x10\x00\xff", Side::T, Route::Leave(Some(17)), RState::R3),
-    (b"\x10\x00\xff", Side::N, Route::Pass, RState::R3),
-    (b"\x10\x00\xfb\x00\x00", Side::N, Route::Pass, RState::R3),
-    (
-        b"\x10\x00\xff",
-        Side::N,
-        Route::Found(StateName::R3, 19),
-        RState::R3,
-    ),
-    (b"\x10\x00\xff", Side::T, Route::Enter, RState::R1),
-    (b"\x10\x01\x00\xaa", Side::T, Route::ToChannel, RState::R1),
-    (
-        b"\x10",
-        Side::N,
-        Route::Found(StateName::Dash, 38),
-        RState::R1,
-    ),
-    (b"\x10\x00\xf1", Side::N, Route::Pass, RState::R1),
-    (
-        b"\x10\x00\xf1",
-        Side::T,
-        Route::Found(StateName::Dash, 36),
-        RState::R1,
-    ),
-];
-
-#[test]
-fn the_indication_of_the_dce_is_owed_after_an_error_of_the_dte(rt: HostRuntime) {
-    check_steps(&rt, Restart::new(), &OWED);
-}
-
-/// Confirmations in a recording that begins in the middle.
-const JOINED: [Step; 5] = [
-    (b"\x10\x00\xff\x01\x02", Side::T, Route::Pass, RState::R1),
-    (b"\x10\x00\xff", Side::N, Route::Pass, RState::R1),
-    (
-        b"\x10\x00\xfb\x00\x00",
-        Side::T,
-        Route::Leave(None),
-        RState::R2,
-    ),
-    (b"\x10\x00\xff", Side::N, Route::Enter, RState::R1),
-    (
-        b"\x10\x00\xff",
-        Side::N,
-        Route::Found(StateName::R1, 17),
-        RState::R1,
-    ),
-];
-
-#[test]
-fn confirmations_pass_until_r1_is_first_left(rt: HostRuntime) {
-    check_steps(&rt, Restart::joined(), &JOINED);
-}
-
-/// A row without octets, with its packet.
-fn empty_item(number: u32) -> ItemRef<'static> {
-    ItemRef {
-        number,
-        side: Side::T,
-        octets: &[],
-        packet: Packet::Short,
-    }
-}
-
-/// Keeps a row of each of these numbers on its channel.
-fn keep(rt: &impl Abort, open_epoch: &mut OpenEpoch<Global>, rows: &[(u16, u32)]) {
-    for (channel, number) in rows {
-        let kept = open_epoch.push(*channel, &empty_item(*number));
-        holds_at(rt, kept.is_ok(), u64::from(*number));
-    }
-}
-
-/// The channel that is taken out next, and how many rows it has.
-fn first_channel(open_epoch: &mut OpenEpoch<Global>) -> Option<(u16, usize)> {
-    match open_epoch.pop_first() {
-        Some((channel, items)) => Some((channel, items.len())),
-        None => None,
-    }
-}
-
-#[test]
-fn channels_are_taken_out_in_order_with_their_rows(rt: HostRuntime) {
-    let mut open_epoch = OpenEpoch::new(rt.alloc());
-    keep(&rt, &mut open_epoch, &[(7, 1), (2, 2), (7, 3), (4095, 4)]);
-    assert!(rt; open_epoch.len() == 3);
-    assert!(rt; first_channel(&mut open_epoch) == Some((2, 1)));
-    assert!(rt; first_channel(&mut open_epoch) == Some((7, 2)));
-    assert!(rt; first_channel(&mut open_epoch) == Some((4095, 1)));
-    assert!(rt; first_channel(&mut open_epoch) == None);
-}
 
 /// Pushes the next row.
 fn push(cutter: &mut Cutter, side: Side, octets: &[u8], out: &mut Vec<Piece>) -> Result<(), Fail> {
@@ -349,29 +172,6 @@ const EPOCH: [(Side, &[u8]); 6] = [
     (Side::N, b"\x10\x00\xff"),
 ];
 
-/// The packets of three epochs, the last of which has no restart.
-fn three_epochs(alloc: Global) -> Result<Vec<(Side, &'static [u8])>, Fail> {
-    let mut packets = Vec::new(alloc);
-    packets.extend_from_slice(&EPOCH)?;
-    packets.extend_from_slice(&EPOCH)?;
-    packets.extend_from_slice(&EPOCH[..4])?;
-    Ok(packets)
-}
-
-/// The pieces of these packets.
-fn cut_of(alloc: Global, packets: &[(Side, &[u8])]) -> Result<Cut, Fail> {
-    let rows = rows_of(alloc, packets)?;
-    Ok(cut(&PLAIN, rows)?)
-}
-
-#[test]
-fn three_epochs_have_a_piece_for_each_channel(rt: HostRuntime) -> Result<(), Fail> {
-    let packets = three_epochs(rt.alloc())?;
-    let cut = cut_of(rt.alloc(), packets.as_slice())?;
-    assert!(rt; is_cut(cut, 16, &PIECES, &[]));
-    Ok(())
-}
-
 /// A cutter of a row that goes to a channel, and of one with a finding.
 fn open_cutter(alloc: Global) -> Result<Cutter, Fail> {
     let mut cutter = Cutter::new(alloc, &PLAIN);
@@ -398,37 +198,5 @@ fn pieces_of_the_open_epoch_are_shown_and_stay(rt: HostRuntime) -> Result<(), Fa
     let first = shows_the_open_epoch(&cutter);
     let second = shows_the_open_epoch(&cutter);
     assert!(rt; first && second);
-    Ok(())
-}
-
-/// The pieces of three epochs.
-const PIECES: [Shape; 12] = [
-    (0, 1, 1, 1, Some(5)),
-    (1, 1, 2, 1, Some(5)),
-    (2, 1, 3, 1, Some(5)),
-    (3, 1, 4, 1, Some(5)),
-    (4, 2, 1, 1, Some(11)),
-    (5, 2, 2, 1, Some(11)),
-    (6, 2, 3, 1, Some(11)),
-    (7, 2, 4, 1, Some(11)),
-    (8, 3, 1, 1, None),
-    (9, 3, 2, 1, None),
-    (10, 3, 3, 1, None),
-    (11, 3, 4, 1, None),
-];
-
-/// Confirmations on a channel that is ready, of which the second is owed.
-const CONFIRMATIONS: [(Side, &[u8]); 4] = [
-    (Side::T, b"\x10\x00\xff"),
-    (Side::N, b"\x10\x00\xff"),
-    (Side::T, b"\x10\x00\xff"),
-    (Side::N, b"\x10\x00\xff"),
-];
-
-#[test]
-fn findings_of_the_restart_machine_are_all_told(rt: HostRuntime) -> Result<(), Fail> {
-    let cut = cut_of(rt.alloc(), &CONFIRMATIONS)?;
-    let line = [(1, Code::Number(17)), (4, Code::Number(17))];
-    assert!(rt; is_cut(cut, 4, &[], &line));
     Ok(())
 }

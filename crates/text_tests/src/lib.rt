@@ -9,8 +9,6 @@ mod devices;
 #[cfg(test)]
 mod epochs;
 #[cfg(test)]
-mod packets;
-#[cfg(test)]
 mod texts;
 #[cfg(test)]
 mod types;

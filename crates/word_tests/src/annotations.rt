@@ -12,7 +12,7 @@ use annotated_trace::page::{ClosingPage, Origin};
 use channel_machine::channel::{PackedChannel, PlainChannel};
 use line_model::count::Count;
 use line_model::device::Sink;
-use line_model::fault::{Fault, Kind};
+use line_model::fault::Fault;
 use line_model::finding::Finding;
 use line_model::report::Report;
 use live_report::live::Live;
@@ -192,51 +192,7 @@ fn check_step(rt: &impl Abort, alloc: Global, step: usize) {
 }
 
 #[test]
-fn lines_stand_as_they_were_with_their_comments_behind_them(rt: HostRuntime) {
-    check_step(&rt, rt.alloc(), 65536)
-}
-
-#[test]
 fn lines_that_chunks_cut_stand_as_they_were(rt: HostRuntime) {
     check_step(&rt, rt.alloc(), 1);
     check_step(&rt, rt.alloc(), 7)
-}
-
-#[test]
-fn rows_that_were_not_chosen_stand_alone(rt: HostRuntime) {
-    let answer = annotated(rt.alloc(), TRACE, 7, Choice::ChosenRows, 4);
-    agree(
-        &rt,
-        &answer,
-        None,
-        b"# of Monday\nX25 1 MOD 8 WIN 2 SIZE 128 PVC 0 SVC 4\n1 T -\n2 T 20010B0000\n# line 4\n#! F 2 T - 40: packet 2\n3 T 10010B0000\n# line 5\n# findings: 2\n# 0BFF\n",
-    )
-}
-
-#[test]
-fn marks_stand_where_notes_are_left_out(rt: HostRuntime) {
-    let answer = annotated(rt.alloc(), TRACE, 7, Choice::EveryRow, 9);
-    agree(
-        &rt,
-        &answer,
-        None,
-        b"# of Monday\nX25 1 MOD 8 WIN 2 SIZE 128 PVC 0 SVC 4\n1 T -\n#! F 1 T - 38: packet 1\n2 T 20010B0000\n#! F 2 T - 40: packet 2\n3 T 10010B0000\n# findings: 2\n# 0BFF\n",
-    )
-}
-
-#[test]
-fn lines_before_a_faulty_one_are_written(rt: HostRuntime) {
-    let answer = annotated(
-        rt.alloc(),
-        b"X25 1 MOD 8 WIN 2 SIZE 128 PVC 0 SVC 4\n1 T -\n2 X -\n",
-        7,
-        Choice::EveryRow,
-        0,
-    );
-    agree(
-        &rt,
-        &answer,
-        Some(Fault::Trace(3, Kind::Side)),
-        b"X25 1 MOD 8 WIN 2 SIZE 128 PVC 0 SVC 4\n# line 1\n1 T -\n# line 2\n#! F 1 T - 38: packet 1\n",
-    )
 }

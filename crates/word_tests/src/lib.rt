@@ -2,14 +2,10 @@
 #![tactic(auto)]
 
 #[cfg(test)]
-mod advising;
-#[cfg(test)]
 mod annotations;
 #[cfg(test)]
 mod checks;
 #[cfg(test)]
-mod describing;
-#[cfg(test)]
-mod explaining;
+mod codes;
 #[cfg(test)]
 mod words;

@@ -5,7 +5,7 @@ ghost use Rattle.line_model.specs.traces.Traces.{trace_plan};
 
 use crate::working::NoMemory;
 use line_model::count::Count;
-use line_model::fault::{Fault, Kind};
+use line_model::fault::Fault;
 use line_model::packet::Packet;
 use line_model::piece::{Piece, Plan};
 use piece_feed::text_cutter::TextCutter;
@@ -171,33 +171,6 @@ fn check_refused<R: Threads + Wait + Clock + Sync + Abort>(
     }
 }
 
-/// Texts with their first faulty lines.
-const FAULTY: [(&str, u32, Kind); 4] = [
-    ("", 1, Kind::HeaderMissing),
-    (
-        "X25 2 MOD 8 WIN 2 SIZE 128 PVC 0 SVC 4\n",
-        1,
-        Kind::HeaderForm,
-    ),
-    (
-        "X25 1 MOD 8 WIN 2 SIZE 128 PVC 0 SVC 4\n1 T 1000FB0000\n2 X 1000FF\n3 T 5\n",
-        3,
-        Kind::Side,
-    ),
-    (
-        "X25 1 MOD 8 WIN 2 SIZE 128 PVC 0 SVC 4\n5 T -\n5 T -",
-        3,
-        Kind::Number,
-    ),
-];
-
-#[test]
-fn a_faulty_text_is_refused_by_its_first_faulty_line(rt: HostRuntime) {
-    for (text, line, kind) in FAULTY {
-        check_refused(&rt, rt.alloc(), text, usize::MAX, Fault::Trace(line, kind));
-    }
-}
-
 #[test]
 fn a_source_that_fails_is_told(rt: HostRuntime) {
     let text = "X25 1 MOD 8 WIN 2 SIZE 128 PVC 0 SVC 4\n1 T 100100AA\n2 T 1000FB0000\n3 N 1000FF\n";
@@ -290,33 +263,4 @@ fn calls(alloc: Global) -> Result<Vec<u8>, Fail> {
         text.extend_from_slice(line.as_bytes())?;
     }
     Ok(text)
-}
-
-/// How many rows of a piece are such calls on its channel.
-fn calls_of(piece: &Piece) -> usize {
-    let channel = u32::from(piece.channel);
-    piece
-        .items
-        .iter()
-        .filter(|item| item.number % 199 + 1 == channel && item.octets.len() == 5)
-        .count()
-}
-
-/// How many rows of all pieces are such calls.
-fn calls_of_all(pieces: &[Piece]) -> usize {
-    let mut rows: usize = 0;
-    for piece in pieces {
-        rows = rows.saturating_add(calls_of(piece));
-    }
-    rows
-}
-
-#[test]
-fn each_row_of_a_large_part_lies_in_the_piece_of_its_channel(rt: HostRuntime) -> Result<(), Fail> {
-    let text = calls(rt.alloc())?;
-    let [early, late, last] = cut(rt.alloc(), text.as_slice(), b"")?;
-    assert!(rt; early.is_empty() && late.is_empty());
-    assert!(rt; last.len() == 199);
-    assert!(rt; calls_of_all(&last) == 5000);
-    Ok(())
 }

@@ -1,110 +1,16 @@
 //! The queue in one thread, step by step, and between many threads.
 
-ghost use Rattle.std.specs.Prelude.{◌≡◌, ◌+◌, ◌<◌, ◌≤◌, [], false, OnOk};
+ghost use Rattle.std.specs.Prelude.{◌≡◌, ◌+◌, ◌<◌, ◌≤◌, [], false};
 ghost use Rattle.piece_queue.specs.Rule.{worker};
 
 use crate::pieces::{PIECES, piece};
-use line_model::piece::Piece;
 use piece_queue::{FeederPass, Taken, Work, WorkerPass};
 use std::alloc::Global;
 use std::marker::Brand;
-use std::process::Abort;
 use std::sync::{Mutex, Wait};
 use std::test::Fail;
 use std::thread;
 use std::thread::{Scope, Threads};
-
-/// The id of the piece that a worker takes, if one waits. No end waits.
-fn take_one<R: Wait>(rt: &R, work: &Work<Brand>, pass: &mut WorkerPass) -> Result<Option<u32>, Fail>
-    requires queue { pass.old.queue ≡ work.now.queue }
-    requires unfinished { pass.old.record_of.finished ≡ false }
-    ensures queue { pass.new.queue ≡ work.now.queue }
-    ensures unfinished { OnOk result (pass.new.record_of.finished ≡ false) }
-{
-    match work.take(rt, pass) {
-        Taken::Got(piece) => Ok(Some(piece.id)),
-        Taken::Empty => Ok(None),
-        Taken::Finish => Err("an end waits")?,
-    }
-}
-
-/// Feeds a piece to a queue that has room.
-fn feed_now<R: Wait>(
-    rt: &R,
-    work: &Work<Brand>,
-    next: Piece,
-    feeder: &mut FeederPass,
-) -> Result<(), Fail>
-    requires queue { feeder.old.queue ≡ work.now.queue }
-    requires next { feeder.old.record_of.fed ≡ next.id }
-    requires open { feeder.old.record_of.ends ≡ 0 }
-    ensures queue { feeder.new.queue ≡ work.now.queue }
-    ensures fed { OnOk result (feeder.new.record_of.fed ≡ next.id + 1) }
-    ensures open { OnOk result (feeder.new.record_of.ends ≡ 0) }
-{
-    match work.feed(rt, next, feeder) {
-        Ok(()) => Ok(()),
-        Err(_) => Err("a piece came back")?,
-    }
-}
-
-/// Feeds a piece to a queue that is full, and again once the piece before it was taken.
-fn feed_behind<R: Wait + Abort>(
-    rt: &R,
-    alloc: Global,
-    work: &Work<Brand>,
-    feeder: &mut FeederPass,
-    pass: &mut WorkerPass,
-) -> Result<(), Fail>
-    requires queue { feeder.old.queue ≡ work.now.queue }
-    requires one { feeder.old.record_of.fed ≡ 1 }
-    requires open { feeder.old.record_of.ends ≡ 0 }
-    requires pass { pass.old.queue ≡ work.now.queue }
-    requires unfinished { pass.old.record_of.finished ≡ false }
-    ensures queue { feeder.new.queue ≡ work.now.queue }
-    ensures pass { pass.new.queue ≡ work.now.queue }
-    ensures unfinished { OnOk result (pass.new.record_of.finished ≡ false) }
-{
-    let Err(back) = work.feed(rt, piece(alloc, 1), feeder) else {
-        return Err("two entries in a queue of one")?;
-    };
-    assert!(rt; back.id == 1);
-    assert!(rt; take_one(rt, work, pass)? == Some(0));
-    feed_now(rt, work, back, feeder)
-}
-
-/// Feeds an end to a queue that is full, and again once the piece before it was taken.
-fn end_behind<R: Wait + Abort>(
-    rt: &R,
-    work: &Work<Brand>,
-    feeder: &mut FeederPass,
-    pass: &mut WorkerPass,
-) -> Result<(), Fail>
-    requires queue { feeder.old.queue ≡ work.now.queue }
-    requires pass { pass.old.queue ≡ work.now.queue }
-    requires unfinished { pass.old.record_of.finished ≡ false }
-    ensures queue { feeder.new.queue ≡ work.now.queue }
-    ensures pass { pass.new.queue ≡ work.now.queue }
-    ensures unfinished { OnOk result (pass.new.record_of.finished ≡ false) }
-{
-    assert!(rt; work.feed_end(rt, feeder).is_err());
-    assert!(rt; take_one(rt, work, pass)? == Some(1));
-    assert!(rt; work.feed_end(rt, feeder).is_ok());
-    Ok(())
-}
-
-#[test]
-fn a_queue_of_one_entry_and_one_worker(rt: HostRuntime) -> Result<(), Fail> {
-    let (work, mut feeder) = Work::<Brand>::new(rt.alloc(), 1)?;
-    let mut pass = work.split(&mut feeder);
-    assert!(rt; take_one(&rt, &work, &mut pass)? == None);
-    feed_now(&rt, &work, piece(rt.alloc(), 0), &mut feeder)?;
-    feed_behind(&rt, rt.alloc(), &work, &mut feeder, &mut pass)?;
-    end_behind(&rt, &work, &mut feeder, &mut pass)?;
-    assert!(rt; matches!(work.take(&rt, &mut pass), Taken::Finish));
-    work.join(&mut feeder, pass);
-    Ok(())
-}
 
 #[test]
 fn a_witness_knows_what_each_worker_took(rt: HostRuntime) -> Result<(), Fail> {

@@ -2,7 +2,7 @@
 
 mod looking;
 
-ghost use Rattle.std.specs.Prelude.{◌≡◌, ◌<◌, ◌≤◌, ℕ, None, length};
+ghost use Rattle.std.specs.Prelude.{◌≡◌, ◌<◌, ◌≤◌, None, length};
 ghost use Rattle.workers.specs.Workers.{ArePlanned};
 
 use crate::pieces::{PIECES, piece};

@@ -7,7 +7,7 @@ use crate::observing::{open_sink, same_bytes, same_fault};
 use channel_machine::channel::PlainChannel;
 use channel_run::run::Channel;
 use line_model::device::Sink;
-use line_model::fault::{Fault, Kind};
+use line_model::fault::Fault;
 use line_model::totals::Summary;
 use live_report::follow::Follower;
 use std::alloc::{Allocator, Global};
@@ -186,47 +186,6 @@ const END_OF_LINES: End = End {
 #[test]
 fn a_finding_is_written_once_its_line_has_ended(rt: HostRuntime) {
     play(&rt, rt.alloc(), usize::MAX, LINES.as_slice(), &END_OF_LINES)
-}
-
-/// The fault of a second row that no side wrote.
-const NO_SIDE: Fault = Fault::Trace(3, Kind::Side);
-
-/// What is seen of a sink that has the finding of the first row.
-const FIRST_FINDING: Seen = Seen::Taken(b"F 1 T - 38\n");
-
-const FAULTY_LINE: [Step; 3] = [
-    Step {
-        chunk: HEADER,
-        fault: None,
-        seen: Seen::Taken(b""),
-    },
-    Step {
-        chunk: b"1 T -\n2 X -\n3 T -\n",
-        fault: Some(NO_SIDE),
-        seen: FIRST_FINDING,
-    },
-    Step {
-        chunk: b"4 T -\n",
-        fault: Some(NO_SIDE),
-        seen: FIRST_FINDING,
-    },
-];
-
-const END_AT_A_FAULTY_LINE: End = End {
-    fault: Some(NO_SIDE),
-    findings: 0,
-    seen: FIRST_FINDING,
-};
-
-#[test]
-fn a_faulty_line_is_told_behind_the_findings(rt: HostRuntime) {
-    play(
-        &rt,
-        rt.alloc(),
-        usize::MAX,
-        FAULTY_LINE.as_slice(),
-        &END_AT_A_FAULTY_LINE,
-    )
 }
 
 const FAILING_SINK: [Step; 4] = [

@@ -84,18 +84,6 @@ pub fn check_bytes<R: Threads + Wait + Clock + Sync + Abort>(
     }
 }
 
-/// Scans traces in steps of any size.
-pub fn check_all<R: Threads + Wait + Clock + Sync + Abort>(
-    rt: &R,
-    alloc: Global,
-    way: Way,
-    traces: &[Worked],
-) {
-    for worked in traces {
-        check_bytes(rt, alloc, way, worked, usize::MAX);
-    }
-}
-
 /// How a table of traces is tested.
 #[derive(Clone, Copy)]
 pub enum Test {
@@ -121,7 +109,7 @@ fn check_trace<R: Threads + Wait + Clock + Sync + Abort>(
 }
 
 /// Tests the traces of a table.
-pub fn check_table<R: Threads + Wait + Clock + Sync + Abort>(
+fn check_table<R: Threads + Wait + Clock + Sync + Abort>(
     rt: &R,
     alloc: Global,
     test: Test,
@@ -144,14 +132,23 @@ fn check_long_trace<R: Threads + Wait + Clock + Sync + Abort>(
 }
 
 /// Tests the traces that are too long to be written out.
-pub fn check_long_traces<R: Threads + Wait + Clock + Sync + Abort>(
-    rt: &R,
-    alloc: Global,
-    test: Test,
-) {
+fn check_long_traces<R: Threads + Wait + Clock + Sync + Abort>(rt: &R, alloc: Global, test: Test) {
     for long in &LONG_TRACES {
         check_long_trace(rt, alloc, test, long);
     }
+}
+
+/// Tests all worked traces.
+pub fn check_tables<R: Threads + Wait + Clock + Sync + Abort>(rt: &R, alloc: Global, test: Test) {
+    for table in [
+        Table::Channels,
+        Table::Epochs,
+        Table::Messages,
+        Table::Refused,
+    ] {
+        check_table(rt, alloc, test, table);
+    }
+    check_long_traces(rt, alloc, test);
 }
 
 /// Where a source fails, by what the scan is refused then, and what was written before.

@@ -2,8 +2,7 @@
 
 use crate::scans::NO_ROWS;
 use crate::scans::checks::{
-    Stop, Test, check, check_long_traces, check_stops, check_table, check_writes, same_bytes,
-    same_number,
+    Stop, Test, check, check_stops, check_tables, check_writes, same_bytes, same_number,
 };
 use crate::scans::runs::{NONE, Scanned, Way, scan_through};
 use crate::scans::worked::{Table, Worked, trace};
@@ -19,28 +18,8 @@ use trace_scan::gate::OpenGate;
 use trace_scan::threaded::Scan;
 
 #[test]
-fn calls_are_reported_by_any_number_of_workers(rt: HostRuntime) {
-    check_table(&rt, rt.alloc(), Test::ByCrews, Table::Channels)
-}
-
-#[test]
-fn epochs_are_reported_by_any_number_of_workers(rt: HostRuntime) {
-    check_table(&rt, rt.alloc(), Test::ByCrews, Table::Epochs)
-}
-
-#[test]
-fn messages_are_reported_by_any_number_of_workers(rt: HostRuntime) {
-    check_table(&rt, rt.alloc(), Test::ByCrews, Table::Messages)
-}
-
-#[test]
-fn faulty_texts_are_refused_by_any_number_of_workers(rt: HostRuntime) {
-    check_table(&rt, rt.alloc(), Test::ByCrews, Table::Refused)
-}
-
-#[test]
-fn long_traces_are_reported_by_any_number_of_workers(rt: HostRuntime) {
-    check_long_traces(&rt, rt.alloc(), Test::ByCrews)
+fn worked_traces_are_reported_by_any_number_of_workers(rt: HostRuntime) {
+    check_tables(&rt, rt.alloc(), Test::ByCrews)
 }
 
 /// What the workers of a scan must have found.
@@ -110,24 +89,6 @@ pub const fn findings(pieces: u64) -> Totals {
         octets: 0,
         segments: 0,
     }
-}
-
-/// Scans three epochs by crews of several sizes.
-fn check_three_epochs<R: Threads + Wait + Clock + Sync + Abort>(rt: &R, alloc: Global) {
-    let worked = trace(rt, Table::Epochs, "three-epochs");
-    for (workers, capacity) in [(1, 1), (1, 64), (2, 1), (2, 64), (64, 1), (64, 64)] {
-        let work = Work {
-            workers,
-            totals: findings(12),
-            shares: &[],
-        };
-        check_work(rt, alloc, worked, capacity, &work);
-    }
-}
-
-#[test]
-fn three_epochs_have_twelve_pieces(rt: HostRuntime) {
-    check_three_epochs(&rt, rt.alloc())
 }
 
 /// Scans one piece by many workers, of which one has it.

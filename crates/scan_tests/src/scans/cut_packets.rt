@@ -141,11 +141,7 @@ fn check_types<R: Threads + Wait + Clock + Sync + Abort>(
 }
 
 #[test]
-fn packets_of_each_type_are_cut_to_each_length_modulo_8(rt: HostRuntime) {
-    check_types(&rt, rt.alloc(), &MODULO_8)
-}
-
-#[test]
-fn packets_of_each_type_are_cut_to_each_length_modulo_128(rt: HostRuntime) {
-    check_types(&rt, rt.alloc(), &MODULO_128)
+fn packets_of_each_type_are_cut_to_each_length(rt: HostRuntime) {
+    check_types(&rt, rt.alloc(), &MODULO_8);
+    check_types(&rt, rt.alloc(), &MODULO_128);
 }

@@ -1,11 +1,11 @@
 //! The scan that follows a trace, over the devices of the tests.
 
 use crate::scans::checks::{
-    STEPS, Stop, Test, agree_on_fault, agree_on_report, check, check_all, check_stops, check_table,
+    STEPS, Stop, Test, agree_on_fault, agree_on_report, check, check_stops, check_tables,
     check_writes,
 };
 use crate::scans::runs::{Way, scan};
-use crate::scans::worked::{Table, Worked};
+use crate::scans::worked::Worked;
 use line_model::fault::{Fault, Kind};
 use std::alloc::Global;
 use std::process::Abort;
@@ -30,44 +30,9 @@ pub fn check_followed<R: Threads + Wait + Clock + Sync + Abort>(
     }
 }
 
-/// Follows the traces of all tables.
-fn check_tables<R: Threads + Wait + Clock + Sync + Abort>(rt: &R, alloc: Global) {
-    check_table(rt, alloc, Test::Followed, Table::Channels);
-    check_table(rt, alloc, Test::Followed, Table::Epochs);
-    check_table(rt, alloc, Test::Followed, Table::Messages);
-    check_table(rt, alloc, Test::Followed, Table::Refused);
-}
-
 #[test]
 fn followed_traces_end_with_their_reports(rt: HostRuntime) {
-    check_tables(&rt, rt.alloc())
-}
-
-/// Traces with findings before a faulty line.
-const FAULTY: [Worked; 3] = [
-    Worked {
-        name: "finding, then no side",
-        text: b"X25 1 MOD 8 WIN 2 SIZE 128 PVC 0 SVC 4\n1 T -\n2 X -\n",
-        fault: Some(Fault::Trace(3, Kind::Side)),
-        report: b"F 1 T - 38\n",
-    },
-    Worked {
-        name: "findings, then a number twice",
-        text: b"X25 1 MOD 8 WIN 2 SIZE 128 PVC 0 SVC 4\n1 T -\n2 N 10\n2 N 10\n3 T -\n",
-        fault: Some(Fault::Trace(4, Kind::Number)),
-        report: b"F 1 T - 38\nF 2 N - 38\n",
-    },
-    Worked {
-        name: "finding, then no side and no line feed",
-        text: b"X25 1 MOD 8 WIN 2 SIZE 128 PVC 0 SVC 4\n1 T -\n2 X -",
-        fault: Some(Fault::Trace(3, Kind::Side)),
-        report: b"F 1 T - 38\n",
-    },
-];
-
-#[test]
-fn findings_stand_before_a_faulty_line(rt: HostRuntime) {
-    check_all(&rt, rt.alloc(), Way::Following, FAULTY.as_slice())
+    check_tables(&rt, rt.alloc(), Test::Followed)
 }
 
 /// A header and two rows of six bytes.

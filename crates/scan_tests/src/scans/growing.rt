@@ -3,9 +3,9 @@
 ghost use Rattle.std.specs.Prelude.{◌≡◌, ◌<◌};
 ghost use Rattle.live_report.specs.Lives.{IsFed};
 
-use crate::scans::checks::{Test, check_long_traces, check_table, same_bytes};
+use crate::scans::checks::{Test, check_tables, same_bytes};
 use crate::scans::runs::{Outcome, Way, scan};
-use crate::scans::worked::{Table, Worked};
+use crate::scans::worked::Worked;
 use channel_machine::channel::PlainChannel;
 use channel_run::run::Channel;
 use line_model::count::Count;
@@ -109,26 +109,6 @@ pub fn check_growing<R: Threads + Wait + Clock + Sync + Abort>(
 }
 
 #[test]
-fn calls_are_reported_while_they_grow(rt: HostRuntime) {
-    check_table(&rt, rt.alloc(), Test::WhileItGrows, Table::Channels)
-}
-
-#[test]
-fn epochs_are_reported_while_they_grow(rt: HostRuntime) {
-    check_table(&rt, rt.alloc(), Test::WhileItGrows, Table::Epochs)
-}
-
-#[test]
-fn messages_are_reported_while_they_grow(rt: HostRuntime) {
-    check_table(&rt, rt.alloc(), Test::WhileItGrows, Table::Messages)
-}
-
-#[test]
-fn faulty_texts_are_refused_while_they_grow(rt: HostRuntime) {
-    check_table(&rt, rt.alloc(), Test::WhileItGrows, Table::Refused)
-}
-
-#[test]
-fn long_traces_are_reported_while_they_grow(rt: HostRuntime) {
-    check_long_traces(&rt, rt.alloc(), Test::WhileItGrows)
+fn worked_traces_are_reported_while_they_grow(rt: HostRuntime) {
+    check_tables(&rt, rt.alloc(), Test::WhileItGrows)
 }

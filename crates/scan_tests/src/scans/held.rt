@@ -159,13 +159,9 @@ fn check_side_by_side<R: Threads + Wait + Clock + Sync + Abort>(
 }
 
 #[test]
-fn two_workers_run_pieces_side_by_side(rt: HostRuntime) {
-    check_side_by_side(&rt, rt.alloc(), 2, 6)
-}
-
-#[test]
-fn four_workers_run_pieces_side_by_side(rt: HostRuntime) {
-    check_side_by_side(&rt, rt.alloc(), 4, 3)
+fn two_and_four_workers_run_pieces_side_by_side(rt: HostRuntime) {
+    check_side_by_side(&rt, rt.alloc(), 2, 6);
+    check_side_by_side(&rt, rt.alloc(), 4, 3);
 }
 
 /// How many bytes the first line has, with its LF.

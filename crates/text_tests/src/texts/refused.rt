@@ -4,12 +4,10 @@ use crate::checks::holds_at;
 use crate::texts::HEADER;
 use line_model::fault::Fault;
 use line_model::row::Row;
-use line_model::state::Side;
 use std::alloc::{Allocator, Global};
 use std::process::Abort;
 use test_devices::scarce::Scarce;
 use trace_text::lines::Lines;
-use trace_text::shares::{Share, ShareFault};
 
 /// The most growths that this test looks for.
 const GROWTHS: u64 = 1000;
@@ -78,36 +76,4 @@ fn a_reader_that_wanted_memory_wants_it_from_then_on(rt: HostRuntime) {
     let heap = Scarce::new(rt.alloc());
     let growths = growths(&rt, &heap);
     assert!(rt; 0 < growths && growths < GROWTHS);
-}
-
-/// What a new share answers to one row.
-fn next_row<A: Allocator>(row: &mut Row<A>) -> Result<bool, ShareFault> {
-    match Share::new().next_row(b"1 T 10010B0000\n", row) {
-        Ok(rest) => Ok(rest == Some(b"".as_slice())),
-        Err(fault) => Err(fault),
-    }
-}
-
-/// What a share answers to a row whose first growth is refused, what a new share answers, and how many octets there are then.
-fn read_again(
-    heap: &Scarce<Global>,
-) -> (Result<bool, ShareFault>, Result<bool, ShareFault>, usize) {
-    let mut row = Row {
-        number: 0,
-        side: Side::T,
-        octets: Vec::new(heap),
-    };
-    heap.refuse_one(0);
-    let refused = next_row(&mut row);
-    heap.grant_all();
-    let again = next_row(&mut row);
-    (refused, again, row.octets.len())
-}
-
-#[test]
-fn a_share_that_wanted_memory_is_read_again(rt: HostRuntime) {
-    let heap = Scarce::new(rt.alloc());
-    let (refused, again, octets) = read_again(&heap);
-    assert!(rt; refused == Err(ShareFault::Memory));
-    assert!(rt; again == Ok(true) && octets == 5);
 }

@@ -118,22 +118,6 @@ fn holds_for(rt: &impl Abort, holds: bool, number: usize) {
     assert!(rt; holds, "for {number}");
 }
 
-/// Sees that a sink that takes so many bytes a call takes all of a text.
-fn check_step(rt: &impl Abort, alloc: Global, wanted: &str, step: usize) {
-    let answer = annotated(alloc, alloc, Cuts::of_steps(7, step), TIMES);
-    holds_for(rt, answer.is_whole(wanted), step);
-}
-
-#[test]
-fn a_long_closing_is_written_whole(rt: HostRuntime) -> Result<(), Fail> {
-    let wanted = whole(rt.alloc(), TIMES)?;
-    assert!(rt; 4 * 4096 < wanted.len());
-    for step in &[1, 7, 4096, usize::MAX] {
-        check_step(&rt, rt.alloc(), &wanted, *step);
-    }
-    Ok(())
-}
-
 /// Fails the sink at the call after so many good ones, and answers whether it has failed.
 fn check_failure(rt: &impl Abort, alloc: Global, wanted: &str, step: usize, good: usize) -> bool {
     let cuts = Cuts {

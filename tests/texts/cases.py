@@ -1,0 +1,145 @@
+"""Texts that are refused or taken, with what is wanted of the program."""
+from dataclasses import dataclass
+from typing import Optional
+
+HEADER = b"X25 1 MOD 8 WIN 2 SIZE 128 PVC 0 SVC 4\n"
+TEXT_LIMIT = 1 << 30
+LINE_LIMIT = 8500
+MISSING, HEADER_FORM, HEADER_RANGE, LINE_FORM, NUMBER, SIDE, HEX, LINE_LONG, TEXT_LARGE = range(21, 30)
+CARRIAGE_RETURN = "The line ends in a carriage return, and a line feed alone ends a line: tr -d '\\r' < FILE | x25scan reads the text."
+LONG_LINE = "The line has more than 8,500 bytes without its line feed, comments too."
+# More rows than the last bytes that a refusal is explained by.
+MANY = b"".join(b"%d T 1000FB0000\n" % number for number in range(1, 20000))
+
+
+@dataclass
+class Text:
+    """A text, and the line and the kind by which it is refused, with the sentence that says why; or none, and its rows."""
+
+    text: bytes
+    line: int = 0
+    kind: int = 0
+    # None where only the first line of the refusal is compared.
+    said: Optional[str] = None
+    rows: int = 0
+    # How many bytes of comments come first.
+    comments: int = 0
+
+
+# Rows after a header: the line of the text that is faulty, its kind, and what is said of it.
+ROWS = [
+    (b"5 T -\n5 T -\n", 3, NUMBER, "The row's number is 5, and that of the row before is 5: numbers rise."),
+    (b"1 T -\n# a comment\n1 T -\n", 4, NUMBER, "The row's number is 1, and that of the row before is 1: numbers rise."),
+    (b"9 T 1000FB0000\n# a comment\n7 N 1000FF\n", 4, NUMBER, "The row's number is 7, and that of the row before is 9: numbers rise."),
+    (MANY + b"19999 T -\n1 N -\n", 20001, NUMBER, "The row's number is 19999, and that of the row before is 19999: numbers rise."),
+    (b"\n", 2, LINE_FORM, "The line is empty."),
+    (b"1 T 10\n\n2 T 10\n", 3, LINE_FORM, "The line is empty."),
+    (b"1 T\n", 2, LINE_FORM, "The line has 2 words, and a row has three: its number, its side and its octets."),
+    (b"1 10\n", 2, LINE_FORM, "The line has 2 words, and a row has three: its number, its side and its octets."),
+    (b"1 T  10\n", 2, LINE_FORM, "There are two spaces at column 4: single spaces part the words."),
+    (b"1  T -\n", 2, LINE_FORM, "There are two spaces at column 2: single spaces part the words."),
+    (b"1\tT 10\n", 2, LINE_FORM, "There is a tab at column 2: single spaces part the words."),
+    (b" 1 T 10\n", 2, LINE_FORM, "The line begins with a space."),
+    (b"1 T 10 \n", 2, LINE_FORM, "The line ends in a space."),
+    (b"1 T - \n", 2, LINE_FORM, "The line ends in a space."),
+    (b"0 T -", 2, NUMBER, "The row's number is 0: rows are numbered from 1."),
+    (b"01 T -", 2, NUMBER, 'The row\'s number is "01": 1 to 999999999 without a leading zero belongs there.'),
+    (b"07 T -\n", 2, NUMBER, 'The row\'s number is "07": 1 to 999999999 without a leading zero belongs there.'),
+    (b"1000000000 T -", 2, NUMBER, None),
+    (b"1 T -\n# a comment\n2 X 100\n3 T 1", 4, SIDE, 'The side is "X": T for the DTE or N for the DCE belongs there.'),
+    (b"1 T -\n2 t -\n", 3, SIDE, "The side t is written T."),
+    (b"1 n -\n", 2, SIDE, "The side n is written N."),
+    (b"1 DTE -\n", 2, SIDE, 'The side is "DTE": T for the DTE or N for the DCE belongs there.'),
+    (b"1 X\x01 -\n", 2, SIDE, 'The side is "X\\x01": T for the DTE or N for the DCE belongs there.'),
+    (b"1 T 100\n", 2, HEX, "The octets have 3 hex digits, an odd number: the last one, at column 7, stands alone."),
+    (b"1 T 100", 2, HEX, "The octets have 3 hex digits, an odd number: the last one, at column 7, stands alone."),
+    (b"12 T 100\n", 2, HEX, "The octets have 3 hex digits, an odd number: the last one, at column 8, stands alone."),
+    (b"1 T 10x0\n", 2, HEX, 'At column 7 stands "x", which is no hex digit.'),
+    (b"1 T 1g\n", 2, HEX, 'At column 6 stands "g", which is no hex digit.'),
+    (b"12 T 10g0\n", 2, HEX, 'At column 8 stands "g", which is no hex digit.'),
+    (b"1 T 10\r\n", 2, HEX, CARRIAGE_RETURN),
+]
+
+# Whole texts whose header is missing or faulty.
+HEADERS = [
+    (b"", 1, MISSING, "The text is empty."),
+    (b"# a\n# b\n", 3, MISSING, "The text has no line that is not a comment."),
+    (b"#", 2, MISSING, "The text has no line that is not a comment."),
+    (b"# no header\n", 2, MISSING, "The text has no line that is not a comment."),
+    (b"\n", 1, HEADER_FORM, None),
+    (b"X25 1 mod 8 WIN 2 SIZE 128 PVC 0 SVC 4", 1, HEADER_FORM, 'The header\'s words are in capitals: "mod" is written MOD.'),
+    (b"X25 1 MOD 8 SIZE 128 PVC 0 SVC 4", 1, HEADER_FORM, 'In the header stands "SIZE" where WIN belongs.'),
+    (b"X25 1 MOD 8 WIN 02 SIZE 128 PVC 0 SVC 4", 1, HEADER_FORM, 'Behind WIN stands "02": a number of 1 to 9 digits without a leading zero belongs there.'),
+    (b"X25 1 MOD 08 WIN 2 SIZE 128 PVC 0 SVC 4", 1, HEADER_FORM, 'Behind MOD stands "08": a number of 1 to 9 digits without a leading zero belongs there.'),
+    (b"X25 1 MOD 1000000000 WIN 2 SIZE 128 PVC 0 SVC 4", 1, HEADER_FORM, None),
+    (b"X25 1 MOD 8 WIN 2 SIZE 128 PVC 0", 1, HEADER_FORM, "The header ends where SVC belongs."),
+    (b"X25 1 MOD 8 WIN 2 SIZE 128 PVC", 1, HEADER_FORM, "The header ends where the number of PVC belongs."),
+    (b"X25 2 MOD 8 WIN 2 SIZE 128 PVC 0 SVC 4", 1, HEADER_FORM, 'In the header stands "SVC" where IN belongs.'),
+    (b"X25 3 MOD 8", 1, HEADER_FORM, "Behind X25 belongs 1 or 2, the form of the header."),
+    (b"X25 1 MOD 8 WIN 2 SIZE 128 PVC 0 SVC 4 JOIN", 1, HEADER_FORM, 'Behind the header\'s last number stands "JOIN".'),
+    (b"X25 2 MOD 8 WIN 2 SIZE 128 PVC 0 IN 0 TWO 4 OUT 4 join", 1, HEADER_FORM, 'The header\'s words are in capitals: "join" is written JOIN.'),
+    (b"1 T 10\n", 1, HEADER_FORM, "A row stands before the header, which comes first, as X25 1 MOD 8 WIN 2 SIZE 128 PVC 0 SVC 4."),
+    (b"X25 1 MOD 8 WIN 2 SIZE 128 PVC 0 SVC 4\r\n", 1, HEADER_FORM, CARRIAGE_RETURN),
+    (b"#\nX25 1 MOD 9 WIN 2 SIZE 128 PVC 0 SVC 4", 2, HEADER_RANGE, "The header's MOD is 9: 8 or 128 belongs there."),
+    (b"X25 1 MOD 8 WIN 8 SIZE 128 PVC 0 SVC 4", 1, HEADER_RANGE, "The header's WIN is 8: 1 to 7 belongs there."),
+    (b"X25 1 MOD 8 WIN 2 SIZE 100 PVC 0 SVC 4", 1, HEADER_RANGE, "The header's SIZE is 100: a power of two from 16 to 4096 belongs there."),
+    (b"X25 1 MOD 8 WIN 2 SIZE 128 PVC 5 SVC 4", 1, HEADER_RANGE, "The header's PVC is 5: 0 to 4 belongs there."),
+    (b"X25 2 MOD 8 WIN 2 SIZE 128 PVC 0 IN 5 TWO 4 OUT 4", 1, HEADER_RANGE, "The header's IN is 5: 0 to 4 belongs there."),
+    (b"X25 2 MOD 8 WIN 2 SIZE 128 PVC 1 IN 0 TWO 4 OUT 4", 1, HEADER_RANGE, None),
+    (b"\xef\xbb\xbfX25 1", 1, HEADER_FORM, "The text begins with a byte order mark: tail -c +4 FILE | x25scan reads it."),
+    (b"\x1f\x8b\x08\x00", 1, HEADER_FORM, "This is a gzip file: gzip -dc FILE | x25scan reads what is in it."),
+    (b"\xd4\xc3\xb2\xa1\x02\x00", 1, HEADER_FORM, "This is a capture: tools/x25trace FILE | x25scan reads it."),
+    (b"\xd4\xc3\xb2\xa1\x02\x00\x04\x00\n", 1, HEADER_FORM, "This is a capture: tools/x25trace FILE | x25scan reads it."),
+    (b"\x0a\x0d\x0d\x0a\x1c\x00\x00\x00", 1, HEADER_FORM, "This is a capture: tools/x25trace FILE | x25scan reads it."),
+]
+
+# Texts that are taken, with the number of their rows.
+TAKEN = [
+    (HEADER, 0),
+    (HEADER + b"1 T -\n", 1),
+    (HEADER + b"1 T -", 1),
+    (HEADER + b"# both sides\n7 T 1000F101\n8 N 1000F101\n9 T 1000F3\n12 N 10\n", 4),
+    (b"# first\n" + HEADER + b"1 T 10010b0000\n# last\n7 N -", 2),
+    (b"X25 1 MOD 128 WIN 7 SIZE 4096 PVC 1 SVC 9", 0),
+    (b"X25 2 MOD 8 WIN 2 SIZE 16 PVC 1 IN 2 TWO 3 OUT 4 JOIN\n", 0),
+    (HEADER + b"#" + b"a" * 8499 + b"\n", 0),
+    (HEADER + b"1 T " + b"00" * 4200, 1),
+]
+
+# Lines at the limits of a line.
+LONG = [
+    (HEADER + b"#" + b"a" * 8500, 2, LINE_LONG, LONG_LINE),
+    (HEADER + b"1 T " + b"00" * 4201, 2, HEX, None),
+    (b"x" * 9000, 1, LINE_LONG, LONG_LINE),
+    (b"1" * 8500 + b"\n", 1, HEADER_FORM, None),
+    (b"1" * 8501 + b"\n", 1, LINE_LONG, LONG_LINE),
+]
+
+# How many bytes of the text's limit are left after the header and comments; the last line; its kind, or 0 where it is taken.
+LAST_LINES = [
+    (6, b"1 X 1\n", SIDE),
+    (5, b"1 X 1\n", TEXT_LARGE),
+    (5, b"1 T -", 0),
+    (4, b"1 T 1", TEXT_LARGE),
+    (8501, b"1" * 8501 + b"\n", LINE_LONG),
+    (8500, b"1" * 8501 + b"\n", TEXT_LARGE),
+]
+
+
+def texts():
+    """All texts."""
+    for rows, line, kind, said in ROWS:
+        yield Text(HEADER + rows, line, kind, said)
+    for text, line, kind, said in [*HEADERS, *LONG]:
+        yield Text(text, line, kind, said)
+    for text, rows in TAKEN:
+        yield Text(text, rows=rows)
+
+
+def texts_at_the_limit():
+    """Texts whose last line begins shortly before byte 2^30."""
+    for left, line, kind in LAST_LINES:
+        comments = TEXT_LIMIT - len(HEADER) - left
+        whole, rest = divmod(comments, LINE_LIMIT + 1)
+        lines = 1 + whole + (1 if rest else 0)
+        yield Text(line, lines + 1 if kind else 0, kind, rows=0 if kind else 1, comments=comments)
