@@ -61,7 +61,7 @@ def processes():
         if folder.name.isdigit():
             try:
                 fields = (folder / "stat").read_text().rpartition(") ")[2].split()
-                words = (folder / "cmdline").read_text().split("\0")[:-1]
+                words = os.fsdecode((folder / "cmdline").read_bytes()).split("\0")[:-1]
             except OSError:
                 continue
             seconds = sum(int(it) for it in fields[11:15]) / TICKS

@@ -125,6 +125,12 @@ fn agree(rt: &impl Abort, told: &Conversion, objects: &[u8]) {
     assert!(rt; told.bytes.as_slice() == objects);
 }
 
+/// Takes all.
+const WHOLE: Takes = Takes {
+    step: usize::MAX,
+    good_calls: usize::MAX,
+};
+
 /// Takes a byte a call.
 const SLOW: Takes = Takes {
     step: 1,
@@ -136,6 +142,14 @@ fn a_sink_that_takes_one_byte_a_call_takes_the_same(rt: HostRuntime) {
     let told = converted(rt.alloc(), REPORT, 7, SLOW);
     agree(&rt, &told, OBJECTS);
     assert!(rt; told.calls == OBJECTS.len());
+}
+
+#[test]
+fn each_part_is_one_write(rt: HostRuntime) {
+    let by_byte = converted(rt.alloc(), REPORT, 1, WHOLE);
+    assert!(rt; by_byte.calls == 11);
+    let at_once = converted(rt.alloc(), REPORT, 65536, WHOLE);
+    assert!(rt; at_once.calls == 1);
 }
 
 /// Sees that a sink failed after so many good calls, and has a first part of the objects.
