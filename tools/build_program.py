@@ -213,7 +213,7 @@ class Build:
 def build():
     """Builds the program, and returns whether it stands."""
     kit()
-    say("proving and building the program, which takes some minutes the first time")
+    say("proving and building the program, which takes a quarter of an hour the first time; bin/x25try prints a report in a minute")
     began = time.time()
     for folder in (LIBRARIES, FRESH, PROGRAM.parent):
         folder.mkdir(parents=True, exist_ok=True)
