@@ -1,12 +1,16 @@
 #!/usr/bin/env python3
 """codes_document.py [--check]: writes docs/CODES.md from the table of crates/explanations.
 
-With --check it writes nothing, and says where the document is another one, where a definition or a trace that a row
-names is not there, and where a trace does not print the row's example. The last line is 'N passed, M failed'.
+With --check it writes nothing, and says where the document is another one, where a definition, a trace, a function, a
+proof or an edit that a row names is not there, and where a trace does not print the row's example. The last line is
+'N passed, M failed'.
 """
 import pathlib
 import re
 import sys
+
+sys.dont_write_bytecode = True
+from code_proofs import PROOFS
 
 ROOT = pathlib.Path(__file__).resolve().parent.parent
 SOURCES = ROOT / "crates" / "explanations" / "src"
@@ -38,6 +42,20 @@ faulty line, and `--explain kind` all kinds; so it is with `line`, `side`, `dire
 means the edition of 10/96. The last column has what is printed, and the trace that prints it.
 `tools/codes_document.py` writes this page from the table of [explanations](../crates/explanations).
 """
+PROOFS_HEAD = """
+## From a code to its proof
+
+Each code has its rule in words, the definition that says it, the function that gives it with the contract that names the
+definition, the file of the function's proof, an edit that the prover refuses, and a trace that prints it. Where no file is
+named the prover finds the proof of the contract by itself.
+
+The scans keep the windows and interrupts of a channel in one word: `FlowWord` of
+[packed.rt](../crates/window_check/src/packed.rt) judges P(S) and P(R) there, and its contract says what that of `Flow`
+says. `Flow` judges for `PlainChannel`, which only tests and users of the library run.
+
+| code | rule | definition | function | proof | edit | trace |
+|---|---|---|---|---|---|---|
+"""
 
 
 def rows():
@@ -62,6 +80,25 @@ def line_of(row):
     return "| " + " | ".join(cell.replace("|", "\\|") for cell in cells) + " |\n"
 
 
+def anchor(heading):
+    """The anchor of a heading."""
+    return re.sub(r"[^\w -]", "", heading.lower()).replace(" ", "-")
+
+
+def proof_line(row):
+    """The line that leads from a code to its proof."""
+    proof = PROOFS[row["word"]]
+    source = f"[`{proof.function}`](../{proof.source})"
+    cells = [f"`{row['word']}`", f"[{proof.rule}](RULES.md#{anchor(proof.rule)})", link(row["definition"]), source]
+    cells += [f"[{'/'.join(pathlib.Path(proof.proof).parts[3:])}](../{proof.proof})" if proof.proof else "-", link(proof.edit), link(row["trace"])]
+    return "| " + " | ".join(cells) + " |\n"
+
+
+def codes():
+    """The rows of codes."""
+    return [row for row in rows() if row["topic"] in ("Code", "Message")]
+
+
 def document():
     """The text of the document."""
     text, topic = HEAD, None
@@ -70,7 +107,7 @@ def document():
             topic = row["topic"]
             text += f"\n## {TITLES[topic]}\n\n| word | meaning | rule | example |\n|---|---|---|---|\n"
         text += line_of(row)
-    return text
+    return text + PROOFS_HEAD + "".join(map(proof_line, codes()))
 
 
 def printed(trace):
@@ -94,12 +131,26 @@ def complaints(row):
     return said
 
 
+def proof_complaints(row):
+    """What is missing between a code and its proof."""
+    proof = PROOFS.get(row["word"])
+    if not proof:
+        return ["tools/code_proofs.py has no row for it"]
+    said = [f"there is no {path}" for path in (proof.source, proof.edit, proof.proof) if path and not (ROOT / path).exists()]
+    if not said and not re.search(rf"\bfn {proof.function}\b", (ROOT / proof.source).read_text()):
+        said.append(f"{proof.source} has no function {proof.function}")
+    if not re.search(rf"^#+ {re.escape(proof.rule)}$", (ROOT / "docs" / "RULES.md").read_text(), re.MULTILINE):
+        said.append(f"docs/RULES.md has no heading {proof.rule}")
+    return said
+
+
 def check():
     """Checks the document and the rows, and returns the exit status."""
     passed, failed = 0, 0
     current = DOCUMENT.exists() and DOCUMENT.read_text() == document()
     outcomes = [("docs/CODES.md", [] if current else ["it is not what tools/codes_document.py writes"])]
     outcomes += [(f"{row['word']} ({row['topic']})", complaints(row)) for row in rows()]
+    outcomes += [(f"the proof of {row['word']}", proof_complaints(row)) for row in codes()]
     for name, said in outcomes:
         passed, failed = passed + (not said), failed + bool(said)
         for it in said:

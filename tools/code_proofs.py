@@ -1,0 +1,92 @@
+"""Where each code of a finding is given and proved: its rule, the function, the file of its proof, and a must-fail edit.
+
+`tools/codes_document.py` writes them into docs/CODES.md, and checks that each of them is there.
+"""
+from dataclasses import dataclass
+from typing import Optional
+
+
+@dataclass
+class Proof:
+    """Where a code is given, and what guards it."""
+
+    # The heading of docs/RULES.md.
+    rule: str
+    # The file of the function, and its name.
+    source: str
+    function: str
+    # The edit of the function, or of what it stands on, that the prover has to refuse.
+    edit: str
+    # None where the prover finds the proof of the contract by itself.
+    proof: Optional[str] = None
+
+
+def table(rule, edit="restart_is_taken_in_r2"):
+    """A code that is an entry of the state tables."""
+    return Proof(rule, "crates/line_model/src/table.rt", "table_t", f"crates/line_model/must-fail/{edit}.edit")
+
+
+def number(function, edit):
+    """A code of windows and interrupts."""
+    return Proof("Windows and interrupts", "crates/window_check/src/flow.rt", function, f"crates/window_check/must-fail/{edit}.edit", f"crates/window_check/proofs/flow/Flow/{function}/Answers.antt")
+
+
+def field(function, edit):
+    """A code of a call packet's fields."""
+    return Proof("Call packets", "crates/packet_decode/src/fields.rt", function, f"crates/packet_decode/must-fail/{edit}.edit", f"crates/packet_decode/proofs/fields/{function}/Answers.antt")
+
+
+def length(function, edit):
+    """A code of a packet's length."""
+    return Proof("Faults of format", "crates/packet_decode/src/lengths.rt", function, f"crates/packet_decode/{edit}.edit", "crates/packet_decode/proofs/ContentsLemmas.antt")
+
+
+def packet_class(edit):
+    """A code that a packet's class has by itself."""
+    return Proof("Packets", "crates/packet_decode/src/decode.rt", "class_of", f"crates/packet_decode/{edit}.edit", "crates/packet_decode/proofs/decode/type_class/Answers.antt")
+
+
+def message(edit):
+    """A code of a PAD message's form."""
+    return Proof("Sequences and PAD messages", "crates/x29_messages/src/message.rt", "read_message", f"crates/x29_messages/{edit}.edit", "crates/x29_messages/proofs/message/read_message/Answers.antt")
+
+
+def setting(edit):
+    """A code of what a PAD message asks or says."""
+    return Proof("Sequences and PAD messages", "crates/x3_parameters/src/settings.rt", "apply", f"crates/x3_parameters/must-fail/{edit}.edit", "crates/x3_parameters/proofs/Applied.antt")
+
+
+RESTART, CALL, TRANSFER = "The restart tables", "The call tables", "The data transfer tables"
+PROOFS = {
+    "1": number("data", "window_is_not_judged"),
+    "2": number("ack", "any_residue_is_acknowledged"),
+    **{code: table(RESTART) for code in ("17", "18")},
+    "19": table(RESTART, "owed_indication_is_an_error"),
+    **{code: table(CALL) for code in ("20", "21", "22", "23", "24", "25", "26")},
+    **{code: table(TRANSFER) for code in ("27", "28", "29")},
+    "33": packet_class("must-fail-more/restart_confirmation_on_a_channel_is_undefined"),
+    "34": Proof(
+        "Epochs, one-way channels, joining", "crates/channel_machine/src/format.rt", "direction_fault",
+        "crates/channel_machine/must-fail/call_against_its_channel_passes.edit", "crates/channel_machine/proofs/FirstFault.antt"),
+    "35": table(TRANSFER),
+    "36": packet_class("must-fail/unassigned_channel_before_wrong_format"),
+    "37": table(TRANSFER),
+    "38": length("at_least", "must-fail-more/receive_number_of_a_cut_header_passes"),
+    "39": length("at_most", "must-fail/interrupt_of_36_octets_passes"),
+    "40": packet_class("must-fail/unassigned_channel_before_wrong_format"),
+    "41": packet_class("must-fail-more/restart_confirmation_on_a_channel_is_undefined"),
+    "43": number("confirm", "confirmation_leaves_interrupt"),
+    "44": number("interrupt", "second_interrupt_passes"),
+    "66": field("read_tail", "window_of_the_modulus_passes"),
+    "67": field("read_addresses", "calling_digits_are_judged_first"),
+    "68": field("read_addresses", "calling_digits_are_judged_first"),
+    "69": field("read_tail", "facility_field_of_110_octets_passes"),
+    "83": Proof(
+        "Sequences and PAD messages", "crates/mbit_assembly/src/assembler.rt", "put",
+        "crates/mbit_assembly/must-fail/mixed_qualifier_passes.edit", "crates/mbit_assembly/proofs/SequenceLemmas.antt"),
+    "X1": message("must-fail-more/high_bits_of_the_code_are_ignored"),
+    "X2": message("must-fail/break_with_any_pair_passes"),
+    "X3": setting("value_127_is_refused"),
+    "X4": setting("indication_before_any_request_passes"),
+    "XL": message("must-fail/message_of_1025_octets_is_read"),
+}
