@@ -6,7 +6,7 @@ use Rattle.command_line.specs.Program.{IsScanned, IsStatus, IsFollowStatus}
 
 -- what a scan says, by whether it follows
 pub scanned_by : (well : Type 0) (followed : Bool) (text : List ℕ) (left before after : Option (List ℕ)) (status : ℕ) →
-    (followed ≡ false → IsStatus text left before after status) → (followed ≡ true → IsFollowStatus text left before after well status) →
+    (followed ≡ false → IsStatus text left before after well status) → (followed ≡ true → IsFollowStatus text left before after well status) →
     IsScanned followed text left before after well status
 scanned_by well false text left before after status plain follow = plain refl
 scanned_by well true text left before after status plain follow = follow refl
@@ -14,7 +14,7 @@ scanned_by well true text left before after status plain follow = follow refl
 -- the same of a sink that had taken nothing and not failed
 pub scanned_afresh : (followed : Bool) (text : List ℕ) (left before after : Option (List ℕ)) (failed failures status : ℕ) →
     before ≡ Some [] → failed ≡ 0 →
-    (followed ≡ false → IsStatus text left before after status) → (followed ≡ true → IsFollowStatus text left before after (failures ≡ failed) status) →
+    (followed ≡ false → IsStatus text left before after (failures ≡ failed) status) → (followed ≡ true → IsFollowStatus text left before after (failures ≡ failed) status) →
     IsScanned followed text left (Some []) after (failures ≡ 0) status
 scanned_afresh followed text left before after failed failures status fresh well plain follow =
     subst (λ f. IsScanned followed text left (Some []) after (failures ≡ f) status) well

@@ -1,32 +1,28 @@
 -- The exit status of a scan.
-use Rattle.std.proofs.Common.{◌≡◌, ◌∙◌, sym, ap, refl, ℕ, zero, suc, ◌<◌, List, [], Option, Some, None, arith, take, append-nil, cond, ◌==◌}
+use Rattle.std.proofs.Common.{◌≡◌, ◌∙◌, sym, ap, refl, subst, inl, inr, ¬, ℕ, zero, suc, ◌<◌, List, [], ◌++◌, Option, Some, None, arith, append-nil, cond, ◌==◌}
 use Rattle.std.proofs.lemmas.Bool.Decides.{nat_tests}
-use Rattle.line_model.specs.basics.Device.{with_more}
+use Rattle.line_model.specs.text.Text.{fault}
 use Rattle.line_model.specs.declared.totals.Summary.{Summary}
 use Rattle.line_model.specs.declared.fault.Fault.{Fault}
 use Rattle.line_model.specs.declared.fault.Fault.TheVariants.{Memory, Trace, Read, Write, Start, Double, Stranger, Missing}
-use Rattle.command_line.specs.Program.{IsFollowStatus, IsStatus, fault_status, summary_status}
+use Rattle.command_line.specs.Program.{IsCutShort, IsFollowStatus, IsStatus, fault_status, summary_status}
 use Rattle.piece_feed.specs.Readings.{IsRefusal, IsRefusedBy}
 use Rattle.live_report.specs.Reports.{IsReported, IsTaken}
 use Rattle.trace_scan.specs.Follow.{IsFollowRefusal, IsToldOf}
 use Rattle.line_model.specs.traces.Traces.{trace_report, trace_summary}
 
-with_more-nothing : (o : Option (List ℕ)) → o ≡ with_more o []
-with_more-nothing None = refl
-with_more-nothing (Some xs) = ap Some (sym (append-nil xs))
-
 some_status : (m : ℕ) → cond {A = ℕ} (suc m == 0) 0 1 ≡ 1
 some_status m = grind (arith, nat_tests)
 
-counted : (text : List ℕ) (left before after : Option (List ℕ)) (n status : ℕ) → IsReported text before after (trace_summary text) → n ≡ (trace_summary text).findings → status ≡ summary_status (trace_summary text) → IsStatus text left before after status
-counted text left before after zero status r n s = record {
+counted : (text : List ℕ) (left before after : Option (List ℕ)) (well : Type 0) (n status : ℕ) → IsReported text before after (trace_summary text) → n ≡ (trace_summary text).findings → status ≡ summary_status (trace_summary text) → IsStatus text left before after well status
+counted text left before after well zero status r n s = record {
   clean = λ e. (r, sym n);
   found = λ e. absurd (let is : status ≡ 0 = rw (← n) at s in omega (arith, is, e));
   faulty = λ e. absurd (let is : status ≡ 0 = rw (← n) at s in omega (arith, is, e));
   other = λ e. absurd (let is : status ≡ 0 = rw (← n) at s in omega (arith, is, e));
   range = let is : status ≡ 0 = rw (← n) at s in omega (arith, is);
 }
-counted text left before after (suc m) status r n s = record {
+counted text left before after well (suc m) status r n s = record {
   clean = λ e. absurd (let is : status ≡ 1 = (rw (← n) at s) ∙ some_status m in omega (arith, is, e));
   found = λ e. (r, omega (arith, n));
   faulty = λ e. absurd (let is : status ≡ 1 = (rw (← n) at s) ∙ some_status m in omega (arith, is, e));
@@ -34,13 +30,13 @@ counted text left before after (suc m) status r n s = record {
   range = let is : status ≡ 1 = (rw (← n) at s) ∙ some_status m in omega (arith, is);
 }
 
-pub reported_status : (text : List ℕ) (left before after : Option (List ℕ)) (sums : Summary) (status : ℕ) → IsReported text before after sums → status ≡ summary_status sums → IsStatus text left before after status
-reported_status text left before after sums status r s =
+pub reported_status : (text : List ℕ) (left before after : Option (List ℕ)) (well : Type 0) (sums : Summary) (status : ℕ) → IsReported text before after sums → status ≡ summary_status sums → IsStatus text left before after well status
+reported_status text left before after well sums status r s =
     let whole : IsReported text before after (trace_summary text) = record { sound = r.sound; taken = r.taken; counted = refl } in
-    counted text left before after (trace_summary text).findings status whole refl (s ∙ ap summary_status r.counted)
+    counted text left before after well (trace_summary text).findings status whole refl (s ∙ ap summary_status r.counted)
 
-other_status : (text : List ℕ) (left before after : Option (List ℕ)) (status : ℕ) → status ≡ 3 → ((n : ℕ) × (after ≡ with_more before (take n (trace_report text)))) → IsStatus text left before after status
-other_status text left before after status s part = record {
+other_status : (text : List ℕ) (left before after : Option (List ℕ)) (well : Type 0) (status : ℕ) → status ≡ 3 → ((after ≡ before) ⊎ IsCutShort text before after well) → IsStatus text left before after well status
+other_status text left before after well status s part = record {
   clean = λ e. absurd (omega (arith, e, s));
   found = λ e. absurd (omega (arith, e, s));
   faulty = λ e. absurd (omega (arith, e, s));
@@ -48,16 +44,24 @@ other_status text left before after status s part = record {
   range = omega (arith, s);
 }
 
-pub refused_status : (text : List ℕ) (left before after : Option (List ℕ)) (f : Fault) (status : ℕ) → IsRefusedBy IsRefusal text left f → IsTaken before after (trace_report text) f → status ≡ fault_status f → IsStatus text left before after status
-refused_status text left before after (Trace line kind) status r taken s = record {
+-- a sink failed on the report of a text that was read whole, which has no fault
+cut_short : (text : List ℕ) (left before after : Option (List ℕ)) (well : Type 0) → IsRefusedBy IsRefusal text left Write → IsTaken before after (trace_report text) Write → (¬ well) → IsCutShort text before after well
+cut_short text left before after well r taken failed =
+    let whole : text ≡ r.given = r.whole ∙ ap (λ xs. r.given ++ xs) r.refusal.0 ∙ append-nil r.given in
+    record { failed = failed; sound = subst (λ t. fault t ≡ None) (sym whole) r.refusal.1; count = taken.0; part = taken.1 }
+
+pub refused_status : (text : List ℕ) (left before after : Option (List ℕ)) (well : Type 0) (f : Fault) (status : ℕ) → IsRefusedBy IsRefusal text left f → IsTaken before after (trace_report text) f → (f ≡ Write → ¬ well) → status ≡ fault_status f
+    → IsStatus text left before after well status
+refused_status text left before after well (Trace line kind) status r taken failed s = record {
   clean = λ e. absurd (omega (arith, e, s));
   found = λ e. absurd (omega (arith, e, s));
   faulty = λ e. (record { line = line; kind = kind; refusal = r }, taken);
   other = λ e. absurd (omega (arith, e, s));
   range = omega (arith, s);
 }
-refused_status text left before after Write status r taken s = other_status text left before after status s taken
-refused_status text left before after _ status r taken s = other_status text left before after status s (0, taken ∙ with_more-nothing before)
+refused_status text left before after well Write status r taken failed s =
+    other_status text left before after well status s (inr (cut_short text left before after well r taken (failed refl)))
+refused_status text left before after well _ status r taken failed s = other_status text left before after well status s (inl taken)
 
 pub status_range : (f : Fault) (status : ℕ) → status ≡ fault_status f → status < 4
 status_range (Trace line kind) status s = omega (arith, s)
@@ -71,7 +75,7 @@ small (suc m) status s = omega (arith, s, some_status m)
 
 pub reported_follow : (text : List ℕ) (left before after : Option (List ℕ)) (well : Type 0) (sums : Summary) (status : ℕ) → IsReported text before after sums → status ≡ summary_status sums → IsFollowStatus text left before after well status
 reported_follow text left before after well sums status r s =
-    let is = reported_status text left before after sums status r s in
+    let is = reported_status text left before after well sums status r s in
     let few = small sums.findings status s in
     record {
       clean = is.clean;
@@ -81,28 +85,29 @@ reported_follow text left before after well sums status r s =
       range = is.range;
     }
 
-other_follow : (text : List ℕ) (left before after : Option (List ℕ)) (well : Type 0) (f : Fault) (status : ℕ) → status ≡ 3 → IsRefusedBy (IsToldOf before after well) text left f → IsFollowStatus text left before after well status
-other_follow text left before after well f status s told = record {
-  clean = λ e. absurd (omega (arith, e, s));
-  found = λ e. absurd (omega (arith, e, s));
-  faulty = λ e. absurd (omega (arith, e, s));
-  other = λ e. (f, told);
-  range = omega (arith, s);
+other_follow : (text : List ℕ) (left before after : Option (List ℕ)) (well : Type 0) (f : Fault) (status : ℕ) → status ≡ 3 → status ≡ fault_status f → IsRefusedBy IsFollowRefusal text left f → IsRefusedBy (IsToldOf before after well) text left f
+    → (f ≡ Write → ¬ well) → IsFollowStatus text left before after well status
+other_follow text left before after well f status is s r told failed = record {
+  clean = λ e. absurd (omega (arith, e, is));
+  found = λ e. absurd (omega (arith, e, is));
+  faulty = λ e. absurd (omega (arith, e, is));
+  other = λ e. record { cause = f; other = sym s ∙ is; refusal = r; told = told; failed = failed };
+  range = omega (arith, is);
 }
 
-pub refused_follow : (text : List ℕ) (left before after : Option (List ℕ)) (well : Type 0) (f : Fault) (status : ℕ) → IsRefusedBy IsFollowRefusal text left f → IsRefusedBy (IsToldOf before after well) text left f → status ≡ fault_status f
-    → IsFollowStatus text left before after well status
-refused_follow text left before after well (Trace line kind) status r told s = record {
+pub refused_follow : (text : List ℕ) (left before after : Option (List ℕ)) (well : Type 0) (f : Fault) (status : ℕ) → IsRefusedBy IsFollowRefusal text left f → IsRefusedBy (IsToldOf before after well) text left f → (f ≡ Write → ¬ well)
+    → status ≡ fault_status f → IsFollowStatus text left before after well status
+refused_follow text left before after well (Trace line kind) status r told failed s = record {
   clean = λ e. absurd (omega (arith, e, s));
   found = λ e. absurd (omega (arith, e, s));
   faulty = λ e. record { line = line; kind = kind; refusal = r; told = told };
   other = λ e. absurd (omega (arith, e, s));
   range = omega (arith, s);
 }
-refused_follow text left before after well Memory status r told s = other_follow text left before after well Memory status s told
-refused_follow text left before after well Read status r told s = other_follow text left before after well Read status s told
-refused_follow text left before after well Write status r told s = other_follow text left before after well Write status s told
-refused_follow text left before after well Start status r told s = other_follow text left before after well Start status s told
-refused_follow text left before after well (Double i) status r told s = other_follow text left before after well (Double i) status s told
-refused_follow text left before after well (Stranger i) status r told s = other_follow text left before after well (Stranger i) status s told
-refused_follow text left before after well (Missing i) status r told s = other_follow text left before after well (Missing i) status s told
+refused_follow text left before after well Memory status r told failed s = other_follow text left before after well Memory status s s r told failed
+refused_follow text left before after well Read status r told failed s = other_follow text left before after well Read status s s r told failed
+refused_follow text left before after well Write status r told failed s = other_follow text left before after well Write status s s r told failed
+refused_follow text left before after well Start status r told failed s = other_follow text left before after well Start status s s r told failed
+refused_follow text left before after well (Double i) status r told failed s = other_follow text left before after well (Double i) status s s r told failed
+refused_follow text left before after well (Stranger i) status r told failed s = other_follow text left before after well (Stranger i) status s s r told failed
+refused_follow text left before after well (Missing i) status r told failed s = other_follow text left before after well (Missing i) status s s r told failed

@@ -1,12 +1,13 @@
 -- What the exit status of the program says.
-use Rattle.std.specs.Prelude.{◌≡◌, ℕ, Bool, true, false, ◌<◌, ◌++◌, ◌⊎◌, [], List, Option, Some, None, take, ◌==◌, if◌then◌else◌}
+use Rattle.std.specs.Prelude.{◌≡◌, ℕ, Bool, true, false, ◌<◌, ◌++◌, ◌⊎◌, ¬, [], List, Option, Some, None, take, ◌==◌, if◌then◌else◌}
 use Rattle.clap.specs.Words.{IsAmong, Kinds}
 use Rattle.clap.specs.declared.error.kind.ErrorKind.{ErrorKind}
 use Rattle.clap.specs.declared.error.kind.ErrorKind.TheVariants.{DisplayHelp, DisplayVersion, OutOfMemory}
 use Rattle.line_model.specs.basics.Device.{with_more}
+use Rattle.line_model.specs.text.Text.{fault}
 use Rattle.line_model.specs.declared.fault.Kind.{Kind}
 use Rattle.line_model.specs.declared.fault.Fault.{Fault}
-use Rattle.line_model.specs.declared.fault.Fault.TheVariants.{Trace}
+use Rattle.line_model.specs.declared.fault.Fault.TheVariants.{Trace, Write}
 use Rattle.line_model.specs.declared.totals.Summary.{Summary}
 use Rattle.piece_feed.specs.Readings.{IsRefusal, IsRefusedBy}
 use Rattle.live_report.specs.Reports.{IsReported}
@@ -40,12 +41,19 @@ pub record IsFaulty (text : List ℕ) (after : Option (List ℕ)) : Type 0 where
   pub kind : Kind
   pub refusal : IsRefusedBy IsRefusal text after (Trace line kind)
 
--- what the status says of a text, of which the source has `left`: the sink had `before` and has `after`
-pub record IsStatus (text : List ℕ) (left before after : Option (List ℕ)) (status : ℕ) : Type 0 where
+-- the sink failed on the report of a text without a fault, and took a first part of it
+pub record IsCutShort (text : List ℕ) (before after : Option (List ℕ)) (well : Type 0) : Type 0 where
+  pub failed : ¬ well
+  pub sound : fault text ≡ None
+  pub count : ℕ
+  pub part : after ≡ with_more before (take count (trace_report text))
+
+-- what the status says of a text, of which the source has `left`: the sink had `before` and has `after`, and `well` says that it did not fail
+pub record IsStatus (text : List ℕ) (left before after : Option (List ℕ)) (well : Type 0) (status : ℕ) : Type 0 where
   pub clean : status ≡ 0 → IsReported text before after (trace_summary text) × ((trace_summary text).findings ≡ 0)
   pub found : status ≡ 1 → IsReported text before after (trace_summary text) × (0 < (trace_summary text).findings)
   pub faulty : status ≡ 2 → IsFaulty text left × (after ≡ before)
-  pub other : status ≡ 3 → (n : ℕ) × (after ≡ with_more before (take n (trace_report text)))
+  pub other : status ≡ 3 → (after ≡ before) ⊎ IsCutShort text before after well
   pub range : status < 4
 
 -- a text is refused by a faulty line, behind the lines of what was found before it
@@ -55,17 +63,25 @@ pub record IsFaultyBehind (text : List ℕ) (left before after : Option (List �
   pub refusal : IsRefusedBy IsFollowRefusal text left (Trace line kind)
   pub told : IsRefusedBy (IsToldOf before after well) text left (Trace line kind)
 
--- what the status says of a text that was followed; a sink stood well that did not fail
+-- a fault other than the text's ended a scan that followed it: what it says of the bytes that were given, and what the sink took
+pub record IsEndedBy (text : List ℕ) (left before after : Option (List ℕ)) (well : Type 0) : Type 0 where
+  pub cause : Fault
+  pub other : fault_status cause ≡ 3
+  pub refusal : IsRefusedBy IsFollowRefusal text left cause
+  pub told : IsRefusedBy (IsToldOf before after well) text left cause
+  pub failed : cause ≡ Write → ¬ well
+
+-- what the status says of a text that was followed; `well` says that the sink did not fail
 pub record IsFollowStatus (text : List ℕ) (left before after : Option (List ℕ)) (well : Type 0) (status : ℕ) : Type 0 where
   pub clean : status ≡ 0 → IsReported text before after (trace_summary text) × ((trace_summary text).findings ≡ 0)
   pub found : status ≡ 1 → IsReported text before after (trace_summary text) × (0 < (trace_summary text).findings)
   pub faulty : status ≡ 2 → IsFaultyBehind text left before after well
-  pub other : status ≡ 3 → (f : Fault) × IsRefusedBy (IsToldOf before after well) text left f
+  pub other : status ≡ 3 → IsEndedBy text left before after well
   pub range : status < 4
 
 -- what the status says of a text that was scanned, by whether it was followed
 abbrev pub IsScanned : (followed : Bool) → (text : List ℕ) → (left before after : Option (List ℕ)) → (well : Type 0) → (status : ℕ) → Type 0
-IsScanned false text left before after well status = IsStatus text left before after status
+IsScanned false text left before after well status = IsStatus text left before after well status
 IsScanned true text left before after well status = IsFollowStatus text left before after well status
 
 -- a sink that had `before` took a first part of the objects of the lines that were told
@@ -76,23 +92,23 @@ pub record HasFirstObjects (told : List ℕ) (before after : Option (List ℕ)) 
   pub taken : after ≡ with_more before front
 
 -- a sink took the objects of all lines that were told, or it failed and took a first part of them
-abbrev pub AreObjects : (told : List ℕ) → (failures plain : ℕ) → (before after : Option (List ℕ)) → (status : ℕ) → Type 0
-AreObjects told failures plain before after status =
-    ((failures ≡ 0) × (status ≡ plain) × (after ≡ with_more before (json_text told))) ⊎ ((status ≡ 3) × HasFirstObjects told before after)
+abbrev pub AreObjects : (told : List ℕ) → (failures plain : ℕ) → (before after : Option (List ℕ)) → (well : Type 0) → (status : ℕ) → Type 0
+AreObjects told failures plain before after well status =
+    ((failures ≡ 0) × (status ≡ plain) × (after ≡ with_more before (json_text told))) ⊎ ((status ≡ 3) × (¬ well) × HasFirstObjects told before after)
 
 -- what the status says of a text whose report is told as JSON lines: lines were told as to a sink that takes all, unless
 -- the sink failed, and the sink took their objects
-pub record IsScannedAsJson (followed : Bool) (text : List ℕ) (left before after : Option (List ℕ)) (status : ℕ) : Type 0 where
+pub record IsScannedAsJson (followed : Bool) (text : List ℕ) (left before after : Option (List ℕ)) (well : Type 0) (status : ℕ) : Type 0 where
   pub told : List ℕ
   pub failures : ℕ
   pub plain : ℕ
   pub scanned : IsScanned followed text left (Some []) (Some told) (failures ≡ 0) plain
-  pub objects : AreObjects told failures plain before after status
+  pub objects : AreObjects told failures plain before after well status
 
 -- what the status says of a text, by whether its report is told as JSON lines and whether it was followed
 abbrev pub IsTold : (json followed : Bool) → (text : List ℕ) → (left before after : Option (List ℕ)) → (well : Type 0) → (status : ℕ) → Type 0
 IsTold false followed text left before after well status = IsScanned followed text left before after well status
-IsTold true followed text left before after well status = IsScannedAsJson followed text left before after status
+IsTold true followed text left before after well status = IsScannedAsJson followed text left before after well status
 
 -- what it says of a trace whose text the source tells
 abbrev pub TellsOf : (json followed : Bool) → (trace left before after : Option (List ℕ)) → (well : Type 0) → (status : ℕ) → Type 0

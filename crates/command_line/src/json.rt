@@ -35,7 +35,7 @@ fn scan_to<'a, S: Input, K: Sink, E: Sink, R: Threads + Wait + Clock + Sync, B: 
     ensures name { result.sink.ghost_name ≡ B.name }
     ensures told { (text : List ℕ) → S.left source.old ≡ Some text
         → IsScannedAsJson options.entry.follow text (S.left source.new) B.before.0
-        (K.taken result.sink.now) result.status }
+        (K.taken result.sink.now) (K.failures result.sink.now ≡ B.before.1) result.status }
     ensures range { result.status < 4 }
     ensures asked { S.calls source.new ≤ S.calls source.old + (2 ^ 30 + 1) }
 {
@@ -75,7 +75,7 @@ pub(crate) fn scan_json<S: Input, K: Sink, E: Sink, R: Threads + Wait + Clock + 
 ) -> u8
     ensures told { (text : List ℕ) → S.left source.old ≡ Some text
         → IsScannedAsJson options.entry.follow text (S.left source.new) (K.taken sink.old)
-        (K.taken sink.new) result }
+        (K.taken sink.new) (K.failures sink.new ≡ K.failures sink.old) result }
     ensures range { result < 4 }
     ensures asked { S.calls source.new ≤ S.calls source.old + (2 ^ 30 + 1) }
 {

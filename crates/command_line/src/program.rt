@@ -114,7 +114,8 @@ fn run_alone<S: Input, K: Sink, E: Sink>(
     errors: &mut E,
 ) -> u8
     ensures status { (text : List ℕ) → S.left source.old ≡ Some text
-        → IsStatus text (S.left source.new) (K.taken sink.old) (K.taken sink.new) result }
+        → IsStatus text (S.left source.new) (K.taken sink.old) (K.taken sink.new)
+        (K.failures sink.new ≡ K.failures sink.old) result }
     ensures range { result < 4 }
     ensures asked { S.calls source.new ≤ S.calls source.old + (2 ^ 30 + 1) }
 {
@@ -154,7 +155,8 @@ fn run_with<S: Input, K: Sink, E: Sink, R: Threads + Wait + Clock + Sync>(
 ) -> u8
     requires workers { (0 < workers) × (workers ≤ 64) }
     ensures status { (text : List ℕ) → S.left source.old ≡ Some text
-        → IsStatus text (S.left source.new) (K.taken sink.old) (K.taken sink.new) result }
+        → IsStatus text (S.left source.new) (K.taken sink.old) (K.taken sink.new)
+        (K.failures sink.new ≡ K.failures sink.old) result }
     ensures range { result < 4 }
     ensures asked { S.calls source.new ≤ S.calls source.old + (2 ^ 30 + 1) }
 {
@@ -194,7 +196,8 @@ pub(crate) fn scan<S: Input, K: Sink, E: Sink, R: Threads + Wait + Clock + Sync>
     errors: &mut E,
 ) -> u8
     ensures status { options.entry.follow ≡ false → (text : List ℕ) → S.left source.old ≡ Some text
-        → IsStatus text (S.left source.new) (K.taken sink.old) (K.taken sink.new) result }
+        → IsStatus text (S.left source.new) (K.taken sink.old) (K.taken sink.new)
+        (K.failures sink.new ≡ K.failures sink.old) result }
     ensures followed { options.entry.follow ≡ true → (text : List ℕ) → S.left source.old ≡ Some text
         → IsFollowStatus text (S.left source.new) (K.taken sink.old) (K.taken sink.new)
         (K.failures sink.new ≡ K.failures sink.old) result }

@@ -3,7 +3,7 @@ use Rattle.std.proofs.Common.{◌≡◌, false, true, refl, codes, [], ◌∷◌
 use Rattle.annotated_trace.specs.declared.choice.Choice.TheVariants.{EveryRow, ChosenRows}
 use Rattle.clap.proofs.OnLiterals.{clap_on_literals}
 use Rattle.clap.specs.declared.error.kind.ErrorKind.TheVariants.{ArgumentConflict, DisplayHelp, DisplayVersion, UnknownArgument, ValueValidation}
-use Rattle.command_options.specs.Options.{annotation, as_json, asked_word, follows, named_trace, words_fault}
+use Rattle.command_options.specs.Options.{alone, annotation, as_json, asked_word, asked_workers, follows, named_trace, shows_progress, words_fault}
 
 no_arguments : words_fault (codes "x25scan" ∷ []) ≡ []
 unfolding clap_on_literals
@@ -12,6 +12,22 @@ no_arguments = refl
 both_arguments : words_fault (codes "x25scan" ∷ codes "--alone" ∷ codes "--workers" ∷ codes "64" ∷ []) ≡ []
 unfolding clap_on_literals
 both_arguments = refl
+
+four_workers : asked_workers (codes "x25scan" ∷ []) ≡ Some (codes "4")
+unfolding clap_on_literals
+four_workers = refl
+
+two_workers : asked_workers (codes "x25scan" ∷ codes "--follow" ∷ codes "--workers=2" ∷ []) ≡ Some (codes "2")
+unfolding clap_on_literals
+two_workers = refl
+
+scanned_alone : alone (codes "x25scan" ∷ codes "--workers" ∷ codes "2" ∷ codes "--alone" ∷ []) ≡ true
+unfolding clap_on_literals
+scanned_alone = refl
+
+no_progress : shows_progress (codes "x25scan" ∷ codes "--alone" ∷ []) ≡ false
+unfolding clap_on_literals
+no_progress = refl
 
 no_workers : words_fault (codes "x25scan" ∷ codes "--workers" ∷ codes "0" ∷ []) ≡ ValueValidation ∷ []
 unfolding clap_on_literals

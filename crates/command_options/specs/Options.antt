@@ -1,6 +1,7 @@
 -- The command line: `x25scan [--workers N] [--alone] [--follow] [--json] [--annotate [--channel N] [--call N]] [--progress] [--explain [WORD]] [FILE]` (profile).
-use Rattle.std.specs.Prelude.{ℕ, Bool, false, true, List, [], ◌∷◌, Option, None, Some, codes, pos, if◌then◌else◌}
+use Rattle.std.specs.Prelude.{◌≡◌, ◌≤◌, ℕ, Bool, false, true, List, [], ◌∷◌, Option, None, Some, codes, pos, if◌then◌else◌}
 use Rattle.std.specs.Str.{bytes_eq}
+use Rattle.std.specs.Str.Parse.{IsNumeral, digits_value, without_leading_plus}
 use Rattle.annotated_trace.specs.declared.choice.Choice.{Choice}
 use Rattle.annotated_trace.specs.declared.choice.Choice.TheVariants.{EveryRow, ChosenRows}
 use Rattle.clap.specs.Words.{App, Kinds, Rule, Text, fault_of, first_of, matches_of, new_app, new_rule, with_rule}
@@ -81,6 +82,29 @@ words_fault words = fault_of command words
 abbrev pub is_given : Option Text → Bool
 is_given None = false
 is_given (Some text) = bytes_eq text (codes "true")
+
+-- the number from 1 to 64 that a text is; a plus may come first
+pub record IsWorkers (text : Text) (n : ℕ) : Type 0 where
+  pub digits : IsNumeral 10 (without_leading_plus text)
+  pub value : n ≡ digits_value 10 (without_leading_plus text)
+  pub some : 1 ≤ n
+  pub few : n ≤ 64
+
+-- the number of workers is the one that a text asks for
+abbrev pub HasWorkers : Option Text → ℕ → Type 0
+HasWorkers asked workers = (text : Text) (n : ℕ) → asked ≡ Some text → IsWorkers text n → workers ≡ n
+
+-- how many workers the words ask for: another text than a number from 1 to 64 is a fault of the words
+abbrev pub asked_workers : List Text → Option Text
+asked_workers words = first_of (codes "workers") (matches_of command words)
+
+-- whether the words ask for the scan of one thread
+abbrev pub alone : List Text → Bool
+alone words = is_given (first_of (codes "alone") (matches_of command words))
+
+-- whether the words ask how far the reading is
+abbrev pub shows_progress : List Text → Bool
+shows_progress words = is_given (first_of (codes "progress") (matches_of command words))
 
 -- whether the words ask that the trace be followed
 abbrev pub follows : List Text → Bool

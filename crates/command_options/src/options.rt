@@ -3,12 +3,15 @@
 ghost use Rattle.std.specs.Prelude.{◌≡◌, ◌≤◌, IfOk, codes, false, map, option_map};
 ghost use Rattle.annotated_trace.specs.Rows.{choice_of};
 ghost use Rattle.clap.specs.Words.{FailsBy, app_of, first_value, found_of, rule_of};
-ghost use Rattle.command_options.specs.Options.{annotation, annotation_by, as_json, asked_word, call_rule, channel_rule, command, explain_rule, flag_rule, follows, is_given, named_by, named_trace, trace_rule, versioned, with_asking, with_scanning, with_telling, words_fault, workers_rule};
+ghost use Rattle.command_options.specs.Options.{HasWorkers, alone, annotation, annotation_by, as_json, asked_word, asked_workers, call_rule, channel_rule, command, explain_rule, flag_rule, follows, is_given, named_by, named_trace, shows_progress, trace_rule, versioned, with_asking, with_scanning, with_telling, words_fault, workers_rule};
 
 use crate::help::{ABOUT, AFTER_HELP, VERSION};
 use annotated_trace::rows::Rows;
 use clap::{Arg, ArgAction, ArgMatches, Command, Error, value_parser};
 use std::alloc::{AllocError, Global};
+
+/// How many workers there are where the words don't say it.
+const WORKERS: u8 = 4;
 
 /// What the words ask for.
 #[derive(Clone, Copy)]
@@ -218,8 +221,28 @@ fn rows_in(matches: &ArgMatches<'_>) -> Option<Rows>
     }
 }
 
+/// How many workers are asked for: `clap` has seen to it that the text is a number from 1 to 64.
+fn workers_in(matches: &ArgMatches<'_>) -> u8
+    ensures asked { HasWorkers (first_value (found_of matches.now) (codes "workers")) result }
+    ensures some { 1 ≤ result }
+    ensures few { result ≤ 64 }
+{
+    let Some(text) = matches.get_str("workers") else {
+        return WORKERS;
+    };
+    match text.parse::<u8>() {
+        Ok(workers) => workers.clamp(1, 64),
+        Err(_) => WORKERS,
+    }
+}
+
 /// What the matches of the command ask for.
 fn options_in<'a>(matches: &ArgMatches<'a>) -> Options<'a>
+    ensures workers { HasWorkers (first_value (found_of matches.now) (codes "workers")) result.workers }
+    ensures alone { result.alone ≡ is_given
+        (first_value (found_of matches.now) (codes "alone")) }
+    ensures progress { result.progress ≡ is_given
+        (first_value (found_of matches.now) (codes "progress")) }
     ensures follow { result.follow ≡ is_given
         (first_value (found_of matches.now) (codes "follow")) }
     ensures json { result.json ≡ is_given (first_value (found_of matches.now) (codes "json")) }
@@ -236,12 +259,8 @@ fn options_in<'a>(matches: &ArgMatches<'a>) -> Options<'a>
     let follow = is_given(matches, "follow");
     let json = is_given(matches, "json");
     let progress = is_given(matches, "progress");
-    let workers = match matches.get_one::<u8>("workers") {
-        Some(workers) => workers.clamp(1, 64),
-        None => 4,
-    };
     Options {
-        workers,
+        workers: workers_in(matches),
         alone,
         follow,
         json,
@@ -255,6 +274,12 @@ fn options_in<'a>(matches: &ArgMatches<'a>) -> Options<'a>
 /// Reads the program's name and its arguments. An error is of a kind that the words have, or memory ran out.
 pub fn parse<'a>(alloc: Global, words: &'a [&'a str]) -> Result<Options<'a>, Error>
     ensures kinds { FailsBy (words_fault (map (λ word. word.now) words.entry.now)) result }
+    ensures workers { IfOk result (λ options.
+        HasWorkers (asked_workers (map (λ word. word.now) words.entry.now)) options.workers) }
+    ensures alone { IfOk result (λ options. options.alone
+        ≡ alone (map (λ word. word.now) words.entry.now)) }
+    ensures progress { IfOk result (λ options. options.progress
+        ≡ shows_progress (map (λ word. word.now) words.entry.now)) }
     ensures follow { IfOk result (λ options. options.follow
         ≡ follows (map (λ word. word.now) words.entry.now)) }
     ensures json { IfOk result (λ options. options.json

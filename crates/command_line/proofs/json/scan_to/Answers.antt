@@ -1,5 +1,5 @@
 use Rattle.line_model.specs.declared.fault.Fault.TheVariants.{Write}
-use Rattle.std.proofs.Common.{◌≡◌, ◌<◌, ◌∙◌, ap, inl, inr, length, refl, subst}
+use Rattle.std.proofs.Common.{◌≡◌, ◌<◌, ◌∙◌, ap, arith, inl, inr, length, refl, subst}
 use Rattle.std.specs.Prelude.{OnOk, IfErr}
 use Rattle.line_model.specs.basics.Device.{with_more}
 use Rattle.json_lines.specs.Json.{json_text}
@@ -29,13 +29,14 @@ returns-in-Err-clause-told g c text told =
     let taken = c.scan-scanned.new.sink.lines.told.bytes in
     let failures = length c.scan-scanned.new.sink.lines.refused.bytes in
     let part = c.finish-sink.ensures.part taken refl in
+    let failed = subst (λ r. IfErr r (λ fault. (fault ≡ Write) × (g.B.Origin.before.1 < g.K.Sink.failures c.finish-sink.result.sink.now))) c.in-Err.is c.finish-sink.ensures.failed in
     record {
       told = taken;
       failures = failures;
       plain = c.scan-scanned.result;
       scanned = scanned_afresh c.args.options.follow text _ _ _ _ failures c.scan-scanned.result c.new-json.ensures.taken c.new-json.ensures.failures
           (λ plain. c.scan-scanned.ensures.status plain text told) (λ follow. c.scan-scanned.ensures.followed follow text told);
-      objects = inr (c.if-scanned-eq-OTHER_FAULT.true, record { front = part.0; rest = part.1; whole = part.2; taken = part.3 });
+      objects = inr (c.if-scanned-eq-OTHER_FAULT.true, (λ well. omega (arith, failed.1, well)), record { front = part.0; rest = part.1; whole = part.2; taken = part.3 });
     }
 
 pub returns-in-Err-2-clause-told : goal.returns-in-Err-2-clause-told
@@ -50,5 +51,5 @@ returns-in-Err-2-clause-told g c text told =
       plain = c.scan-scanned.result;
       scanned = scanned_afresh c.args.options.follow text _ _ _ _ failures c.scan-scanned.result c.new-json.ensures.taken c.new-json.ensures.failures
           (λ plain. c.scan-scanned.ensures.status plain text told) (λ follow. c.scan-scanned.ensures.followed follow text told);
-      objects = inr (c.refuse.ensures ∙ ap fault_status failed.0, record { front = part.0; rest = part.1; whole = part.2; taken = part.3 });
+      objects = inr (c.refuse.ensures ∙ ap fault_status failed.0, (λ well. omega (arith, failed.1, well)), record { front = part.0; rest = part.1; whole = part.2; taken = part.3 });
     }

@@ -1,3 +1,4 @@
+use Rattle.std.proofs.Common.{ap, arith, Err}
 use Rattle.command_line.proofs.StatusLemmas.{refused_follow, reported_follow, status_range}
 use Rattle.command_line.proofs.program.run_follow.Goals as goal
 
@@ -7,7 +8,8 @@ returns-in-Ok-clause-status g c text told =
 
 pub returns-in-Err-clause-status : goal.returns-in-Err-clause-status
 returns-in-Err-clause-status g c text told =
-    refused_follow text (g.S.Source.left c.follow.new.source) (g.K.Sink.taken c.args.sink.now) (g.K.Sink.taken c.follow.new.sink) _ c.in-Err.fault c.refuse_scan.result (c.in-Err.ensures.refused text told) (c.in-Err.ensures.taken text told) c.refuse_scan.ensures
+    refused_follow text (g.S.Source.left c.follow.new.source) (g.K.Sink.taken c.args.sink.now) (g.K.Sink.taken c.follow.new.sink) _ c.in-Err.fault c.refuse_scan.result (c.in-Err.ensures.refused text told) (c.in-Err.ensures.taken text told)
+    (λ e well. omega (arith, c.in-Err.ensures.write_failed (ap Err e), well)) c.refuse_scan.ensures
 
 pub returns-in-Err-clause-range : goal.returns-in-Err-clause-range
 returns-in-Err-clause-range g c = status_range c.in-Err.fault c.refuse_scan.result c.refuse_scan.ensures

@@ -2,7 +2,7 @@ use Rattle.std.proofs.Common.{◌≡◌, ◌∙◌, ap, refl, subst, sym, true, 
 use Rattle.clap.specs.Words.{HasKind, app_of, fault_of, found_of, first_value, is_simple, is_simple_and_free, matches_of, first_of}
 use Rattle.clap.proofs.OnLiterals.{clap_on_literals}
 use Rattle.clap.proofs.WalkLemmas.{first_value-rows}
-use Rattle.command_options.specs.Options.{annotation_by, command, is_given, named_by}
+use Rattle.command_options.specs.Options.{HasWorkers, annotation_by, command, is_given, named_by}
 use Rattle.command_options.proofs.options.parse.Goals as goal
 use Rattle.command_options.proofs.options.parse.Goals.{Joined-matches}
 
@@ -31,6 +31,15 @@ value_of c id =
     let rows = (c.in-Ok.ensures.matches (ap is_simple told ∙ is_plain)).0 in
     first_value-rows (found_of c.in-Ok.matches) id
     ∙ ap (first_of id) (rows ∙ ap (λ app. matches_of app (map (λ word. word.now) c.args.words.now)) told)
+
+pub returns-in-Ok-clause-workers : goal.returns-in-Ok-clause-workers
+returns-in-Ok-clause-workers c = subst (λ asked. HasWorkers asked _) (value_of c (codes "workers")) c.options_in.ensures.workers
+
+pub returns-in-Ok-clause-alone : goal.returns-in-Ok-clause-alone
+returns-in-Ok-clause-alone c = c.options_in.ensures.alone ∙ ap is_given (value_of c (codes "alone"))
+
+pub returns-in-Ok-clause-progress : goal.returns-in-Ok-clause-progress
+returns-in-Ok-clause-progress c = c.options_in.ensures.progress ∙ ap is_given (value_of c (codes "progress"))
 
 pub returns-in-Ok-clause-follow : goal.returns-in-Ok-clause-follow
 returns-in-Ok-clause-follow c = c.options_in.ensures.follow ∙ ap is_given (value_of c (codes "follow"))
