@@ -13,7 +13,7 @@ from dataclasses import dataclass
 
 from .frames import Direction
 from .packets import Packet, Side
-from .told import Reason
+from .told import Reason, Topic
 
 COMMAND_SIDES = {0x01: Side.T, 0x03: Side.N}
 RESPONSE_SIDES = {0x03: Side.T, 0x01: Side.N}
@@ -153,7 +153,7 @@ class Lapb:
         if kind not in NAMES:
             return
         side = self.side(COMMAND_SIDES if kind in COMMANDS else RESPONSE_SIDES, address, frame.direction)
-        self.ledger.tell(f"frame {frame.number}: {NAMES[kind]} of {self.named(side).name}")
+        self.ledger.tell(Topic.LINK_FRAME, f"frame {frame.number}: {NAMES[kind]} of {self.named(side).name}")
         if kind in (Unnumbered.SABM, Unnumbered.SABME) and self.given is None:
             self.modulus = 8 if kind == Unnumbered.SABM else 128
         if kind in (Unnumbered.SABM, Unnumbered.SABME, Unnumbered.UA):
@@ -253,4 +253,4 @@ class Lapb:
             self.drop_held(way)
         if self.contradictions:
             words = "LAPB frames whose direction and address octet contradict each other"
-            self.ledger.tell(f"{words}: {self.contradictions}")
+            self.ledger.tell(Topic.DIRECTION, f"{words}: {self.contradictions}")

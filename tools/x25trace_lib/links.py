@@ -2,16 +2,9 @@
 import enum
 import struct
 
-from .frames import Direction
+from .frames import KINDS_OF_PACKET, Direction
 
 UNIT = struct.Struct(">H")
-# What a cooked header says of a frame's way; 3 is one of other hosts to each other.
-COOKED_DIRECTIONS = {
-    0: Direction.RECEIVED,
-    1: Direction.RECEIVED,
-    2: Direction.RECEIVED,
-    4: Direction.SENT,
-}
 VLAN_TAGS = frozenset((0x8100, 0x88A8, 0x9100))
 
 
@@ -62,7 +55,7 @@ def cooked(frame, kind_at, protocol_at, size):
     """A Linux cooked header, with its packet type and its protocol somewhere."""
     if len(frame.octets) < size:
         return Carried.BROKEN, 0
-    frame.direction = COOKED_DIRECTIONS.get(frame.octets[kind_at], Direction.UNKNOWN)
+    frame.direction = KINDS_OF_PACKET.get(frame.octets[kind_at], Direction.UNKNOWN)
     return by_protocol(frame, UNIT.unpack_from(frame.octets, protocol_at)[0], size)
 
 

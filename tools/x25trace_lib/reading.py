@@ -7,7 +7,7 @@ from .internet import Internet
 from .lapb import Lapb, SideBy, unframe
 from .links import KINDS, LINKS, Carried
 from .packets import Packet, Side
-from .told import Reason
+from .told import Reason, Topic
 from .xot import Xot
 
 XOT_PORT = 1998
@@ -90,7 +90,8 @@ class Reading:
         if opener is None:
             if frame.link not in self.unknown_links:
                 self.unknown_links.add(frame.link)
-                self.ledger.tell(f"frame {frame.number}: link type {frame.link} is not known; --as {frame.link}=KIND")
+                words = f"frame {frame.number}: link type {frame.link} is not known; --as {frame.link}=KIND"
+                self.ledger.tell(Topic.UNKNOWN_LINK, words)
             return Carried.UNKNOWN, 0
         return opener(frame)
 

@@ -23,7 +23,7 @@ class Refusal(Exception):
 
     def __init__(self, why, words):
         super().__init__(f"{why.value}: {words}")
-        self.why = why
+        self.why, self.words = why, words
 
 
 class Reason(enum.Enum):
@@ -68,26 +68,55 @@ class Reason(enum.Enum):
         self.damage = damage
 
 
-class Ledger:
-    """Counts what is left out, and hands each damage to those who tell it."""
+class Topic(enum.Enum):
+    """What is told without being a damage of its own."""
 
-    def __init__(self):
+    INTERRUPTED = "the end of the reading by a signal"
+    UNKNOWN_LINK = "link types that are not known"
+    LINK_FRAME = "frames that set up or end a LAPB link"
+    DIRECTION = "contradictions of direction and address"
+    CONNECTION = "connections that end with their call"
+    CHANNEL = "logical channels that change inside of a connection"
+    PVC_SETUP = "set-ups of permanent circuits"
+
+
+def nobody(_words):
+    """Hears nothing."""
+
+
+class Ledger:
+    """Counts what is left out and tells what is wrong: the trace keeps all of it, standard error the first few."""
+
+    # Messages of one topic on standard error: a capture that is read as the wrong kind has one for each frame.
+    MOST_SAID = 5
+
+    def __init__(self, say=nobody):
         self.counts = Counter()
-        self.listeners = []
+        self.told = Counter()
+        self.say = say
+        self.keep = nobody
 
     def left_out(self, reason, many=1):
         if many:
             self.counts[reason] += many
 
-    def tell(self, words):
-        """Tells something that is no damage of its own."""
-        for listener in self.listeners:
-            listener(words)
+    def note(self, words):
+        """Explains something in the trace alone."""
+        self.keep(words)
+
+    def tell(self, topic, words):
+        """Tells something of a topic."""
+        self.keep(words)
+        self.told[topic] += 1
+        if self.told[topic] <= self.MOST_SAID:
+            self.say(words)
+        elif self.told[topic] == self.MOST_SAID + 1:
+            self.say("more messages like the last one follow; they are comments of the trace only")
 
     def damaged(self, reason, words, many=1):
         """Counts a damage and tells it."""
         self.counts[reason] += many
-        self.tell(words)
+        self.tell(reason, words)
 
     @property
     def whole(self):

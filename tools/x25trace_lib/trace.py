@@ -20,7 +20,7 @@ class Trace:
         self.estimator = Estimator()
         reading.xot.on_end = self.estimator.forget
         self.carriers = Counter()
-        ledger.listeners.append(self.spool.tell)
+        ledger.keep = self.spool.tell
 
     def gather(self, frames):
         """Takes all packets of the frames."""

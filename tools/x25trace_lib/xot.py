@@ -6,7 +6,7 @@ from dataclasses import dataclass, field
 from .internet import port_of
 from .packets import LONGEST, Packet, Side, Type, address_text, channel_of
 from .tcp import Budget, Connection, ahead
-from .told import Reason
+from .told import Reason, Topic
 
 HEAD = struct.Struct(">HH")
 PVC_SETUP = 0xF5
@@ -176,7 +176,7 @@ class Xot:
             circuit.broken = True
             loss = connection.lost
             words = f"frame {loss.frame}: {loss.octets} octets of {circuit.sides[loss.index].name} {loss.how}"
-            self.ledger.tell(f"{words}; connection {circuit.number} is left out from here on")
+            self.ledger.tell(Reason.GAP, f"{words}; connection {circuit.number} is left out from here on")
 
     def finish(self, connection, circuit, frame):
         """Tells how a connection ended."""
@@ -186,7 +186,7 @@ class Xot:
         self.close(connection, circuit)
         words = circuit.end_words()
         if words and not circuit.broken:
-            self.ledger.tell(f"frame {frame}: connection {circuit.number}: {words}")
+            self.ledger.tell(Topic.CONNECTION, f"frame {frame}: connection {circuit.number}: {words}")
         circuit.rests = circuit.synchronised = None
         self.over.append(connection)
         if len(self.over) > MOST_OVER:
@@ -263,12 +263,13 @@ class Xot:
         """An XOT packet that sets up a permanent circuit is none of X.25."""
         circuit.permanent = True
         self.ledger.left_out(Reason.PVC_SETUP)
-        self.ledger.tell(f"frame {frame}: connection {circuit.number}: {side.name} sets up a permanent circuit")
+        words = f"{side.name} sets up a permanent circuit"
+        self.ledger.tell(Topic.PVC_SETUP, f"frame {frame}: connection {circuit.number}: {words}")
 
     def other_channel(self, circuit, frame, line_channel):
         if circuit.line_channel is None:
             circuit.line_channel = line_channel
         else:
             words = f"logical channel {line_channel} after {circuit.last_line_channel}; a connection has one circuit"
-            self.ledger.tell(f"frame {frame}: connection {circuit.number}: {words}")
+            self.ledger.tell(Topic.CHANNEL, f"frame {frame}: connection {circuit.number}: {words}")
         circuit.last_line_channel = line_channel
