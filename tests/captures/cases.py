@@ -1,12 +1,13 @@
 """All cases, topic by topic."""
 import damage_cases
+import gap_cases
 import header_cases
 import lapb_cases
 import link_cases
 import tcp_cases
 import xot_cases
 
-TOPICS = (link_cases, tcp_cases, xot_cases, lapb_cases, damage_cases, header_cases)
+TOPICS = (link_cases, tcp_cases, gap_cases, xot_cases, lapb_cases, damage_cases, header_cases)
 
 
 def all_cases():

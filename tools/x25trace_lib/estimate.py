@@ -88,9 +88,17 @@ class Estimator:
         else:
             self.signal(seen, kind, octets)
 
-    def forget(self, key):
-        """The channel with a key has no more packets."""
-        self.seen.pop(key, None)
+    def forget(self, circuit):
+        """A circuit has no more packets."""
+        self.seen.pop(circuit.number, None)
+
+    def miss(self, key):
+        """Packets of the channel are missing: what they acknowledged is not known, and data may flow."""
+        seen = self.seen.get(key)
+        if seen:
+            seen.flows = True
+            for way in seen.ways.values():
+                way.acknowledged = None
 
     def restart(self, kind):
         if kind == Type.RESTART:

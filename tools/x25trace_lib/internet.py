@@ -28,6 +28,7 @@ class Segment:
     reset: bool
     payload: bytes
     missing: int
+    time: int | None = None
 
 
 def port_of(end):
@@ -166,4 +167,5 @@ class Internet:
             flags & RST != 0,
             octets[payload:end],
             max(end - max(len(octets), payload), 0),
+            frame.time,
         )

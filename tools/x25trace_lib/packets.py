@@ -49,6 +49,9 @@ class Packet:
     side: Side
     octets: bytes
     circuit: object = None
+    time: int | None = None
+    # Whether packets of the circuit before it are missing.
+    misses: bool = False
 
 
 def channel_of(octets):

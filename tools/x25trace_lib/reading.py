@@ -82,7 +82,8 @@ class Reading:
                 for packet in take[carrier](frame, carried, at):
                     yield carrier, packet
         self.internet.fragments.end()
-        self.xot.end()
+        for packet in self.xot.end():
+            yield Carrier.XOT, packet
         self.lapb.end()
 
     def opened(self, frame):
@@ -120,15 +121,16 @@ class Reading:
         if carried is Carried.DEVICE and len(octets) > at and octets[at] < 4:
             if octets[at]:
                 self.ledger.left_out(Reason.DEVICE_WORD)
-                return
+                return ()
             at += 1
         side = self.side(frame)
         if side is None:
             self.ledger.left_out(Reason.NO_SIDE)
-        elif len(octets) < frame.length:
+            return ()
+        if len(octets) < frame.length:
             self.ledger.damaged(Reason.CUT_PACKET, f"frame {frame.number}: a packet that was cut off")
-        else:
-            yield Packet(frame.number, side, octets[at:])
+            return ()
+        return (Packet(frame.number, side, octets[at:], None, frame.time),)
 
     def side(self, frame):
         """The host that recorded is the DTE; or the interface tells who sends on it."""

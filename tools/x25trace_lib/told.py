@@ -51,9 +51,11 @@ class Reason(enum.Enum):
     NO_SIDE = ("packets whose side nothing tells, which --sender may", True)
     FRAGMENT = ("IP fragments without the rest of their datagram", True)
     GAP = ("gaps in TCP connections", True)
-    AFTER_GAP = ("TCP segments after a gap, a break or the end of their connection", True)
+    LOST_OCTETS = ("octets in these gaps", True)
+    PASSED_OCTETS = ("octets that were passed over, up to a segment that begins with an XOT header", True)
+    UNSYNCHRONISED = ("TCP segments that were passed over for that", True)
+    AFTER_BREAK = ("TCP segments after a break or the end of their connection", True)
     NOT_XOT = ("TCP connections that do not speak XOT", True)
-    UNSYNCHRONISED = ("TCP segments before the first XOT header of a connection", True)
     CUT_XOT = ("XOT packets whose connection ended inside of them", True)
     LINE_PACKET = ("XOT packets that speak of a whole interface", True)
     BAD_FCS = ("frames whose frame check sequence is wrong", True)
@@ -124,5 +126,8 @@ class Ledger:
         return not any(reason.damage for reason in self.counts)
 
     def lines(self):
-        """The counts, a line each, in the order of the reasons."""
-        return [f"left out: {reason.words}: {self.counts[reason]}" for reason in Reason if self.counts[reason]]
+        """The counts, a line each, in the order of the reasons, and what gaps mean."""
+        lines = [f"left out: {reason.words}: {self.counts[reason]}" for reason in Reason if self.counts[reason]]
+        if self.counts[Reason.GAP] or self.counts[Reason.LOST_FRAME]:
+            lines.append("the trace has gaps: findings after one may come from packets that were not recorded")
+        return lines

@@ -37,6 +37,8 @@ class Trace:
                 estimator.see(key, False, packet.side, octets, True)
                 spool.add(packet, 0)
             else:
+                if packet.misses:
+                    estimator.miss(circuit.number)
                 estimator.see(circuit.number, circuit.from_opening, packet.side, octets, False)
                 spool.add(packet, circuit.number)
                 circuit.rows += 1
