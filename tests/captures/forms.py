@@ -39,9 +39,10 @@ def interface(link, snap=0, order="<", options=b""):
     return block(1, struct.pack(order + "HHI", link, 0, snap) + options, order)
 
 
-def enhanced(octets, which=0, length=None, order="<", flags=None):
-    """An enhanced packet block; flags 1 is inbound, 2 outbound."""
-    head = struct.pack(order + "IIIII", which, 0, 0, len(octets), len(octets) if length is None else length)
+def enhanced(octets, which=0, length=None, order="<", flags=None, time=0):
+    """An enhanced packet block; flags 1 is inbound, 2 outbound. The time is in units of the interface."""
+    stamp = (time >> 32, time & 0xFFFFFFFF)
+    head = struct.pack(order + "IIIII", which, *stamp, len(octets), len(octets) if length is None else length)
     body = head + octets + bytes(-len(octets) % 4)
     if flags is not None:
         body += option(2, struct.pack(order + "I", flags), order) + option(0, b"", order)
@@ -52,8 +53,9 @@ def simple(octets, length=None, order="<"):
     return block(3, struct.pack(order + "I", len(octets) if length is None else length) + octets, order)
 
 
-def obsolete(octets, which=0, order="<"):
-    return block(2, struct.pack(order + "HHIIII", which, 0, 0, 0, len(octets), len(octets)) + octets, order)
+def obsolete(octets, which=0, order="<", time=0):
+    stamp = (time >> 32, time & 0xFFFFFFFF)
+    return block(2, struct.pack(order + "HHIIII", which, 0, *stamp, len(octets), len(octets)) + octets, order)
 
 
 def dump(frames):

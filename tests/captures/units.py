@@ -21,7 +21,7 @@ class Numbers(unittest.TestCase):
     """Rows are numbered by frames while these are at most 999,999,999, else they count from 1."""
 
     def lines(self, frames, last):
-        spool = Spool(last)
+        spool = Spool(False, last)
         for frame in frames:
             spool.add(Packet(frame, Side.T, b"\x10\x01\x0f"), 0)
         lines = list(spool.replay([]))

@@ -27,7 +27,7 @@ def run(words, interrupt):
     ledger = Ledger(say)
     choices, wishes = chosen(words)
     captures = Captures(words.captures, choices.kinds, ledger, interrupt)
-    trace = Trace(ledger, Reading(ledger, choices), wishes)
+    trace = Trace(ledger, Reading(ledger, choices), wishes, words.times)
     try:
         trace.gather(captures.frames())
         trace.write(title(words.captures), sys.stdout)

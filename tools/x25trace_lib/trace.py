@@ -14,9 +14,9 @@ LARGEST_TEXT = 1 << 30
 class Trace:
     """What is gathered of a capture until its trace can be written."""
 
-    def __init__(self, ledger, reading, wishes):
+    def __init__(self, ledger, reading, wishes, times):
         self.ledger, self.reading, self.wishes = ledger, reading, wishes
-        self.spool = Spool()
+        self.spool = Spool(times)
         self.estimator = Estimator()
         reading.xot.on_end = self.estimator.forget
         self.carriers = Counter()

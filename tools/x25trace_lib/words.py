@@ -100,6 +100,8 @@ def parser():
     )
     words.add_argument("captures", metavar="CAPTURE", nargs="+",
                        help="the file, or files of a rotated capture in their order; - for standard input")
+    words.add_argument("--times", action="store_true",
+                       help="a comment '#@ SECONDS' before each row: the time of its frame, since 1970 (UTC)")
     reading_words(words.add_argument_group("reading"))
     side_words(words.add_argument_group("sides"))
     header_words(words.add_argument_group("header, else estimated from what was seen"))
