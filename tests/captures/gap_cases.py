@@ -130,5 +130,7 @@ def gap_of_an_acknowledgement():
 
 
 def cases():
-    for topic in (lost_inside_of_packets, places_that_look_like_headers, gap_that_is_given_up, gap_of_an_acknowledgement):
-        yield from topic()
+    yield from lost_inside_of_packets()
+    yield from places_that_look_like_headers()
+    yield from gap_that_is_given_up()
+    yield from gap_of_an_acknowledgement()

@@ -226,7 +226,8 @@ def snap_length():
     frames = talk.open() + [talk.a(CALL), talk.b(ACCEPTED)]
     long = ethernet(talk.a("100100" + "AA" * 60))
     frames += [(long[:96], len(long)), talk.b(READY), talk.a(CLEAR), talk.b(CONFIRMED)] + talk.close()
-    yield Case("tcp-snap-length", file_of(frames), header(2, 128) + READ_ON, status=1, report=READ_ON_REPORT, tshark=None)
+    yield Case("tcp-snap-length", file_of(frames), header(2, 128) + READ_ON, status=1, report=READ_ON_REPORT,
+               tshark=None)
 
 
 def fragments(packet, at, identity, six=False):

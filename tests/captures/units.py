@@ -24,7 +24,7 @@ class Numbers(unittest.TestCase):
         spool = Spool(False, last)
         for frame in frames:
             spool.add(Packet(frame, Side.T, b"\x10\x01\x0f"), 0)
-        lines = list(spool.replay([]))
+        lines = "".join(spool.replay([])).splitlines(keepends=True)
         spool.close()
         return lines
 

@@ -74,8 +74,8 @@ def is_pipe(name):
 class Captures:
     """The frames of files, numbered on from each to the next."""
 
-    def __init__(self, names, kinds, ledger, interrupt):
-        self.names, self.kinds, self.ledger, self.interrupt = names, kinds, ledger, interrupt
+    def __init__(self, names, kinds, ledger, waiting):
+        self.names, self.kinds, self.ledger, self.waiting = names, kinds, ledger, waiting
         self.several = len(names) > 1
         self.number = 0
 
@@ -97,11 +97,11 @@ class Captures:
         for name in self.names:
             if name != "-" and not is_pipe(name):
                 with open_capture(name) as stream:
-                    form_of(Source(stream, self.interrupt, said(name), False), self.kinds)
+                    form_of(Source(stream, self.waiting, said(name), False), self.kinds)
 
     def frames_of(self, name):
         with open_capture(name) as stream:
-            source = Source(stream, self.interrupt, said(name), self.several)
+            source = Source(stream, self.waiting, said(name), self.several)
             form = form_of(source, self.kinds)(source, self.ledger, self.number)
             for frame in form.frames():
                 self.number = frame.number

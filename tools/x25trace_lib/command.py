@@ -5,9 +5,10 @@ import pathlib
 import signal
 import sys
 
-from .captures import Captures
+from .captures import Captures, is_pipe
+from .live import Live
 from .reading import Reading
-from .source import Interrupt
+from .source import Waiting
 from .told import Ledger, Refusal
 from .trace import Trace
 from .words import Status, chosen, parsed
@@ -22,16 +23,36 @@ def title(names):
     return pathlib.PurePath(names[0]).name if len(names) == 1 else f"{len(names)} captures"
 
 
-def run(words, interrupt):
+def is_live(words, wishes):
+    """Whether rows can be written as frames come: from a pipe, with all numbers of the header given."""
+    if not any(map(is_pipe, words.captures)):
+        return False
+    missing = wishes.missing()
+    if missing and wishes.window and wishes.size:
+        say(f"rows wait for the end of the input; with {', '.join(missing)} too they are written as frames come")
+    return not missing
+
+
+def write(words, ledger, waiting):
+    """Reads the captures and writes their trace."""
+    choices, wishes = chosen(words)
+    frames = Captures(words.captures, choices.kinds, ledger, waiting).frames()
+    reading, name = Reading(ledger, choices), title(words.captures)
+    if is_live(words, wishes):
+        waiting.before = sys.stdout.flush
+        Live(ledger, reading, wishes, words.times).write(frames, name, sys.stdout)
+    else:
+        trace = Trace(ledger, reading, wishes, words.times)
+        trace.gather(frames)
+        trace.write(name, sys.stdout)
+    sys.stdout.flush()
+
+
+def run(words, waiting):
     """Reads and writes; returns the status."""
     ledger = Ledger(say)
-    choices, wishes = chosen(words)
-    captures = Captures(words.captures, choices.kinds, ledger, interrupt)
-    trace = Trace(ledger, Reading(ledger, choices), wishes, words.times)
     try:
-        trace.gather(captures.frames())
-        trace.write(title(words.captures), sys.stdout)
-        sys.stdout.flush()
+        write(words, ledger, waiting)
     except Refusal as refusal:
         status = Status.REFUSED
         say(refusal)
@@ -39,14 +60,14 @@ def run(words, interrupt):
         status = Status.WHOLE if ledger.whole else Status.DAMAGED
     for line in ledger.lines():
         say(line)
-    return Status.INTERRUPTED if interrupt.came else status
+    return Status.INTERRUPTED if waiting.interrupted else status
 
 
-def main(arguments, interrupt=None):
+def main(arguments, waiting=None):
     """Runs in a process whose streams and signals are as they are."""
     words = parsed(arguments)
     try:
-        return run(words, interrupt or Interrupt())
+        return run(words, waiting or Waiting())
     except OSError as fault:
         # What was not written yet cannot be: nothing may try it again at the end.
         os.dup2(os.open(os.devnull, os.O_WRONLY), sys.stdout.fileno())
@@ -74,7 +95,7 @@ def program(arguments):
     if not is_open(1):
         say("reading or writing failed: standard output is closed")
         return Status.FAILED
-    interrupt = Interrupt()
+    waiting = Waiting()
     signal.signal(signal.SIGPIPE, signal.SIG_DFL)
-    signal.signal(signal.SIGINT, interrupt.handle)
-    return main(arguments, interrupt)
+    signal.signal(signal.SIGINT, waiting.interrupt)
+    return main(arguments, waiting)

@@ -46,6 +46,17 @@ class Wishes:
     def one_way(self):
         return not self.incoming is self.two_way is self.outgoing is None
 
+    def missing(self):
+        """The options without which the header is an estimate."""
+        options = {
+            "--mod": self.modulus,
+            "--win": self.window,
+            "--size": self.size,
+            "--pvc": self.permanent,
+            "--svc": self.calls or self.outgoing,
+        }
+        return [option for option, value in options.items() if value is None]
+
 
 class Estimator:
     """Sees each packet once, with the key of its channel."""

@@ -8,26 +8,42 @@ class Interrupted(Exception):
     """The reading is to end here."""
 
 
-class Interrupt:
-    """SIGINT as the end of what is read: at once where octets are waited for, else before more are read."""
+def nothing():
+    """What is done before waiting, unless something else is asked for."""
+
+
+class Waiting:
+    """Where octets are waited for: what is done before, and how SIGINT ends it: at once, else before more are read."""
 
     def __init__(self):
-        self.came = self.waiting = False
+        self.before = nothing
+        self.interrupted = self.inside = False
 
-    def handle(self, _number, _frame):
+    def interrupt(self, _number, _frame):
         """The handler of the signal; a second one ends the program."""
-        if self.came:
+        if self.interrupted:
             raise KeyboardInterrupt
-        self.came = True
-        if self.waiting:
+        self.interrupted = True
+        if self.inside:
             raise Interrupted
+
+    def octets(self, stream):
+        """The octets that come next, as soon as there are any; none at the end."""
+        self.before()
+        self.inside = True
+        try:
+            if self.interrupted:
+                raise Interrupted
+            return stream.read1(CHUNK)
+        finally:
+            self.inside = False
 
 
 class Source:
     """A stream, and what was taken from it: ahead has the octets, of which those before at were read."""
 
-    def __init__(self, stream, interrupt, name, several):
-        self.stream, self.interrupt, self.name, self.several = stream, interrupt, name, several
+    def __init__(self, stream, waiting, name, several):
+        self.stream, self.waiting, self.name, self.several = stream, waiting, name, several
         self.offset = 0
         self.ahead = b""
         self.at = 0
@@ -36,21 +52,11 @@ class Source:
         """The words for an offset, with the name of the file where there are several."""
         return f"{self.name}, offset {offset}" if self.several else f"offset {offset}"
 
-    def pull(self):
-        """The octets that come next, as soon as there are any; none at the end."""
-        self.interrupt.waiting = True
-        try:
-            if self.interrupt.came:
-                raise Interrupted
-            return self.stream.read1(CHUNK)
-        finally:
-            self.interrupt.waiting = False
-
     def fill(self, many):
         """Takes octets from the stream until so many are ahead, or it ends."""
         parts = [self.ahead[self.at:]]
         there = len(parts[0])
-        while there < many and (more := self.pull()):
+        while there < many and (more := self.waiting.octets(self.stream)):
             parts.append(more)
             there += len(more)
         self.ahead, self.at = b"".join(parts), 0

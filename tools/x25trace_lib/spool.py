@@ -1,4 +1,4 @@
-"""The rows and comments of a trace on their way: its header is known only after the last packet."""
+"""The rows and comments of a trace: how they are written, and where they wait for a header that is not known yet."""
 import tempfile
 
 from .frames import SECOND
@@ -17,6 +17,22 @@ def time_line(time):
     seconds, part = divmod(abs(time), SECOND)
     decimals = f".{part:09}".rstrip("0") if part else ""
     return f"#@ {'-' if time < 0 else ''}{seconds}{decimals}\n"
+
+
+class Rows:
+    """Numbers rows: by their frames, or on from the row before where that number was had, or where frames are too many."""
+
+    def __init__(self, by_frames=True):
+        self.by_frames = by_frames
+        self.number = 0
+
+    def row(self, frame, side, time, octets):
+        """The line of a row, after comments with its time and with the frame that its number does not say."""
+        self.number = number = frame if self.by_frames and frame > self.number else self.number + 1
+        line = f"{number} {side} {octets}"
+        if time is not None:
+            line = time_line(time) + line
+        return line if number == frame else f"# {number} is of frame {frame}\n{line}"
 
 
 class Spool:
@@ -47,7 +63,7 @@ class Spool:
     def replay(self, circuits):
         """The lines of the trace behind its header."""
         self.file.seek(0)
-        number, by_frames = 0, self.by_frames
+        rows = Rows(self.by_frames)
         for line in self.file:
             if line[0] == "#":
                 yield line
@@ -61,13 +77,7 @@ class Spool:
                     circuit.shown = True
                     yield comment(circuit.shown_words())
                 octets = on_channel(octets, circuit.channel)
-            wanted = int(frame)
-            number = wanted if by_frames and wanted > number else number + 1
-            if number != wanted:
-                yield f"# {number} is of frame {frame}\n"
-            if time:
-                yield time_line(int(time))
-            yield f"{number} {side} {octets}"
+            yield rows.row(int(frame), side, int(time) if time else None, octets)
 
     def close(self):
         self.file.close()

@@ -63,6 +63,8 @@ class Reason(enum.Enum):
     LOST_FRAME = ("LAPB I frames that were not recorded", True)
     LONG_PACKET = ("packets of more than 4,200 octets", True)
     LARGE_TEXT = ("traces of more bytes than x25scan reads", True)
+    SECOND_CARRIER = ("packets of another carrier than the first one, which --only may name", True)
+    LATE_ROW = ("packets for which no row number was left", True)
     NO_CHANNEL = ("packets of circuits for which no channel was left", True)
 
     def __init__(self, words, damage):

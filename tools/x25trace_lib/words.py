@@ -29,6 +29,7 @@ examples:
   x25trace --dte 192.0.2.7 --win 2 --size 128 xot.pcap | x25scan
   x25trace --as 147=lapb line.pcap      a user link type that holds LAPB
   x25trace --as x25 debug.txt           a hex dump of packets, its lines before each one saying I or O
+  tcpdump -U -w - | x25trace --mod 8 --win 2 --size 128 --pvc 0 --svc 64 - | x25scan --follow
   x25trace day.pcap0 day.pcap1          the files of a rotated capture, in their order
 
 kinds of --as: {', '.join(KINDS)}

@@ -291,7 +291,7 @@ class Xot:
         return packets
 
     def is_found(self, circuit, chunk, octets):
-        """Seeks the first packet, or that after a gap: at the beginning of a segment, or of some that say too little."""
+        """Seeks a packet where a segment begins; one that says too little waits for the next."""
         found = begins(octets, circuit)
         if found is False and octets is not chunk.octets:
             self.ledger.left_out(Reason.PASSED_OCTETS, len(octets) - len(chunk.octets))
