@@ -6,6 +6,8 @@ import sys
 from .hexdump import HexDump, is_dump
 from .pcap import MAGICS, Pcap
 from .pcapng import MAGIC, Pcapng
+from .snoop import MAGIC as SNOOP_MAGIC
+from .snoop import Snoop
 from .source import Interrupted, Source
 from .told import Refusal, Topic, Why
 
@@ -17,6 +19,17 @@ COMPRESSED = {
     b"BZh": "bzip2 -d",
     b"\x04\x22\x4d\x18": "lz4 -d",
     b"PK\x03\x04": "unzip",
+}
+# Other files of recorded frames, which Wireshark reads.
+OTHER_FORMS = {
+    b"TRSNIFF data": "Sniffer",
+    b"XCP\0": "NetXRay",
+    b"RTSS": "Network Monitor",
+    b"GMBU": "Network Monitor",
+    b"\x1c\x00\x01\xac": "IXIA",
+    b"\xac\x01\x00\x1c": "IXIA",
+    b"\x1c\x00\x01\xab": "IXIA",
+    b"\xab\x01\x00\x1c": "IXIA",
 }
 
 
@@ -51,11 +64,17 @@ def form_of(source, kinds):
     start = source.peek(LOOK)
     if not start:
         raise Refusal(Why.EMPTY, f"{source.name} has no octet")
+    if start.startswith(SNOOP_MAGIC):
+        return Snoop
     for magic, program in COMPRESSED.items():
         if start.startswith(magic):
             raise Refusal(Why.COMPRESSED, f"{source.name} is compressed; unpack it first with {program}")
+    for magic, form in OTHER_FORMS.items():
+        if start.startswith(magic):
+            words = f"{source.name} is a {form} file; editcap -F pcapng FILE OUT.pcapng, of Wireshark, turns it"
+            raise Refusal(Why.UNKNOWN_FORMAT, f"{words} into one that is read")
     if not is_dump(start):
-        words = f"{source.name} is no pcap, pcapng or hex dump; it begins with {start[:4].hex(' ').upper()}"
+        words = f"{source.name} is no pcap, pcapng, snoop or hex dump; it begins with {start[:4].hex(' ').upper()}"
         raise Refusal(Why.UNKNOWN_FORMAT, words)
     if None not in kinds:
         raise Refusal(Why.KIND_MISSING, f"{source.name}, a hex dump, does not say what it holds; --as KIND does")

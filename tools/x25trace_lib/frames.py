@@ -34,3 +34,10 @@ class Frame:
     interface: int = 0
     # Nanoseconds since 1970, where the capture says them.
     time: int | None = None
+    # How many tunnels it was taken out of.
+    depth: int = 0
+
+    def within(self, begin, end, octets):
+        """The frame that octets of a tunnel hold, of which those up to the end may not all be there."""
+        return Frame(self.number, self.link, octets[begin:end], end - begin, self.direction, self.interface, self.time,
+                     self.depth + 1)

@@ -81,7 +81,7 @@ class Reading:
             else:
                 for packet in take[carrier](frame, carried, at):
                     yield carrier, packet
-        self.internet.fragments.end()
+        self.internet.end()
         for packet in self.xot.end():
             yield Carrier.XOT, packet
         self.lapb.end()
@@ -91,7 +91,8 @@ class Reading:
         if opener is None:
             if frame.link not in self.unknown_links:
                 self.unknown_links.add(frame.link)
-                words = f"frame {frame.number}: link type {frame.link} is not known; --as {frame.link}=KIND"
+                option = f"--as {frame.link}=KIND" if isinstance(frame.link, int) else "--as KIND"
+                words = f"frame {frame.number}: link type {frame.link} is not known; {option}"
                 self.ledger.tell(Topic.UNKNOWN_LINK, words)
             return Carried.UNKNOWN, 0
         return opener(frame)

@@ -82,6 +82,7 @@ class Topic(enum.Enum):
     CONNECTION = "connections that end with their call"
     CHANNEL = "logical channels that change inside of a connection"
     PVC_SETUP = "set-ups of permanent circuits"
+    PORT = "ports that look like XOT"
 
 
 def nobody(_words):
