@@ -8,7 +8,7 @@ import tempfile
 import time
 import unittest
 
-from forms import cooked_1, enhanced, ethernet, interface, pcap, section
+from forms import cooked_1, enhanced, ethernet, interface, pcap, section, snoop
 from link_cases import conversation, packets_of
 
 FILES = pathlib.Path(__file__).resolve().parent / "files"
@@ -49,8 +49,16 @@ class Refused(unittest.TestCase):
     def test_other_file(self):
         self.refused(b"\x7fELF\2\1\1" + bytes(100), "UnknownFormat")
 
-    def test_pcap_header_cut(self):
+    def test_file_that_editcap_turns(self):
+        for start in (b"TRSNIFF data    \x1a", b"XCP\0002.0", b"RTSS", b"GMBU", b"\x1c\0\1\xac", b"\xab\1\0\x1c"):
+            self.refused(start + bytes(100), "UnknownFormat")
+            done = run("-", input=start + bytes(100))
+            self.assertIn(b"editcap -F pcapng FILE OUT.pcapng", done.stderr)
+
+    def test_headers_cut(self):
         self.refused(pcap(1, [])[:20], "UnknownFormat")
+        self.refused(snoop(4, [])[:12], "UnknownFormat")
+        self.refused(snoop(4, []).replace(b"\0\0\0\2", b"\0\0\0\3"), "UnknownFormat")
 
     def test_section_without_byte_order(self):
         self.refused(section()[:8] + b"\0\0\0\0" + section()[12:], "UnknownFormat")

@@ -25,7 +25,7 @@ GIVEN = ["--mod", "8", "--win", "2", "--size", "128", "--pvc", "0", "--svc", "4"
 STREAMS = {"stdin": subprocess.PIPE, "stdout": subprocess.PIPE, "stderr": subprocess.PIPE}
 NUMBERS = re.compile(r"MOD (\d+) WIN (\d+) SIZE (\d+) PVC (\d+) (?:SVC (\d+)|IN (\d+) TWO (\d+) OUT (\d+))")
 OPTIONS = ("--mod", "--win", "--size", "--pvc", "--svc", "--in", "--two", "--out")
-HEAD = re.compile(r"X25 |# from |# estimated |# connection |# \d+ packets are not of modulo |.* gets no channel")
+HEAD = re.compile(r"X25 |# from |# estimated |# WIN |# SIZE |# connection |# \d+ packets are not of modulo |.* gets no channel")
 CHANNEL = "# connection 1 is channel 1: 192.0.2.1 port 1025 (T) and 192.0.2.2 port 1998 (N), logical channel 1 in the capture"
 
 

@@ -13,16 +13,16 @@ def pcap_cases():
     frames = [ethernet(one) for one in conversation()]
     for order, name in (("<", "little"), (">", "big")):
         yield Case(f"times-{name}-endian-microseconds", pcap(1, frames, order), ROWS, "--times", report=REPORT,
-                   times=MICROSECONDS)
+                   tshark=None, times=MICROSECONDS)
         yield Case(f"times-{name}-endian-nanoseconds", pcap(1, frames, order, True), ROWS, "--times", report=REPORT,
-                   times=NANOSECONDS)
+                   tshark=None, times=NANOSECONDS)
 
 
 def ng(name, options, stamps, times, kind=enhanced, order="<"):
     """A conversation in a pcapng file whose interface has options; the time of each frame in its units."""
     blocks = [kind(ethernet(one), order=order, time=stamp) for one, stamp in zip(conversation(), stamps)]
     octets = section(order) + interface(1, order=order, options=options) + b"".join(blocks)
-    return Case(name, octets, ROWS, "--times", report=REPORT, ending="pcapng", times=times)
+    return Case(name, octets, ROWS, "--times", report=REPORT, ending="pcapng", tshark=None, times=times)
 
 
 def pcapng_cases():
@@ -54,7 +54,7 @@ def without_times():
     """Simple blocks and hex dumps have none: their rows have no such comment."""
     frames = [ethernet(one) for one in conversation()]
     octets = section() + interface(1) + b"".join(map(simple, frames))
-    yield Case("times-that-no-block-has", octets, ROWS, "--times", report=REPORT, ending="pcapng")
+    yield Case("times-that-no-block-has", octets, ROWS, "--times", report=REPORT, ending="pcapng", tshark=None)
     yield Case("times-that-no-dump-has", dump([(frame, "") for _, frame in line()]), LINE_ROWS, "--as lapb --times",
                report=LINE_REPORT, ending="txt", tshark=None)
 

@@ -238,6 +238,21 @@ def header_of(wishes, estimator, permanent, highest, join):
     return header
 
 
+def hidden(wishes, header, estimator):
+    """What the estimates of the window and the size hide, or None where both are given or no data told them."""
+    seen = []
+    if wishes.window is None and estimator.most:
+        seen.append(f"WIN {header.window}")
+    if wishes.size is None and estimator.largest:
+        seen.append(f"SIZE {header.size}")
+    if not seen:
+        return None
+    return (
+        f"{' and '.join(seen)} {'are' if seen[1:] else 'is'} estimated, so data that broke a smaller value is not found: "
+        "give --win and --size where you know them"
+    )
+
+
 def estimates(wishes, header, estimator):
     """The words of the numbers that no option gave."""
     standard = "the standard value, as no data tells"

@@ -169,7 +169,9 @@ class Internet:
         payload = begin + (size >> 4) * 4
         if from_port not in self.ports and to_port not in self.ports:
             self.ledger.left_out(Reason.OTHER_PORT)
-            if octets[payload:payload + 2] == b"\0\0":
+            if flags & SYN:
+                self.strangers.servers.add(from_port if flags & ACK else to_port)
+            elif octets[payload:payload + 2] == b"\0\0":
                 self.strangers.see(from_port, to_port, octets[payload:end])
             return None
         if payload > end or size < 0x50:

@@ -31,6 +31,8 @@ class Strangers:
 
     def __init__(self):
         self.weights, self.segments = Counter(), Counter()
+        # The ports to which connections were opened: of two that say as much it is these that are asked for.
+        self.servers = set()
 
     def see(self, one, other, payload):
         many = weight(payload)
@@ -48,7 +50,7 @@ class Strangers:
                 for port in pair:
                     weights[port] += many
                     segments[port] += self.segments[pair]
-            port = min(weights, key=lambda one: (-weights[one], one))
+            port = min(weights, key=lambda one: (-weights[one], one not in self.servers, one))
             if weights[port] < ENOUGH:
                 return
             yield port, segments[port]

@@ -2,7 +2,7 @@
 from collections import Counter
 
 from .channels import assign
-from .estimate import LAST_CHANNEL, Estimator, estimates, header_of
+from .estimate import LAST_CHANNEL, Estimator, estimates, header_of, hidden
 from .packets import LONGEST, channel_of
 from .reading import Carrier
 from .spool import Spool, comment
@@ -73,6 +73,10 @@ class Trace:
         guesses = estimates(self.wishes, header, self.estimator)
         if guesses:
             yield comment("estimated from what was seen: " + ", ".join(guesses))
+        words = hidden(self.wishes, header, self.estimator)
+        if words:
+            self.ledger.say(words)
+            yield comment(words)
         yield from map(comment, self.doubts(header))
         yield header.line() + "\n"
         yield from self.spool.replay(self.reading.xot.circuits)
