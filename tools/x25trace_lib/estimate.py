@@ -124,16 +124,16 @@ class Estimator:
             self.with_data.add(channel)
 
     def data(self, seen, side, octets, modulus):
-        header = 3 if modulus == 8 else 4
-        if len(octets) < header or not seen.flows:
+        size = len(octets) - (3 if modulus == 8 else 4)
+        if size < 0 or not seen.flows:
             return
         self.acknowledge(seen, side, octets, modulus)
-        if PACKET_SIZES not in seen.agreed:
-            self.largest = max(self.largest, len(octets) - header)
+        if size > self.largest and PACKET_SIZES not in seen.agreed:
+            self.largest = size
         send = octets[2] >> 1 & 7 if modulus == 8 else octets[2] >> 1
         edge = seen.ways[side].acknowledged
-        if edge is not None and WINDOWS not in seen.agreed:
-            self.most = max(self.most, (send - edge) % modulus + 1)
+        if edge is not None and (send - edge) % modulus >= self.most and WINDOWS not in seen.agreed:
+            self.most = (send - edge) % modulus + 1
 
     @staticmethod
     def acknowledge(seen, side, octets, modulus):

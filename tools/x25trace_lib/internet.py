@@ -118,7 +118,9 @@ class Internet:
         if place:
             identity = (protocol, *ends, octets[at + 4:at + 6])
             return self.fragment(frame, identity, 8 * (place & 0x1FFF), begin, end, place < 0x2000)
-        return self.transport(frame, protocol, octets, begin, end, ends)
+        if protocol == TCP:
+            return self.tcp(frame, octets, begin, end, *ends)
+        return self.tunnel(frame, protocol, octets, begin, end)
 
     def version_6(self, frame, octets, at):
         follows, begin = octets[at + 6], at + 40
@@ -135,7 +137,9 @@ class Internet:
                     identity = (octets[begin], *ends, octets[begin + 4:begin + 8])
                     return self.fragment(frame, identity, place & 0xFFF8, begin + 8, end, not place & 1)
             follows, begin = octets[begin], begin + size
-        return self.transport(frame, follows, octets, begin, end, ends)
+        if follows == TCP:
+            return self.tcp(frame, octets, begin, end, *ends)
+        return self.tunnel(frame, follows, octets, begin, end)
 
     def fragment(self, frame, identity, place, begin, end, last):
         """Keeps a fragment; the segment of the datagram that it completes. The identity begins with the protocol."""
@@ -147,12 +151,14 @@ class Internet:
             self.ledger.damaged(Reason.FRAGMENT, f"frame {frame.number}: a fragment that was cut off")
             return None
         whole = self.fragments.add(frame, identity, place, frame.octets[begin:end], last)
-        return self.transport(frame, protocol, whole, 0, len(whole), (source, target)) if whole else None
-
-    def transport(self, frame, protocol, octets, begin, end, ends):
-        """The segment of a packet of a protocol, or of the one in a tunnel."""
+        if whole is None:
+            return None
         if protocol == TCP:
-            return self.tcp(frame, octets, begin, end, *ends)
+            return self.tcp(frame, whole, 0, len(whole), source, target)
+        return self.tunnel(frame, protocol, whole, 0, len(whole))
+
+    def tunnel(self, frame, protocol, octets, begin, end):
+        """The segment in what a packet of another protocol carries."""
         inner = frame.within(begin, end, octets)
         carried, at = opened(protocol, inner)
         if carried is Carried.IP:

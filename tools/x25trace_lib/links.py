@@ -20,6 +20,8 @@ class Carried(enum.Enum):
     BROKEN = "broken"
     UNKNOWN = "unknown"
 
+    __hash__ = object.__hash__
+
 
 # Protocols of Ethernet and cooked captures: IPv4, IPv6, X.25, LAPB on a Linux HDLC device.
 PROTOCOLS = {0x0800: Carried.IP, 0x86DD: Carried.IP, 0x0805: Carried.DEVICE, 0x0019: Carried.LAPB}

@@ -84,7 +84,7 @@ class Live:
             return
         self.rows.by_frames = packet.frame <= LAST_NUMBER
         time = packet.time if self.times else None
-        self.put(self.rows.row(packet.frame, packet.side.value, time, octets) + "\n")
+        self.put(self.rows.row(packet.frame, packet.side.letter, time, octets) + "\n")
 
     def give_channel(self, circuit):
         if self.channels.give(circuit):

@@ -20,6 +20,8 @@ class Carrier(enum.Enum):
     LAPB = "lapb"
     X25 = "x25"
 
+    __hash__ = object.__hash__
+
 
 CARRIERS = {
     Carried.IP: Carrier.XOT,

@@ -63,7 +63,9 @@ class Source:
 
     def read(self, many):
         """The next octets; fewer where the file ends."""
-        octets = self.peek(many)
+        if len(self.ahead) - self.at < many:
+            self.fill(many)
+        octets = self.ahead[self.at:self.at + many]
         self.at += len(octets)
         self.offset += len(octets)
         return octets

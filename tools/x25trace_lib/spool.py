@@ -53,7 +53,7 @@ class Spool:
         frame = packet.frame
         self.number = frame if frame > self.number else self.number + 1
         time = f"{packet.time}" if self.times and packet.time is not None else ""
-        self.file.write(f"{frame} {packet.side.value} {circuit} {time} {packet.octets.hex().upper() or '-'}\n")
+        self.file.write(f"{frame} {packet.side.letter} {circuit} {time} {packet.octets.hex().upper() or '-'}\n")
 
     @property
     def by_frames(self):

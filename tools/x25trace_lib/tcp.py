@@ -97,14 +97,14 @@ class Connection:
 
     def feed(self, index, segment):
         """The chunks and gaps that a segment completes, in order."""
-        stream, events = self.streams[index], []
+        stream, events, payload = self.streams[index], [], segment.payload
         if segment.syn:
             self.begin(index, segment)
         if segment.acknowledged is not None:
             self.streams[1 - index].acknowledged = segment.acknowledged
         if segment.fin:
             self.leaving[index] = True
-        elif not segment.payload and not segment.missing:
+        elif not payload and not segment.missing:
             self.ledger.left_out(Reason.NO_OCTETS)
             if self.cost:
                 self.judge(events)
@@ -112,8 +112,12 @@ class Connection:
         if stream.next is None:
             stream.next = segment.sequence
         if not self.cost and segment.sequence == stream.next and self.answers(index, segment):
-            self.deliver(index, segment, events)
-        elif ahead(segment.sequence + len(segment.payload) + segment.missing + segment.fin, stream.next) <= 0:
+            if segment.fin or segment.missing:
+                self.deliver(index, segment, events)
+            else:
+                stream.next = (stream.next + len(payload)) % CIRCLE
+                events.append(Chunk(index, segment.frame, payload, segment.time))
+        elif ahead(segment.sequence + len(payload) + segment.missing + segment.fin, stream.next) <= 0:
             self.ledger.left_out(Reason.REPEATED_OCTETS)
         else:
             self.keep(stream, segment)

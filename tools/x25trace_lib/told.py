@@ -67,6 +67,8 @@ class Reason(enum.Enum):
     LATE_ROW = ("packets for which no row number was left", True)
     NO_CHANNEL = ("packets of circuits for which no channel was left", True)
 
+    __hash__ = object.__hash__
+
     def __init__(self, words, damage):
         self.words = words
         self.damage = damage

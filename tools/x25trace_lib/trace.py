@@ -24,27 +24,27 @@ class Trace:
 
     def gather(self, frames):
         """Takes all packets of the frames."""
-        estimator, spool = self.estimator, self.spool
+        see, add, carriers = self.estimator.see, self.spool.add, self.carriers
         for carrier, packet in self.reading.packets(frames):
             octets, circuit = packet.octets, packet.circuit
             if len(octets) > LONGEST:
                 words = f"frame {packet.frame}: a packet of {len(octets)} octets"
                 self.ledger.damaged(Reason.LONG_PACKET, words)
                 continue
-            self.carriers[carrier] += 1
+            carriers[carrier] += 1
             if circuit is None:
                 key = channel_of(octets) if len(octets) >= 2 else 0
-                estimator.see(key, False, packet.side, octets, True)
-                spool.add(packet, 0)
-            else:
-                if packet.misses:
-                    estimator.miss(circuit.number)
-                estimator.see(circuit.number, circuit.from_opening, packet.side, octets, False)
-                spool.add(packet, circuit.number)
-                circuit.rows += 1
-                circuit.last_row = spool.rows
-                if circuit.rows == 1:
-                    circuit.first_row = spool.rows
+                see(key, False, packet.side, octets, True)
+                add(packet, 0)
+                continue
+            if packet.misses:
+                self.estimator.miss(circuit.number)
+            see(circuit.number, circuit.from_opening, packet.side, octets, False)
+            add(packet, circuit.number)
+            circuit.rows += 1
+            circuit.last_row = self.spool.rows
+            if circuit.rows == 1:
+                circuit.first_row = circuit.last_row
 
     def header(self):
         """The header; XOT circuits get their channels by it."""

@@ -326,7 +326,7 @@ class Xot:
             kind, line_channel = octets[2], channel_of(octets)
             if kind == PVC_SETUP and not circuit.called:
                 return self.set_up(circuit, frame, side)
-            if kind in LINE_TYPES and line_channel == 0:
+            if not line_channel and kind in LINE_TYPES:
                 words = f"a packet of type {kind:02X} on channel 0, of {side.name}"
                 self.ledger.damaged(Reason.LINE_PACKET, f"frame {frame}: connection {circuit.number}: {words}")
                 return None
