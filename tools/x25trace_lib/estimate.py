@@ -46,6 +46,17 @@ class Wishes:
     def one_way(self):
         return not self.incoming is self.two_way is self.outgoing is None
 
+    def missing(self):
+        """The options without which the header is an estimate."""
+        options = {
+            "--mod": self.modulus,
+            "--win": self.window,
+            "--size": self.size,
+            "--pvc": self.permanent,
+            "--svc": self.calls or self.outgoing,
+        }
+        return [option for option, value in options.items() if value is None]
+
 
 class Estimator:
     """Sees each packet once, with the key of its channel."""
@@ -88,9 +99,17 @@ class Estimator:
         else:
             self.signal(seen, kind, octets)
 
-    def forget(self, key):
-        """The channel with a key has no more packets."""
-        self.seen.pop(key, None)
+    def forget(self, circuit):
+        """A circuit has no more packets."""
+        self.seen.pop(circuit.number, None)
+
+    def miss(self, key):
+        """Packets of the channel are missing: what they acknowledged is not known, and data may flow."""
+        seen = self.seen.get(key)
+        if seen:
+            seen.flows = True
+            for way in seen.ways.values():
+                way.acknowledged = None
 
     def restart(self, kind):
         if kind == Type.RESTART:
@@ -105,16 +124,16 @@ class Estimator:
             self.with_data.add(channel)
 
     def data(self, seen, side, octets, modulus):
-        header = 3 if modulus == 8 else 4
-        if len(octets) < header or not seen.flows:
+        size = len(octets) - (3 if modulus == 8 else 4)
+        if size < 0 or not seen.flows:
             return
         self.acknowledge(seen, side, octets, modulus)
-        if PACKET_SIZES not in seen.agreed:
-            self.largest = max(self.largest, len(octets) - header)
+        if size > self.largest and PACKET_SIZES not in seen.agreed:
+            self.largest = size
         send = octets[2] >> 1 & 7 if modulus == 8 else octets[2] >> 1
         edge = seen.ways[side].acknowledged
-        if edge is not None and WINDOWS not in seen.agreed:
-            self.most = max(self.most, (send - edge) % modulus + 1)
+        if edge is not None and (send - edge) % modulus >= self.most and WINDOWS not in seen.agreed:
+            self.most = (send - edge) % modulus + 1
 
     @staticmethod
     def acknowledge(seen, side, octets, modulus):
@@ -217,6 +236,21 @@ def header_of(wishes, estimator, permanent, highest, join):
     if header.fault():
         raise Refusal(Why.HEADER, header.fault())
     return header
+
+
+def hidden(wishes, header, estimator):
+    """What the estimates of the window and the size hide, or None where both are given or no data told them."""
+    seen = []
+    if wishes.window is None and estimator.most:
+        seen.append(f"WIN {header.window}")
+    if wishes.size is None and estimator.largest:
+        seen.append(f"SIZE {header.size}")
+    if not seen:
+        return None
+    return (
+        f"{' and '.join(seen)} {'are' if seen[1:] else 'is'} estimated, so data that broke a smaller value is not found: "
+        "give --win and --size where you know them"
+    )
 
 
 def estimates(wishes, header, estimator):

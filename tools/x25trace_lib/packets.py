@@ -13,6 +13,12 @@ class Side(enum.Enum):
     T = "T"
     N = "N"
 
+    # An enumeration hashes and reads its members' values in Python, which is slow for what is done with each packet.
+    __hash__ = object.__hash__
+
+    def __init__(self, letter):
+        self.letter = letter
+
     @property
     def other(self):
         return Side.N if self is Side.T else Side.T
@@ -49,15 +55,22 @@ class Packet:
     side: Side
     octets: bytes
     circuit: object = None
+    time: int | None = None
+    # Whether packets of the circuit before it are missing.
+    misses: bool = False
 
 
 def channel_of(octets):
     return (octets[0] & 15) << 8 | octets[1]
 
 
+# What the general format identifier says of the modulus.
+MODULI = {0x10: 8, 0x20: 128}
+
+
 def modulus_of(octets):
     """What the general format identifier says: 8, 128, or None."""
-    return {0x10: 8, 0x20: 128}.get(octets[0] & 0x30)
+    return MODULI.get(octets[0] & 0x30)
 
 
 def facilities_of(octets):

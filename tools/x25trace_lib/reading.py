@@ -7,7 +7,7 @@ from .internet import Internet
 from .lapb import Lapb, SideBy, unframe
 from .links import KINDS, LINKS, Carried
 from .packets import Packet, Side
-from .told import Reason
+from .told import Reason, Topic
 from .xot import Xot
 
 XOT_PORT = 1998
@@ -19,6 +19,8 @@ class Carrier(enum.Enum):
     XOT = "xot"
     LAPB = "lapb"
     X25 = "x25"
+
+    __hash__ = object.__hash__
 
 
 CARRIERS = {
@@ -81,8 +83,9 @@ class Reading:
             else:
                 for packet in take[carrier](frame, carried, at):
                     yield carrier, packet
-        self.internet.fragments.end()
-        self.xot.end()
+        self.internet.end()
+        for packet in self.xot.end():
+            yield Carrier.XOT, packet
         self.lapb.end()
 
     def opened(self, frame):
@@ -90,7 +93,9 @@ class Reading:
         if opener is None:
             if frame.link not in self.unknown_links:
                 self.unknown_links.add(frame.link)
-                self.ledger.tell(f"frame {frame.number}: link type {frame.link} is not known; --as {frame.link}=KIND")
+                option = f"--as {frame.link}=KIND" if isinstance(frame.link, int) else "--as KIND"
+                words = f"frame {frame.number}: link type {frame.link} is not known; {option}"
+                self.ledger.tell(Topic.UNKNOWN_LINK, words)
             return Carried.UNKNOWN, 0
         return opener(frame)
 
@@ -119,15 +124,16 @@ class Reading:
         if carried is Carried.DEVICE and len(octets) > at and octets[at] < 4:
             if octets[at]:
                 self.ledger.left_out(Reason.DEVICE_WORD)
-                return
+                return ()
             at += 1
         side = self.side(frame)
         if side is None:
             self.ledger.left_out(Reason.NO_SIDE)
-        elif len(octets) < frame.length:
+            return ()
+        if len(octets) < frame.length:
             self.ledger.damaged(Reason.CUT_PACKET, f"frame {frame.number}: a packet that was cut off")
-        else:
-            yield Packet(frame.number, side, octets[at:])
+            return ()
+        return (Packet(frame.number, side, octets[at:], None, frame.time),)
 
     def side(self, frame):
         """The host that recorded is the DTE; or the interface tells who sends on it."""
