@@ -32,6 +32,7 @@ class Option:
     group: str = ""
     is_value_free: bool = False
     is_needed: bool = False
+    is_repeated: bool = False
 
 
 def plain(text):
@@ -70,7 +71,9 @@ def option_of_trace(action, group):
     choices = tuple(map(str, action.choices or ()))
     has_value = action.nargs != 0
     value = (action.metavar or "|".join(choices)) if has_value else ""
-    return Option(tuple(action.option_strings), action.help, value, choices=choices, group=group, is_needed=action.required)
+    told = Option(tuple(action.option_strings), action.help, value, choices=choices, group=group)
+    told.is_needed, told.is_repeated = action.required, isinstance(action.default, list)
+    return told
 
 
 def options_of_trace():
