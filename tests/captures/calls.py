@@ -1,10 +1,13 @@
 """Tests of the program as it is called: what is refused, its streams, its exit status and its command line."""
+import fcntl
 import gzip
 import os
 import pathlib
 import signal
 import subprocess
+import sys
 import tempfile
+import termios
 import time
 import unittest
 
@@ -14,6 +17,17 @@ from link_cases import conversation, packets_of
 FILES = pathlib.Path(__file__).resolve().parent / "files"
 PROGRAM = FILES.parent.parent.parent / "bin" / "x25trace"
 SECONDS = 60
+
+
+def wait_for_more(running):
+    """Waits until a program has read all that its pipe holds, and waits for more."""
+    end = time.monotonic() + SECONDS
+    while time.monotonic() < end:
+        unread = int.from_bytes(fcntl.ioctl(running.stdin, termios.FIONREAD, bytes(4)), sys.byteorder)
+        state = pathlib.Path(f"/proc/{running.pid}/stat").read_text().rpartition(") ")[2].split()[0]
+        if not unread and state == "S":
+            return
+        time.sleep(0.02)
 
 
 def run(*words, **streams):
@@ -186,7 +200,7 @@ class Streams(unittest.TestCase):
         with subprocess.Popen(words, **streams) as running:
             running.stdin.write(capture[:-30])
             running.stdin.flush()
-            time.sleep(1)
+            wait_for_more(running)
             running.send_signal(signal.SIGINT)
             out, errors = running.communicate(timeout=SECONDS)
         words = b"interrupted: the trace is of what was read before, 11 frames"
