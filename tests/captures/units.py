@@ -14,7 +14,7 @@ ENDS = (b"\1\2\3\4\4\1", b"\1\2\3\5\7\xce")
 
 
 def segment(sequence, payload, frame=1, acknowledged=None):
-    return Segment(frame, *ENDS, sequence, acknowledged, False, False, False, payload, 0)
+    return Segment(frame, *ENDS, sequence, acknowledged, 0, payload, 0)
 
 
 class Numbers(unittest.TestCase):

@@ -18,10 +18,10 @@ class Side(enum.Enum):
 
     def __init__(self, letter):
         self.letter = letter
+        self.other = None
 
-    @property
-    def other(self):
-        return Side.N if self is Side.T else Side.T
+
+Side.T.other, Side.N.other = Side.N, Side.T
 
 
 class Type(enum.IntEnum):

@@ -4,7 +4,7 @@ import struct
 from collections import deque
 from dataclasses import dataclass, field
 
-from .internet import port_of
+from .internet import RST, SYN, port_of
 from .packets import LONGEST, Packet, Side, Type, address_text, channel_of, modulus_of
 from .tcp import Budget, Chunk, Connection, ahead
 from .told import Reason, Topic
@@ -132,10 +132,10 @@ class Xot:
             self.ledger.left_out(Reason.OTHER_HOST)
             return ()
         connection, index, circuit = self.table.get((segment.source, segment.target), NOTHING)
-        if segment.syn and not (connection and self.goes_on(connection, index, segment)):
+        if segment.flags & SYN and not (connection and self.goes_on(connection, index, segment)):
             return self.begin(connection, circuit, segment)
         if connection is None:
-            if segment.reset or not segment.payload and not segment.missing:
+            if segment.flags & RST or not segment.payload and not segment.missing:
                 self.ledger.left_out(Reason.NO_OCTETS)
                 return ()
             connection, index, circuit = self.open(segment, False)
@@ -181,7 +181,7 @@ class Xot:
             self.pass_over(connection, index, segment)
         else:
             events = connection.feed(index, segment)
-        if segment.reset or connection.over:
+        if segment.flags & RST or connection.over:
             return self.read_to_the_end(connection, circuit, events, segment.frame)
         if len(events) == 1 and type(events[0]) is Chunk:
             packets = self.packets(circuit, events[0])
