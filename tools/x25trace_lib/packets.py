@@ -25,8 +25,9 @@ Side.T.other, Side.N.other = Side.N, Side.T
 
 
 class Type(enum.IntEnum):
-    """The third octet of a packet, but for those with sequence numbers."""
+    """The third octet of a packet, with sequence numbers that are 0."""
 
+    READY = 0x01
     CALL = 0x0B
     ACCEPTED = 0x0F
     CLEAR = 0x13

@@ -12,11 +12,13 @@ other side has acknowledged them and more segments wait than a recorder puts out
 import bisect
 from dataclasses import dataclass
 
-from .internet import FIN, SYN
+from .internet import FIN, RST, SYN
 from .told import Reason
 
 CIRCLE = 1 << 32
 HALF = 1 << 31
+# Flags of segments that begin or end a direction.
+ENDS = SYN | FIN | RST
 # What may wait: octets, with a segment's own cost, of one connection and of all.
 SEGMENT_COST = 512
 MOST_OF_ONE = 1 << 20
@@ -96,6 +98,23 @@ class Connection:
             self.streams[1 - index].next = segment.acknowledged
         segment.sequence = (segment.sequence + 1) % CIRCLE
 
+    def takes(self, index, segment):
+        """Takes a segment that simply follows, as most do: nothing waits, and its octets come next; else it is fed."""
+        stream, acknowledged = self.streams[index], segment.acknowledged
+        if (
+            segment.sequence != stream.next
+            or self.cost
+            or segment.flags & ENDS
+            or segment.missing
+            or not segment.payload
+            or acknowledged is None
+            or not self.answers(index, segment)
+        ):
+            return False
+        self.streams[1 - index].acknowledged = acknowledged
+        stream.next = (stream.next + len(segment.payload)) % CIRCLE
+        return True
+
     def feed(self, index, segment):
         """The chunks and gaps that a segment completes, in order."""
         stream, events, payload = self.streams[index], [], segment.payload
@@ -114,11 +133,7 @@ class Connection:
         if stream.next is None:
             stream.next = segment.sequence
         if not self.cost and segment.sequence == stream.next and self.answers(index, segment):
-            if fin or segment.missing:
-                self.deliver(index, segment, events)
-            else:
-                stream.next = (stream.next + len(payload)) % CIRCLE
-                events.append(Chunk(index, segment.frame, payload, segment.time))
+            self.deliver(index, segment, events)
         elif ahead(segment.sequence + len(payload) + segment.missing + fin, stream.next) <= 0:
             self.ledger.left_out(Reason.REPEATED_OCTETS)
         else:
