@@ -9,6 +9,8 @@ STANDARD_WINDOW = 2
 SMALLEST_SIZE = 16
 LARGEST_SIZE = 4096
 LAST_CHANNEL = 4095
+# RR, RNR and REJ, without their numbers.
+FLOW = frozenset((1, 5, 9))
 
 
 @dataclass(slots=True)
@@ -89,8 +91,9 @@ class Estimator:
             seen = self.seen[key] = Seen({Side.T: edge, Side.N: edge})
         if not kind & 1:
             self.data(seen, side, octets, modulus)
-        elif kind & 0x1F in (1, 5, 9) and (modulus == 8 or kind < 16):
-            self.acknowledge(seen, side, octets, modulus)
+        elif kind & 0x1F in FLOW and (modulus == 8 or kind < 16):
+            if modulus == 8 or len(octets) >= 4:
+                seen.edges[side.other] = kind >> 5 if modulus == 8 else octets[3] >> 1
         else:
             self.signal(seen, kind, octets)
 
@@ -121,20 +124,13 @@ class Estimator:
         size = len(octets) - (3 if modulus == 8 else 4)
         if size < 0 or not seen.flows:
             return
-        self.acknowledge(seen, side, octets, modulus)
+        seen.edges[side.other] = octets[2] >> 5 if modulus == 8 else octets[3] >> 1
         if size > self.largest and PACKET_SIZES not in seen.agreed:
             self.largest = size
         send = octets[2] >> 1 & 7 if modulus == 8 else octets[2] >> 1
         edge = seen.edges[side]
         if edge is not None and (send - edge) % modulus >= self.most and WINDOWS not in seen.agreed:
             self.most = (send - edge) % modulus + 1
-
-    @staticmethod
-    def acknowledge(seen, side, octets, modulus):
-        if modulus == 8:
-            seen.edges[side.other] = octets[2] >> 5
-        elif len(octets) >= 4:
-            seen.edges[side.other] = octets[3] >> 1
 
     @staticmethod
     def signal(seen, kind, octets):
