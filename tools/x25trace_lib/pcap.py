@@ -38,12 +38,14 @@ class Pcap:
         header = source.read(FILE_HEADER)
         if len(header) < FILE_HEADER:
             raise Refusal(Why.UNKNOWN_FORMAT, f"{source.name} ends at offset {len(header)}, inside of the pcap header")
-        snap, network = struct.unpack(order + "16xII", header)
+        self.snap, network = struct.unpack(order + "16xII", header)
         self.link = network & 0xFFFF
         # The octets of a frame check sequence that each frame ends with: counted in two octets, where bit 26 is set.
         self.check = 2 * (network >> 28) if network & 1 << 26 else 0
-        self.largest = max(snap, LARGEST)
+        self.largest = max(self.snap, LARGEST)
         self.seconds = None
+        # The octets of the last frame and its length on the line, with its frame check sequence.
+        self.recorded = None
 
     def frames(self):
         read, unpack, largest = self.source.read, self.record.unpack_from, self.largest
@@ -65,6 +67,7 @@ class Pcap:
                 self.damage(self.source.offset - len(octets) - size, words)
             self.seconds = seconds
             length = max(length, kept)
+            self.recorded = octets, length
             if self.check:
                 length -= self.check
                 octets = octets[:length]
