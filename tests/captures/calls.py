@@ -126,6 +126,26 @@ class Called(unittest.TestCase):
             done = run(*words.split())
             self.assertEqual((done.returncode, done.stdout), (64, b""), words)
 
+    def test_comments_refused(self):
+        """Nothing is written where the capture cannot be read twice, would be lost, or has no link type."""
+        with tempfile.TemporaryDirectory() as folder:
+            out, same = pathlib.Path(folder, "out.pcapng"), pathlib.Path(folder, "same.pcap")
+            same.write_bytes((FILES / "ethernet.pcap").read_bytes())
+            lines = (
+                (64, b"it wants a file, no pipe", ["-"], {"input": same.read_bytes()}),
+                (64, b"it wants another file", [same], {}),
+                (2, b"dump-of-packets.txt says no link type", ["--as", "x25", "dump-of-packets.txt"], {}),
+                (2, b"x25trace: NoPacket: ", ["--port", "99", same], {}),
+                (3, b"x25trace: reading or writing failed: ", ["--scanner", "/nowhere/x25scan", same], {}),
+            )
+            for status, words, more, streams in lines:
+                target = same if words == lines[1][1] else out
+                done = run("--comments", target, *more, cwd=FILES, **streams)
+                self.assertEqual((done.returncode, done.stdout), (status, b""), done.stderr)
+                self.assertIn(words, done.stderr)
+                self.assertFalse(out.exists())
+            self.assertEqual(same.read_bytes(), (FILES / "ethernet.pcap").read_bytes())
+
     def test_help(self):
         done = run("--help")
         self.assertEqual((done.returncode, done.stderr), (0, b""))

@@ -56,14 +56,14 @@ def interface(link, snap=0, order="<", options=b""):
     return block(1, struct.pack(order + "HHI", link, 0, snap) + options, order)
 
 
-def enhanced(octets, which=0, length=None, order="<", flags=None, time=0):
+def enhanced(octets, which=0, length=None, order="<", flags=None, time=0, options=b""):
     """An enhanced packet block; flags 1 is inbound, 2 outbound. The time is in units of the interface."""
     stamp = (time >> 32, time & 0xFFFFFFFF)
     head = struct.pack(order + "IIIII", which, *stamp, len(octets), len(octets) if length is None else length)
     body = head + octets + bytes(-len(octets) % 4)
     if flags is not None:
         body += option(2, struct.pack(order + "I", flags), order) + option(0, b"", order)
-    return block(6, body, order)
+    return block(6, body + options, order)
 
 
 def simple(octets, length=None, order="<"):

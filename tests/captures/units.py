@@ -2,6 +2,7 @@
 import unittest
 
 from x25trace_lib.channels import assign
+from x25trace_lib.comments import comments_of
 from x25trace_lib.estimate import Header
 from x25trace_lib.internet import Segment
 from x25trace_lib.packets import Packet, Side, Type
@@ -14,7 +15,7 @@ ENDS = (b"\1\2\3\4\4\1", b"\1\2\3\5\7\xce")
 
 
 def segment(sequence, payload, frame=1, acknowledged=None):
-    return Segment(frame, *ENDS, sequence, acknowledged, False, False, False, payload, 0)
+    return Segment(frame, *ENDS, sequence, acknowledged, 0, payload, 0)
 
 
 class Numbers(unittest.TestCase):
@@ -78,6 +79,27 @@ class Memory(unittest.TestCase):
         chunks = connection.feed(0, segment(101, b"b"))
         self.assertEqual(b"".join(chunk.octets for chunk in chunks), b"bcdefg")
         self.assertEqual(connection.cost, 0)
+
+
+class Comments(unittest.TestCase):
+    """Findings and calls are told of rows, whose numbers may not be those of their frames."""
+
+    def test_frames_of_rows(self):
+        lines = [
+            "# connection 1 is channel 1: 192.0.2.1 port 1025 (T) and 192.0.2.2 port 1998 (N)",
+            "X25 1 MOD 8 WIN 2 SIZE 128 PVC 0 SVC 1",
+            "6 T 10010B0000", "# DTE, logical channel 1: call request, called -, calling -",
+            "# 7 is of frame 6", "7 T 100104AA", "#! F 7 T p2 20: Invalid packet type for state p2: words",
+            "9 T 100104AA", "#! F 9 T p2 20: Invalid packet type for state p2: other words",
+            "# Call 1, outgoing on logical channel 1: called -, calling -; opened by packet 6, never up, open at the end",
+            "# Call 2, incoming on logical channel 1: called -, calling -; opened by packet 7, never up, open at the end",
+        ]
+        call = "x25scan: Call {} on logical channel 1: called -, calling -; opened by packet {}, never up, open at the end"
+        self.assertEqual(dict(comments_of(f"{line}\n" for line in lines)), {
+            6: ["x25scan: F 7 T p2 20: Invalid packet type for state p2: words", call.format("1, outgoing", 6),
+                call.format("2, incoming", 7)],
+            9: ["x25scan: F 9 T p2 20: Invalid packet type for state p2: other words"],
+        })
 
 
 class Channels(unittest.TestCase):

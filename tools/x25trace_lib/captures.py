@@ -1,4 +1,5 @@
 """The files of a capture: how each is opened, what it is by its first octets, and the frames of all in their order."""
+import contextlib
 import os
 import stat
 import sys
@@ -90,6 +91,14 @@ def is_pipe(name):
     return not stat.S_ISREG(mode) and not stat.S_ISDIR(mode)
 
 
+def is_same(name, other):
+    """Whether two names are of one file."""
+    try:
+        return os.path.samefile(name, other)
+    except OSError:
+        return False
+
+
 class Captures:
     """The frames of files, numbered on from each to the next."""
 
@@ -119,10 +128,22 @@ class Captures:
                     form_of(Source(stream, self.waiting, said(name), False), self.kinds)
 
     def frames_of(self, name):
-        with open_capture(name) as stream:
-            source = Source(stream, self.waiting, said(name), self.several)
-            form = form_of(source, self.kinds)(source, self.ledger, self.number)
+        with self.opened(name) as form:
             for frame in form.frames():
                 self.number = frame.number
                 yield frame
             self.number = form.number
+
+    def forms(self):
+        """What reads each file, open while it is asked for; the numbers of its frames go on from the file before."""
+        for name in self.names:
+            with self.opened(name) as form:
+                yield form
+                self.number = form.number
+
+    @contextlib.contextmanager
+    def opened(self, name):
+        """What reads a file."""
+        with open_capture(name) as stream:
+            source = Source(stream, self.waiting, said(name), self.several)
+            yield form_of(source, self.kinds)(source, self.ledger, self.number)

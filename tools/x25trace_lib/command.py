@@ -4,7 +4,9 @@ import os
 import pathlib
 import signal
 import sys
+import tempfile
 
+from . import comments
 from .captures import Captures, is_pipe
 from .live import Live
 from .reading import Reading
@@ -34,18 +36,36 @@ def is_live(words, wishes):
 
 
 def write(words, ledger, waiting):
-    """Reads the captures and writes their trace."""
+    """Reads the captures, and writes their trace or their comments."""
     choices, wishes = chosen(words)
-    frames = Captures(words.captures, choices.kinds, ledger, waiting).frames()
+    captures = Captures(words.captures, choices.kinds, ledger, waiting)
     reading, name = Reading(ledger, choices), title(words.captures)
-    if is_live(words, wishes):
+    if words.comments is None and is_live(words, wishes):
         waiting.before = sys.stdout.flush
-        Live(ledger, reading, wishes, words.times).write(frames, name, sys.stdout)
+        Live(ledger, reading, wishes, words.times).write(captures.frames(), name, sys.stdout)
     else:
         trace = Trace(ledger, reading, wishes, words.times)
-        trace.gather(frames)
-        trace.write(name, sys.stdout)
+        trace.gather(captures.frames())
+        if words.comments is None:
+            trace.write(name, sys.stdout)
+        else:
+            write_comments(trace, words)
     sys.stdout.flush()
+
+
+def write_comments(trace, words):
+    """Has x25scan read the trace, and writes the captures again with what it says."""
+    # What is damaged was told by the first reading.
+    again = [Captures(words.captures, dict(words.kinds), Ledger(), Waiting()) for _ in range(2)]
+    comments.check(again[0])
+    with tempfile.TemporaryFile("w+", encoding="ascii", newline="\n") as file:
+        trace.write(title(words.captures), file)
+        file.flush()
+        file.seek(0)
+        texts = comments.found(file, words.scanner)
+    with open(words.comments, "wb") as out:
+        comments.write(again[1], texts, out)
+    say(f"{sum(map(len, texts.values()))} comments, in {len(texts)} frames of {words.comments}")
 
 
 def run(words, waiting):

@@ -28,9 +28,7 @@ class Segment:
     target: bytes
     sequence: int
     acknowledged: int | None
-    syn: bool
-    fin: bool
-    reset: bool
+    flags: int
     payload: bytes
     missing: int
     time: int | None = None
@@ -98,10 +96,11 @@ class Internet:
     def segment(self, frame, at):
         """The segment of an Internet packet, or None, which is counted."""
         octets = frame.octets
-        version = octets[at] >> 4 if len(octets) > at else 0
-        if version == 4 and len(octets) >= at + 20:
+        there = len(octets) - at
+        version = octets[at] >> 4 if there > 0 else 0
+        if version == 4 and there >= 20:
             return self.version_4(frame, octets, at)
-        if version == 6 and len(octets) >= at + 40:
+        if version == 6 and there >= 40:
             return self.version_6(frame, octets, at)
         if version in (4, 6) or not version:
             return self.bad(frame, "its Internet header is cut")
@@ -169,7 +168,8 @@ class Internet:
         return None
 
     def tcp(self, frame, octets, begin, end, source, target):
-        if len(octets) < begin + 20 or end < begin + 20:
+        there = len(octets)
+        if there < begin + 20 or end < begin + 20:
             return self.bad(frame, "its TCP header is cut")
         from_port, to_port, sequence, acknowledged, size, flags = TCP_HEADER.unpack_from(octets, begin)
         payload = begin + (size >> 4) * 4
@@ -188,10 +188,8 @@ class Internet:
             target + octets[begin + 2:begin + 4],
             sequence,
             acknowledged if flags & ACK else None,
-            flags & SYN != 0,
-            flags & FIN != 0,
-            flags & RST != 0,
+            flags,
             octets[payload:end],
-            max(end - max(len(octets), payload), 0),
+            0 if end <= there else end - max(there, payload),
             frame.time,
         )

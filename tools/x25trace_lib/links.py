@@ -30,6 +30,7 @@ PPPOE_SESSION = 0x8864
 MPLS = frozenset((0x8847, 0x8848))
 PPP_MPLS = frozenset((0x0281, 0x0283))
 PPP_PROTOCOLS = {0x0021: Carried.IP, 0x0057: Carried.IP}
+IPV4 = (Carried.IP, 14)
 # Frames in frames in frames: no network nests them deeper.
 DEEPEST = 8
 
@@ -74,7 +75,8 @@ def typed(frame, at):
 
 
 def ethernet(frame):
-    return typed(frame, 12)
+    # Most frames hold IPv4, with nothing before it.
+    return IPV4 if frame.octets[12:14] == b"\x08\0" else typed(frame, 12)
 
 
 def mpls(frame, at):

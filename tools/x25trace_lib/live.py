@@ -70,7 +70,7 @@ class Live:
             self.put(comment(words))
 
     def write_row(self, packet):
-        circuit, octets = packet.circuit, packet.octets.hex().upper() or "-"
+        circuit, words = packet.circuit, f"{packet.side.letter} {packet.octets.hex().upper() or '-'}\n"
         if circuit is not None:
             if circuit.rows == 0:
                 self.give_channel(circuit)
@@ -78,13 +78,13 @@ class Live:
             if circuit.channel is None:
                 self.ledger.left_out(Reason.NO_CHANNEL)
                 return
-            octets = on_channel(octets, circuit.channel)
+            words = on_channel(words, circuit.channel)
         if self.rows.number >= LAST_NUMBER:
             self.ledger.left_out(Reason.LATE_ROW)
             return
         self.rows.by_frames = packet.frame <= LAST_NUMBER
         time = packet.time if self.times else None
-        self.put(self.rows.row(packet.frame, packet.side.letter, time, octets) + "\n")
+        self.put(self.rows.row(packet.frame, words, time))
 
     def give_channel(self, circuit):
         if self.channels.give(circuit):

@@ -18,15 +18,16 @@ class Side(enum.Enum):
 
     def __init__(self, letter):
         self.letter = letter
+        self.other = None
 
-    @property
-    def other(self):
-        return Side.N if self is Side.T else Side.T
+
+Side.T.other, Side.N.other = Side.N, Side.T
 
 
 class Type(enum.IntEnum):
-    """The third octet of a packet, but for those with sequence numbers."""
+    """The third octet of a packet, with sequence numbers that are 0."""
 
+    READY = 0x01
     CALL = 0x0B
     ACCEPTED = 0x0F
     CLEAR = 0x13

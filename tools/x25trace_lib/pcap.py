@@ -38,33 +38,36 @@ class Pcap:
         header = source.read(FILE_HEADER)
         if len(header) < FILE_HEADER:
             raise Refusal(Why.UNKNOWN_FORMAT, f"{source.name} ends at offset {len(header)}, inside of the pcap header")
-        snap, network = struct.unpack(order + "16xII", header)
+        self.snap, network = struct.unpack(order + "16xII", header)
         self.link = network & 0xFFFF
         # The octets of a frame check sequence that each frame ends with: counted in two octets, where bit 26 is set.
         self.check = 2 * (network >> 28) if network & 1 << 26 else 0
-        self.largest = max(snap, LARGEST)
+        self.largest = max(self.snap, LARGEST)
         self.seconds = None
+        # The octets of the last frame and its length on the line, with its frame check sequence.
+        self.recorded = None
 
     def frames(self):
-        read, size, nanoseconds = self.source.read, self.header_size, SECOND // self.parts
+        read, unpack, largest = self.source.read, self.record.unpack_from, self.largest
+        size, nanoseconds = self.header_size, SECOND // self.parts
         while True:
-            start = self.source.offset
             header = read(size)
             if len(header) < size:
-                self.end_inside(start, header)
+                self.end_inside(header)
                 return
-            seconds, part, kept, length = self.record.unpack_from(header)
-            if kept > self.largest:
+            seconds, part, kept, length = unpack(header)
+            if kept > largest:
                 self.source.unread(header)
-                self.seek(start, f"a record of {kept} octets")
+                self.seek(f"a record of {kept} octets")
                 continue
             octets = read(kept)
             self.number += 1
             if len(octets) < kept:
                 words = f"frame {self.number}: the file ends after {len(octets)} of its {kept} octets"
-                self.damage(start, words)
+                self.damage(self.source.offset - len(octets) - size, words)
             self.seconds = seconds
             length = max(length, kept)
+            self.recorded = octets, length
             if self.check:
                 length -= self.check
                 octets = octets[:length]
@@ -76,12 +79,14 @@ class Pcap:
     def damage(self, start, words):
         self.ledger.damaged(Reason.BAD_FILE, f"{self.source.place(start)}: {words}")
 
-    def end_inside(self, start, header):
+    def end_inside(self, header):
         if header:
+            start = self.source.offset - len(header)
             self.damage(start, f"the file ends inside of a record's header, {len(header)} octets are left out")
 
-    def seek(self, start, what):
+    def seek(self, what):
         """Goes to the next place where records may begin again, and tells how far it was."""
+        start = self.source.offset
         while True:
             window = self.source.peek(WINDOW)
             at = self.next_record(window)

@@ -66,6 +66,17 @@ class Pcapng:
         self.first_interface = 0
 
     def frames(self):
+        for start, kind, octets in self.blocks():
+            frame = self.frame_of(kind, start, self.body(octets))
+            if frame:
+                yield frame
+
+    def body(self, octets):
+        """What is there of a block's body."""
+        return octets[8:min(len(octets), self.word(octets, 4) - 4)]
+
+    def blocks(self):
+        """Each block that can be walked over: its offset, its type and its octets, which may end early."""
         while True:
             start = self.source.offset
             head = self.source.peek(SMALLEST)
@@ -77,14 +88,12 @@ class Pcapng:
             if fault:
                 self.seek(start, fault)
                 continue
-            body = self.source.read(length)
-            if len(body) == length and body[-4:] != body[4:8]:
-                self.damage(start, f"the block's two lengths differ, {length} and {self.word(body, length - 4)}")
-            elif len(body) < length:
-                self.damage(start, f"the file ends after {len(body)} of the block's {length} octets")
-            frame = self.frame_of(kind, start, body[8:min(len(body), length - 4)])
-            if frame:
-                yield frame
+            octets = self.source.read(length)
+            if len(octets) == length and octets[-4:] != octets[4:8]:
+                self.damage(start, f"the block's two lengths differ, {length} and {self.word(octets, length - 4)}")
+            elif len(octets) < length:
+                self.damage(start, f"the file ends after {len(octets)} of the block's {length} octets")
+            yield start, kind, octets
 
     def word(self, octets, at):
         return struct.unpack_from(self.order + "I", octets, at)[0]

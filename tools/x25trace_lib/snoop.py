@@ -25,6 +25,9 @@ class Snoop:
         if version != 2:
             raise Refusal(Why.UNKNOWN_FORMAT, f"{source.name} is a snoop file of version {version}, not 2")
         self.link = LINKS.get(link, f"{link} of snoop")
+        self.snap, self.check, self.parts = LARGEST, 0, 1_000_000
+        # The octets of the last frame and its length on the line.
+        self.recorded = None
 
     def frames(self):
         while True:
@@ -43,8 +46,9 @@ class Snoop:
             if len(octets) < kept:
                 words = f"frame {self.number}: the file ends after {len(octets)} of its {kept} octets"
                 self.damage(start, words)
-            time = seconds * SECOND + part * 1000
-            yield Frame(self.number, self.link, octets, max(length, kept), Direction.UNKNOWN, 0, time)
+            self.recorded = octets, max(length, kept)
+            time = seconds * SECOND + part * (SECOND // self.parts)
+            yield Frame(self.number, self.link, *self.recorded, Direction.UNKNOWN, 0, time)
 
     def damage(self, start, words):
         self.ledger.damaged(Reason.BAD_FILE, f"{self.source.place(start)}: {words}")

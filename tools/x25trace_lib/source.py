@@ -44,9 +44,14 @@ class Source:
 
     def __init__(self, stream, waiting, name, several):
         self.stream, self.waiting, self.name, self.several = stream, waiting, name, several
-        self.offset = 0
+        # The octets that came and are not dropped yet, where they begin in the file, and how many of them were read.
         self.ahead = b""
-        self.at = 0
+        self.begun = self.at = 0
+
+    @property
+    def offset(self):
+        """Where in the file the next octet is."""
+        return self.begun + self.at
 
     def place(self, offset):
         """The words for an offset, with the name of the file where there are several."""
@@ -59,6 +64,7 @@ class Source:
         while there < many and (more := self.waiting.octets(self.stream)):
             parts.append(more)
             there += len(more)
+        self.begun += self.at
         self.ahead, self.at = b"".join(parts), 0
 
     def read(self, many):
@@ -67,13 +73,11 @@ class Source:
             self.fill(many)
         octets = self.ahead[self.at:self.at + many]
         self.at += len(octets)
-        self.offset += len(octets)
         return octets
 
     def unread(self, octets):
         """Puts back what was read last."""
         self.at -= len(octets)
-        self.offset -= len(octets)
 
     def peek(self, many):
         """What read would give, without reading it."""

@@ -26,10 +26,13 @@ class Rows:
         self.by_frames = by_frames
         self.number = 0
 
-    def row(self, frame, side, time, octets):
-        """The line of a row, after comments with its time and with the frame that its number does not say."""
+    def row(self, frame, words, time):
+        """The line of a row, after comments with its time and with the frame that its number does not say.
+
+        The words are those after the number.
+        """
         self.number = number = frame if self.by_frames and frame > self.number else self.number + 1
-        line = f"{number} {side} {octets}"
+        line = f"{number} {words}"
         if time is not None:
             line = time_line(time) + line
         return line if number == frame else f"# {number} is of frame {frame}\n{line}"
@@ -38,22 +41,32 @@ class Rows:
 class Spool:
     """A temporary file with a line for each row and comment; memory does not grow with it."""
 
+    MOST_LINES = 1000
+
     def __init__(self, times=False, last_number=LAST_NUMBER):
         self.file = tempfile.TemporaryFile("w+", encoding="ascii", newline="\n", buffering=1 << 16)
+        self.lines = []
         self.rows = 0
         self.times, self.last_number = times, last_number
         self.number = 0
 
     def tell(self, words):
-        self.file.write(comment(words))
+        self.lines.append(comment(words))
 
     def add(self, packet, circuit):
-        """Keeps a row, after its time; the circuit is 0 for a packet of a line."""
+        """Keeps a row: its circuit, 0 on a line, perhaps its time, its frame, and what stands behind its number."""
         self.rows += 1
-        frame = packet.frame
+        frame, lines = packet.frame, self.lines
         self.number = frame if frame > self.number else self.number + 1
-        time = f"{packet.time}" if self.times and packet.time is not None else ""
-        self.file.write(f"{frame} {packet.side.letter} {circuit} {time} {packet.octets.hex().upper() or '-'}\n")
+        if self.times and packet.time is not None:
+            circuit = f"{circuit}@{packet.time}"
+        lines.append(f"{circuit} {frame} {packet.side.letter} {packet.octets.hex().upper() or '-'}\n")
+        if len(lines) > self.MOST_LINES:
+            self.write()
+
+    def write(self):
+        self.file.write("".join(self.lines))
+        self.lines.clear()
 
     @property
     def by_frames(self):
@@ -62,13 +75,15 @@ class Spool:
 
     def replay(self, circuits):
         """The lines of the trace behind its header."""
+        self.write()
         self.file.seek(0)
-        rows = Rows(self.by_frames)
+        row = Rows(self.by_frames).row
         for line in self.file:
             if line[0] == "#":
                 yield line
                 continue
-            frame, side, which, time, octets = line.split(" ")
+            key, frame, words = line.split(" ", 2)
+            which, _, time = key.partition("@")
             if which != "0":
                 circuit = circuits[int(which) - 1]
                 if circuit.channel is None:
@@ -76,13 +91,13 @@ class Spool:
                 if not circuit.shown:
                     circuit.shown = True
                     yield comment(circuit.shown_words())
-                octets = on_channel(octets, circuit.channel)
-            yield rows.row(int(frame), side, int(time) if time else None, octets)
+                words = on_channel(words, circuit.channel)
+            yield row(int(frame), words, int(time) if time else None)
 
     def close(self):
         self.file.close()
 
 
-def on_channel(octets, channel):
-    """The hex digits of a packet with another logical channel; the general format identifier stays."""
-    return f"{octets[0]}{channel:03X}{octets[4:]}" if len(octets) > 4 else octets
+def on_channel(words, channel):
+    """The side and the octets of a row with another logical channel; the general format identifier stays."""
+    return f"{words[:3]}{channel:03X}{words[6:]}" if len(words) > 6 else words

@@ -12,10 +12,13 @@ other side has acknowledged them and more segments wait than a recorder puts out
 import bisect
 from dataclasses import dataclass
 
+from .internet import FIN, RST, SYN
 from .told import Reason
 
 CIRCLE = 1 << 32
 HALF = 1 << 31
+# Flags of segments that begin or end a direction.
+ENDS = SYN | FIN | RST
 # What may wait: octets, with a segment's own cost, of one connection and of all.
 SEGMENT_COST = 512
 MOST_OF_ONE = 1 << 20
@@ -95,14 +98,32 @@ class Connection:
             self.streams[1 - index].next = segment.acknowledged
         segment.sequence = (segment.sequence + 1) % CIRCLE
 
+    def takes(self, index, segment):
+        """Takes a segment that simply follows, as most do: nothing waits, and its octets come next; else it is fed."""
+        stream, acknowledged = self.streams[index], segment.acknowledged
+        if (
+            segment.sequence != stream.next
+            or self.cost
+            or segment.flags & ENDS
+            or segment.missing
+            or not segment.payload
+            or acknowledged is None
+            or not self.answers(index, segment)
+        ):
+            return False
+        self.streams[1 - index].acknowledged = acknowledged
+        stream.next = (stream.next + len(segment.payload)) % CIRCLE
+        return True
+
     def feed(self, index, segment):
         """The chunks and gaps that a segment completes, in order."""
         stream, events, payload = self.streams[index], [], segment.payload
-        if segment.syn:
+        if segment.flags & SYN:
             self.begin(index, segment)
         if segment.acknowledged is not None:
             self.streams[1 - index].acknowledged = segment.acknowledged
-        if segment.fin:
+        fin = segment.flags & FIN
+        if fin:
             self.leaving[index] = True
         elif not payload and not segment.missing:
             self.ledger.left_out(Reason.NO_OCTETS)
@@ -112,12 +133,8 @@ class Connection:
         if stream.next is None:
             stream.next = segment.sequence
         if not self.cost and segment.sequence == stream.next and self.answers(index, segment):
-            if segment.fin or segment.missing:
-                self.deliver(index, segment, events)
-            else:
-                stream.next = (stream.next + len(payload)) % CIRCLE
-                events.append(Chunk(index, segment.frame, payload, segment.time))
-        elif ahead(segment.sequence + len(payload) + segment.missing + segment.fin, stream.next) <= 0:
+            self.deliver(index, segment, events)
+        elif ahead(segment.sequence + len(payload) + segment.missing + fin, stream.next) <= 0:
             self.ledger.left_out(Reason.REPEATED_OCTETS)
         else:
             self.keep(stream, segment)
@@ -164,8 +181,8 @@ class Connection:
         """Adds the octets of a segment that were not delivered before, and takes its end."""
         stream, payload = self.streams[index], segment.payload
         old = ahead(stream.next, segment.sequence)
-        past = len(payload) + segment.missing
-        if old and past + segment.fin <= old:
+        past, fin = len(payload) + segment.missing, segment.flags & FIN
+        if old and past + fin <= old:
             self.ledger.left_out(Reason.REPEATED_OCTETS)
             return
         if len(payload) > old:
@@ -174,7 +191,7 @@ class Connection:
             stream.next = (segment.sequence + past) % CIRCLE
         if segment.missing and past > old:
             events.append(Gap(index, segment.frame, past - max(old, len(payload)), "were cut off"))
-        if segment.fin and not stream.ended:
+        if fin and not stream.ended:
             stream.next = (stream.next + 1) % CIRCLE
             stream.ended = True
             self.over = self.streams[1 - index].ended

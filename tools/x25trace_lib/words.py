@@ -4,6 +4,7 @@ import enum
 import ipaddress
 import sys
 
+from .captures import is_pipe, is_same
 from .estimate import LARGEST_SIZE, LAST_CHANNEL, SMALLEST_SIZE, Wishes
 from .lapb import SideBy
 from .links import KINDS
@@ -103,6 +104,11 @@ def parser():
                        help="the file, or files of a rotated capture in their order; - for standard input")
     words.add_argument("--times", action="store_true",
                        help="a comment '#@ SECONDS' before each row: the time of its frame, since 1970 (UTC)")
+    words.add_argument("--comments", metavar="OUT",
+                       help="instead of the trace write the capture again, to this pcapng file, with what x25scan finds "
+                       "as comments of its frames")
+    words.add_argument("--scanner", metavar="PROGRAM",
+                       help="the x25scan of --comments, else bin/x25scan beside this program")
     reading_words(words.add_argument_group("reading"))
     side_words(words.add_argument_group("sides"))
     header_words(words.add_argument_group("header, else estimated from what was seen"))
@@ -171,6 +177,10 @@ def parsed(arguments):
     words = parser().parse_args(arguments)
     if words.calls is not None and (words.incoming, words.two_way, words.outgoing) != (None, None, None):
         parser().error("--svc does not go with --in, --two and --out")
+    if words.comments is not None and any(map(is_pipe, words.captures)):
+        parser().error("--comments reads the capture twice: it wants a file, no pipe")
+    if words.comments is not None and any(is_same(words.comments, name) for name in words.captures):
+        parser().error("--comments would write over the capture: it wants another file")
     if words.captures.count("-") > 1:
         parser().error("standard input (-) can be read once")
     return words

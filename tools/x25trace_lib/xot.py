@@ -4,7 +4,7 @@ import struct
 from collections import deque
 from dataclasses import dataclass, field
 
-from .internet import port_of
+from .internet import RST, SYN, port_of
 from .packets import LONGEST, Packet, Side, Type, address_text, channel_of, modulus_of
 from .tcp import Budget, Chunk, Connection, ahead
 from .told import Reason, Topic
@@ -132,10 +132,10 @@ class Xot:
             self.ledger.left_out(Reason.OTHER_HOST)
             return ()
         connection, index, circuit = self.table.get((segment.source, segment.target), NOTHING)
-        if segment.syn and not (connection and self.goes_on(connection, index, segment)):
+        if segment.flags & SYN and not (connection and self.goes_on(connection, index, segment)):
             return self.begin(connection, circuit, segment)
         if connection is None:
-            if segment.reset or not segment.payload and not segment.missing:
+            if segment.flags & RST or not segment.payload and not segment.missing:
                 self.ledger.left_out(Reason.NO_OCTETS)
                 return ()
             connection, index, circuit = self.open(segment, False)
@@ -176,18 +176,15 @@ class Xot:
         return circuit
 
     def feed(self, connection, index, circuit, segment):
-        events = ()
         if circuit.ended or circuit.broken:
             self.pass_over(connection, index, segment)
+            events = ()
+        elif connection.takes(index, segment):
+            return self.packets(circuit, Chunk(index, segment.frame, segment.payload, segment.time))
         else:
             events = connection.feed(index, segment)
-        if segment.reset or connection.over:
+        if segment.flags & RST or connection.over:
             return self.read_to_the_end(connection, circuit, events, segment.frame)
-        if len(events) == 1 and type(events[0]) is Chunk:
-            packets = self.packets(circuit, events[0])
-            if circuit.broken:
-                connection.give_up()
-            return packets
         return self.read(connection, circuit, events)
 
     def read(self, connection, circuit, events):
@@ -321,23 +318,32 @@ class Xot:
 
     def packet(self, circuit, chunk, side, octets):
         """A packet of a circuit, or None for one that is left out."""
-        frame = chunk.frame
         if len(octets) >= 3:
-            kind, line_channel = octets[2], channel_of(octets)
-            if kind == PVC_SETUP and not circuit.called:
-                return self.set_up(circuit, frame, side)
-            if not line_channel and kind in LINE_TYPES:
-                words = f"a packet of type {kind:02X} on channel 0, of {side.name}"
-                self.ledger.damaged(Reason.LINE_PACKET, f"frame {frame}: connection {circuit.number}: {words}")
+            kind, line_channel = octets[2], (octets[0] & 15) << 8 | octets[1]
+            flows = not kind & 1 or kind & 0x1F == Type.READY
+            known = flows and line_channel == circuit.last_line_channel and not circuit.confirmed
+            if not known and not self.follow(circuit, chunk.frame, side, octets):
                 return None
-            if circuit.confirmed or kind in CALL_TYPES:
-                circuit.step(side, kind, len(octets))
-            if circuit.last_line_channel != line_channel:
-                self.other_channel(circuit, frame, line_channel)
-            if circuit.modulus is None:
-                circuit.modulus = modulus_of(octets)
         misses, circuit.misses = circuit.misses, False
-        return Packet(frame, side, octets, circuit, chunk.time, misses)
+        return Packet(chunk.frame, side, octets, circuit, chunk.time, misses)
+
+    def follow(self, circuit, frame, side, octets):
+        """Follows the circuit by a packet other than data and RR in their place; whether it is one of the circuit."""
+        kind, line_channel = octets[2], channel_of(octets)
+        if kind == PVC_SETUP and not circuit.called:
+            self.set_up(circuit, frame, side)
+            return False
+        if not line_channel and kind in LINE_TYPES:
+            words = f"a packet of type {kind:02X} on channel 0, of {side.name}"
+            self.ledger.damaged(Reason.LINE_PACKET, f"frame {frame}: connection {circuit.number}: {words}")
+            return False
+        if circuit.confirmed or kind in CALL_TYPES:
+            circuit.step(side, kind, len(octets))
+        if circuit.last_line_channel != line_channel:
+            self.other_channel(circuit, frame, line_channel)
+        if circuit.modulus is None:
+            circuit.modulus = modulus_of(octets)
+        return True
 
     def set_up(self, circuit, frame, side):
         """An XOT packet that sets up a permanent circuit is none of X.25."""
