@@ -17,7 +17,7 @@ READ |= {"CHANGELOG.md": "CHANGELOG.md"}
 EXAMPLES, CAPTURES, TRACES = "examples", "tests/captures/files", "tests/traces"
 LINK = re.compile(r"\[([^\]\n]*)\]\(([^)#\s]*)(#[^)\s]*)?\)")
 INSTALLED_PROGRAM = re.compile(rf"(?<![\w/])(?:bin|tools)/({'|'.join(OPTIONS)})(?![\w/])")
-# x25trace and its library stand as in the repository, and a link leads to its launcher.
+# x25trace, its library and a link to x25scan stand as in the repository; a link leads to the launcher.
 TRACE = "share/x25scan"
 
 
@@ -86,6 +86,7 @@ def programs(release):
     """The programs, and what x25trace is made of."""
     yield File("bin/x25scan", release.program, 0o755)
     yield File("bin/x25trace", target=f"../{TRACE}/bin/x25trace")
+    yield File(f"{TRACE}/bin/x25scan", target="../../../bin/x25scan")
     for path in ("bin/x25trace", "tools/x25trace"):
         yield File(f"{TRACE}/{path}", (ROOT / path).read_bytes(), 0o755)
     for path in sorted((ROOT / "tools" / "x25trace_lib").glob("*.py")):
