@@ -1,63 +1,21 @@
 #!/usr/bin/env python3
-"""manual_page.py [--check]: writes docs/x25scan.1 from the words of crates/command_options and the table of crates/explanations.
+"""manual_page.py [--check]: writes docs/x25scan.1 and docs/x25trace.1.
 
-With --check it writes nothing, and says where the page is another one, where the help has other exit statuses than the
-table, and where the version names another kit than `rt version`. The last line is 'N passed, M failed'.
+That of x25scan is made of the words of crates/command_options and the table of crates/explanations, that of x25trace of
+its help. With --check it writes nothing, and says where a page is another one, where the help has other exit statuses
+than the table, and where the version names another kit than `rt version`. The last line is 'N passed, M failed'.
 """
-import pathlib
 import re
 import subprocess
 import sys
-from dataclasses import dataclass
 
 sys.dont_write_bytecode = True
 from codes_document import rows  # noqa: E402
+from option_tables import OPTIONS, ROOT, texts_of_scan  # noqa: E402
+from x25trace_lib.words import parser  # noqa: E402
 
-ROOT = pathlib.Path(__file__).resolve().parent.parent
-WORDS = ROOT / "crates" / "command_options" / "src"
-PAGE = ROOT / "docs" / "x25scan.1"
-TEXT = r'"((?:[^"\\]|\\.)*)"'
-CONSTANT = re.compile(r"pub const (\w+): &str =\s+" + TEXT + ";", re.DOTALL)
-FLAG = re.compile(r"flag\(\s*alloc,\s*" + TEXT + r",\s*" + TEXT + r",?\s*\)")
-ARGUMENT = re.compile(r"Arg::new\(alloc, " + TEXT + r"\)(.*?)\n\}", re.DOTALL)
-CALL = re.compile(r"\.(\w+)\((.*?)\)\n")
-ORDER = re.compile(r"\.arg\((?:flag\(\s*alloc,\s*" + TEXT + r"|(\w+))")
 STATUS = re.compile(r"^  (\d+) +(.*)$", re.MULTILINE)
-
-
-@dataclass
-class Argument:
-    """An argument of the program: its name, the name of its value, what it does, and its default."""
-
-    name: str
-    help: str
-    value: str = ""
-    default: str = ""
-    is_long: bool = True
-    is_free: bool = False
-
-
-def plain(text):
-    """The text that a literal of the source writes."""
-    text = re.sub(r"\\\n\s*", "", text)
-    return text.replace("\\n", "\n").replace('\\"', '"').replace("\\\\", "\\")
-
-
-def constants():
-    """The texts of the help and of the version."""
-    return {name: plain(text) for name, text in CONSTANT.findall((WORDS / "help.rt").read_text())}
-
-
-def arguments():
-    """The arguments in the order of the help."""
-    source = (WORDS / "options.rt").read_text()
-    found = {name: Argument(name, plain(text)) for name, text in FLAG.findall(source)}
-    for name, body in ARGUMENT.findall(source):
-        calls = {call: words.strip('"') for call, words in CALL.findall(body)}
-        if "help" in calls:
-            found[name] = Argument(name, plain(calls["help"]), calls.get("value_name", ""), calls.get("default_value", ""), "long" in calls, "num_args" in calls)
-    order = [flag or function for flag, function in ORDER.findall(source)]
-    return sorted(found.values(), key=lambda it: order.index(it.name))
+DOCUMENTS = "/usr/share/doc/x25scan/"
 
 
 def troff(text):
@@ -66,56 +24,110 @@ def troff(text):
     return "\n".join("\\&" + line if line[:1] in (".", "'") else line for line in text.split("\n"))
 
 
-def synopsis(argument):
-    """An argument as the synopsis has it."""
-    if not argument.is_long:
-        return f"[\\fI{argument.value}\\fR]"
-    value = f" \\fI{argument.value}\\fR" if argument.value and not argument.is_free else ""
-    value = f" [\\fI{argument.value}\\fR]" if argument.is_free else value
-    return f"[\\fB\\-\\-{argument.name}\\fR{value}]"
+def capital(text):
+    return text[0].upper() + text[1:]
 
 
-def entry(head, text):
-    """A paragraph behind a head of its own."""
-    return f".TP\n{head}\n{troff(text)}\n"
+def installed(text):
+    """A text with the names that programs and documents have where they are installed."""
+    text = re.sub(r"tools/(.*?) {2}", r"\1" + " " * len("tools/  "), text)
+    return text.replace("docs/", DOCUMENTS)
 
 
-def option(argument):
-    """An argument and what it does."""
-    default = f" ({argument.default} where it is left out)" if argument.default else ""
-    head = synopsis(argument)[1:-1]
-    return entry(head, argument.help + default + ".")
+def head(option):
+    """An option with its value, as a paragraph begins with it."""
+    if not option.names:
+        return f"\\fI{option.value}\\fR"
+    names = ", ".join(f"\\fB{troff(name)}\\fR" for name in option.names)
+    value = f"\\fI{troff(option.value)}\\fR"
+    if option.is_value_free:
+        return f"{names} [{value}]"
+    return f"{names} {value}" if option.value else names
+
+
+def synopsis(program):
+    """The lines of a synopsis: the options but for those that print a text, and what stands without a name."""
+    shown = [it for it in OPTIONS[program]() if len(it.names) < 2]
+    ordered = sorted(shown, key=lambda it: not it.names)
+    return "".join(head(it) + " ..." * it.is_repeated + "\n" if it.is_needed else f"[{head(it)}]\n" for it in ordered)
+
+
+def entry(title, text):
+    """A paragraph with a title of its own."""
+    return f".TP\n{title}\n{troff(text)}\n"
+
+
+def options(program):
+    """All options, those of a group below its title."""
+    text, group = "", ""
+    for it in OPTIONS[program]():
+        if it.group != group:
+            group = it.group
+            text += f".SS {troff(capital(group))}\n"
+        default = f" ({it.default} where it is left out)" if it.default else ""
+        text += entry(head(it), capital(it.help) + default + ".")
+    return text
 
 
 def section(text, title):
-    """The lines of the help below a title."""
+    """The lines of a help below a title."""
     return re.search(rf"^{title}:\n(.*?)(?:\n\n|\Z)", text, re.MULTILINE | re.DOTALL)[1]
 
 
-def page():
-    """The text of the page."""
-    told, found = constants(), arguments()
-    version = told["VERSION"].split("\n")[0]
-    text = f'.\\" Written by tools/manual_page.py from crates/command_options and crates/explanations.\n.TH X25SCAN 1 "" "x25scan {version}"\n'
-    text += ".SH NAME\nx25scan \\- what an observer of an X.25 interface finds in a trace\n"
-    text += ".SH SYNOPSIS\n.B x25scan\n" + "\n".join(map(synopsis, found)) + "\n"
-    text += ".SH DESCRIPTION\n" + troff(told["ABOUT"]) + ".\n"
-    text += ".SH OPTIONS\n" + "".join(map(option, found))
-    text += entry("\\fB\\-h\\fR, \\fB\\-\\-help\\fR", "Print help.") + entry("\\fB\\-V\\fR, \\fB\\-\\-version\\fR", "Print the version, and the kit that proved the program.")
-    text += ".SH EXAMPLES\n.nf\n" + troff(section(told["AFTER_HELP"], "Examples")) + "\n.fi\n"
-    table = rows()
-    text += ".SH EXIT STATUS\n" + "".join(entry(f"\\fB{it['word']}\\fR", it["meaning"]) for it in table if it["topic"] == "Status")
-    text += ".SH DIAGNOSTICS\nOn standard error, behind \\fBx25scan:\\fR.\n"
+def beginning(program, summary, description):
+    """The parts of a page that come first."""
+    version = texts_of_scan()["VERSION"].split("\n")[0]
+    text = f'.TH {program.upper()} 1 "" "x25scan {version}"\n.SH NAME\n{program} \\- {summary}\n'
+    text += f".SH SYNOPSIS\n.B {program}\n" + synopsis(program)
+    return text + ".SH DESCRIPTION\n" + troff(description) + "\n.SH OPTIONS\n" + options(program)
+
+
+def examples(text):
+    return ".SH EXAMPLES\n.nf\n" + troff(text) + "\n.fi\n"
+
+
+def statuses(pairs):
+    return ".SH EXIT STATUS\n" + "".join(entry(f"\\fB{status}\\fR", text) for status, text in pairs)
+
+
+def scan_page():
+    """The page of x25scan."""
+    told, table = texts_of_scan(), rows()
+    text = '.\\" Written by tools/manual_page.py from crates/command_options and crates/explanations.\n'
+    text += beginning("x25scan", "what an observer of an X.25 interface finds in a trace", told["ABOUT"] + ".")
+    text += examples(installed(section(told["AFTER_HELP"], "Examples")))
+    text += statuses((it["word"], it["meaning"]) for it in table if it["topic"] == "Status")
+    text += ".SH DIAGNOSTICS\nOn standard error, after \\fBx25scan:\\fR.\n"
     text += "".join(entry(f"\\fB{troff(it['name'])}\\fR", it["meaning"] + " " + it["when"]) for it in table if it["topic"] == "Refusal")
-    text += ".SH SEE ALSO\n" + troff(told["AFTER_HELP"].split("\n\n")[-1]) + "\n"
-    return text
+    return text + ".SH SEE ALSO\n.BR x25trace (1)\n.PP\n" + troff(installed(told["AFTER_HELP"].split("\n\n")[-1])) + "\n"
+
+
+def trace_page():
+    """The page of x25trace."""
+    words = parser()
+    text = '.\\" Written by tools/manual_page.py from the help of tools/x25trace.\n'
+    text += beginning("x25trace", "the trace of the X.25 packets in a capture", words.description)
+    text += ".PP\n" + troff(capital(re.search(r"^kinds of --as: .*$", words.epilog, re.MULTILINE)[0])) + ".\n"
+    text += examples(section(words.epilog, "examples"))
+    text += statuses((status, capital(meaning) + ".") for status, meaning in STATUS.findall(words.epilog))
+    told = f"{DOCUMENTS}CAPTURES.md says which captures are read and how, and {DOCUMENTS}TRACE.md how a trace is written."
+    return text + ".SH SEE ALSO\n.BR x25scan (1)\n.PP\n" + troff(told) + "\n"
+
+
+PAGES = {"x25scan": scan_page, "x25trace": trace_page}
+
+
+def path_of(program):
+    return ROOT / "docs" / f"{program}.1"
 
 
 def complaints():
     """What is wrong, by what it is about."""
-    told = constants()
-    current = PAGE.exists() and PAGE.read_text() == page()
-    yield "docs/x25scan.1", [] if current else ["it is not what tools/manual_page.py writes"]
+    told = texts_of_scan()
+    for program, page in PAGES.items():
+        path = path_of(program)
+        current = path.exists() and path.read_text() == page()
+        yield str(path.relative_to(ROOT)), [] if current else ["it is not what tools/manual_page.py writes"]
     helped = [number for number, _ in STATUS.findall(section(told["AFTER_HELP"], "Exit status"))]
     table = [it["word"] for it in rows() if it["topic"] == "Status"]
     yield "exit statuses", [] if helped == table else [f"help has {helped}, the table {table}"]
@@ -125,7 +137,7 @@ def complaints():
 
 
 def check():
-    """Checks the page and the words, and returns the exit status."""
+    """Checks the pages and the words, and returns the exit status."""
     passed, failed = 0, 0
     for name, said in complaints():
         passed, failed = passed + (not said), failed + bool(said)
@@ -140,4 +152,5 @@ if __name__ == "__main__":
         sys.exit(check())
     if sys.argv[1:]:
         sys.exit(__doc__)
-    PAGE.write_text(page())
+    for name, write in PAGES.items():
+        path_of(name).write_text(write())

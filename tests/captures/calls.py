@@ -1,16 +1,33 @@
 """Tests of the program as it is called: what is refused, its streams, its exit status and its command line."""
+import fcntl
 import gzip
+import os
 import pathlib
+import signal
 import subprocess
+import sys
 import tempfile
+import termios
+import time
 import unittest
 
-from forms import cooked_1, ethernet, interface, pcap, section
+from forms import cooked_1, enhanced, ethernet, interface, pcap, section, snoop
 from link_cases import conversation, packets_of
 
 FILES = pathlib.Path(__file__).resolve().parent / "files"
-PROGRAM = FILES.parent.parent.parent / "tools" / "x25trace"
+PROGRAM = FILES.parent.parent.parent / "bin" / "x25trace"
 SECONDS = 60
+
+
+def wait_for_more(running):
+    """Waits until a program has read all that its pipe holds, and waits for more."""
+    end = time.monotonic() + SECONDS
+    while time.monotonic() < end:
+        unread = int.from_bytes(fcntl.ioctl(running.stdin, termios.FIONREAD, bytes(4)), sys.byteorder)
+        state = pathlib.Path(f"/proc/{running.pid}/stat").read_text().rpartition(") ")[2].split()[0]
+        if not unread and state == "S":
+            return
+        time.sleep(0.02)
 
 
 def run(*words, **streams):
@@ -46,8 +63,16 @@ class Refused(unittest.TestCase):
     def test_other_file(self):
         self.refused(b"\x7fELF\2\1\1" + bytes(100), "UnknownFormat")
 
-    def test_pcap_header_cut(self):
+    def test_file_that_editcap_turns(self):
+        for start in (b"TRSNIFF data    \x1a", b"XCP\0002.0", b"RTSS", b"GMBU", b"\x1c\0\1\xac", b"\xab\1\0\x1c"):
+            self.refused(start + bytes(100), "UnknownFormat")
+            done = run("-", input=start + bytes(100))
+            self.assertIn(b"editcap -F pcapng FILE OUT.pcapng", done.stderr)
+
+    def test_headers_cut(self):
         self.refused(pcap(1, [])[:20], "UnknownFormat")
+        self.refused(snoop(4, [])[:12], "UnknownFormat")
+        self.refused(snoop(4, []).replace(b"\0\0\0\2", b"\0\0\0\3"), "UnknownFormat")
 
     def test_section_without_byte_order(self):
         self.refused(section()[:8] + b"\0\0\0\0" + section()[12:], "UnknownFormat")
@@ -94,25 +119,154 @@ class Called(unittest.TestCase):
             self.assertEqual(sum(line[0:1].isdigit() for line in done.stdout.splitlines()), rows)
             self.assertIn(b"packets that --only does not name", done.stderr)
 
-    def test_closed_output(self):
-        reader = subprocess.Popen(["true"], stdin=subprocess.PIPE)
-        reader.wait()
-        words = [PROGRAM, FILES / "ethernet.pcap"]
-        done = subprocess.run(words, stdout=reader.stdin, stderr=subprocess.PIPE, timeout=SECONDS)
-        reader.stdin.close()
-        self.assertEqual(done.returncode, 3)
-        self.assertEqual(done.stderr.splitlines()[-1], b"x25trace: reading or writing failed: Broken pipe")
-        self.assertNotIn(b"Traceback", done.stderr)
-
     def test_words(self):
         refused = ("--win 0 a", "--size 100 a", "--dte host a", "--as 147=x26 a", "", "--sender 0=t a", "--svc 4 --in 2 a",
-                   "--join --no-join a", "--wi 2 a")
+                   "--join --no-join a", "--wi 2 a", "- -")
         for words in refused:
             done = run(*words.split())
             self.assertEqual((done.returncode, done.stdout), (64, b""), words)
+
+    def test_comments_refused(self):
+        """Nothing is written where the capture cannot be read twice, would be lost, or has no link type."""
+        with tempfile.TemporaryDirectory() as folder:
+            out, same = pathlib.Path(folder, "out.pcapng"), pathlib.Path(folder, "same.pcap")
+            same.write_bytes((FILES / "ethernet.pcap").read_bytes())
+            lines = (
+                (64, b"it wants a file, no pipe", ["-"], {"input": same.read_bytes()}),
+                (64, b"it wants another file", [same], {}),
+                (2, b"dump-of-packets.txt says no link type", ["--as", "x25", "dump-of-packets.txt"], {}),
+                (2, b"x25trace: NoPacket: ", ["--port", "99", same], {}),
+                (3, b"x25trace: reading or writing failed: ", ["--scanner", "/nowhere/x25scan", same], {}),
+            )
+            for status, words, more, streams in lines:
+                target = same if words == lines[1][1] else out
+                done = run("--comments", target, *more, cwd=FILES, **streams)
+                self.assertEqual((done.returncode, done.stdout), (status, b""), done.stderr)
+                self.assertIn(words, done.stderr)
+                self.assertFalse(out.exists())
+            self.assertEqual(same.read_bytes(), (FILES / "ethernet.pcap").read_bytes())
 
     def test_help(self):
         done = run("--help")
         self.assertEqual((done.returncode, done.stderr), (0, b""))
         for word in (b"examples:", b"exit status:", b"--dte", b"x25scan"):
             self.assertIn(word, done.stdout)
+
+
+class Streams(unittest.TestCase):
+    """Streams that are closed, folders, or end early: never a traceback."""
+
+    def through_shell(self, words):
+        done = subprocess.run(["bash", "-c", f'"$0" {words}', PROGRAM], capture_output=True, cwd=FILES, timeout=SECONDS)
+        self.assertNotIn(b"Traceback", done.stderr)
+        self.assertNotIn(b"Fatal", done.stderr)
+        return done.returncode, done.stdout, done.stderr.splitlines()
+
+    def test_closed_streams(self):
+        trace = (FILES / "ethernet.trace").read_bytes()
+        self.assertEqual(self.through_shell("- <&-"), (2, b"", [b"x25trace: Unreadable: standard input is closed"]))
+        self.assertEqual(self.through_shell("ethernet.pcap <&-")[:2], (0, trace))
+        closed = [b"x25trace: reading or writing failed: standard output is closed"]
+        self.assertEqual(self.through_shell("ethernet.pcap >&-"), (3, b"", closed))
+        self.assertEqual(self.through_shell("ethernet.pcap 2>&-"), (0, trace, []))
+        self.assertEqual(self.through_shell("ethernet.pcap <&- 2>&-"), (0, trace, []))
+        self.assertEqual(self.through_shell("--win 0 ethernet.pcap 2>&-"), (64, b"", []))
+
+    def test_folders(self):
+        self.assertEqual(self.through_shell("- < ."), (2, b"", [b"x25trace: Folder: standard input is a folder"]))
+        folder = [b"x25trace: reading or writing failed: standard output is a folder"]
+        self.assertEqual(self.through_shell("ethernet.pcap 1< ."), (3, b"", folder))
+
+    @unittest.skipUnless(os.path.exists("/dev/full"), "there is no /dev/full")
+    def test_full_output(self):
+        status, _, errors = self.through_shell("ethernet.pcap > /dev/full")
+        self.assertEqual((status, errors[-1:]), (3, [b"x25trace: reading or writing failed: No space left on device"]))
+
+    def test_closed_pipe(self):
+        """It ends by the signal, as other programs of a pipeline do, and says nothing."""
+        reader = subprocess.Popen(["true"], stdin=subprocess.PIPE)
+        reader.wait()
+        words = [PROGRAM, FILES / "ethernet.pcap"]
+        done = subprocess.run(words, stdout=reader.stdin, stderr=subprocess.PIPE, timeout=SECONDS)
+        reader.stdin.close()
+        self.assertEqual((done.returncode, done.stderr), (-signal.SIGPIPE, b""))
+
+    def test_name_that_is_no_utf_8(self):
+        with tempfile.TemporaryDirectory() as folder:
+            name = os.path.join(os.fsencode(folder), b"day\xff\n.pcap")
+            with open(name, "wb") as file:
+                file.write((FILES / "ethernet.pcap").read_bytes())
+            done = run(name)
+            want = (FILES / "ethernet.trace").read_bytes().replace(b"from ethernet.pcap", b"from day??.pcap")
+            self.assertEqual((done.returncode, done.stdout), (0, want))
+            done = run(name + b"x")
+            self.assertEqual((done.returncode, done.stdout), (2, b""))
+            self.assertIn(b"x25trace: Absent: ", done.stderr)
+
+    def test_wrong_kind(self):
+        """A message for each of 1,000 frames is told a few times, and then counted."""
+        frames = [ethernet(one) for one in conversation()] * 84
+        for kind in ("hdlc", "ip", "lapb", "lapb-dir", "x25", "sll", "sll2"):
+            done = run("--as", f"1={kind}", "-", input=pcap(1, frames))
+            self.assertEqual(done.returncode, 2, kind)
+            self.assertLess(len(done.stderr.splitlines()), 12, kind)
+            self.assertIn(b"1008", done.stderr, kind)
+
+    def test_interrupted(self):
+        """What was read before is written, with what was left out, and the status tells."""
+        capture = (FILES / "ethernet.pcap").read_bytes()
+        words = [PROGRAM, "-"]
+        streams = {"stdin": subprocess.PIPE, "stdout": subprocess.PIPE, "stderr": subprocess.PIPE}
+        with subprocess.Popen(words, **streams) as running:
+            running.stdin.write(capture[:-30])
+            running.stdin.flush()
+            wait_for_more(running)
+            running.send_signal(signal.SIGINT)
+            out, errors = running.communicate(timeout=SECONDS)
+        words = b"interrupted: the trace is of what was read before, 11 frames"
+        self.assertEqual(running.returncode, 130)
+        self.assertIn(b"x25trace: " + words + b"\n", errors)
+        self.assertIn(b"\n# " + words + b"\n", out)
+        rows = [line for line in (FILES / "ethernet.trace").read_bytes().splitlines() if line[:1].isdigit()]
+        self.assertEqual([line for line in out.splitlines() if line[:1].isdigit()], rows)
+
+
+class Rotated(unittest.TestCase):
+    """The files of a rotated capture are read as one, frames numbered on."""
+
+    def run_on(self, *files):
+        with tempfile.TemporaryDirectory() as folder:
+            for name, octets in files:
+                pathlib.Path(folder, name).write_bytes(octets)
+            return run(*(name for name, _ in files), cwd=folder)
+
+    def rows_of(self, done):
+        return [line for line in done.stdout.splitlines() if not line.startswith(b"#")]
+
+    def test_parts_of_a_capture(self):
+        frames = [ethernet(one) for one in conversation()]
+        blocks = section() + interface(1) + b"".join(map(enhanced, frames[5:]))
+        done = self.run_on(("day.pcap0", pcap(1, frames[:3])), ("day.pcap1", pcap(1, frames[3:5], ">")),
+                           ("day.pcap2", pcap(1, [])), ("day.pcapng", blocks))
+        whole = run("ethernet.pcap", cwd=FILES)
+        self.assertEqual((done.returncode, self.rows_of(done)), (0, self.rows_of(whole)))
+        self.assertEqual(done.stderr, whole.stderr)
+        self.assertIn(b"# from 4 captures by x25trace, 12 frames;", done.stdout)
+        for number, name in ((1, "day.pcap0"), (4, "day.pcap1"), (6, "day.pcap2"), (6, "day.pcapng")):
+            self.assertIn(f"\n# frames from {number} on are of {name}\n".encode(), done.stdout)
+
+    def test_damage_of_one(self):
+        frames = [ethernet(one) for one in conversation()]
+        done = self.run_on(("a", pcap(1, frames[:6]) + b"abc"), ("b", pcap(1, frames[6:])))
+        self.assertEqual(done.returncode, 1)
+        self.assertIn(b"x25trace: a, offset 468: the file ends inside of a record's header", done.stderr)
+
+    def test_refused_before_it_is_read(self):
+        good = (FILES / "ethernet.pcap").read_bytes()
+        for why, octets in (("Empty", b""), ("UnknownFormat", b"\x7fELF"), ("Compressed", gzip.compress(good))):
+            done = self.run_on(("a", good), ("b", octets))
+            self.assertEqual((done.returncode, done.stdout), (2, b""))
+            self.assertIn(f"x25trace: {why}: b ".encode(), done.stderr)
+            self.assertNotIn(b"left out", done.stderr)
+        done = run("ethernet.pcap", "nothing-here.pcap", cwd=FILES)
+        self.assertIn(b"x25trace: Absent: there is no file nothing-here.pcap\n", done.stderr)

@@ -4,7 +4,10 @@ from dataclasses import dataclass, field
 
 @dataclass
 class Case:
-    """The rows are the header and the rows of the trace, without its comments; the report is that on the trace."""
+    """The rows are the header and the rows of the trace, without its comments; the times are its comments of time.
+
+    The report is that on the trace.
+    """
 
     name: str
     octets: bytes
@@ -15,6 +18,7 @@ class Case:
     ending: str = "pcap"
     # Where tshark reads the file as it is, its dissection is compared too; the words are what it needs for that.
     tshark: list | None = field(default_factory=list)
+    times: str = ""
 
 
 def text(lines):

@@ -26,7 +26,7 @@ def pcap_cases():
     # A record header of nonsense, and eleven octets that look like nothing.
     bad = file_header() + b"".join(records[:5]) + b"\xff" * 27 + b"".join(records[5:])
     yield Case("pcap-damaged-record", bad, ROWS, status=1, report=REPORT, tshark=None)
-    # The length of record 6 is damaged: the frame with the data packet is lost, and the gap ends the connection.
+    # The length of record 6 is damaged: the frame with the data packet is lost.
     lost = bytearray(records[5])
     lost[8:12] = b"\xff\xff\xff\x7f"
     again = [record(ethernet(one), 20 + at) for at, one in enumerate(conversation_again())]
@@ -35,6 +35,9 @@ def pcap_cases():
         X25 1 MOD 8 WIN 1 SIZE 16 PVC 0 SVC 2
         4 T 10010B0000
         5 N 10010F
+        6 N 100121
+        7 T 1001130000
+        8 N 100117
         15 T 10020B0000
         16 N 10020F
         17 T 100200AA
@@ -42,11 +45,12 @@ def pcap_cases():
         19 T 1002130000
         20 N 100217
     """), status=1, report=text("""
-        C 1 1 1 out - - 4 5 - open 0 0 0 0 0
+        F 6 N d1 2
+        C 1 1 1 out - - 4 5 7 T 0 0 0 0 0
         C 2 1 2 out - - 15 16 19 T 1 1 0 0 1
         A - 2 1
-        P 2 16
-        Z 8 0 2 1 1
+        P 1 5
+        Z 11 1 2 1 1
     """), tshark=None)
     frames = [ethernet(one) for one in conversation()]
     cut = [(b"\2\0\0\0\0\2", 60), (frames[0][:20], 54), (frames[0][:40], 54)]

@@ -21,6 +21,23 @@ def record(frame, at=0, order="<"):
     return struct.pack(order + "IIII", SECONDS + at, at, len(octets), length) + octets
 
 
+def modified(link, frames, order="<"):
+    """A pcap file of the modified form; a frame is its octets and the kind of the packet, 4 for one that was sent."""
+    file = struct.pack(order + "IHHIIII", 0xA1B2CD34, 2, 4, 0, 0, 262_144, link)
+    for at, (octets, kind) in enumerate(frames):
+        file += struct.pack(order + "IIIIIHBB", SECONDS + at, at, len(octets), len(octets), 2, 0x0800, kind, 0) + octets
+    return file
+
+
+def snoop(link, frames):
+    """A snoop file: records of whole words of four octets."""
+    file = b"snoop\0\0\0" + struct.pack(">II", 2, link)
+    for at, octets in enumerate(frames):
+        padded = octets + bytes(-len(octets) % 4)
+        file += struct.pack(">IIIIII", len(octets), len(octets), 24 + len(padded), 0, SECONDS + at, at) + padded
+    return file
+
+
 def block(kind, body, order="<"):
     body += bytes(-len(body) % 4)
     length = struct.pack(order + "I", 12 + len(body))
@@ -39,21 +56,23 @@ def interface(link, snap=0, order="<", options=b""):
     return block(1, struct.pack(order + "HHI", link, 0, snap) + options, order)
 
 
-def enhanced(octets, which=0, length=None, order="<", flags=None):
-    """An enhanced packet block; flags 1 is inbound, 2 outbound."""
-    head = struct.pack(order + "IIIII", which, 0, 0, len(octets), len(octets) if length is None else length)
+def enhanced(octets, which=0, length=None, order="<", flags=None, time=0, options=b""):
+    """An enhanced packet block; flags 1 is inbound, 2 outbound. The time is in units of the interface."""
+    stamp = (time >> 32, time & 0xFFFFFFFF)
+    head = struct.pack(order + "IIIII", which, *stamp, len(octets), len(octets) if length is None else length)
     body = head + octets + bytes(-len(octets) % 4)
     if flags is not None:
         body += option(2, struct.pack(order + "I", flags), order) + option(0, b"", order)
-    return block(6, body, order)
+    return block(6, body + options, order)
 
 
 def simple(octets, length=None, order="<"):
     return block(3, struct.pack(order + "I", len(octets) if length is None else length) + octets, order)
 
 
-def obsolete(octets, which=0, order="<"):
-    return block(2, struct.pack(order + "HHIIII", which, 0, 0, 0, len(octets), len(octets)) + octets, order)
+def obsolete(octets, which=0, order="<", time=0):
+    stamp = (time >> 32, time & 0xFFFFFFFF)
+    return block(2, struct.pack(order + "HHIIII", which, 0, *stamp, len(octets), len(octets)) + octets, order)
 
 
 def dump(frames):
@@ -111,6 +130,27 @@ def ipv4(source, target, payload, place=0, more=False, identity=1, protocol=6):
 
 def ipv6(source, target, payload, first=6):
     return struct.pack(">IHBB", 6 << 28, len(payload), first, 64) + packed(source) + packed(target) + payload
+
+
+def udp(source_port, target_port, payload):
+    return struct.pack(">HHHH", source_port, target_port, 8 + len(payload), 0) + payload
+
+
+def gre(payload, kind=0x0800, flags=0, fields=b""):
+    """GRE: flags 80 has a checksum, 20 a key, 10 a sequence number, each with four octets of the fields."""
+    return struct.pack(">BBH", flags, 0, kind) + fields + payload
+
+
+def mpls(payload, labels):
+    """Labels, of which the last has the mark of the bottom."""
+    stack = b""
+    for at, label in enumerate(labels):
+        stack += struct.pack(">I", label << 12 | (at == len(labels) - 1) << 8 | 64)
+    return stack + payload
+
+
+def pppoe(payload, protocol=0x0021):
+    return struct.pack(">BBHHH", 0x11, 0, 7, 2 + len(payload), protocol) + payload
 
 
 def tcp(source, target, ports, sequence, acknowledged, flags, payload=b""):

@@ -12,7 +12,7 @@ HERE = pathlib.Path(__file__).resolve().parent
 PAGE = HERE.parent.parent / "docs" / "CAPTURES.md"
 # A block of text that begins with a call on one of the committed captures, perhaps with its output sent to a file.
 CALL = re.compile(
-    r"```text\n\$ tools/x25trace ([^>\n]*?\.(?:pcap|pcapng|txt))( > \S+)?\n(.*?)(?:\$ .*?)?```", re.DOTALL
+    r"```text\n\$ bin/x25trace ([^>\n]*?\.(?:pcap|pcapng|txt))( > \S+)?\n(.*?)(?:\$ .*?)?```", re.DOTALL
 )
 
 

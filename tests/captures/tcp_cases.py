@@ -151,6 +151,17 @@ def packets_across_segments():
     """), report=report(4, 5, 11, 4, 9))
 
 
+# A call whose only data packet, of frame 6, is missing: the DCE's RR acknowledges what is not there.
+READ_ON = text("""
+    4 T 10010B0000
+    5 N 10010F
+    7 N 100121
+    8 T 1001130000
+    9 N 100117
+""")
+READ_ON_REPORT = "F 7 N d1 2\n" + report(4, 5, 8, 0, 5).replace("Z 5 0", "Z 5 1")
+
+
 def gap_and_next_connection():
     talk = Talk()
     frames = talk.open() + [talk.a(CALL), talk.b(ACCEPTED)]
@@ -162,6 +173,10 @@ def gap_and_next_connection():
         4 T 10010B0000
         5 N 10010F
         6 T 100100A0
+        7 T 100104A2
+        8 N 100161
+        9 T 1001130000
+        10 N 100117
         17 T 10020B0000
         18 N 10020F
         19 T 100200AA
@@ -169,11 +184,12 @@ def gap_and_next_connection():
         21 T 1002130000
         22 N 100217
     """), status=1, report=text("""
-        C 1 1 1 out - - 4 5 - open 1 1 0 0 1
+        F 7 T d1 1
+        C 1 1 1 out - - 4 5 9 T 1 1 0 0 1
         C 2 1 2 out - - 17 18 21 T 1 1 0 0 1
         A - 2 2
-        P 2 18
-        Z 9 0 2 2 2
+        P 1 5
+        Z 13 1 2 2 2
     """), tshark=None)
 
 
@@ -181,12 +197,13 @@ def gap_in_the_other_direction():
     talk = Talk()
     frames = talk.open() + [talk.a(CALL), talk.b(ACCEPTED)]
     talk.a(DATA)
-    # Without the data that was not recorded, this RR would be an error of the DCE.
+    # Without the data that was not recorded, this RR is an error of the DCE.
     frames += [talk.b(READY), talk.segment(0, flags=4)]
     yield Case("tcp-gap-in-the-other-direction", file_of(frames), header(2, 128) + text("""
         4 T 10010B0000
         5 N 10010F
-    """), status=1, report=report(4, 5, None, 0, 2), tshark=None)
+        6 N 100121
+    """), status=1, report="F 6 N d1 2\n" + report(4, 5, None, 0, 3).replace("Z 3 0", "Z 3 1"), tshark=None)
 
 
 def answer_recorded_before_its_data():
@@ -209,10 +226,8 @@ def snap_length():
     frames = talk.open() + [talk.a(CALL), talk.b(ACCEPTED)]
     long = ethernet(talk.a("100100" + "AA" * 60))
     frames += [(long[:96], len(long)), talk.b(READY), talk.a(CLEAR), talk.b(CONFIRMED)] + talk.close()
-    yield Case("tcp-snap-length", file_of(frames), header(2, 128) + text("""
-        4 T 10010B0000
-        5 N 10010F
-    """), status=1, report=report(4, 5, None, 0, 2), tshark=None)
+    yield Case("tcp-snap-length", file_of(frames), header(2, 128) + READ_ON, status=1, report=READ_ON_REPORT,
+               tshark=None)
 
 
 def fragments(packet, at, identity, six=False):
@@ -252,10 +267,8 @@ def fragment_missing():
     talk = Talk()
     frames = talk.open() + [talk.a(CALL), talk.b(ACCEPTED)] + fragments(talk.a("100100" + "AA" * 40), 32, 7)[1:]
     frames += [talk.b(READY), talk.a(CLEAR), talk.b(CONFIRMED)] + talk.close()
-    yield Case("ipv4-fragment-missing", file_of(frames), header(2, 128) + text("""
-        4 T 10010B0000
-        5 N 10010F
-    """), status=1, report=report(4, 5, None, 0, 2), tshark=None)
+    yield Case("ipv4-fragment-missing", file_of(frames), header(2, 128) + READ_ON, status=1, report=READ_ON_REPORT,
+               tshark=None)
 
 
 def not_cleared():

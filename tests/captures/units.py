@@ -2,29 +2,30 @@
 import unittest
 
 from x25trace_lib.channels import assign
+from x25trace_lib.comments import comments_of
 from x25trace_lib.estimate import Header
 from x25trace_lib.internet import Segment
 from x25trace_lib.packets import Packet, Side, Type
 from x25trace_lib.spool import Spool
-from x25trace_lib.tcp import MOST_OF_ONE, Budget, Connection
-from x25trace_lib.told import Ledger, Reason
+from x25trace_lib.tcp import MOST_OF_ONE, PATIENCE, PATIENCE_ONE_WAY, Budget, Connection, Gap
+from x25trace_lib.told import Ledger
 from x25trace_lib.xot import Circuit
 
 ENDS = (b"\1\2\3\4\4\1", b"\1\2\3\5\7\xce")
 
 
-def segment(sequence, payload, frame=1):
-    return Segment(frame, *ENDS, sequence, None, False, False, False, payload, 0)
+def segment(sequence, payload, frame=1, acknowledged=None):
+    return Segment(frame, *ENDS, sequence, acknowledged, 0, payload, 0)
 
 
 class Numbers(unittest.TestCase):
     """Rows are numbered by frames while these are at most 999,999,999, else they count from 1."""
 
     def lines(self, frames, last):
-        spool = Spool(last)
+        spool = Spool(False, last)
         for frame in frames:
             spool.add(Packet(frame, Side.T, b"\x10\x01\x0f"), 0)
-        lines = list(spool.replay([]))
+        lines = "".join(spool.replay([])).splitlines(keepends=True)
         spool.close()
         return lines
 
@@ -44,19 +45,31 @@ class Numbers(unittest.TestCase):
 class Memory(unittest.TestCase):
     """What waits for a missing octet is bounded: then the octet is given up."""
 
-    def test_of_one_connection(self):
+    def waiting(self, acknowledged, most):
+        """How many segments come behind a missing octet until it is given up, and the events of the last one."""
         ledger, budget = Ledger(), Budget()
         connection = Connection(ledger, budget, ENDS)
         connection.feed(0, segment(100, b"a"))
-        most, number = 0, 0
-        while connection.lost is None:
-            self.assertEqual(connection.feed(0, segment(102 + 1000 * number, bytes(1000))), [])
-            number += 1
-            most = max(most, budget.used)
-        self.assertLessEqual(most, MOST_OF_ONE)
-        self.assertGreater(number, MOST_OF_ONE // 2000)
-        self.assertEqual((budget.used, connection.lost.octets), (0, 1))
-        self.assertEqual(ledger.counts[Reason.AFTER_GAP], number)
+        if acknowledged:
+            connection.feed(1, segment(500, b"", acknowledged=acknowledged))
+        for number in range(10_000):
+            events = connection.feed(0, segment(102 + 1000 * number, bytes(1000)))
+            if events:
+                break
+            self.assertLessEqual(budget.used, most)
+        self.assertEqual(budget.used, 0)
+        self.assertEqual(events[0], Gap(0, 1, 1, "before it were not recorded"))
+        self.assertEqual(sum(len(event.octets) for event in events[1:]), 1000 * (number + 1))
+        return number
+
+    def test_of_octets_that_were_not_acknowledged(self):
+        self.assertGreater(self.waiting(101, MOST_OF_ONE), MOST_OF_ONE // 2000)
+
+    def test_of_octets_that_were_acknowledged(self):
+        self.assertEqual(self.waiting(102, MOST_OF_ONE), PATIENCE)
+
+    def test_of_one_direction(self):
+        self.assertEqual(self.waiting(None, MOST_OF_ONE), PATIENCE_ONE_WAY)
 
     def test_repeats_in_what_waits(self):
         connection = Connection(Ledger(), Budget(), ENDS)
@@ -66,6 +79,27 @@ class Memory(unittest.TestCase):
         chunks = connection.feed(0, segment(101, b"b"))
         self.assertEqual(b"".join(chunk.octets for chunk in chunks), b"bcdefg")
         self.assertEqual(connection.cost, 0)
+
+
+class Comments(unittest.TestCase):
+    """Findings and calls are told of rows, whose numbers may not be those of their frames."""
+
+    def test_frames_of_rows(self):
+        lines = [
+            "# connection 1 is channel 1: 192.0.2.1 port 1025 (T) and 192.0.2.2 port 1998 (N)",
+            "X25 1 MOD 8 WIN 2 SIZE 128 PVC 0 SVC 1",
+            "6 T 10010B0000", "# DTE, logical channel 1: call request, called -, calling -",
+            "# 7 is of frame 6", "7 T 100104AA", "#! F 7 T p2 20: Invalid packet type for state p2: words",
+            "9 T 100104AA", "#! F 9 T p2 20: Invalid packet type for state p2: other words",
+            "# Call 1, outgoing on logical channel 1: called -, calling -; opened by packet 6, never up, open at the end",
+            "# Call 2, incoming on logical channel 1: called -, calling -; opened by packet 7, never up, open at the end",
+        ]
+        call = "x25scan: Call {} on logical channel 1: called -, calling -; opened by packet {}, never up, open at the end"
+        self.assertEqual(dict(comments_of(f"{line}\n" for line in lines)), {
+            6: ["x25scan: F 7 T p2 20: Invalid packet type for state p2: words", call.format("1, outgoing", 6),
+                call.format("2, incoming", 7)],
+            9: ["x25scan: F 9 T p2 20: Invalid packet type for state p2: other words"],
+        })
 
 
 class Channels(unittest.TestCase):

@@ -28,26 +28,40 @@ class Range:
         return None
 
 
+class Channels:
+    """The channels of a trace: which ones circuits had, and which are free again, the longest free one first."""
+
+    def __init__(self, header):
+        self.permanent = Range(1, header.permanent, 1)
+        # Calls of the DTE may not use the channels for incoming calls, those of the DCE not those for outgoing ones.
+        self.calls = {
+            Side.T: Range(header.incoming + 1, header.outgoing, header.incoming + 1),
+            Side.N: Range(header.permanent + 1, header.two_way, header.permanent + 1),
+        }
+        self.taken, self.free = set(), []
+
+    def give(self, circuit):
+        """Gives a circuit its channel, 1 to PVC for permanent ones, those behind for calls; returns whether one was left."""
+        places = self.permanent if circuit.permanent else self.calls[circuit.caller or Side.T]
+        channel = places.fresh(self.taken) or places.again(self.free)
+        if channel is not None:
+            circuit.again = channel in self.taken
+            self.taken.add(channel)
+            circuit.channel = channel
+        return channel is not None
+
+    def release(self, channel):
+        self.free.append(channel)
+
+
 def assign(circuits, header, ledger):
-    """Gives channels in the order of the first rows: 1 to PVC for permanent circuits, those behind for calls."""
-    permanent = Range(1, header.permanent, 1)
-    # Calls of the DTE may not use the channels for incoming calls, those of the DCE not those for outgoing ones.
-    calls = {
-        Side.T: Range(header.incoming + 1, header.outgoing, header.incoming + 1),
-        Side.N: Range(header.permanent + 1, header.two_way, header.permanent + 1),
-    }
-    taken, running, free = set(), [], []
+    """Gives all circuits their channels, in the order of the first rows."""
+    channels, running = Channels(header), []
     for circuit in sorted(circuits, key=lambda one: one.first_row):
         while running and running[0][0] < circuit.first_row:
-            free.append(heapq.heappop(running)[1])
-        places = permanent if circuit.permanent else calls[circuit.caller or Side.T]
-        channel = places.fresh(taken) or places.again(free)
-        if channel is None:
+            channels.release(heapq.heappop(running)[1])
+        if not channels.give(circuit):
             words = f"frame {circuit.frame}: connection {circuit.number} gets no channel, {circuit.rows} packets"
             ledger.damaged(Reason.NO_CHANNEL, words, circuit.rows)
-            continue
-        circuit.again = channel in taken
-        taken.add(channel)
-        circuit.channel = channel
-        if circuit.is_free:
-            heapq.heappush(running, (circuit.last_row, channel))
+        elif circuit.is_free:
+            heapq.heappush(running, (circuit.last_row, circuit.channel))

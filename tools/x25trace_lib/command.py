@@ -1,230 +1,78 @@
-"""The command line of x25trace, its streams and its exit status."""
-import argparse
-import enum
-import ipaddress
+"""What x25trace does with its command line: its streams, its signals and its exit status."""
+import errno
 import os
 import pathlib
+import signal
 import sys
+import tempfile
 
-from .estimate import LARGEST_SIZE, LAST_CHANNEL, SMALLEST_SIZE, Wishes
-from .hexdump import HexDump, is_dump
-from .lapb import SideBy
-from .links import KINDS
-from .packets import Side
-from .pcap import MAGICS, Pcap
-from .pcapng import MAGIC, Pcapng
-from .reading import XOT_PORT, Carrier, Choices, Reading
-from .source import Source
-from .told import Ledger, Refusal, Why
+from . import comments
+from .captures import Captures, is_pipe
+from .live import Live
+from .reading import Reading
+from .source import Waiting
+from .told import Ledger, Refusal
 from .trace import Trace
-
-LOOK = 1 << 16
-COMPRESSED = {
-    b"\x1f\x8b": "gzip -d",
-    b"\x28\xb5\x2f\xfd": "zstd -d",
-    b"\xfd7zXZ": "xz -d",
-    b"BZh": "bzip2 -d",
-    b"\x04\x22\x4d\x18": "lz4 -d",
-    b"PK\x03\x04": "unzip",
-}
-
-
-class Status(enum.IntEnum):
-    """The exit status."""
-
-    WHOLE = 0
-    DAMAGED = 1
-    REFUSED = 2
-    FAILED = 3
-    WORDS = 64
-
-
-EPILOG = f"""
-examples:
-  x25trace xot.pcapng > xot.trace && x25scan < xot.trace
-  x25trace --dte 192.0.2.7 --win 2 --size 128 xot.pcap | x25scan
-  x25trace --as 147=lapb line.pcap      a user link type that holds LAPB
-  x25trace --as x25 debug.txt           a hex dump of packets, its lines before each one saying I or O
-
-kinds of --as: {', '.join(KINDS)}
-
-exit status:
-  0   the trace is written, and no packet may be missing
-  1   the trace is written, but the capture is damaged or packets are missing: standard error tells which
-  2   there is no trace: the reason has a name ({', '.join(why.value for why in Why)})
-  3   reading or writing failed
-  64  the command line was refused
-"""
-
-
-class Words(argparse.ArgumentParser):
-    """Refuses a command line as x25scan does."""
-
-    def error(self, message):
-        self.print_usage(sys.stderr)
-        self.exit(Status.WORDS, f"{self.prog}: {message}\n")
-
-
-def number(first, last):
-    def parse(word):
-        if not word.isascii() or not word.isdigit() or not first <= int(word) <= last:
-            raise argparse.ArgumentTypeError(f"{word!r} is not a number from {first} to {last}")
-        return int(word)
-
-    return parse
-
-
-def size(word):
-    value = number(SMALLEST_SIZE, LARGEST_SIZE)(word)
-    if value & value - 1:
-        raise argparse.ArgumentTypeError(f"{word!r} is not a power of two")
-    return value
-
-
-def address(word):
-    try:
-        return ipaddress.ip_address(word).packed
-    except ValueError as fault:
-        raise argparse.ArgumentTypeError(f"{word!r} is not an address of IPv4 or IPv6") from fault
-
-
-def kind(word):
-    link, parted, name = word.rpartition("=")
-    if name not in KINDS:
-        raise argparse.ArgumentTypeError(f"{name!r} is not one of {', '.join(KINDS)}")
-    return number(0, 65_535)(link) if parted else None, name
-
-
-def sender(word):
-    interface, _, name = word.partition("=")
-    sides = {"dte": Side.T, "dce": Side.N}
-    if name not in sides:
-        raise argparse.ArgumentTypeError(f"{word!r} is not of the form INTERFACE=dte or INTERFACE=dce")
-    return number(0, 65_535)(interface), sides[name]
-
-
-def parser():
-    words = Words(
-        prog="x25trace",
-        description="Writes the trace, as x25scan reads it, of the X.25 packets in a capture: pcap, pcapng or a hex "
-        "dump; XOT, LAPB or packets. Messages and counts go to standard error, and into the trace as comments.",
-        epilog=EPILOG,
-        formatter_class=argparse.RawDescriptionHelpFormatter,
-        allow_abbrev=False,
-    )
-    words.add_argument("capture", metavar="CAPTURE", help="the file; - for standard input")
-    reading_words(words.add_argument_group("reading"))
-    side_words(words.add_argument_group("sides"))
-    header_words(words.add_argument_group("header, else estimated from what was seen"))
-    return words
-
-
-def reading_words(group):
-    group.add_argument("--as", dest="kinds", metavar="[LINKTYPE=]KIND", type=kind, action="append", default=[],
-                       help="what frames of a link type hold, or those of a hex dump and of all unknown link types")
-    group.add_argument("--only", choices=[one.value for one in Carrier], help="leave out what other carriers carry")
-    group.add_argument("--interface", metavar="N", type=number(0, 65_535), action="append", default=[],
-                       help="only this interface of a pcapng file, from 0; may be repeated")
-    group.add_argument("--port", metavar="N", type=number(1, 65_535), action="append", default=[],
-                       help=f"a TCP port of XOT, instead of {XOT_PORT}; may be repeated")
-    group.add_argument("--lapb-modulo", dest="link_modulus", type=int, choices=(8, 128),
-                       help="how LAPB counts its frames; else SABM and SABME tell, and 8 before them")
-
-
-def side_words(group):
-    group.add_argument("--dte", metavar="ADDRESS", type=address,
-                       help="the host of XOT that is the DTE, else the one that opens each connection")
-    group.add_argument("--side", choices=[one.value for one in SideBy], default=SideBy.ADDRESS.value,
-                       help="what tells the side of a LAPB frame (address)")
-    group.add_argument("--sender", metavar="N=dte|dce", type=sender, action="append", default=[],
-                       help="who sends the packets that an interface recorded; may be repeated")
-    group.add_argument("--swap", action="store_true",
-                       help="the DTE and the DCE the other way round: the recording host is the DCE")
-
-
-def header_words(group):
-    channel = number(0, LAST_CHANNEL)
-    last = number(1, LAST_CHANNEL)
-    group.add_argument("--mod", dest="modulus", type=int, choices=(8, 128), help="the modulus of packets")
-    group.add_argument("--win", dest="window", metavar="N", type=number(1, 127), help="the default window")
-    group.add_argument("--size", metavar="N", type=size, help="the default packet size, in octets")
-    group.add_argument("--pvc", dest="permanent", metavar="N", type=channel, help="the last permanent channel")
-    group.add_argument("--svc", dest="calls", metavar="N", type=last, help="the last channel")
-    group.add_argument("--in", dest="incoming", metavar="N", type=channel, help="the last channel for incoming calls")
-    group.add_argument("--two", dest="two_way", metavar="N", type=channel, help="the last two-way channel")
-    group.add_argument("--out", dest="outgoing", metavar="N", type=last, help="the last channel for outgoing calls")
-    join = group.add_mutually_exclusive_group()
-    join.add_argument("--join", action="store_true", default=None, help="the recording began in the middle")
-    join.add_argument("--no-join", dest="join", action="store_false", help="all channels were fresh when it began")
-
-
-def chosen(words):
-    """The choices and the wishes of parsed words."""
-    given = vars(words)
-    wishes = Wishes(**{name: given[name] for name in Wishes.__dataclass_fields__})
-    choices = Choices(
-        kinds=dict(words.kinds),
-        ports=words.port or [XOT_PORT],
-        dte=words.dte,
-        only=words.only and Carrier(words.only),
-        interfaces=frozenset(words.interface),
-        senders=dict(words.sender),
-        swapped=words.swap,
-        side_by=SideBy(words.side),
-        link_modulus=words.link_modulus,
-    )
-    return choices, wishes
-
-
-def open_capture(name):
-    if name == "-":
-        return sys.stdin.buffer
-    if os.path.isdir(name):
-        raise Refusal(Why.FOLDER, "it is a folder")
-    try:
-        return open(name, "rb")
-    except FileNotFoundError as fault:
-        raise Refusal(Why.ABSENT, "there is no such file") from fault
-    except OSError as fault:
-        raise Refusal(Why.UNREADABLE, fault.strerror) from fault
-
-
-def frames_of(source, choices, ledger):
-    """The frames of a file, by what it begins with."""
-    start = source.peek(LOOK)
-    if not start:
-        raise Refusal(Why.EMPTY, "the file has no octet")
-    for magic, program in COMPRESSED.items():
-        if start.startswith(magic):
-            raise Refusal(Why.COMPRESSED, f"the file is compressed; unpack it first with {program}")
-    if start[:4] in MAGICS:
-        return Pcap(source, ledger).frames()
-    if start[:4] == MAGIC:
-        return Pcapng(source, ledger).frames()
-    if not is_dump(start):
-        words = f"the file is no pcap, pcapng or hex dump; it begins with {start[:4].hex(' ').upper()}"
-        raise Refusal(Why.UNKNOWN_FORMAT, words)
-    if None not in choices.kinds:
-        raise Refusal(Why.KIND_MISSING, "a hex dump does not say what it holds; --as KIND does")
-    return HexDump(source, ledger).frames()
+from .words import Status, chosen, parsed
 
 
 def say(words):
     print(f"x25trace: {words}", file=sys.stderr)
 
 
-def run(words):
-    """Reads and writes; returns the status."""
-    ledger = Ledger()
-    ledger.listeners.append(say)
+def title(names):
+    """What the trace says that it is from."""
+    return pathlib.PurePath(names[0]).name if len(names) == 1 else f"{len(names)} captures"
+
+
+def is_live(words, wishes):
+    """Whether rows can be written as frames come: from a pipe, with all numbers of the header given."""
+    if not any(map(is_pipe, words.captures)):
+        return False
+    missing = wishes.missing()
+    if missing and wishes.window and wishes.size:
+        say(f"rows wait for the end of the input; with {', '.join(missing)} too they are written as frames come")
+    return not missing
+
+
+def write(words, ledger, waiting):
+    """Reads the captures, and writes their trace or their comments."""
     choices, wishes = chosen(words)
-    reading = Reading(ledger, choices)
-    trace = Trace(ledger, reading, wishes)
+    captures = Captures(words.captures, choices.kinds, ledger, waiting)
+    reading, name = Reading(ledger, choices), title(words.captures)
+    if words.comments is None and is_live(words, wishes):
+        waiting.before = sys.stdout.flush
+        Live(ledger, reading, wishes, words.times).write(captures.frames(), name, sys.stdout)
+    else:
+        trace = Trace(ledger, reading, wishes, words.times)
+        trace.gather(captures.frames())
+        if words.comments is None:
+            trace.write(name, sys.stdout)
+        else:
+            write_comments(trace, words)
+    sys.stdout.flush()
+
+
+def write_comments(trace, words):
+    """Has x25scan read the trace, and writes the captures again with what it says."""
+    # What is damaged was told by the first reading.
+    again = [Captures(words.captures, dict(words.kinds), Ledger(), Waiting()) for _ in range(2)]
+    comments.check(again[0])
+    with tempfile.TemporaryFile("w+", encoding="ascii", newline="\n") as file:
+        trace.write(title(words.captures), file)
+        file.flush()
+        file.seek(0)
+        texts = comments.found(file, words.scanner)
+    with open(words.comments, "wb") as out:
+        comments.write(again[1], texts, out)
+    say(f"{sum(map(len, texts.values()))} comments, in {len(texts)} frames of {words.comments}")
+
+
+def run(words, waiting):
+    """Reads and writes; returns the status."""
+    ledger = Ledger(say)
     try:
-        with open_capture(words.capture) as stream:
-            trace.gather(frames_of(Source(stream), choices, ledger))
-        trace.write(pathlib.PurePath(words.capture).name, sys.stdout)
-        sys.stdout.flush()
+        write(words, ledger, waiting)
     except Refusal as refusal:
         status = Status.REFUSED
         say(refusal)
@@ -232,19 +80,42 @@ def run(words):
         status = Status.WHOLE if ledger.whole else Status.DAMAGED
     for line in ledger.lines():
         say(line)
-    return status
+    return Status.INTERRUPTED if waiting.interrupted else status
 
 
-def main(arguments):
-    words = parser().parse_args(arguments)
-    if words.calls is not None and (words.incoming, words.two_way, words.outgoing) != (None, None, None):
-        parser().error("--svc does not go with --in, --two and --out")
+def main(arguments, waiting=None):
+    """Runs in a process whose streams and signals are as they are."""
+    words = parsed(arguments)
     try:
-        return run(words)
+        return run(words, waiting or Waiting())
     except OSError as fault:
         # What was not written yet cannot be: nothing may try it again at the end.
         os.dup2(os.open(os.devnull, os.O_WRONLY), sys.stdout.fileno())
         say(f"reading or writing failed: {fault.strerror or fault}")
         return Status.FAILED
     except KeyboardInterrupt:
-        return 128 + 2
+        return Status.INTERRUPTED
+
+
+def is_open(descriptor):
+    """Whether a stream can be written, however full the disk is."""
+    try:
+        os.write(descriptor, b"")
+    except OSError as fault:
+        return fault.errno != errno.EBADF
+    return True
+
+
+def program(arguments):
+    """Runs as a program: a closed pipe ends it as it ends other filters, and SIGINT ends the reading."""
+    if not is_open(2):
+        # Whoever closed standard error wants to hear nothing; what is opened next must not take its place.
+        os.dup2(os.open(os.devnull, os.O_WRONLY), 2)
+        sys.stderr = open(2, "w", encoding="ascii", errors="replace", closefd=False)
+    if not is_open(1):
+        say("reading or writing failed: standard output is closed")
+        return Status.FAILED
+    waiting = Waiting()
+    signal.signal(signal.SIGPIPE, signal.SIG_DFL)
+    signal.signal(signal.SIGINT, waiting.interrupt)
+    return main(arguments, waiting)

@@ -1,8 +1,7 @@
 """What the header of a trace says, by options or by what was seen."""
-from collections import Counter
 from dataclasses import dataclass, field
 
-from .packets import PACKET_SIZES, SET_UP, WINDOWS, Side, Type, channel_of, facilities_of, modulus_of
+from .packets import MODULI, PACKET_SIZES, SET_UP, WINDOWS, Side, Type, channel_of, facilities_of
 from .told import Refusal, Why
 
 STANDARD_SIZE = 128
@@ -10,20 +9,18 @@ STANDARD_WINDOW = 2
 SMALLEST_SIZE = 16
 LARGEST_SIZE = 4096
 LAST_CHANNEL = 4095
-
-
-@dataclass(slots=True)
-class Way:
-    """The packets of one side on a channel: the lower edge of its window, None where that is not known."""
-
-    acknowledged: int | None
+# RR, RNR and REJ, without their numbers.
+FLOW = frozenset((1, 5, 9))
 
 
 @dataclass(slots=True)
 class Seen:
-    """What was seen on a channel: whether data counts now, and which values its call agreed on."""
+    """What was seen on a channel: the lower edge of each side's window, None where that is not known.
 
-    ways: dict
+    And whether data counts now, and which values its call agreed on.
+    """
+
+    edges: dict
     flows: bool = True
     agreed: set = field(default_factory=set)
 
@@ -46,12 +43,23 @@ class Wishes:
     def one_way(self):
         return not self.incoming is self.two_way is self.outgoing is None
 
+    def missing(self):
+        """The options without which the header is an estimate."""
+        options = {
+            "--mod": self.modulus,
+            "--win": self.window,
+            "--size": self.size,
+            "--pvc": self.permanent,
+            "--svc": self.calls or self.outgoing,
+        }
+        return [option for option, value in options.items() if value is None]
+
 
 class Estimator:
     """Sees each packet once, with the key of its channel."""
 
     def __init__(self):
-        self.moduli = Counter()
+        self.moduli = {8: 0, 128: 0, None: 0}
         self.seen = {}
         self.largest = 0
         self.most = 0
@@ -67,7 +75,7 @@ class Estimator:
             self.first_is_restart = line and len(octets) >= 3 and octets[2] == Type.RESTART and not channel_of(octets)
         if len(octets) < 3:
             return
-        modulus = modulus_of(octets)
+        modulus = MODULI.get(octets[0] & 0x30)
         self.moduli[modulus] += 1
         if modulus is None:
             return
@@ -80,17 +88,25 @@ class Estimator:
         seen = self.seen.get(key)
         if seen is None:
             edge = 0 if known or self.restarted else None
-            seen = self.seen[key] = Seen({Side.T: Way(edge), Side.N: Way(edge)})
+            seen = self.seen[key] = Seen({Side.T: edge, Side.N: edge})
         if not kind & 1:
             self.data(seen, side, octets, modulus)
-        elif kind & 0x1F in (1, 5, 9) and (modulus == 8 or kind < 16):
-            self.acknowledge(seen, side, octets, modulus)
+        elif kind & 0x1F in FLOW and (modulus == 8 or kind < 16):
+            if modulus == 8 or len(octets) >= 4:
+                seen.edges[side.other] = kind >> 5 if modulus == 8 else octets[3] >> 1
         else:
             self.signal(seen, kind, octets)
 
-    def forget(self, key):
-        """The channel with a key has no more packets."""
-        self.seen.pop(key, None)
+    def forget(self, circuit):
+        """A circuit has no more packets."""
+        self.seen.pop(circuit.number, None)
+
+    def miss(self, key):
+        """Packets of the channel are missing: what they acknowledged is not known, and data may flow."""
+        seen = self.seen.get(key)
+        if seen:
+            seen.flows = True
+            seen.edges = dict.fromkeys(Side)
 
     def restart(self, kind):
         if kind == Type.RESTART:
@@ -105,23 +121,16 @@ class Estimator:
             self.with_data.add(channel)
 
     def data(self, seen, side, octets, modulus):
-        header = 3 if modulus == 8 else 4
-        if len(octets) < header or not seen.flows:
+        size = len(octets) - (3 if modulus == 8 else 4)
+        if size < 0 or not seen.flows:
             return
-        self.acknowledge(seen, side, octets, modulus)
-        if PACKET_SIZES not in seen.agreed:
-            self.largest = max(self.largest, len(octets) - header)
+        seen.edges[side.other] = octets[2] >> 5 if modulus == 8 else octets[3] >> 1
+        if size > self.largest and PACKET_SIZES not in seen.agreed:
+            self.largest = size
         send = octets[2] >> 1 & 7 if modulus == 8 else octets[2] >> 1
-        edge = seen.ways[side].acknowledged
-        if edge is not None and WINDOWS not in seen.agreed:
-            self.most = max(self.most, (send - edge) % modulus + 1)
-
-    @staticmethod
-    def acknowledge(seen, side, octets, modulus):
-        if modulus == 8:
-            seen.ways[side.other].acknowledged = octets[2] >> 5
-        elif len(octets) >= 4:
-            seen.ways[side.other].acknowledged = octets[3] >> 1
+        edge = seen.edges[side]
+        if edge is not None and (send - edge) % modulus >= self.most and WINDOWS not in seen.agreed:
+            self.most = (send - edge) % modulus + 1
 
     @staticmethod
     def signal(seen, kind, octets):
@@ -138,8 +147,7 @@ class Estimator:
         elif kind in (Type.RESET_CONFIRM, Type.CLEAR_CONFIRM):
             seen.flows = True
         if kind in (Type.CALL, Type.ACCEPTED, Type.CLEAR, Type.RESET, Type.RESET_CONFIRM):
-            for way in seen.ways.values():
-                way.acknowledged = 0
+            seen.edges = dict.fromkeys(Side, 0)
 
     @property
     def modulus(self):
@@ -217,6 +225,21 @@ def header_of(wishes, estimator, permanent, highest, join):
     if header.fault():
         raise Refusal(Why.HEADER, header.fault())
     return header
+
+
+def hidden(wishes, header, estimator):
+    """What the estimates of the window and the size hide, or None where both are given or no data told them."""
+    seen = []
+    if wishes.window is None and estimator.most:
+        seen.append(f"WIN {header.window}")
+    if wishes.size is None and estimator.largest:
+        seen.append(f"SIZE {header.size}")
+    if not seen:
+        return None
+    return (
+        f"{' and '.join(seen)} {'are' if seen[1:] else 'is'} estimated, so data that broke a smaller value is not found: "
+        "give --win and --size where you know them"
+    )
 
 
 def estimates(wishes, header, estimator):

@@ -11,6 +11,17 @@ class Direction(enum.Enum):
     SENT = 2
 
 
+# What a Linux cooked header says of a frame's way; 3 is one of other hosts to each other.
+KINDS_OF_PACKET = {
+    0: Direction.RECEIVED,
+    1: Direction.RECEIVED,
+    2: Direction.RECEIVED,
+    4: Direction.SENT,
+}
+# The nanoseconds of a second.
+SECOND = 1_000_000_000
+
+
 @dataclass(slots=True)
 class Frame:
     """One frame: its number as Wireshark counts, its link type, what was kept of it and how long it was."""
@@ -21,3 +32,12 @@ class Frame:
     length: int
     direction: Direction
     interface: int = 0
+    # Nanoseconds since 1970, where the capture says them.
+    time: int | None = None
+    # How many tunnels it was taken out of.
+    depth: int = 0
+
+    def within(self, begin, end, octets):
+        """The frame that octets of a tunnel hold, of which those up to the end may not all be there."""
+        return Frame(self.number, self.link, octets[begin:end], end - begin, self.direction, self.interface, self.time,
+                     self.depth + 1)

@@ -32,9 +32,8 @@ def octets_of(words):
 class HexDump:
     """The frames of one hex dump; the line before a frame may say I or O first, for received or sent."""
 
-    def __init__(self, source, ledger):
-        self.source, self.ledger = source, ledger
-        self.number = 0
+    def __init__(self, source, ledger, number):
+        self.source, self.ledger, self.number = source, ledger, number
         self.octets = None
         # The offset of the last line, and how long the frame is: longer than its octets once a line was not placed.
         self.begun = self.length = 0
@@ -53,8 +52,8 @@ class HexDump:
                 self.octets, self.begun, self.length = bytearray(), -1, 0
                 self.direction, self.coming = self.coming, Direction.UNKNOWN
             if not self.place(at, octets):
-                words = f"offset {offset}: a line of the hex dump at {at:X}, where {len(self.octets or b''):X} is next"
-                self.ledger.damaged(Reason.BAD_LINE, words)
+                words = f"a line of the hex dump at {at:X}, where {len(self.octets or b''):X} is next"
+                self.ledger.damaged(Reason.BAD_LINE, f"{self.source.place(offset)}: {words}")
         yield from self.finished()
 
     def said(self, line):

@@ -1,11 +1,16 @@
-"""From an Internet packet to its TCP segment: IPv4 and IPv6, extension headers, fragments."""
+"""From an Internet packet to its TCP segment: IPv4 and IPv6, extension headers, fragments, tunnels."""
 import struct
 from collections import OrderedDict
 from dataclasses import dataclass
 
-from .told import Reason
+from .links import Carried
+from .strangers import Strangers
+from .told import Reason, Topic
+from .tunnels import GRE, IP_IN_IP, IPV6_IN_IP, opened
 
 TCP = 6
+# The protocols whose fragments are put together.
+KEPT = frozenset((TCP, GRE, IP_IN_IP, IPV6_IN_IP))
 FRAGMENT_HEADER = 44
 # Extension headers whose second octet counts units of eight octets after the first eight.
 EXTENSIONS = frozenset((0, 43, 60, 135, 139, 140))
@@ -23,11 +28,10 @@ class Segment:
     target: bytes
     sequence: int
     acknowledged: int | None
-    syn: bool
-    fin: bool
-    reset: bool
+    flags: int
     payload: bytes
     missing: int
+    time: int | None = None
 
 
 def port_of(end):
@@ -77,6 +81,14 @@ class Internet:
         self.ledger = ledger
         self.ports = frozenset(ports)
         self.fragments = Fragments(ledger)
+        self.strangers = Strangers()
+
+    def end(self):
+        """The recording has ended."""
+        self.fragments.end()
+        for port, many in self.strangers.ports():
+            words = f"TCP port {port} looks like XOT, in {many} segments: --port {port} reads it"
+            self.ledger.tell(Topic.PORT, words)
 
     def bad(self, frame, words):
         self.ledger.damaged(Reason.BAD_HEADER, f"frame {frame.number}: {words}")
@@ -84,10 +96,11 @@ class Internet:
     def segment(self, frame, at):
         """The segment of an Internet packet, or None, which is counted."""
         octets = frame.octets
-        version = octets[at] >> 4 if len(octets) > at else 0
-        if version == 4 and len(octets) >= at + 20:
+        there = len(octets) - at
+        version = octets[at] >> 4 if there > 0 else 0
+        if version == 4 and there >= 20:
             return self.version_4(frame, octets, at)
-        if version == 6 and len(octets) >= at + 40:
+        if version == 6 and there >= 40:
             return self.version_6(frame, octets, at)
         if version in (4, 6) or not version:
             return self.bad(frame, "its Internet header is cut")
@@ -98,25 +111,21 @@ class Internet:
         total = octets[at + 2] << 8 | octets[at + 3] or frame.length - at
         if header < 20 or total < header:
             return self.bad(frame, f"its IPv4 header has length {header}, its packet {total}")
-        if octets[at + 9] != TCP:
-            self.ledger.left_out(Reason.OTHER_PROTOCOL)
-            return None
-        begin, end = at + header, at + total
-        source, target = octets[at + 12:at + 16], octets[at + 16:at + 20]
+        protocol, begin, end = octets[at + 9], at + header, at + total
+        ends = octets[at + 12:at + 16], octets[at + 16:at + 20]
         place = (octets[at + 6] & 0x3F) << 8 | octets[at + 7]
         if place:
-            identity = (source, target, octets[at + 4:at + 6])
+            identity = (protocol, *ends, octets[at + 4:at + 6])
             return self.fragment(frame, identity, 8 * (place & 0x1FFF), begin, end, place < 0x2000)
-        return self.tcp(frame, octets, begin, end, source, target)
+        if protocol == TCP:
+            return self.tcp(frame, octets, begin, end, *ends)
+        return self.tunnel(frame, protocol, octets, begin, end)
 
     def version_6(self, frame, octets, at):
         follows, begin = octets[at + 6], at + 40
         end = begin + (octets[at + 4] << 8 | octets[at + 5] or frame.length - begin)
-        source, target = octets[at + 8:at + 24], octets[at + 24:at + 40]
-        while follows != TCP:
-            if follows not in EXTENSIONS and follows not in (FRAGMENT_HEADER, AUTHENTICATION):
-                self.ledger.left_out(Reason.OTHER_PROTOCOL)
-                return None
+        ends = octets[at + 8:at + 24], octets[at + 24:at + 40]
+        while follows in EXTENSIONS or follows in (FRAGMENT_HEADER, AUTHENTICATION):
             if len(octets) < begin + 8:
                 return self.bad(frame, "its IPv6 extension headers are cut")
             size = 4 * (octets[begin + 1] + 2) if follows == AUTHENTICATION else 8 * (octets[begin + 1] + 1)
@@ -124,35 +133,53 @@ class Internet:
                 size = 8
                 place = octets[begin + 2] << 8 | octets[begin + 3]
                 if place & 0xFFF9:
-                    return self.fragment_6(frame, octets, begin, end, (source, target))
+                    identity = (octets[begin], *ends, octets[begin + 4:begin + 8])
+                    return self.fragment(frame, identity, place & 0xFFF8, begin + 8, end, not place & 1)
             follows, begin = octets[begin], begin + size
-        return self.tcp(frame, octets, begin, end, source, target)
-
-    def fragment_6(self, frame, octets, header, end, ends):
-        """A fragment of IPv6: the next header of the first one is the datagram's."""
-        if octets[header] != TCP:
-            self.ledger.left_out(Reason.OTHER_PROTOCOL)
-            return None
-        place = octets[header + 2] << 8 | octets[header + 3]
-        identity = (*ends, octets[header + 4:header + 8])
-        return self.fragment(frame, identity, place & 0xFFF8, header + 8, end, not place & 1)
+        if follows == TCP:
+            return self.tcp(frame, octets, begin, end, *ends)
+        return self.tunnel(frame, follows, octets, begin, end)
 
     def fragment(self, frame, identity, place, begin, end, last):
-        """Keeps a fragment; the segment of the datagram that it completes."""
+        """Keeps a fragment; the segment of the datagram that it completes. The identity begins with the protocol."""
+        protocol, source, target, _ = identity
+        if protocol not in KEPT:
+            self.ledger.left_out(Reason.OTHER_PROTOCOL)
+            return None
         if end > len(frame.octets):
             self.ledger.damaged(Reason.FRAGMENT, f"frame {frame.number}: a fragment that was cut off")
             return None
         whole = self.fragments.add(frame, identity, place, frame.octets[begin:end], last)
-        return self.tcp(frame, whole, 0, len(whole), *identity[:2]) if whole else None
+        if whole is None:
+            return None
+        if protocol == TCP:
+            return self.tcp(frame, whole, 0, len(whole), source, target)
+        return self.tunnel(frame, protocol, whole, 0, len(whole))
+
+    def tunnel(self, frame, protocol, octets, begin, end):
+        """The segment in what a packet of another protocol carries."""
+        inner = frame.within(begin, end, octets)
+        carried, at = opened(protocol, inner)
+        if carried is Carried.IP:
+            return self.segment(inner, at)
+        if carried is Carried.BROKEN:
+            return self.bad(frame, "the header of its tunnel is cut")
+        self.ledger.left_out(Reason.OTHER_PROTOCOL)
+        return None
 
     def tcp(self, frame, octets, begin, end, source, target):
-        if len(octets) < begin + 20 or end < begin + 20:
+        there = len(octets)
+        if there < begin + 20 or end < begin + 20:
             return self.bad(frame, "its TCP header is cut")
         from_port, to_port, sequence, acknowledged, size, flags = TCP_HEADER.unpack_from(octets, begin)
+        payload = begin + (size >> 4) * 4
         if from_port not in self.ports and to_port not in self.ports:
             self.ledger.left_out(Reason.OTHER_PORT)
+            if flags & SYN:
+                self.strangers.servers.add(from_port if flags & ACK else to_port)
+            elif octets[payload:payload + 2] == b"\0\0":
+                self.strangers.see(from_port, to_port, octets[payload:end])
             return None
-        payload = begin + (size >> 4) * 4
         if payload > end or size < 0x50:
             return self.bad(frame, f"its TCP header has length {(size >> 4) * 4}")
         return Segment(
@@ -161,9 +188,8 @@ class Internet:
             target + octets[begin + 2:begin + 4],
             sequence,
             acknowledged if flags & ACK else None,
-            flags & SYN != 0,
-            flags & FIN != 0,
-            flags & RST != 0,
+            flags,
             octets[payload:end],
-            max(end - max(len(octets), payload), 0),
+            0 if end <= there else end - max(there, payload),
+            frame.time,
         )

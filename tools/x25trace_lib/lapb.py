@@ -13,7 +13,7 @@ from dataclasses import dataclass
 
 from .frames import Direction
 from .packets import Packet, Side
-from .told import Reason
+from .told import Reason, Topic
 
 COMMAND_SIDES = {0x01: Side.T, 0x03: Side.N}
 RESPONSE_SIDES = {0x03: Side.T, 0x01: Side.N}
@@ -118,31 +118,28 @@ class Lapb:
 
     def take(self, frame, octets, cut):
         """The packets that a frame of address, control and information gives."""
-        if len(octets) < 2:
+        wide = self.modulus == 128
+        if len(octets) < 2 or wide and octets[1] & 3 != 3 and len(octets) < 3:
             self.ledger.damaged(Reason.BAD_HEADER, f"frame {frame.number}: its LAPB header is cut")
-            return
+            return ()
         if octets[0] not in COMMAND_SIDES:
             self.ledger.left_out(Reason.OTHER_ADDRESS)
-            return
+            return ()
         control = octets[1]
         if control & 3 == 3:
             self.ledger.left_out(Reason.LINK_FRAME)
             self.unnumbered(frame, octets[0], control & ~POLL)
-            return
-        size = 1 if self.modulus is None or self.modulus == 8 else 2
-        if len(octets) < 1 + size:
-            self.ledger.damaged(Reason.BAD_HEADER, f"frame {frame.number}: its LAPB header is cut")
-            return
-        receive = control >> 5 if size == 1 else octets[2] >> 1
+            return ()
+        receive = octets[2] >> 1 if wide else control >> 5
         if control & 1:
             self.ledger.left_out(Reason.LINK_FRAME)
-            final = control & POLL if size == 1 else octets[2] & 1
-            yield from self.supervisory(frame, octets, receive, final)
-            return
-        send = control >> 1 & 7 if size == 1 else control >> 1
+            final = octets[2] & 1 if wide else control & POLL
+            return self.supervisory(frame, octets, receive, final)
+        send = control >> 1 if wide else control >> 1 & 7
         side = self.side(COMMAND_SIDES, octets[0], frame.direction)
-        yield from self.acknowledge(frame.number, side.other, receive, True)
-        yield from self.information(frame.number, side, send, None if cut else octets[1 + size:])
+        before = self.acknowledge(frame.number, side.other, receive, True)
+        packet = Packet(frame.number, self.named(side), None if cut else octets[3 if wide else 2:], None, frame.time)
+        return [*before, *self.information(side, send, packet)]
 
     @property
     def circle(self):
@@ -153,7 +150,7 @@ class Lapb:
         if kind not in NAMES:
             return
         side = self.side(COMMAND_SIDES if kind in COMMANDS else RESPONSE_SIDES, address, frame.direction)
-        self.ledger.tell(f"frame {frame.number}: {NAMES[kind]} of {self.named(side).name}")
+        self.ledger.tell(Topic.LINK_FRAME, f"frame {frame.number}: {NAMES[kind]} of {self.named(side).name}")
         if kind in (Unnumbered.SABM, Unnumbered.SABME) and self.given is None:
             self.modulus = 8 if kind == Unnumbered.SABM else 128
         if kind in (Unnumbered.SABM, Unnumbered.SABME, Unnumbered.UA):
@@ -167,21 +164,21 @@ class Lapb:
         proves = side is not None
         if not proves:
             if final:
-                return
+                return ()
             side = RESPONSE_SIDES[octets[0]]
         way = self.ways[side.other]
         if octets[1] & 0x0F == REJECT and way.acknowledged is None:
             # What is rejected was sent before, so this N(R) is for frames before the next one.
             way.acknowledged = receive
-        else:
-            yield from self.acknowledge(frame.number, side.other, receive, proves)
+            return ()
+        return self.acknowledge(frame.number, side.other, receive, proves)
 
     def acknowledge(self, number, side, receive, proves):
         """Takes an N(R) for the frames of a side; beyond the next one it proves that frames were not recorded."""
         way = self.ways[side]
         if way.next is None:
             way.acknowledged = receive
-            return
+            return ()
         if way.acknowledged is None:
             # Where recording began in the middle a first N(R) may be for frames before; not for one that is held.
             beyond = (receive - 1) % self.circle in way.held
@@ -192,39 +189,43 @@ class Lapb:
         if inside:
             way.acknowledged = receive
         elif proves:
-            yield from self.catch_up(number, side, way, receive)
+            return self.catch_up(number, side, way, receive)
+        return ()
 
     def catch_up(self, number, side, way, receive):
         """Goes on to the frame that the receiver waits for: those held are given out, the others are lost."""
-        lost = 0
+        lost, packets = 0, []
         while way.next != receive:
-            frame = way.held.pop(way.next, None)
-            lost += frame is None
-            if frame is not None:
-                yield from self.given_out(side, *frame)
+            packet = way.held.pop(way.next, None)
+            if packet is None:
+                lost += 1
+            else:
+                packets += self.given_out(packet)
             way.next = (way.next + 1) % self.circle
         way.acknowledged = receive
         if lost:
             words = f"{lost} I frames of {self.named(side).name} before N(S) {receive} were not recorded"
             self.ledger.damaged(Reason.LOST_FRAME, f"frame {number}: {words}, but acknowledged", lost)
+        return packets
 
-    def information(self, number, side, send, octets):
+    def information(self, side, send, packet):
         """An I frame: the next one, one that repeats, or one to hold."""
-        way = self.ways[side]
-        if way.next is not None and len(way.held) == self.circle - 2 and (send + 1 - way.next) % self.circle == 0:
+        way, packets = self.ways[side], ()
+        if way.held and len(way.held) == self.circle - 2 and (send + 1 - way.next) % self.circle == 0:
             # No window reaches so far: the receiver must have acknowledged the frame that is next.
-            yield from self.catch_up(number, side, way, send)
+            packets = self.catch_up(packet.frame, side, way, send)
         if way.next is None or send == way.next:
             # A held one with this number was not taken, so it came again; those behind it may have been.
             self.ledger.left_out(Reason.UNTAKEN_FRAME, way.held.pop(send, None) is not None)
             way.next = (send + 1) % self.circle
-            yield from self.given_out(side, number, octets)
-        elif self.repeats(way, send):
+            return [*packets, *self.given_out(packet)]
+        if self.repeats(way, send):
             self.ledger.left_out(Reason.REPEATED_FRAME)
         elif send not in way.held:
-            way.held[send] = (number, octets)
+            way.held[send] = packet
         else:
             self.ledger.left_out(Reason.UNTAKEN_FRAME)
+        return packets
 
     def repeats(self, way, send):
         """Whether N(S) is one that was taken: not acknowledged yet, or just before those, where no window reaches."""
@@ -241,16 +242,17 @@ class Lapb:
             self.ledger.left_out(Reason.UNTAKEN_FRAME, len(way.held))
             way.held.clear()
 
-    def given_out(self, side, number, octets):
-        if octets is None:
-            words = f"frame {number}: an I frame of {self.named(side).name} that was cut off"
+    def given_out(self, packet):
+        """A packet as the receiver took it, none where the recorder cut it."""
+        if packet.octets is None:
+            words = f"frame {packet.frame}: an I frame of {packet.side.name} that was cut off"
             self.ledger.damaged(Reason.CUT_PACKET, words)
-        else:
-            yield Packet(number, self.named(side), octets)
+            return ()
+        return (packet,)
 
     def end(self):
         for way in self.ways.values():
             self.drop_held(way)
         if self.contradictions:
             words = "LAPB frames whose direction and address octet contradict each other"
-            self.ledger.tell(f"{words}: {self.contradictions}")
+            self.ledger.tell(Topic.DIRECTION, f"{words}: {self.contradictions}")

@@ -2,16 +2,9 @@
 import enum
 import struct
 
-from .frames import Direction
+from .frames import KINDS_OF_PACKET, Direction
 
 UNIT = struct.Struct(">H")
-# What a cooked header says of a frame's way; 3 is one of other hosts to each other.
-COOKED_DIRECTIONS = {
-    0: Direction.RECEIVED,
-    1: Direction.RECEIVED,
-    2: Direction.RECEIVED,
-    4: Direction.SENT,
-}
 VLAN_TAGS = frozenset((0x8100, 0x88A8, 0x9100))
 
 
@@ -27,17 +20,39 @@ class Carried(enum.Enum):
     BROKEN = "broken"
     UNKNOWN = "unknown"
 
+    __hash__ = object.__hash__
+
 
 # Protocols of Ethernet and cooked captures: IPv4, IPv6, X.25, LAPB on a Linux HDLC device.
 PROTOCOLS = {0x0800: Carried.IP, 0x86DD: Carried.IP, 0x0805: Carried.DEVICE, 0x0019: Carried.LAPB}
 LAPB_OVER_ETHERNET = 0x6000
+PPPOE_SESSION = 0x8864
+MPLS = frozenset((0x8847, 0x8848))
+PPP_MPLS = frozenset((0x0281, 0x0283))
 PPP_PROTOCOLS = {0x0021: Carried.IP, 0x0057: Carried.IP}
+IPV4 = (Carried.IP, 14)
+# Frames in frames in frames: no network nests them deeper.
+DEEPEST = 8
 
 
 def by_protocol(frame, protocol, at):
-    """What an Ethernet type carries. LAPB over Ethernet has its length before it, the low octet first."""
-    if protocol != LAPB_OVER_ETHERNET:
-        return PROTOCOLS.get(protocol, Carried.OTHER), at
+    """What an Ethernet type carries."""
+    if protocol in PROTOCOLS:
+        return PROTOCOLS[protocol], at
+    if protocol in VLAN_TAGS:
+        return typed(frame, at + 2)
+    if protocol in MPLS:
+        return mpls(frame, at)
+    if protocol == PPPOE_SESSION:
+        # Version, type, code, session and length come before the protocol of PPP.
+        return by_ppp(frame, at + 6)
+    if protocol == LAPB_OVER_ETHERNET:
+        return lapb_over_ethernet(frame, at)
+    return Carried.OTHER, at
+
+
+def lapb_over_ethernet(frame, at):
+    """LAPB over Ethernet has its length before it, the low octet first."""
     if len(frame.octets) < at + 2:
         return Carried.BROKEN, at
     end = at + 2 + int.from_bytes(frame.octets[at:at + 2], "little")
@@ -47,22 +62,56 @@ def by_protocol(frame, protocol, at):
     return Carried.LAPB, at + 2
 
 
-def ethernet(frame):
-    octets, at = frame.octets, 12
+def typed(frame, at):
+    """What comes after addresses or tags: an Ethernet type, before it perhaps VLAN tags."""
+    octets = frame.octets
     while True:
         if len(octets) < at + 2:
             return Carried.BROKEN, at
-        protocol = UNIT.unpack_from(octets, at)[0]
+        protocol = octets[at] << 8 | octets[at + 1]
         if protocol not in VLAN_TAGS:
             return by_protocol(frame, protocol, at + 2)
         at += 4
+
+
+def ethernet(frame):
+    # Most frames hold IPv4, with nothing before it.
+    return IPV4 if frame.octets[12:14] == b"\x08\0" else typed(frame, 12)
+
+
+def mpls(frame, at):
+    """What comes after labels: IPv4, IPv6, or Ethernet with a control word before it."""
+    octets = frame.octets
+    while len(octets) >= at + 5:
+        last = octets[at + 2] & 1
+        at += 4
+        if not last:
+            continue
+        version = octets[at] >> 4
+        if version in (4, 6):
+            return Carried.IP, at
+        frame.depth += 1
+        if version or frame.depth > DEEPEST:
+            return Carried.OTHER, at
+        return typed(frame, at + 4 + 12)
+    return Carried.BROKEN, at
+
+
+def by_ppp(frame, at):
+    """What a protocol of PPP carries."""
+    if len(frame.octets) < at + 2:
+        return Carried.BROKEN, at
+    protocol = UNIT.unpack_from(frame.octets, at)[0]
+    if protocol in PPP_MPLS:
+        return mpls(frame, at + 2)
+    return PPP_PROTOCOLS.get(protocol, Carried.OTHER), at + 2
 
 
 def cooked(frame, kind_at, protocol_at, size):
     """A Linux cooked header, with its packet type and its protocol somewhere."""
     if len(frame.octets) < size:
         return Carried.BROKEN, 0
-    frame.direction = COOKED_DIRECTIONS.get(frame.octets[kind_at], Direction.UNKNOWN)
+    frame.direction = KINDS_OF_PACKET.get(frame.octets[kind_at], Direction.UNKNOWN)
     return by_protocol(frame, UNIT.unpack_from(frame.octets, protocol_at)[0], size)
 
 
@@ -98,10 +147,7 @@ def ppp(frame):
     octets = frame.octets
     if octets[:1] in (b"\x01", b"\x03"):
         return Carried.LAPB, 0
-    at = 2 if octets[:2] == b"\xff\x03" else 0
-    if len(octets) < at + 2:
-        return Carried.BROKEN, 0
-    return PPP_PROTOCOLS.get(UNIT.unpack_from(octets, at)[0], Carried.OTHER), at + 2
+    return by_ppp(frame, 2 if octets[:2] == b"\xff\x03" else 0)
 
 
 def directed(frame, carried):

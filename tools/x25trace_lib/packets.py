@@ -13,14 +13,21 @@ class Side(enum.Enum):
     T = "T"
     N = "N"
 
-    @property
-    def other(self):
-        return Side.N if self is Side.T else Side.T
+    # An enumeration hashes and reads its members' values in Python, which is slow for what is done with each packet.
+    __hash__ = object.__hash__
+
+    def __init__(self, letter):
+        self.letter = letter
+        self.other = None
+
+
+Side.T.other, Side.N.other = Side.N, Side.T
 
 
 class Type(enum.IntEnum):
-    """The third octet of a packet, but for those with sequence numbers."""
+    """The third octet of a packet, with sequence numbers that are 0."""
 
+    READY = 0x01
     CALL = 0x0B
     ACCEPTED = 0x0F
     CLEAR = 0x13
@@ -49,15 +56,22 @@ class Packet:
     side: Side
     octets: bytes
     circuit: object = None
+    time: int | None = None
+    # Whether packets of the circuit before it are missing.
+    misses: bool = False
 
 
 def channel_of(octets):
     return (octets[0] & 15) << 8 | octets[1]
 
 
+# What the general format identifier says of the modulus.
+MODULI = {0x10: 8, 0x20: 128}
+
+
 def modulus_of(octets):
     """What the general format identifier says: 8, 128, or None."""
-    return {0x10: 8, 0x20: 128}.get(octets[0] & 0x30)
+    return MODULI.get(octets[0] & 0x30)
 
 
 def facilities_of(octets):

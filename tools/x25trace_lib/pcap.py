@@ -1,76 +1,92 @@
-"""Frames of a pcap file: both byte orders, micro- and nanoseconds; behind a damaged record the next one is sought."""
+"""Frames of a pcap file: both byte orders, micro- and nanoseconds, and the modified form with a direction.
+
+After a damaged record the next one is sought.
+"""
 import re
 import struct
 
-from .frames import Direction, Frame
+from .frames import KINDS_OF_PACKET, SECOND, Direction, Frame
 from .told import Reason, Refusal, Why
 
-# The magic number as it stands in the file: byte order and the parts of a second.
-MAGICS = {
-    b"\xa1\xb2\xc3\xd4": (">", 1_000_000),
-    b"\xd4\xc3\xb2\xa1": ("<", 1_000_000),
-    b"\xa1\xb2\x3c\x4d": (">", 1_000_000_000),
-    b"\x4d\x3c\xb2\xa1": ("<", 1_000_000_000),
-}
 FILE_HEADER = 24
 RECORD_HEADER = 16
+# The modified form has the interface, the protocol and the kind of a packet behind each record's header.
+MODIFIED_HEADER = 24
+KIND_AT = 22
+# The magic number as it stands in the file: byte order, the parts of a second, and the size of a record's header.
+MAGICS = {
+    b"\xa1\xb2\xc3\xd4": (">", 1_000_000, RECORD_HEADER),
+    b"\xd4\xc3\xb2\xa1": ("<", 1_000_000, RECORD_HEADER),
+    b"\xa1\xb2\x3c\x4d": (">", 1_000_000_000, RECORD_HEADER),
+    b"\x4d\x3c\xb2\xa1": ("<", 1_000_000_000, RECORD_HEADER),
+    b"\xa1\xb2\xcd\x34": (">", 1_000_000, MODIFIED_HEADER),
+    b"\x34\xcd\xb2\xa1": ("<", 1_000_000, MODIFIED_HEADER),
+}
 LARGEST = 262_144
 DAYS = 30 * 86_400
 WINDOW = 1 << 20
 
 
 class Pcap:
-    """The records of one pcap file."""
+    """The records of one pcap file; the number is that of the last frame, at first that of the file before."""
 
-    def __init__(self, source, ledger):
-        self.source, self.ledger = source, ledger
-        order, self.parts = MAGICS[source.peek(4)]
+    def __init__(self, source, ledger, number):
+        self.source, self.ledger, self.number = source, ledger, number
+        order, self.parts, self.header_size = MAGICS[source.peek(4)]
         self.highest = 0 if order == ">" else 3
         self.record = struct.Struct(order + "IIII")
         header = source.read(FILE_HEADER)
         if len(header) < FILE_HEADER:
-            raise Refusal(Why.UNKNOWN_FORMAT, f"the file ends at offset {len(header)}, inside of the pcap header")
-        snap, network = struct.unpack(order + "16xII", header)
+            raise Refusal(Why.UNKNOWN_FORMAT, f"{source.name} ends at offset {len(header)}, inside of the pcap header")
+        self.snap, network = struct.unpack(order + "16xII", header)
         self.link = network & 0xFFFF
         # The octets of a frame check sequence that each frame ends with: counted in two octets, where bit 26 is set.
         self.check = 2 * (network >> 28) if network & 1 << 26 else 0
-        self.largest = max(snap, LARGEST)
+        self.largest = max(self.snap, LARGEST)
         self.seconds = None
+        # The octets of the last frame and its length on the line, with its frame check sequence.
+        self.recorded = None
 
     def frames(self):
-        number = 0
+        read, unpack, largest = self.source.read, self.record.unpack_from, self.largest
+        size, nanoseconds = self.header_size, SECOND // self.parts
         while True:
-            start = self.source.offset
-            header = self.source.read(RECORD_HEADER)
-            if len(header) < RECORD_HEADER:
-                self.end_inside(start, header)
+            header = read(size)
+            if len(header) < size:
+                self.end_inside(header)
                 return
-            seconds, _, kept, length = self.record.unpack(header)
-            if kept > self.largest:
+            seconds, part, kept, length = unpack(header)
+            if kept > largest:
                 self.source.unread(header)
-                self.seek(start, f"a record of {kept} octets")
+                self.seek(f"a record of {kept} octets")
                 continue
-            octets = self.source.read(kept)
-            number += 1
+            octets = read(kept)
+            self.number += 1
             if len(octets) < kept:
-                self.ledger.damaged(
-                    Reason.BAD_FILE,
-                    f"offset {start}: frame {number}: the file ends after {len(octets)} of its {kept} octets",
-                )
+                words = f"frame {self.number}: the file ends after {len(octets)} of its {kept} octets"
+                self.damage(self.source.offset - len(octets) - size, words)
             self.seconds = seconds
             length = max(length, kept)
+            self.recorded = octets, length
             if self.check:
                 length -= self.check
                 octets = octets[:length]
-            yield Frame(number, self.link, octets, length, Direction.UNKNOWN)
+            direction = Direction.UNKNOWN
+            if size == MODIFIED_HEADER:
+                direction = KINDS_OF_PACKET.get(header[KIND_AT], direction)
+            yield Frame(self.number, self.link, octets, length, direction, 0, seconds * SECOND + part * nanoseconds)
 
-    def end_inside(self, start, header):
+    def damage(self, start, words):
+        self.ledger.damaged(Reason.BAD_FILE, f"{self.source.place(start)}: {words}")
+
+    def end_inside(self, header):
         if header:
-            words = f"offset {start}: the file ends inside of a record's header, {len(header)} octets are left out"
-            self.ledger.damaged(Reason.BAD_FILE, words)
+            start = self.source.offset - len(header)
+            self.damage(start, f"the file ends inside of a record's header, {len(header)} octets are left out")
 
-    def seek(self, start, what):
+    def seek(self, what):
         """Goes to the next place where records may begin again, and tells how far it was."""
+        start = self.source.offset
         while True:
             window = self.source.peek(WINDOW)
             at = self.next_record(window)
@@ -81,8 +97,7 @@ class Pcap:
             if len(window) < WINDOW:
                 break
         passed = self.source.offset - start
-        words = f"offset {start}: {what} cannot be: {passed} octets are left out, frame numbers go on after them"
-        self.ledger.damaged(Reason.BAD_FILE, words)
+        self.damage(start, f"{what} cannot be: {passed} octets are left out, frame numbers go on after them")
 
     def next_record(self, window):
         """Where in a window two records follow each other, or one that ends with the file."""
@@ -90,7 +105,7 @@ class Pcap:
             kept = self.plausible(window, at)
             if kept is None:
                 continue
-            after = at + RECORD_HEADER + kept
+            after = at + self.header_size + kept
             if after == len(window) < WINDOW or self.plausible(window, after) is not None:
                 return at
         return None
@@ -105,7 +120,7 @@ class Pcap:
 
     def plausible(self, window, at):
         """How many octets the record keeps that may begin here, or None."""
-        if at + RECORD_HEADER > len(window):
+        if at + self.header_size > len(window):
             return None
         seconds, part, kept, length = self.record.unpack_from(window, at)
         if not 0 < kept <= length <= self.largest or part >= self.parts:

@@ -3,7 +3,7 @@ import enum
 import struct
 from dataclasses import dataclass
 
-from .frames import Direction, Frame
+from .frames import SECOND, Direction, Frame
 from .told import Reason, Refusal, Why
 
 MAGIC = b"\x0a\x0d\x0d\x0a"
@@ -11,8 +11,11 @@ ORDERS = {b"\x1a\x2b\x3c\x4d": ">", b"\x4d\x3c\x2b\x1a": "<"}
 SMALLEST = 12
 LARGEST = 1 << 24
 WINDOW = 1 << 20
+# Options of an enhanced block, and of an interface's description.
 FLAGS = 2
+TIME_RESOLUTION = 9
 CHECK_LENGTH = 13
+TIME_OFFSET = 14
 
 
 class Block(enum.IntEnum):
@@ -41,22 +44,39 @@ class Interface:
 
     link: int
     snap: int
-    check: int
+    check: int = 0
+    # How many units of its timestamps a second has, and the seconds to add to them.
+    units: int = 1_000_000
+    offset: int = 0
+
+    def time(self, high, low):
+        """The nanoseconds of a timestamp."""
+        return self.offset * SECOND + (high << 32 | low) * SECOND // self.units
 
 
 class Pcapng:
-    """The blocks of one pcapng file."""
+    """The blocks of one pcapng file; the number is that of the last frame, at first that of the file before."""
 
-    def __init__(self, source, ledger):
-        self.source, self.ledger = source, ledger
+    def __init__(self, source, ledger, number):
+        self.source, self.ledger, self.number = source, ledger, number
         if source.peek(SMALLEST)[8:] not in ORDERS:
-            raise Refusal(Why.UNKNOWN_FORMAT, "the section header at offset 0 has no byte-order magic")
+            raise Refusal(Why.UNKNOWN_FORMAT, f"{source.name}: the section header at offset 0 has no byte-order magic")
         self.order = "<"
         self.interfaces = []
         self.first_interface = 0
-        self.number = 0
 
     def frames(self):
+        for start, kind, octets in self.blocks():
+            frame = self.frame_of(kind, start, self.body(octets))
+            if frame:
+                yield frame
+
+    def body(self, octets):
+        """What is there of a block's body."""
+        return octets[8:min(len(octets), self.word(octets, 4) - 4)]
+
+    def blocks(self):
+        """Each block that can be walked over: its offset, its type and its octets, which may end early."""
         while True:
             start = self.source.offset
             head = self.source.peek(SMALLEST)
@@ -68,20 +88,18 @@ class Pcapng:
             if fault:
                 self.seek(start, fault)
                 continue
-            body = self.source.read(length)
-            if len(body) == length and body[-4:] != body[4:8]:
-                self.damage(start, f"the block's two lengths differ, {length} and {self.word(body, length - 4)}")
-            elif len(body) < length:
-                self.damage(start, f"the file ends after {len(body)} of the block's {length} octets")
-            frame = self.frame_of(kind, start, body[8:min(len(body), length - 4)])
-            if frame:
-                yield frame
+            octets = self.source.read(length)
+            if len(octets) == length and octets[-4:] != octets[4:8]:
+                self.damage(start, f"the block's two lengths differ, {length} and {self.word(octets, length - 4)}")
+            elif len(octets) < length:
+                self.damage(start, f"the file ends after {len(octets)} of the block's {length} octets")
+            yield start, kind, octets
 
     def word(self, octets, at):
         return struct.unpack_from(self.order + "I", octets, at)[0]
 
     def damage(self, start, words):
-        self.ledger.damaged(Reason.BAD_FILE, f"offset {start}: {words}")
+        self.ledger.damaged(Reason.BAD_FILE, f"{self.source.place(start)}: {words}")
 
     def measure(self, head):
         """Type and length of a block; a section's byte order holds from its own header on."""
@@ -143,12 +161,15 @@ class Pcapng:
         return None
 
     def describe(self, body):
-        link, snap = struct.unpack_from(self.order + "H2xI", body)
-        check = 0
+        interface = Interface(*struct.unpack_from(self.order + "H2xI", body))
         for code, value in self.options(body, 8):
             if code == CHECK_LENGTH and value:
-                check = value[0] // 8
-        self.interfaces.append(Interface(link, snap, check))
+                interface.check = value[0] // 8
+            elif code == TIME_RESOLUTION and value:
+                interface.units = (2 if value[0] & 0x80 else 10) ** (value[0] & 0x7F)
+            elif code == TIME_OFFSET and len(value) == 8:
+                interface.offset = struct.unpack(self.order + "q", value)[0]
+        self.interfaces.append(interface)
 
     def options(self, body, at):
         """The options of a block, code and value."""
@@ -161,7 +182,7 @@ class Pcapng:
 
     def framed(self, read, start, body):
         try:
-            which, at, kept, length = read(self, body)
+            which, at, kept, length, stamp = read(self, body)
         except struct.error:
             self.damage(start, f"frame {self.number}: the block is too short for its type")
             return None
@@ -177,7 +198,8 @@ class Pcapng:
             length -= interface.check
             octets = octets[:length]
         direction = self.direction(body, at + kept + -kept % 4)
-        return Frame(self.number, interface.link, octets, length, direction, self.first_interface + which)
+        time = interface.time(*stamp) if stamp else None
+        return Frame(self.number, interface.link, octets, length, direction, self.first_interface + which, time)
 
     def direction(self, body, at):
         for code, value in self.options(body, at):
@@ -186,17 +208,17 @@ class Pcapng:
         return Direction.UNKNOWN
 
     def enhanced(self, body):
-        which, kept, length = struct.unpack_from(self.order + "I8xII", body)
-        return which, 20, kept, length
+        which, high, low, kept, length = struct.unpack_from(self.order + "IIIII", body)
+        return which, 20, kept, length, (high, low)
 
     def obsolete(self, body):
-        which, kept, length = struct.unpack_from(self.order + "H10xII", body)
-        return which, 20, kept, length
+        which, high, low, kept, length = struct.unpack_from(self.order + "H2xIIII", body)
+        return which, 20, kept, length, (high, low)
 
     def simple(self, body):
         length = self.word(body, 0)
         snap = self.interfaces[0].snap if self.interfaces else 0
-        return 0, 4, min(length, snap or length), length
+        return 0, 4, min(length, snap or length), length, None
 
 
 READERS = {Block.ENHANCED: Pcapng.enhanced, Block.PACKET: Pcapng.obsolete, Block.SIMPLE: Pcapng.simple}

@@ -7,7 +7,7 @@ from .internet import Internet
 from .lapb import Lapb, SideBy, unframe
 from .links import KINDS, LINKS, Carried
 from .packets import Packet, Side
-from .told import Reason
+from .told import Reason, Topic
 from .xot import Xot
 
 XOT_PORT = 1998
@@ -19,6 +19,8 @@ class Carrier(enum.Enum):
     XOT = "xot"
     LAPB = "lapb"
     X25 = "x25"
+
+    __hash__ = object.__hash__
 
 
 CARRIERS = {
@@ -61,48 +63,48 @@ class Reading:
 
     def packets(self, frames):
         """Pairs of a carrier and a packet."""
-        take = {
-            Carrier.XOT: self.from_internet,
-            Carrier.LAPB: self.from_link,
-            Carrier.X25: self.from_packet,
-        }
-        wanted, only = self.choices.interfaces, self.choices.only
+        wanted, only, openers = self.choices.interfaces, self.choices.only, self.openers
         for frame in frames:
             self.frames += 1
             if wanted and frame.interface not in wanted:
                 self.ledger.left_out(Reason.OTHER_INTERFACE)
                 continue
-            carried, at = self.opened(frame)
+            opener = openers.get(frame.link, self.other) or self.unknown
+            carried, at = opener(frame)
             carrier = CARRIERS.get(carried)
             if carrier is None:
                 self.not_carried(frame, carried)
             elif only is not None and carrier is not only:
                 self.ledger.left_out(Reason.OTHER_CARRIER)
             else:
-                for packet in take[carrier](frame, carried, at):
+                for packet in self.carried_by(carrier, frame, carried, at):
                     yield carrier, packet
-        self.internet.fragments.end()
-        self.xot.end()
+        self.internet.end()
+        for packet in self.xot.end():
+            yield Carrier.XOT, packet
         self.lapb.end()
 
-    def opened(self, frame):
-        opener = self.openers.get(frame.link, self.other)
-        if opener is None:
-            if frame.link not in self.unknown_links:
-                self.unknown_links.add(frame.link)
-                self.ledger.tell(f"frame {frame.number}: link type {frame.link} is not known; --as {frame.link}=KIND")
-            return Carried.UNKNOWN, 0
-        return opener(frame)
+    def carried_by(self, carrier, frame, carried, at):
+        """The packets that a frame completes."""
+        if carrier is Carrier.XOT:
+            segment = self.internet.segment(frame, at)
+            return self.xot.take(segment) if segment else ()
+        return self.from_link(frame, carried, at) if carrier is Carrier.LAPB else self.from_packet(frame, carried, at)
+
+    def unknown(self, frame):
+        """What a frame of an unknown link type holds."""
+        if frame.link not in self.unknown_links:
+            self.unknown_links.add(frame.link)
+            option = f"--as {frame.link}=KIND" if isinstance(frame.link, int) else "--as KIND"
+            words = f"frame {frame.number}: link type {frame.link} is not known; {option}"
+            self.ledger.tell(Topic.UNKNOWN_LINK, words)
+        return Carried.UNKNOWN, 0
 
     def not_carried(self, frame, carried):
         if carried is Carried.BROKEN:
             self.ledger.damaged(Reason.BAD_HEADER, f"frame {frame.number}: its link header is cut")
         else:
             self.ledger.left_out(Reason.UNKNOWN_LINK if carried is Carried.UNKNOWN else Reason.OTHER_PROTOCOL)
-
-    def from_internet(self, frame, _, at):
-        segment = self.internet.segment(frame, at)
-        return self.xot.take(segment) if segment else ()
 
     def from_link(self, frame, carried, at):
         octets, cut = frame.octets[at:], len(frame.octets) < frame.length
@@ -119,15 +121,16 @@ class Reading:
         if carried is Carried.DEVICE and len(octets) > at and octets[at] < 4:
             if octets[at]:
                 self.ledger.left_out(Reason.DEVICE_WORD)
-                return
+                return ()
             at += 1
         side = self.side(frame)
         if side is None:
             self.ledger.left_out(Reason.NO_SIDE)
-        elif len(octets) < frame.length:
+            return ()
+        if len(octets) < frame.length:
             self.ledger.damaged(Reason.CUT_PACKET, f"frame {frame.number}: a packet that was cut off")
-        else:
-            yield Packet(frame.number, side, octets[at:])
+            return ()
+        return (Packet(frame.number, side, octets[at:], None, frame.time),)
 
     def side(self, frame):
         """The host that recorded is the DTE; or the interface tells who sends on it."""

@@ -1,47 +1,95 @@
 """The octets of a file or a pipe, with the offset of what comes next; what was looked at is read again."""
 
+CHUNK = 1 << 18
+LONGEST_LINE = 1 << 20
+
+
+class Interrupted(Exception):
+    """The reading is to end here."""
+
+
+def nothing():
+    """What is done before waiting, unless something else is asked for."""
+
+
+class Waiting:
+    """Where octets are waited for: what is done before, and how SIGINT ends it: at once, else before more are read."""
+
+    def __init__(self):
+        self.before = nothing
+        self.interrupted = self.inside = False
+
+    def interrupt(self, _number, _frame):
+        """The handler of the signal; a second one ends the program."""
+        if self.interrupted:
+            raise KeyboardInterrupt
+        self.interrupted = True
+        if self.inside:
+            raise Interrupted
+
+    def octets(self, stream):
+        """The octets that come next, as soon as there are any; none at the end."""
+        self.before()
+        self.inside = True
+        try:
+            if self.interrupted:
+                raise Interrupted
+            return stream.read1(CHUNK)
+        finally:
+            self.inside = False
+
 
 class Source:
-    """A stream, and what was looked at: ahead has the octets, of which those before at were read."""
+    """A stream, and what was taken from it: ahead has the octets, of which those before at were read."""
 
-    def __init__(self, stream):
-        self.stream = stream
-        self.offset = 0
+    def __init__(self, stream, waiting, name, several):
+        self.stream, self.waiting, self.name, self.several = stream, waiting, name, several
+        # The octets that came and are not dropped yet, where they begin in the file, and how many of them were read.
         self.ahead = b""
-        self.at = 0
+        self.begun = self.at = 0
+
+    @property
+    def offset(self):
+        """Where in the file the next octet is."""
+        return self.begun + self.at
+
+    def place(self, offset):
+        """The words for an offset, with the name of the file where there are several."""
+        return f"{self.name}, offset {offset}" if self.several else f"offset {offset}"
+
+    def fill(self, many):
+        """Takes octets from the stream until so many are ahead, or it ends."""
+        parts = [self.ahead[self.at:]]
+        there = len(parts[0])
+        while there < many and (more := self.waiting.octets(self.stream)):
+            parts.append(more)
+            there += len(more)
+        self.begun += self.at
+        self.ahead, self.at = b"".join(parts), 0
 
     def read(self, many):
         """The next octets; fewer where the file ends."""
-        if not self.ahead:
-            octets = self.stream.read(many)
-            self.offset += len(octets)
-            return octets
+        if len(self.ahead) - self.at < many:
+            self.fill(many)
         octets = self.ahead[self.at:self.at + many]
         self.at += len(octets)
-        if self.at == len(self.ahead):
-            self.ahead, self.at = b"", 0
-        if len(octets) < many:
-            octets += self.stream.read(many - len(octets))
-        self.offset += len(octets)
         return octets
 
     def unread(self, octets):
         """Puts back what was read last."""
-        self.ahead, self.at = octets + self.ahead[self.at:], 0
-        self.offset -= len(octets)
+        self.at -= len(octets)
 
     def peek(self, many):
         """What read would give, without reading it."""
         if len(self.ahead) - self.at < many:
-            rest = self.ahead[self.at:]
-            self.ahead, self.at = rest + self.stream.read(many - len(rest)), 0
+            self.fill(many)
         return self.ahead[self.at:self.at + many]
 
     def skip(self, many):
         """Reads over octets, in pieces; returns how many there were."""
         skipped = 0
         while skipped < many:
-            octets = self.read(min(many - skipped, 1 << 16))
+            octets = self.read(min(many - skipped, CHUNK))
             if not octets:
                 break
             skipped += len(octets)
@@ -49,15 +97,19 @@ class Source:
 
     def lines(self):
         """The lines of the rest, without their ends, each with its offset."""
-        rest = self.ahead[self.at:]
-        self.ahead, self.at = b"", 0
+        while rest := self.read(self.line_length()):
+            at = self.offset - len(rest)
+            for line in rest.splitlines(keepends=True):
+                yield at, line.rstrip(b"\r\n")
+                at += len(line)
+
+    def line_length(self):
+        """How many octets there are up to the next line feed, or to the end; a line without one is cut."""
+        seen = 0
         while True:
-            more = self.stream.readline()
-            rest += more
-            if not rest:
-                return
-            if b"\n" in rest or not more:
-                for line in rest.splitlines(keepends=True):
-                    yield self.offset, line.rstrip(b"\r\n")
-                    self.offset += len(line)
-                rest = b""
+            end = self.ahead.find(b"\n", self.at + seen) + 1
+            if end:
+                return end - self.at
+            seen = len(self.ahead) - self.at
+            if seen >= LONGEST_LINE or len(self.peek(seen + 1)) == seen:
+                return seen

@@ -1,5 +1,7 @@
-"""The rows and comments of a trace on their way: its header is known only after the last packet."""
+"""The rows and comments of a trace: how they are written, and where they wait for a header that is not known yet."""
 import tempfile
+
+from .frames import SECOND
 
 LAST_NUMBER = 999_999_999
 LONGEST_COMMENT = 8_000
@@ -10,23 +12,61 @@ def comment(words):
     return "# " + "".join(letter if " " <= letter <= "~" else "?" for letter in words[:LONGEST_COMMENT]) + "\n"
 
 
+def time_line(time):
+    """The comment with the time of a row, in seconds with as many decimals as they need."""
+    seconds, part = divmod(abs(time), SECOND)
+    decimals = f".{part:09}".rstrip("0") if part else ""
+    return f"#@ {'-' if time < 0 else ''}{seconds}{decimals}\n"
+
+
+class Rows:
+    """Numbers rows: by their frames, or on from the row before where that number was had, or where frames are too many."""
+
+    def __init__(self, by_frames=True):
+        self.by_frames = by_frames
+        self.number = 0
+
+    def row(self, frame, words, time):
+        """The line of a row, after comments with its time and with the frame that its number does not say.
+
+        The words are those after the number.
+        """
+        self.number = number = frame if self.by_frames and frame > self.number else self.number + 1
+        line = f"{number} {words}"
+        if time is not None:
+            line = time_line(time) + line
+        return line if number == frame else f"# {number} is of frame {frame}\n{line}"
+
+
 class Spool:
     """A temporary file with a line for each row and comment; memory does not grow with it."""
 
-    def __init__(self, last_number=LAST_NUMBER):
+    MOST_LINES = 1000
+
+    def __init__(self, times=False, last_number=LAST_NUMBER):
         self.file = tempfile.TemporaryFile("w+", encoding="ascii", newline="\n", buffering=1 << 16)
+        self.lines = []
         self.rows = 0
-        self.last_number = last_number
+        self.times, self.last_number = times, last_number
         self.number = 0
 
     def tell(self, words):
-        self.file.write(comment(words))
+        self.lines.append(comment(words))
 
     def add(self, packet, circuit):
-        """Keeps a row; the circuit is 0 for a packet of a line."""
+        """Keeps a row: its circuit, 0 on a line, perhaps its time, its frame, and what stands behind its number."""
         self.rows += 1
-        self.number = max(self.number + 1, packet.frame)
-        self.file.write(f"{packet.frame} {packet.side.value} {circuit} {packet.octets.hex().upper() or '-'}\n")
+        frame, lines = packet.frame, self.lines
+        self.number = frame if frame > self.number else self.number + 1
+        if self.times and packet.time is not None:
+            circuit = f"{circuit}@{packet.time}"
+        lines.append(f"{circuit} {frame} {packet.side.letter} {packet.octets.hex().upper() or '-'}\n")
+        if len(lines) > self.MOST_LINES:
+            self.write()
+
+    def write(self):
+        self.file.write("".join(self.lines))
+        self.lines.clear()
 
     @property
     def by_frames(self):
@@ -35,13 +75,15 @@ class Spool:
 
     def replay(self, circuits):
         """The lines of the trace behind its header."""
+        self.write()
         self.file.seek(0)
-        number, by_frames = 0, self.by_frames
+        row = Rows(self.by_frames).row
         for line in self.file:
             if line[0] == "#":
                 yield line
                 continue
-            frame, side, which, octets = line.split(" ")
+            key, frame, words = line.split(" ", 2)
+            which, _, time = key.partition("@")
             if which != "0":
                 circuit = circuits[int(which) - 1]
                 if circuit.channel is None:
@@ -49,16 +91,13 @@ class Spool:
                 if not circuit.shown:
                     circuit.shown = True
                     yield comment(circuit.shown_words())
-                octets = on_channel(octets, circuit.channel)
-            number = max(number + 1, int(frame)) if by_frames else number + 1
-            if number != int(frame):
-                yield f"# {number} is of frame {frame}\n"
-            yield f"{number} {side} {octets}"
+                words = on_channel(words, circuit.channel)
+            yield row(int(frame), words, int(time) if time else None)
 
     def close(self):
         self.file.close()
 
 
-def on_channel(octets, channel):
-    """The hex digits of a packet with another logical channel; the general format identifier stays."""
-    return f"{octets[0]}{channel:03X}{octets[4:]}" if len(octets) > 4 else octets
+def on_channel(words, channel):
+    """The side and the octets of a row with another logical channel; the general format identifier stays."""
+    return f"{words[:3]}{channel:03X}{words[6:]}" if len(words) > 6 else words

@@ -1,4 +1,4 @@
-"""TCP connections: the octets of both directions in order, each once, or a gap that ends what can be read.
+"""TCP connections: the octets of both directions in order, each once, and the gaps between them.
 
 What moves, in one direction of a connection:
 
@@ -6,19 +6,29 @@ What moves, in one direction of a connection:
     ....................|   missing |#####|   |###|
 
 A segment waits while octets before it are missing, and also while it acknowledges octets of the other direction that
-were not delivered yet: its sender had them, so what it sends may answer them.
+were not delivered yet: its sender had them, so what it sends may answer them. Missing octets are given up once the
+other side has acknowledged them and more segments wait than a recorder puts out of order.
 """
 import bisect
 from dataclasses import dataclass
 
+from .internet import FIN, RST, SYN
 from .told import Reason
 
 CIRCLE = 1 << 32
 HALF = 1 << 31
+# Flags of segments that begin or end a direction.
+ENDS = SYN | FIN | RST
 # What may wait: octets, with a segment's own cost, of one connection and of all.
 SEGMENT_COST = 512
 MOST_OF_ONE = 1 << 20
 MOST_OF_ALL = 1 << 26
+# How many segments wait for octets that were acknowledged, and for those of which nothing tells, where only one
+# direction was recorded.
+PATIENCE = 8
+PATIENCE_ONE_WAY = 64
+# An acknowledgement further ahead than this is a damage.
+FARTHEST = 1 << 24
 
 
 def ahead(number, other):
@@ -33,10 +43,11 @@ class Chunk:
     index: int
     frame: int
     octets: bytes
+    time: int | None
 
 
 @dataclass(slots=True)
-class Loss:
+class Gap:
     """Octets of one direction that are not there, and the frame where that showed."""
 
     index: int
@@ -46,12 +57,12 @@ class Loss:
 
 
 class Stream:
-    """One direction: the next sequence number, the segments that wait, and whether its end was delivered."""
+    """One direction: the next sequence number, what was acknowledged of it, and the segments that wait."""
 
-    __slots__ = ("first", "next", "held", "ended")
+    __slots__ = ("first", "next", "acknowledged", "held", "ended")
 
     def __init__(self):
-        self.first = self.next = None
+        self.first = self.next = self.acknowledged = None
         self.held = []
         self.ended = False
 
@@ -75,7 +86,6 @@ class Connection:
         self.streams = (Stream(), Stream())
         self.cost = 0
         self.leaving = [False, False]
-        self.lost = None
         self.over = False
 
     def begin(self, index, segment):
@@ -86,33 +96,52 @@ class Connection:
             stream.next = (segment.sequence + 1) % CIRCLE
         if segment.acknowledged is not None and self.streams[1 - index].next is None:
             self.streams[1 - index].next = segment.acknowledged
+        segment.sequence = (segment.sequence + 1) % CIRCLE
+
+    def takes(self, index, segment):
+        """Takes a segment that simply follows, as most do: nothing waits, and its octets come next; else it is fed."""
+        stream, acknowledged = self.streams[index], segment.acknowledged
+        if (
+            segment.sequence != stream.next
+            or self.cost
+            or segment.flags & ENDS
+            or segment.missing
+            or not segment.payload
+            or acknowledged is None
+            or not self.answers(index, segment)
+        ):
+            return False
+        self.streams[1 - index].acknowledged = acknowledged
+        stream.next = (stream.next + len(segment.payload)) % CIRCLE
+        return True
 
     def feed(self, index, segment):
-        """The chunks that a segment completes, in order."""
-        stream = self.streams[index]
-        if segment.syn:
+        """The chunks and gaps that a segment completes, in order."""
+        stream, events, payload = self.streams[index], [], segment.payload
+        if segment.flags & SYN:
             self.begin(index, segment)
-            segment.sequence = (segment.sequence + 1) % CIRCLE
-        self.leaving[index] |= segment.fin
-        chunks = []
-        if not (segment.payload or segment.missing or segment.fin):
+        if segment.acknowledged is not None:
+            self.streams[1 - index].acknowledged = segment.acknowledged
+        fin = segment.flags & FIN
+        if fin:
+            self.leaving[index] = True
+        elif not payload and not segment.missing:
             self.ledger.left_out(Reason.NO_OCTETS)
-            if all(self.leaving):
-                # Both ends had all when they said their last word: what still waits was not recorded.
-                self.lose()
-            return chunks
+            if self.cost:
+                self.judge(events)
+            return events
         if stream.next is None:
             stream.next = segment.sequence
-        if self.cost == 0 and segment.sequence == stream.next and self.answers(index, segment):
-            self.deliver(index, segment, chunks)
-        elif ahead(segment.sequence + len(segment.payload) + segment.missing + segment.fin, stream.next) <= 0:
+        if not self.cost and segment.sequence == stream.next and self.answers(index, segment):
+            self.deliver(index, segment, events)
+        elif ahead(segment.sequence + len(payload) + segment.missing + fin, stream.next) <= 0:
             self.ledger.left_out(Reason.REPEATED_OCTETS)
         else:
             self.keep(stream, segment)
-            self.pump(chunks)
-            if self.cost > MOST_OF_ONE or self.budget.used > MOST_OF_ALL:
-                self.lose()
-        return chunks
+            self.pump(events)
+            if self.cost:
+                self.judge(events)
+        return events
 
     def keep(self, stream, segment):
         stream.hold(segment)
@@ -130,9 +159,12 @@ class Connection:
     def answers(self, index, segment):
         """Whether all that a segment acknowledges was delivered."""
         other = self.streams[1 - index].next
-        return other is None or segment.acknowledged is None or ahead(segment.acknowledged, other) <= 0
+        if other is None or segment.acknowledged is None:
+            return True
+        beyond = (segment.acknowledged - other) % CIRCLE
+        return beyond == 0 or beyond > FARTHEST
 
-    def pump(self, chunks):
+    def pump(self, events):
         """Delivers what waits no longer, the lower frame first."""
         while True:
             ready = []
@@ -143,50 +175,89 @@ class Connection:
             if not ready:
                 return
             _, index = min(ready)
-            self.deliver(index, self.take_back(self.streams[index]), chunks)
+            self.deliver(index, self.take_back(self.streams[index]), events)
 
-    def deliver(self, index, segment, chunks):
+    def deliver(self, index, segment, events):
         """Adds the octets of a segment that were not delivered before, and takes its end."""
-        stream = self.streams[index]
+        stream, payload = self.streams[index], segment.payload
         old = ahead(stream.next, segment.sequence)
-        new = segment.payload[old:] if old else segment.payload
-        past = len(segment.payload) + segment.missing
-        if new:
-            stream.next = (stream.next + len(new)) % CIRCLE
-            chunks.append(Chunk(index, segment.frame, new))
-        elif old and past + segment.fin <= old:
+        past, fin = len(payload) + segment.missing, segment.flags & FIN
+        if old and past + fin <= old:
             self.ledger.left_out(Reason.REPEATED_OCTETS)
             return
-        if segment.missing and past > max(old, len(segment.payload)):
-            missing = past - max(old, len(segment.payload))
-            self.gap(Loss(index, segment.frame, missing, "were cut off"))
-        elif segment.fin and not stream.ended:
+        if len(payload) > old:
+            events.append(Chunk(index, segment.frame, payload[old:], segment.time))
+        if past > old:
+            stream.next = (segment.sequence + past) % CIRCLE
+        if segment.missing and past > old:
+            events.append(Gap(index, segment.frame, past - max(old, len(payload)), "were cut off"))
+        if fin and not stream.ended:
             stream.next = (stream.next + 1) % CIRCLE
             stream.ended = True
             self.over = self.streams[1 - index].ended
 
-    def gap(self, loss):
-        """Nothing of the connection is delivered any more."""
-        self.lost = loss
-        self.ledger.left_out(Reason.GAP)
-        self.give_up()
-
     def give_up(self):
         """Counts what waits as left out."""
         for stream in self.streams:
-            self.ledger.left_out(Reason.AFTER_GAP, len(stream.held))
+            self.ledger.left_out(Reason.AFTER_BREAK, len(stream.held))
             stream.held.clear()
         self.budget.used -= self.cost
         self.cost = 0
 
-    def lose(self):
-        """Gives up what is missing: the first octets that something waits for."""
-        waiting = [(head.frame, index, head) for index, stream in enumerate(self.streams) for head in stream.held[:1]]
-        if not waiting:
-            return
-        _, index, head = min(waiting)
-        missing = ahead(head.sequence, self.streams[index].next)
-        if missing <= 0:
-            index = 1 - index
-            missing = ahead(head.acknowledged, self.streams[index].next)
-        self.gap(Loss(index, head.frame, missing, "before it were not recorded"))
+    def judge(self, events):
+        """Gives up octets that will not come, as long as something waits for them."""
+        # Both ends had all when they said their last word.
+        ended = all(self.leaving) and self.acknowledged_all()
+        while self.cost and (ended or self.is_overdue()):
+            self.lose(events)
+
+    def acknowledged_all(self):
+        """Whether the last octet that waits was acknowledged, in both directions."""
+        return all(
+            not stream.held
+            or stream.acknowledged is not None
+            and ahead(stream.held[-1].sequence + len(stream.held[-1].payload), stream.acknowledged) <= 0
+            for stream in self.streams
+        )
+
+    def is_overdue(self):
+        """Whether more waits than may, or for octets that are surely in no later segment."""
+        if self.cost > MOST_OF_ONE or self.budget.used > MOST_OF_ALL:
+            return True
+        many = sum(len(stream.held) for stream in self.streams)
+        index, _, _ = self.missing()
+        stream = self.streams[index]
+        if stream.acknowledged is None:
+            return many > PATIENCE_ONE_WAY
+        return many > PATIENCE and ahead(stream.acknowledged, stream.next) > 0
+
+    def missing(self):
+        """The first octets that something waits for: their direction, how many they are, and the frame that waits."""
+        _, index = min((stream.held[0].frame, index) for index, stream in enumerate(self.streams) if stream.held)
+        head, other = self.streams[index].held[0], self.streams[1 - index]
+        many = ahead(head.sequence, self.streams[index].next)
+        if many > 0:
+            return index, many, head.frame
+        many = ahead(head.acknowledged, other.next)
+        if other.held:
+            many = min(many, ahead(other.held[0].sequence, other.next))
+        return 1 - index, many, head.frame
+
+    def lose(self, events):
+        """Gives up the first octets that something waits for."""
+        index, many, frame = self.missing()
+        stream = self.streams[index]
+        if many > 0:
+            events.append(Gap(index, frame, many, "before it were not recorded"))
+            stream.next = (stream.next + many) % CIRCLE
+        else:
+            # Each direction acknowledges what comes next in the other one.
+            self.deliver(index, self.take_back(stream), events)
+        self.pump(events)
+
+    def flush(self):
+        """What still waits, with its gaps: no more segments come."""
+        events = []
+        while self.cost:
+            self.lose(events)
+        return events

@@ -23,7 +23,7 @@ class Refusal(Exception):
 
     def __init__(self, why, words):
         super().__init__(f"{why.value}: {words}")
-        self.why = why
+        self.why, self.words = why, words
 
 
 class Reason(enum.Enum):
@@ -51,9 +51,11 @@ class Reason(enum.Enum):
     NO_SIDE = ("packets whose side nothing tells, which --sender may", True)
     FRAGMENT = ("IP fragments without the rest of their datagram", True)
     GAP = ("gaps in TCP connections", True)
-    AFTER_GAP = ("TCP segments after a gap, a break or the end of their connection", True)
+    LOST_OCTETS = ("octets in these gaps", True)
+    PASSED_OCTETS = ("octets that were passed over, up to a segment that begins with an XOT header", True)
+    UNSYNCHRONISED = ("TCP segments that were passed over for that", True)
+    AFTER_BREAK = ("TCP segments after a break or the end of their connection", True)
     NOT_XOT = ("TCP connections that do not speak XOT", True)
-    UNSYNCHRONISED = ("TCP segments before the first XOT header of a connection", True)
     CUT_XOT = ("XOT packets whose connection ended inside of them", True)
     LINE_PACKET = ("XOT packets that speak of a whole interface", True)
     BAD_FCS = ("frames whose frame check sequence is wrong", True)
@@ -61,33 +63,67 @@ class Reason(enum.Enum):
     LOST_FRAME = ("LAPB I frames that were not recorded", True)
     LONG_PACKET = ("packets of more than 4,200 octets", True)
     LARGE_TEXT = ("traces of more bytes than x25scan reads", True)
+    SECOND_CARRIER = ("packets of another carrier than the first one, which --only may name", True)
+    LATE_ROW = ("packets for which no row number was left", True)
     NO_CHANNEL = ("packets of circuits for which no channel was left", True)
+
+    __hash__ = object.__hash__
 
     def __init__(self, words, damage):
         self.words = words
         self.damage = damage
 
 
-class Ledger:
-    """Counts what is left out, and hands each damage to those who tell it."""
+class Topic(enum.Enum):
+    """What is told without being a damage of its own."""
 
-    def __init__(self):
+    INTERRUPTED = "the end of the reading by a signal"
+    UNKNOWN_LINK = "link types that are not known"
+    LINK_FRAME = "frames that set up or end a LAPB link"
+    DIRECTION = "contradictions of direction and address"
+    CONNECTION = "connections that end with their call"
+    CHANNEL = "logical channels that change inside of a connection"
+    PVC_SETUP = "set-ups of permanent circuits"
+    PORT = "ports that look like XOT"
+
+
+def nobody(_words):
+    """Hears nothing."""
+
+
+class Ledger:
+    """Counts what is left out and tells what is wrong: the trace keeps all of it, standard error the first few."""
+
+    # Messages of one topic on standard error: a capture that is read as the wrong kind has one for each frame.
+    MOST_SAID = 5
+
+    def __init__(self, say=nobody):
         self.counts = Counter()
-        self.listeners = []
+        self.told = Counter()
+        self.say = say
+        self.keep = nobody
 
     def left_out(self, reason, many=1):
         if many:
             self.counts[reason] += many
 
-    def tell(self, words):
-        """Tells something that is no damage of its own."""
-        for listener in self.listeners:
-            listener(words)
+    def note(self, words):
+        """Explains something in the trace alone."""
+        self.keep(words)
+
+    def tell(self, topic, words):
+        """Tells something of a topic."""
+        self.keep(words)
+        self.told[topic] += 1
+        if self.told[topic] <= self.MOST_SAID:
+            self.say(words)
+        elif self.told[topic] == self.MOST_SAID + 1:
+            self.say("more messages like the last one follow; they are comments of the trace only")
 
     def damaged(self, reason, words, many=1):
         """Counts a damage and tells it."""
         self.counts[reason] += many
-        self.tell(words)
+        self.tell(reason, words)
 
     @property
     def whole(self):
@@ -95,5 +131,8 @@ class Ledger:
         return not any(reason.damage for reason in self.counts)
 
     def lines(self):
-        """The counts, a line each, in the order of the reasons."""
-        return [f"left out: {reason.words}: {self.counts[reason]}" for reason in Reason if self.counts[reason]]
+        """The counts, a line each, in the order of the reasons, and what gaps mean."""
+        lines = [f"left out: {reason.words}: {self.counts[reason]}" for reason in Reason if self.counts[reason]]
+        if self.counts[Reason.GAP] or self.counts[Reason.LOST_FRAME]:
+            lines.append("the trace has gaps: findings after one may come from packets that were not recorded")
+        return lines

@@ -2,7 +2,7 @@
 from collections import Counter
 
 from .channels import assign
-from .estimate import LAST_CHANNEL, Estimator, estimates, header_of
+from .estimate import LAST_CHANNEL, Estimator, estimates, header_of, hidden
 from .packets import LONGEST, channel_of
 from .reading import Carrier
 from .spool import Spool, comment
@@ -14,35 +14,37 @@ LARGEST_TEXT = 1 << 30
 class Trace:
     """What is gathered of a capture until its trace can be written."""
 
-    def __init__(self, ledger, reading, wishes):
+    def __init__(self, ledger, reading, wishes, times):
         self.ledger, self.reading, self.wishes = ledger, reading, wishes
-        self.spool = Spool()
+        self.spool = Spool(times)
         self.estimator = Estimator()
         reading.xot.on_end = self.estimator.forget
         self.carriers = Counter()
-        ledger.listeners.append(self.spool.tell)
+        ledger.keep = self.spool.tell
 
     def gather(self, frames):
         """Takes all packets of the frames."""
-        estimator, spool = self.estimator, self.spool
+        see, add, carriers = self.estimator.see, self.spool.add, self.carriers
         for carrier, packet in self.reading.packets(frames):
             octets, circuit = packet.octets, packet.circuit
             if len(octets) > LONGEST:
                 words = f"frame {packet.frame}: a packet of {len(octets)} octets"
                 self.ledger.damaged(Reason.LONG_PACKET, words)
                 continue
-            self.carriers[carrier] += 1
+            carriers[carrier] += 1
             if circuit is None:
                 key = channel_of(octets) if len(octets) >= 2 else 0
-                estimator.see(key, False, packet.side, octets, True)
-                spool.add(packet, 0)
-            else:
-                estimator.see(circuit.number, circuit.from_opening, packet.side, octets, False)
-                spool.add(packet, circuit.number)
-                circuit.rows += 1
-                circuit.last_row = spool.rows
-                if circuit.rows == 1:
-                    circuit.first_row = spool.rows
+                see(key, False, packet.side, octets, True)
+                add(packet, 0)
+                continue
+            if packet.misses:
+                self.estimator.miss(circuit.number)
+            see(circuit.number, circuit.from_opening, packet.side, octets, False)
+            add(packet, circuit.number)
+            circuit.rows += 1
+            circuit.last_row = self.spool.rows
+            if circuit.rows == 1:
+                circuit.first_row = circuit.last_row
 
     def header(self):
         """The header; XOT circuits get their channels by it."""
@@ -71,6 +73,10 @@ class Trace:
         guesses = estimates(self.wishes, header, self.estimator)
         if guesses:
             yield comment("estimated from what was seen: " + ", ".join(guesses))
+        words = hidden(self.wishes, header, self.estimator)
+        if words:
+            self.ledger.say(words)
+            yield comment(words)
         yield from map(comment, self.doubts(header))
         yield header.line() + "\n"
         yield from self.spool.replay(self.reading.xot.circuits)

@@ -1,16 +1,18 @@
 """XOT: packets of X.25 in TCP connections, one connection a circuit."""
+import heapq
 import struct
 from collections import deque
 from dataclasses import dataclass, field
 
-from .internet import port_of
-from .packets import LONGEST, Packet, Side, Type, address_text, channel_of
-from .tcp import Budget, Connection, ahead
-from .told import Reason
+from .internet import RST, SYN, port_of
+from .packets import LONGEST, Packet, Side, Type, address_text, channel_of, modulus_of
+from .tcp import Budget, Chunk, Connection, ahead
+from .told import Reason, Topic
 
 HEAD = struct.Struct(">HH")
 PVC_SETUP = 0xF5
 MOST_OVER = 1000
+NOTHING = (None, 0, None)
 LINE_TYPES = frozenset((Type.RESTART, Type.RESTART_CONFIRM, Type.DIAGNOSTIC, Type.REGISTRATION, Type.REGISTERED))
 CALL_TYPES = frozenset((Type.CALL, Type.CLEAR, Type.CLEAR_CONFIRM))
 
@@ -25,6 +27,7 @@ class Circuit:
     frame: int
     from_opening: bool
     permanent: bool = False
+    modulus: int | None = None
     line_channel: int | None = None
     last_line_channel: int | None = None
     caller: Side | None = None
@@ -40,6 +43,9 @@ class Circuit:
     shown: bool = False
     rests: list = field(default_factory=lambda: [b"", b""])
     synchronised: list = field(default_factory=lambda: [True, True])
+    has_gaps: bool = False
+    # Whether a gap comes before the next packet.
+    misses: bool = False
     broken: bool = False
     ended: bool = False
 
@@ -82,11 +88,24 @@ class Circuit:
             self.confirmed = True
 
 
-def looks_like_xot(octets):
-    """Whether a recording that begins in the middle may begin here with a packet."""
-    if len(octets) < 7 or octets[:2] != b"\0\0":
+def begins(octets, circuit):
+    """Whether a segment begins with an XOT header and a packet of a circuit; None where more octets are needed."""
+    if not b"\0\0".startswith(octets[:2]):
         return False
-    return 3 <= HEAD.unpack_from(octets)[1] <= LONGEST and octets[4] & 0x30 in (0x10, 0x20)
+    if len(octets) < HEAD.size + 3:
+        return None
+    packet = octets[HEAD.size:]
+    if modulus_of(packet) is None or circuit.modulus not in (None, modulus_of(packet)):
+        return False
+    if circuit.line_channel is not None and channel_of(packet) not in (circuit.line_channel, circuit.last_line_channel):
+        return False
+    at = 0
+    while len(octets) - at >= HEAD.size:
+        version, length = HEAD.unpack_from(octets, at)
+        if version or not 3 <= length <= LONGEST:
+            return False
+        at += HEAD.size + length
+    return True
 
 
 class Xot:
@@ -100,24 +119,33 @@ class Xot:
         self.table = {}
         # Connections that are over stay in the table for a while: their last segments may be repeated.
         self.over = deque()
+        # The circuits of connections that ended with the last segment, and who hears of them with the next one: by
+        # then their packets were taken.
+        self.ending = []
         self.on_end = None
 
     def take(self, segment):
-        """The packets that a segment completes."""
+        """The packets that a segment completes; they are to be taken before the next segment."""
+        while self.ending:
+            self.on_end(self.ending.pop())
         if self.dte is not None and self.dte not in (segment.source[:-2], segment.target[:-2]):
             self.ledger.left_out(Reason.OTHER_HOST)
-            return
-        connection, index, circuit = self.table.get((segment.source, segment.target), (None, 0, None))
-        if segment.syn and not (connection and self.goes_on(connection, index, segment)):
-            if connection:
-                self.finish(connection, circuit, segment.frame)
-            connection, index, circuit = self.open(segment, True)
-        elif connection is None:
-            if segment.reset or not segment.payload and not segment.missing:
+            return ()
+        connection, index, circuit = self.table.get((segment.source, segment.target), NOTHING)
+        if segment.flags & SYN and not (connection and self.goes_on(connection, index, segment)):
+            return self.begin(connection, circuit, segment)
+        if connection is None:
+            if segment.flags & RST or not segment.payload and not segment.missing:
                 self.ledger.left_out(Reason.NO_OCTETS)
-                return
+                return ()
             connection, index, circuit = self.open(segment, False)
-        yield from self.feed(connection, index, circuit, segment)
+        return self.feed(connection, index, circuit, segment)
+
+    def begin(self, connection, circuit, segment):
+        """A new connection, after what waits in the one before it on the same ports."""
+        if connection:
+            yield from self.finish(connection, circuit, segment.frame)
+        yield from self.feed(*self.open(segment, True), segment)
 
     def goes_on(self, connection, index, segment):
         """Whether an opening segment belongs to a connection that is there: its second one, or one repeated."""
@@ -150,15 +178,29 @@ class Xot:
     def feed(self, connection, index, circuit, segment):
         if circuit.ended or circuit.broken:
             self.pass_over(connection, index, segment)
+            events = ()
+        elif connection.takes(index, segment):
+            return self.packets(circuit, Chunk(index, segment.frame, segment.payload, segment.time))
         else:
-            for chunk in connection.feed(index, segment):
-                if not circuit.broken:
-                    yield from self.packets(circuit, chunk)
-            self.tell_loss(connection, circuit)
+            events = connection.feed(index, segment)
+        if segment.flags & RST or connection.over:
+            return self.read_to_the_end(connection, circuit, events, segment.frame)
+        return self.read(connection, circuit, events)
+
+    def read(self, connection, circuit, events):
+        """The packets of chunks, up to a break of the circuit; what is told of a gap comes before those after it."""
+        for event in events:
+            if type(event) is Chunk:
+                yield from self.packets(circuit, event)
+            else:
+                self.lose(circuit, event)
             if circuit.broken:
                 connection.give_up()
-        if segment.reset or connection.over:
-            self.finish(connection, circuit, segment.frame)
+                return
+
+    def read_to_the_end(self, connection, circuit, events, frame):
+        yield from self.read(connection, circuit, events)
+        yield from self.finish(connection, circuit, frame)
 
     def pass_over(self, connection, index, segment):
         """Counts a segment of which nothing is read any more."""
@@ -169,30 +211,34 @@ class Xot:
         elif following is not None and ahead(segment.sequence + end, following) <= 0:
             self.ledger.left_out(Reason.REPEATED_OCTETS)
         else:
-            self.ledger.left_out(Reason.AFTER_GAP)
+            self.ledger.left_out(Reason.AFTER_BREAK)
 
-    def tell_loss(self, connection, circuit):
-        if connection.lost and not circuit.broken:
-            circuit.broken = True
-            loss = connection.lost
-            words = f"frame {loss.frame}: {loss.octets} octets of {circuit.sides[loss.index].name} {loss.how}"
-            self.ledger.tell(f"{words}; connection {circuit.number} is left out from here on")
+    def lose(self, circuit, gap):
+        """A gap: what was read of a packet is dropped, and the next one is sought at the beginnings of segments."""
+        rest = circuit.rests[gap.index]
+        circuit.rests[gap.index] = b""
+        circuit.synchronised[gap.index] = False
+        circuit.has_gaps = circuit.misses = True
+        self.ledger.left_out(Reason.LOST_OCTETS, gap.octets)
+        self.ledger.left_out(Reason.PASSED_OCTETS, len(rest))
+        words = f"frame {gap.frame}: connection {circuit.number}: {gap.octets} octets"
+        self.ledger.damaged(Reason.GAP, f"{words} of {circuit.sides[gap.index].name} {gap.how}")
 
     def finish(self, connection, circuit, frame):
-        """Tells how a connection ended."""
+        """Tells how a connection ended, after the packets that waited."""
         if circuit.ended:
             return
+        yield from self.close(connection, circuit)
         circuit.ended = True
-        self.close(connection, circuit)
         words = circuit.end_words()
         if words and not circuit.broken:
-            self.ledger.tell(f"frame {frame}: connection {circuit.number}: {words}")
+            self.ledger.tell(Topic.CONNECTION, f"frame {frame}: connection {circuit.number}: {words}")
         circuit.rests = circuit.synchronised = None
         self.over.append(connection)
         if len(self.over) > MOST_OVER:
             self.forget(self.over.popleft())
         if self.on_end:
-            self.on_end(circuit.number)
+            self.ending.append(circuit)
 
     def forget(self, connection):
         """Takes a connection from the table, unless its ports are used again."""
@@ -201,9 +247,8 @@ class Xot:
                 del self.table[ends]
 
     def close(self, connection, circuit):
-        """Gives up what still waits."""
-        connection.lose()
-        self.tell_loss(connection, circuit)
+        """The packets that still waited."""
+        yield from self.read(connection, circuit, connection.flush())
         for index, rest in enumerate(circuit.rests):
             if rest and not circuit.broken:
                 side = circuit.sides[index].name
@@ -211,64 +256,106 @@ class Xot:
                 self.ledger.damaged(Reason.CUT_XOT, words)
 
     def end(self):
-        """The recording has ended."""
-        for connection, index, circuit in self.table.values():
-            if index == 0 and not circuit.ended:
-                self.close(connection, circuit)
+        """The packets that waited when the recording ended, as their frames come."""
+        left = [
+            self.close(connection, circuit)
+            for connection, index, circuit in self.table.values()
+            if index == 0 and not circuit.ended
+        ]
+        return heapq.merge(*left, key=lambda packet: packet.frame)
 
     def packets(self, circuit, chunk):
         """The packets that end in a chunk."""
-        index, octets = chunk.index, chunk.octets
-        if not circuit.synchronised[index]:
-            if not looks_like_xot(octets):
-                self.ledger.left_out(Reason.UNSYNCHRONISED)
-                return
-            circuit.synchronised[index] = True
+        index, octets, packets = chunk.index, chunk.octets, []
         if circuit.rests[index]:
             octets = circuit.rests[index] + octets
-        at, side = 0, circuit.sides[index]
-        while len(octets) - at >= HEAD.size:
+        if not circuit.synchronised[index] and not self.is_found(circuit, chunk, octets):
+            return packets
+        at, side, size = 0, circuit.sides[index], len(octets)
+        while size - at >= 4:
             version, length = HEAD.unpack_from(octets, at)
             if version:
-                circuit.broken = True
-                words = f"an XOT header of version {version}; connection {circuit.number} is left out from here on"
-                self.ledger.damaged(Reason.NOT_XOT, f"frame {chunk.frame}: {words}")
-                return
-            begin = at + HEAD.size
-            if begin + length > len(octets):
+                self.leave(circuit, chunk, version, size - at)
+                return packets
+            begin = at + 4
+            if begin + length > size:
                 break
             at = begin + length
-            packet = self.packet(circuit, chunk.frame, side, octets[begin:at])
+            packet = self.packet(circuit, chunk, side, octets[begin:at])
             if packet:
-                yield packet
-        circuit.rests[index] = octets[at:]
+                packets.append(packet)
+        circuit.rests[index] = octets[at:] if at < size else b""
+        return packets
 
-    def packet(self, circuit, frame, side, octets):
+    def is_found(self, circuit, chunk, octets):
+        """Seeks a packet where a segment begins; one that says too little waits for the next."""
+        found = begins(octets, circuit)
+        if found is False and octets is not chunk.octets:
+            self.ledger.left_out(Reason.PASSED_OCTETS, len(octets) - len(chunk.octets))
+            circuit.rests[chunk.index] = b""
+            octets = chunk.octets
+            found = begins(octets, circuit)
+        if found is None:
+            circuit.rests[chunk.index] = octets
+        elif found:
+            circuit.synchronised[chunk.index] = True
+        else:
+            self.ledger.left_out(Reason.UNSYNCHRONISED)
+            self.ledger.left_out(Reason.PASSED_OCTETS, len(octets))
+        return found
+
+    def leave(self, circuit, chunk, version, many):
+        """A header of another version: a wrong place, where that was sought, else no XOT."""
+        circuit.rests[chunk.index] = b""
+        words = f"frame {chunk.frame}: connection {circuit.number}: an XOT header of version {version}"
+        if circuit.has_gaps or not circuit.from_opening:
+            circuit.synchronised[chunk.index] = False
+            self.ledger.left_out(Reason.UNSYNCHRONISED)
+            self.ledger.damaged(Reason.PASSED_OCTETS, f"{words}; {many} octets are passed over", many)
+            return
+        circuit.broken = True
+        self.ledger.damaged(Reason.NOT_XOT, f"{words}; it is left out from here on")
+
+    def packet(self, circuit, chunk, side, octets):
         """A packet of a circuit, or None for one that is left out."""
         if len(octets) >= 3:
-            kind, line_channel = octets[2], channel_of(octets)
-            if kind == PVC_SETUP and not circuit.called:
-                return self.set_up(circuit, frame, side)
-            if kind in LINE_TYPES and line_channel == 0:
-                words = f"a packet of type {kind:02X} on channel 0, of {side.name}"
-                self.ledger.damaged(Reason.LINE_PACKET, f"frame {frame}: connection {circuit.number}: {words}")
+            kind, line_channel = octets[2], (octets[0] & 15) << 8 | octets[1]
+            flows = not kind & 1 or kind & 0x1F == Type.READY
+            known = flows and line_channel == circuit.last_line_channel and not circuit.confirmed
+            if not known and not self.follow(circuit, chunk.frame, side, octets):
                 return None
-            if circuit.confirmed or kind in CALL_TYPES:
-                circuit.step(side, kind, len(octets))
-            if circuit.last_line_channel != line_channel:
-                self.other_channel(circuit, frame, line_channel)
-        return Packet(frame, side, octets, circuit)
+        misses, circuit.misses = circuit.misses, False
+        return Packet(chunk.frame, side, octets, circuit, chunk.time, misses)
+
+    def follow(self, circuit, frame, side, octets):
+        """Follows the circuit by a packet other than data and RR in their place; whether it is one of the circuit."""
+        kind, line_channel = octets[2], channel_of(octets)
+        if kind == PVC_SETUP and not circuit.called:
+            self.set_up(circuit, frame, side)
+            return False
+        if not line_channel and kind in LINE_TYPES:
+            words = f"a packet of type {kind:02X} on channel 0, of {side.name}"
+            self.ledger.damaged(Reason.LINE_PACKET, f"frame {frame}: connection {circuit.number}: {words}")
+            return False
+        if circuit.confirmed or kind in CALL_TYPES:
+            circuit.step(side, kind, len(octets))
+        if circuit.last_line_channel != line_channel:
+            self.other_channel(circuit, frame, line_channel)
+        if circuit.modulus is None:
+            circuit.modulus = modulus_of(octets)
+        return True
 
     def set_up(self, circuit, frame, side):
         """An XOT packet that sets up a permanent circuit is none of X.25."""
         circuit.permanent = True
         self.ledger.left_out(Reason.PVC_SETUP)
-        self.ledger.tell(f"frame {frame}: connection {circuit.number}: {side.name} sets up a permanent circuit")
+        words = f"{side.name} sets up a permanent circuit"
+        self.ledger.tell(Topic.PVC_SETUP, f"frame {frame}: connection {circuit.number}: {words}")
 
     def other_channel(self, circuit, frame, line_channel):
         if circuit.line_channel is None:
             circuit.line_channel = line_channel
         else:
             words = f"logical channel {line_channel} after {circuit.last_line_channel}; a connection has one circuit"
-            self.ledger.tell(f"frame {frame}: connection {circuit.number}: {words}")
+            self.ledger.tell(Topic.CHANNEL, f"frame {frame}: connection {circuit.number}: {words}")
         circuit.last_line_channel = line_channel

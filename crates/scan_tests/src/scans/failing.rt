@@ -69,11 +69,13 @@ fn check_source<R: Threads + Wait + Clock + Sync + Abort>(rt: &R, alloc: Global,
 }
 
 /// Worked traces whose devices fail.
-const TRACES: [(Table, &str); 4] = [
+const TRACES: [(Table, &str); 6] = [
     (Table::Messages, "pad-setting-said"),
     (Table::Messages, "pad-pairs-cut"),
+    (Table::Messages, "reset-drops-begun-message"),
     (Table::Epochs, "three-epochs"),
     (Table::Channels, "call-formats"),
+    (Table::Channels, "addresses-reverse-charging"),
 ];
 
 /// Has both devices fail.

@@ -91,10 +91,12 @@ fn check<R: Threads + Wait + Clock + Sync + Abort>(
 }
 
 /// Worked traces whose growths are refused.
-const TRACES: [(Table, &str); 3] = [
+const TRACES: [(Table, &str); 5] = [
     (Table::Messages, "pad-setting-said"),
+    (Table::Messages, "reset-drops-begun-message"),
     (Table::Epochs, "three-epochs"),
     (Table::Channels, "call-formats"),
+    (Table::Channels, "addresses-reverse-charging"),
 ];
 
 /// Refuses each growth of scans of worked traces.

@@ -1,0 +1,127 @@
+"""The files of a package: programs, manual pages, completions, documents, the traces that these name, and PROVED."""
+import functools
+import gzip
+import hashlib
+import posixpath
+import re
+from dataclasses import dataclass
+
+import completions
+from option_tables import OPTIONS, ROOT
+
+DOCUMENTS = "share/doc/x25scan"
+# What is installed below the folder of the documents, by its place in the repository.
+READ = {f"docs/{name}.md": f"{name}.md" for name in ("GUIDE", "REPORT", "CODES", "TRACE", "RULES", "CAPTURES")}
+READ |= {"CHANGELOG.md": "CHANGELOG.md"}
+# Folders of which the documents name files; what is installed of them keeps its place in the repository.
+EXAMPLES, CAPTURES, TRACES = "examples", "tests/captures/files", "tests/traces"
+LINK = re.compile(r"\[([^\]\n]*)\]\(([^)#\s]*)(#[^)\s]*)?\)")
+INSTALLED_PROGRAM = re.compile(rf"(?<![\w/])(?:bin|tools)/({'|'.join(OPTIONS)})(?![\w/])")
+# x25trace, its library and a link to x25scan stand as in the repository; a link leads to the launcher.
+TRACE = "share/x25scan"
+
+
+class Refusal(Exception):
+    """Why there is no package."""
+
+
+@dataclass(frozen=True)
+class Release:
+    """What is released: the bytes of the program, its version, the kit that proved it, and the commit with its date.
+
+    Of a program that was named it is not known whether it was proved of this commit.
+    """
+
+    program: bytes
+    is_named: bool
+    version: str
+    kit: str
+    commit: str
+    seconds: int
+    author: str
+
+
+@dataclass(frozen=True)
+class File:
+    """A file of a package, or a symbolic link where it has a target."""
+
+    path: str
+    content: bytes = b""
+    mode: int = 0o644
+    target: str = ""
+
+
+def place_of(path, target):
+    """The place in the repository that a link of a document leads to."""
+    return posixpath.normpath(posixpath.join(posixpath.dirname(path), target))
+
+
+@functools.cache
+def shown():
+    """The examples, the traces that a document links to, and the captures that one names, by their place in the repository."""
+    texts = {path: (ROOT / path).read_text() for path in READ}
+    linked = {place_of(path, target) for path, text in texts.items() for _, target, _ in LINK.findall(text)}
+    traces = {it for it in linked if it.startswith(TRACES) and it.endswith(".trace")}
+    captures = {f"{CAPTURES}/{it.name}" for it in (ROOT / CAPTURES).iterdir() if it.name in texts["docs/CAPTURES.md"]}
+    return traces | captures | {f"{EXAMPLES}/{it.name}" for it in (ROOT / EXAMPLES).iterdir()}
+
+
+def link_of(match, path):
+    """A link of a document as it is where this is installed, or its text where it leads to nothing that is."""
+    text, target, part = match[1], match[2], match[3] or ""
+    if not target or "://" in target:
+        return match[0]
+    place = place_of(path, target)
+    installed = place if place in (*shown(), EXAMPLES, CAPTURES) else READ.get(place)
+    return f"[{text}]({installed}{part})" if installed else text
+
+
+def document(path):
+    """A document with the links and the names of programs that hold where it is installed."""
+    text = LINK.sub(lambda it: link_of(it, path), (ROOT / path).read_text())
+    return INSTALLED_PROGRAM.sub(r"\1", text).encode()
+
+
+def programs(release):
+    """The programs, and what x25trace is made of."""
+    yield File("bin/x25scan", release.program, 0o755)
+    yield File("bin/x25trace", target=f"../{TRACE}/bin/x25trace")
+    yield File(f"{TRACE}/bin/x25scan", target="../../../bin/x25scan")
+    for path in ("bin/x25trace", "tools/x25trace"):
+        yield File(f"{TRACE}/{path}", (ROOT / path).read_bytes(), 0o755)
+    for path in sorted((ROOT / "tools" / "x25trace_lib").glob("*.py")):
+        yield File(f"{TRACE}/tools/x25trace_lib/{path.name}", path.read_bytes())
+
+
+def pages_and_completions(zsh_folder):
+    """The manual pages and the completions of each program."""
+    for name in OPTIONS:
+        page = (ROOT / "docs" / f"{name}.1").read_bytes()
+        yield File(f"share/man/man1/{name}.1.gz", gzip.compress(page, 9, mtime=0))
+        yield File(f"share/bash-completion/completions/{name}", completions.bash(name).encode())
+        yield File(f"{zsh_folder}/_{name}", completions.zsh(name).encode())
+        yield File(f"share/fish/vendor_completions.d/{name}.fish", completions.fish(name).encode())
+
+
+def documents():
+    """The documents, and the traces and captures that they name."""
+    for path, name in READ.items():
+        yield File(f"{DOCUMENTS}/{name}", document(path))
+    for path in shown():
+        yield File(f"{DOCUMENTS}/{path}", (ROOT / path).read_bytes())
+
+
+def proved(release, files):
+    """By which kit and of which commit, with the sums of the files; `sha256sum -c` reads it where bin and share are."""
+    sums = "".join(f"{hashlib.sha256(it.content).hexdigest()}  {it.path}\n" for it in files if not it.target)
+    known = "the program is the one that was named: whether it was proved of this commit is not known"
+    commit = f"# commit {release.commit}\n" + (f"# {known}\n" if release.is_named else "")
+    text = f"# x25scan {release.version}, {release.kit}\n{commit}{sums}"
+    return File(f"{DOCUMENTS}/PROVED", text.encode())
+
+
+def files_of(release, zsh_folder):
+    """All files of a package, in the order of their paths, which are below the folder that has bin and share."""
+    found = [*programs(release), *pages_and_completions(zsh_folder), *documents()]
+    found.sort(key=lambda it: it.path)
+    return sorted([*found, proved(release, found)], key=lambda it: it.path)

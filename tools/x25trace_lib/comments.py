@@ -1,0 +1,153 @@
+"""A capture written again as pcapng, with what x25scan finds in its trace as comments of its frames."""
+import contextlib
+import pathlib
+import re
+import struct
+import subprocess
+from collections import defaultdict
+
+from .frames import Direction
+from .pcap import Pcap
+from .pcapng import CHECK_LENGTH, FLAGS, TIME_RESOLUTION, Block, Pcapng
+from .snoop import Snoop
+from .told import Refusal, Why
+
+SCANNER = pathlib.Path(__file__).resolve().parents[2] / "bin" / "x25scan"
+OTHER_FRAME = re.compile(r"# (\d+) is of frame (\d+)$")
+FINDING = re.compile(r"#! (F (\d+) .*)")
+CALL = re.compile(r"# (Call \d+, .*\bopened by packet (\d+)\b.*)")
+# A comment's length has two octets.
+LONGEST = 60_000
+COMMENT = 1
+END = b"\0\0\0\0"
+BYTE_ORDER_MAGIC = 0x1A2B3C4D
+FLAGS_OF = {Direction.RECEIVED: 1, Direction.SENT: 2}
+# Where an enhanced or an obsolete packet block says how many octets were kept, and where these begin.
+KEPT_AT, OCTETS_AT = 12, 20
+
+
+def found(trace, scanner):
+    """What x25scan says of the frames of a trace in a file: the comments of each, calls with their first one."""
+    words = [str(scanner or SCANNER), "--annotate"]
+    with subprocess.Popen(words, stdin=trace, stdout=subprocess.PIPE, text=True, encoding="ascii") as running:
+        comments = comments_of(running.stdout)
+    if running.returncode not in (0, 1):
+        raise OSError(f"{words[0]} --annotate ended with status {running.returncode}")
+    return comments
+
+
+def comments_of(lines):
+    """The comments by frame, from the lines of an annotated trace."""
+    frames, comments = {}, defaultdict(list)
+    for line in lines:
+        if match := OTHER_FRAME.match(line):
+            frames[int(match[1])] = int(match[2])
+        elif match := FINDING.match(line) or CALL.match(line):
+            row = int(match[2])
+            comments[frames.get(row, row)].append(f"x25scan: {match[1]}")
+    return comments
+
+
+def block(order, kind, body):
+    body += bytes(-len(body) % 4)
+    length = struct.pack(order + "I", 12 + len(body))
+    return struct.pack(order + "I", kind) + length + body + length
+
+
+def option(order, code, value):
+    return struct.pack(order + "HH", code, len(value)) + value + bytes(-len(value) % 4)
+
+
+def comment_options(order, texts):
+    return b"".join(option(order, COMMENT, text.encode()[:LONGEST]) for text in texts)
+
+
+def end_of_options(order, body, at):
+    """Where the options of a block end that begin at a place."""
+    while at + 4 <= len(body):
+        code, length = struct.unpack_from(order + "HH", body, at)
+        after = at + 4 + length + -length % 4
+        if code == 0 or after > len(body):
+            break
+        at = after
+    return at
+
+
+def enhanced(order, body, kept, length):
+    """The body of a simple block as that of an enhanced one, of the first interface and without a time."""
+    octets = body[4:4 + kept]
+    return struct.pack(order + "IIIII", 0, 0, 0, len(octets), length) + octets
+
+
+def commented(order, body, texts):
+    """The body of a block of a frame with comments behind its other options."""
+    kept = struct.unpack_from(order + "I", body, KEPT_AT)[0]
+    begin = OCTETS_AT + kept + -kept % 4
+    body += bytes(max(begin - len(body), 0))
+    return body[:end_of_options(order, body, begin)] + comment_options(order, texts) + END
+
+
+def whole(order, kind, octets):
+    """The body of a block as it was recorded: a frame that the file ends in keeps what is there of it."""
+    length = struct.unpack_from(order + "I", octets, 4)[0]
+    body = octets[8:min(len(octets), length - 4)]
+    if kind == Block.SECTION:
+        # Sections become longer: -1 says that their length is not known.
+        return body[:8] + b"\xff" * 8 + body[16:]
+    if kind in (Block.ENHANCED, Block.PACKET) and len(body) >= OCTETS_AT:
+        kept = min(struct.unpack_from(order + "I", body, KEPT_AT)[0], len(body) - OCTETS_AT)
+        return body[:KEPT_AT] + struct.pack(order + "I", kept) + body[KEPT_AT + 4:]
+    return body
+
+
+def of_pcapng(form, comments):
+    """The blocks of a pcapng file."""
+    for start, kind, octets in form.blocks():
+        frame = form.frame_of(kind, start, form.body(octets))
+        texts = comments.get(frame.number, ()) if frame else ()
+        body = whole(form.order, kind, octets)
+        if texts:
+            if kind == Block.SIMPLE:
+                # It has no options, and so no comments.
+                _, _, kept, length, _ = form.simple(body)
+                kind, body = Block.ENHANCED, enhanced(form.order, body, kept, length)
+            body = commented(form.order, body, texts)
+        yield block(form.order, kind, body)
+
+
+def of_records(form, comments):
+    """A section with one interface, and an enhanced block for each record of another file."""
+    decimals = 9 if form.parts == 1_000_000_000 else 6
+    options = option("<", TIME_RESOLUTION, bytes((decimals,)))
+    if form.check:
+        options += option("<", CHECK_LENGTH, bytes((8 * form.check,)))
+    yield block("<", Block.SECTION, struct.pack("<IHHq", BYTE_ORDER_MAGIC, 1, 0, -1))
+    yield block("<", Block.INTERFACE, struct.pack("<HHI", form.link, 0, form.snap) + options + END)
+    for frame in form.frames():
+        octets, length = form.recorded
+        units = frame.time // 10 ** (9 - decimals)
+        head = struct.pack("<IIIII", 0, units >> 32, units & 0xFFFFFFFF, len(octets), length)
+        options = comment_options("<", comments.get(frame.number, ()))
+        if frame.direction in FLAGS_OF:
+            options += option("<", FLAGS, struct.pack("<I", FLAGS_OF[frame.direction]))
+        yield block("<", Block.ENHANCED, head + octets + bytes(-len(octets) % 4) + (options and options + END))
+
+
+REWRITERS = {Pcap: of_records, Snoop: of_records, Pcapng: of_pcapng}
+
+
+def check(captures):
+    """Refuses files whose frames have no link type."""
+    for form in captures.forms():
+        if type(form) not in REWRITERS:
+            raise Refusal(Why.UNKNOWN_FORMAT, f"{form.source.name} says no link type, which pcapng wants")
+        if type(form) is Snoop and not isinstance(form.link, int):
+            raise Refusal(Why.UNKNOWN_FORMAT, f"{form.source.name}: pcapng has no number for link type {form.link}")
+
+
+def write(captures, comments, out):
+    """Writes the files of a capture one after the other, each as a section of its own."""
+    for form in captures.forms():
+        with contextlib.closing(REWRITERS[type(form)](form, comments)) as blocks:
+            for octets in blocks:
+                out.write(octets)
