@@ -28,12 +28,6 @@ def capital(text):
     return text[0].upper() + text[1:]
 
 
-def installed(text):
-    """A text with the names that programs and documents have where they are installed."""
-    text = re.sub(r"tools/(.*?) {2}", r"\1" + " " * len("tools/  "), text)
-    return text.replace("docs/", DOCUMENTS)
-
-
 def head(option):
     """An option with its value, as a paragraph begins with it."""
     if not option.names:
@@ -95,11 +89,11 @@ def scan_page():
     told, table = texts_of_scan(), rows()
     text = '.\\" Written by tools/manual_page.py from crates/command_options and crates/explanations.\n'
     text += beginning("x25scan", "what an observer of an X.25 interface finds in a trace", told["ABOUT"] + ".")
-    text += examples(installed(section(told["AFTER_HELP"], "Examples")))
+    text += examples(section(told["AFTER_HELP"], "Examples"))
     text += statuses((it["word"], it["meaning"]) for it in table if it["topic"] == "Status")
     text += ".SH DIAGNOSTICS\nOn standard error, after \\fBx25scan:\\fR.\n"
     text += "".join(entry(f"\\fB{troff(it['name'])}\\fR", it["meaning"] + " " + it["when"]) for it in table if it["topic"] == "Refusal")
-    return text + ".SH SEE ALSO\n.BR x25trace (1)\n.PP\n" + troff(installed(told["AFTER_HELP"].split("\n\n")[-1])) + "\n"
+    return text + ".SH SEE ALSO\n.BR x25trace (1)\n.PP\n" + troff(told["AFTER_HELP"].split("\n\n")[-1]) + "\n"
 
 
 def trace_page():

@@ -56,7 +56,7 @@ def word_cases():
     version = pattern(rb"x25scan \d+\.\d+\.\d+\nproved with rattle-kit-\S+ logic [0-9a-f]{16}\n")
     yield Case("the version", ("--version",), report=version)
     yield Case("the version by its letter", ("-V",), report=version)
-    helped = pattern(rb"Reports what .*Usage: x25scan \[OPTIONS\] \[FILE\].*--workers.*--alone.*--follow.*--json.*--annotate.*--channel.*--call.*--progress.*--explain.*Examples:\n.*Exit status:\n  0 .*\n  64 .*docs/TRACE.md.*\n")
+    helped = pattern(rb"Reports what .*Usage: x25scan \[OPTIONS\] \[FILE\].*--workers.*--alone.*--follow.*--json.*--annotate.*--channel.*--call.*--progress.*--explain.*Examples:\n.*Exit status:\n  0 .*\n  64 .*TRACE.md.*\n")
     yield Case("help", ("--help",), report=helped)
     yield Case("help by its letter", ("-h",), report=helped)
     yield Case("an explanation reads no file", ("--explain", "22", "day.trace"), report=pattern(rb"22 \(.*"))

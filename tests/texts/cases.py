@@ -88,9 +88,9 @@ HEADERS = [
     (b"X25 2 MOD 8 WIN 2 SIZE 128 PVC 1 IN 0 TWO 4 OUT 4", 1, HEADER_RANGE, None),
     (b"\xef\xbb\xbfX25 1", 1, HEADER_FORM, "The text begins with a byte order mark: tail -c +4 FILE | x25scan reads it."),
     (b"\x1f\x8b\x08\x00", 1, HEADER_FORM, "This is a gzip file: gzip -dc FILE | x25scan reads what is in it."),
-    (b"\xd4\xc3\xb2\xa1\x02\x00", 1, HEADER_FORM, "This is a capture: tools/x25trace FILE | x25scan reads it."),
-    (b"\xd4\xc3\xb2\xa1\x02\x00\x04\x00\n", 1, HEADER_FORM, "This is a capture: tools/x25trace FILE | x25scan reads it."),
-    (b"\x0a\x0d\x0d\x0a\x1c\x00\x00\x00", 1, HEADER_FORM, "This is a capture: tools/x25trace FILE | x25scan reads it."),
+    (b"\xd4\xc3\xb2\xa1\x02\x00", 1, HEADER_FORM, "This is a capture: x25trace FILE | x25scan reads it."),
+    (b"\xd4\xc3\xb2\xa1\x02\x00\x04\x00\n", 1, HEADER_FORM, "This is a capture: x25trace FILE | x25scan reads it."),
+    (b"\x0a\x0d\x0d\x0a\x1c\x00\x00\x00", 1, HEADER_FORM, "This is a capture: x25trace FILE | x25scan reads it."),
 ]
 
 # Texts that are taken, with the number of their rows.

@@ -6,7 +6,7 @@ struct Form {
     told: &'static str,
 }
 
-const CAPTURE: &str = "This is a capture: tools/x25trace FILE | x25scan reads it.";
+const CAPTURE: &str = "This is a capture: x25trace FILE | x25scan reads it.";
 
 const UTF16: &str = "The text is UTF-16: iconv -f UTF-16 -t ASCII FILE | x25scan reads it.";
 

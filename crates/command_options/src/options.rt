@@ -44,7 +44,7 @@ fn workers<'a>(alloc: Global) -> Arg<'a>
     Arg::new(alloc, "workers")
         .long("workers")
         .value_name("N")
-        .help("How many worker threads scan, 1 to 64")
+        .help("Scan with this many worker threads, 1 to 64")
         .action(ArgAction::Set)
         .default_value("4")
         .value_parser(value_parser!(u8).range(1..=64))
@@ -69,7 +69,7 @@ fn explain<'a>(alloc: Global) -> Arg<'a>
     Arg::new(alloc, "explain")
         .long("explain")
         .value_name("WORD")
-        .help("Explain a word of the report or of a refusal, or list them all, and scan nothing")
+        .help("Explain a word of the report or of a refusal, or list all words, and scan nothing")
         .action(ArgAction::Set)
         .num_args(0..=1)
         .default_missing_value("")
@@ -83,7 +83,7 @@ fn channel<'a>(alloc: Global) -> Arg<'a>
     Arg::new(alloc, "channel")
         .long("channel")
         .value_name("N")
-        .help("As --annotate, with comments on the rows of this logical channel alone")
+        .help("As --annotate, with comments only on the rows of this logical channel")
         .action(ArgAction::Set)
         .value_parser(value_parser!(u16).range(1..=4095))
 }
@@ -96,7 +96,7 @@ fn call<'a>(alloc: Global) -> Arg<'a>
     Arg::new(alloc, "call")
         .long("call")
         .value_name("N")
-        .help("As --annotate, with comments on the rows of this call of the report alone")
+        .help("As --annotate, with comments only on the rows of this call of the report")
         .action(ArgAction::Set)
         .value_parser(value_parser!(u32).range(1..=999_999_999))
 }
@@ -108,7 +108,7 @@ fn trace<'a>(alloc: Global) -> Arg<'a>
 {
     Arg::new(alloc, "trace")
         .value_name("FILE")
-        .help("The trace, standard input where it is - or left out")
+        .help("The trace; - or no file is standard input")
         .action(ArgAction::Set)
 }
 
@@ -122,7 +122,7 @@ fn with_scanning<'a>(alloc: Global, command: Command<'a>) -> Result<Command<'a>,
         .arg(flag(
             alloc,
             "follow",
-            "Write each finding as soon as its packet is known, in one thread",
+            "Print each finding as soon as its packet is known, in one thread",
         ))
 }
 
@@ -134,12 +134,12 @@ fn with_telling<'a>(alloc: Global, command: Command<'a>) -> Result<Command<'a>, 
         .arg(flag(
             alloc,
             "json",
-            "Write the report as JSON, an object for each line",
+            "Print the report as JSON lines, an object for each line",
         ))?
         .arg(flag(
             alloc,
             "annotate",
-            "Write the trace again, with comments that say what its rows are and did",
+            "Print the trace again, with comments that say what its rows are and did",
         ))?
         .arg(channel(alloc))?
         .arg(call(alloc))
@@ -153,7 +153,7 @@ fn with_asking<'a>(alloc: Global, command: Command<'a>) -> Result<Command<'a>, A
         .arg(flag(
             alloc,
             "progress",
-            "Tell each second how far the reading is, on standard error",
+            "Print each second on standard error how far the reading is",
         ))?
         .arg(explain(alloc))?
         .arg(trace(alloc))
