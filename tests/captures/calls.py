@@ -106,8 +106,8 @@ class Called(unittest.TestCase):
             self.assertIn(b"packets that --only does not name", done.stderr)
 
     def test_words(self):
-        refused = ("--win 0 a", "--size 100 a", "--dte host a", "--as 147=x26 a", "", "--sender 0=t a", "--svc 4 --in 2 a",
-                   "--join --no-join a", "--wi 2 a", "- -")
+        refused = ("--win 0 a", "--size 100 a", "--dte host a", "--as 147=x26 a", "", "--sender 0=t a",
+                   "--svc 4 --in 2 a", "--join --no-join a", "--wi 2 a", "- -")
         for words in refused:
             done = run(*words.split())
             self.assertEqual((done.returncode, done.stdout), (64, b""), words)

@@ -12,8 +12,8 @@ TIMEOUT = 60
 END = option(0, b"")
 MICROSECONDS = option(9, b"\6") + END
 CALL_WORDS = (
-    "x25scan: Call 1, outgoing on logical channel 1: called -, calling -; opened by packet {0}, up with {1}, open at the "
-    "end; from the DTE 0 data packets with 0 octets, from the DCE 0 data packets with 0 octets; 0 segments"
+    "x25scan: Call 1, outgoing on logical channel 1: called -, calling -; opened by packet {0}, up with {1}, open at "
+    "the end; from the DTE 0 data packets with 0 octets, from the DCE 0 data packets with 0 octets; 0 segments"
 )
 FINDING = (
     "x25scan: F {0} T d1 1: Invalid P(S): P(S) 2 where 0 comes next. The DCE resets the channel (d3). "
@@ -102,7 +102,8 @@ def from_pcapng():
                  for at, one in enumerate(frames())]
         yield f"pcapng with simple blocks {order}", file(before, -1), file(after, -1)
         before = [obsolete(one, order=order, time=at) for at, one in enumerate(frames())]
-        after = [one if at not in TOLD else block(2, one[8:-4] + said(at, order), order) for at, one in enumerate(before)]
+        after = [one if at not in TOLD else block(2, one[8:-4] + said(at, order), order)
+                 for at, one in enumerate(before)]
         # Wireshark numbers the custom block as a frame: it stands behind those with packets.
         yield f"pcapng with obsolete blocks {order}", file([*before, custom], -1), file([*after, custom], -1)
 

@@ -42,7 +42,7 @@ class Live:
             self.put(comment(words))
 
     def begin(self, carrier, packet, out):
-        """Writes the header. On a line a restart shows the beginning; with XOT other connections may be open already."""
+        """Writes the header. On a line a restart shows the beginning; with XOT other connections may be open."""
         self.carrier, self.out = carrier, out
         if self.wishes.join is None:
             octets = packet.octets

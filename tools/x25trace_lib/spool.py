@@ -20,7 +20,7 @@ def time_line(time):
 
 
 class Rows:
-    """Numbers rows: by their frames, or on from the row before where that number was had, or where frames are too many."""
+    """Numbers rows: by their frames, or on from the row before where a number was had, or frames are too many."""
 
     def __init__(self, by_frames=True):
         self.by_frames = by_frames
