@@ -64,6 +64,7 @@ class Reading:
     def packets(self, frames):
         """Pairs of a carrier and a packet."""
         wanted, only, openers = self.choices.interfaces, self.choices.only, self.openers
+        segment_of, take = self.internet.segment, self.xot.take
         for frame in frames:
             self.frames += 1
             if wanted and frame.interface not in wanted:
@@ -76,19 +77,19 @@ class Reading:
                 self.not_carried(frame, carried)
             elif only is not None and carrier is not only:
                 self.ledger.left_out(Reason.OTHER_CARRIER)
-            else:
-                for packet in self.carried_by(carrier, frame, carried, at):
+            elif carrier is not Carrier.XOT:
+                for packet in self.on_line(carrier, frame, carried, at):
+                    yield carrier, packet
+            elif segment := segment_of(frame, at):
+                for packet in take(segment):
                     yield carrier, packet
         self.internet.end()
         for packet in self.xot.end():
             yield Carrier.XOT, packet
         self.lapb.end()
 
-    def carried_by(self, carrier, frame, carried, at):
-        """The packets that a frame completes."""
-        if carrier is Carrier.XOT:
-            segment = self.internet.segment(frame, at)
-            return self.xot.take(segment) if segment else ()
+    def on_line(self, carrier, frame, carried, at):
+        """The packets that a frame of a line completes."""
         return self.from_link(frame, carried, at) if carrier is Carrier.LAPB else self.from_packet(frame, carried, at)
 
     def unknown(self, frame):
