@@ -40,7 +40,6 @@ class Circuit:
     last_row: int = 0
     channel: int | None = None
     again: bool = False
-    shown: bool = False
     rests: list = field(default_factory=lambda: [b"", b""])
     synchronised: list = field(default_factory=lambda: [True, True])
     has_gaps: bool = False
