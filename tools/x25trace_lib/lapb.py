@@ -137,9 +137,12 @@ class Lapb:
             return self.supervisory(frame, octets, receive, final)
         send = control >> 1 if wide else control >> 1 & 7
         side = self.side(COMMAND_SIDES, octets[0], frame.direction)
-        before = self.acknowledge(frame.number, side.other, receive, True)
+        before = ()
+        if receive != self.ways[side.other].acknowledged:
+            before = self.acknowledge(frame.number, side.other, receive, True)
         packet = Packet(frame.number, self.named(side), None if cut else octets[3 if wide else 2:], None, frame.time)
-        return [*before, *self.information(side, send, packet)]
+        packets = self.information(side, send, packet)
+        return [*before, *packets] if before else packets
 
     @property
     def circle(self):
@@ -216,9 +219,10 @@ class Lapb:
             packets = self.catch_up(packet.frame, side, way, send)
         if way.next is None or send == way.next:
             # A held one with this number was not taken, so it came again; those behind it may have been.
-            self.ledger.left_out(Reason.UNTAKEN_FRAME, way.held.pop(send, None) is not None)
+            if way.held:
+                self.ledger.left_out(Reason.UNTAKEN_FRAME, way.held.pop(send, None) is not None)
             way.next = (send + 1) % self.circle
-            return [*packets, *self.given_out(packet)]
+            return [*packets, *self.given_out(packet)] if packets else self.given_out(packet)
         if self.repeats(way, send):
             self.ledger.left_out(Reason.REPEATED_FRAME)
         elif send not in way.held:
