@@ -87,6 +87,7 @@ class Lapb:
     def __init__(self, ledger, modulus, side_by, swapped):
         self.ledger = ledger
         self.modulus = self.given = modulus
+        self.circle = modulus or 8
         self.side_by = side_by
         # Which side the recording host is: by what is said, or as the addresses of frames with a direction tell.
         by_direction = side_by is SideBy.DIRECTION
@@ -144,10 +145,6 @@ class Lapb:
         packets = self.information(side, send, packet)
         return [*before, *packets] if before else packets
 
-    @property
-    def circle(self):
-        return self.modulus or 8
-
     def unnumbered(self, frame, address, kind):
         """A frame that sets up the link begins its numbers anew; each such frame is told."""
         if kind not in NAMES:
@@ -155,7 +152,7 @@ class Lapb:
         side = self.side(COMMAND_SIDES if kind in COMMANDS else RESPONSE_SIDES, address, frame.direction)
         self.ledger.tell(Topic.LINK_FRAME, f"frame {frame.number}: {NAMES[kind]} of {self.named(side).name}")
         if kind in (Unnumbered.SABM, Unnumbered.SABME) and self.given is None:
-            self.modulus = 8 if kind == Unnumbered.SABM else 128
+            self.modulus = self.circle = 8 if kind == Unnumbered.SABM else 128
         if kind in (Unnumbered.SABM, Unnumbered.SABME, Unnumbered.UA):
             for way in self.ways.values():
                 self.drop_held(way)

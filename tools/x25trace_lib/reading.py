@@ -75,22 +75,23 @@ class Reading:
             carrier = CARRIERS.get(carried)
             if carrier is None:
                 self.not_carried(frame, carried)
-            elif only is not None and carrier is not only:
+                continue
+            if only is not None and carrier is not only:
                 self.ledger.left_out(Reason.OTHER_CARRIER)
-            elif carrier is not Carrier.XOT:
-                for packet in self.on_line(carrier, frame, carried, at):
-                    yield carrier, packet
-            elif segment := segment_of(frame, at):
-                for packet in take(segment):
-                    yield carrier, packet
+                continue
+            if carrier is Carrier.XOT:
+                segment = segment_of(frame, at)
+                packets = take(segment) if segment else ()
+            elif carrier is Carrier.LAPB:
+                packets = self.from_link(frame, carried, at)
+            else:
+                packets = self.from_packet(frame, carried, at)
+            for packet in packets:
+                yield carrier, packet
         self.internet.end()
         for packet in self.xot.end():
             yield Carrier.XOT, packet
         self.lapb.end()
-
-    def on_line(self, carrier, frame, carried, at):
-        """The packets that a frame of a line completes."""
-        return self.from_link(frame, carried, at) if carrier is Carrier.LAPB else self.from_packet(frame, carried, at)
 
     def unknown(self, frame):
         """What a frame of an unknown link type holds."""
