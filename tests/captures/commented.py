@@ -4,7 +4,7 @@ import subprocess
 import tempfile
 
 from forms import *
-from link_cases import ACCEPTED, CALL, packets_of
+from link_cases import ACCEPTED, CALL
 from with_tshark import PROGRAM as TSHARK
 
 PROGRAM = pathlib.Path(__file__).resolve().parent.parent.parent / "bin" / "x25trace"

@@ -14,7 +14,7 @@ from x25trace_lib.captures import Captures
 from x25trace_lib.live import Live
 from x25trace_lib.reading import Reading
 from x25trace_lib.source import Waiting
-from x25trace_lib.told import Ledger, Refusal
+from x25trace_lib.told import Ledger
 from x25trace_lib.trace import Trace
 from x25trace_lib.words import chosen, parsed
 
