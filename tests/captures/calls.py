@@ -197,6 +197,7 @@ class Streams(unittest.TestCase):
             self.assertEqual(done.returncode, 2, kind)
             self.assertLess(len(done.stderr.splitlines()), 12, kind)
             self.assertIn(b"1008", done.stderr, kind)
+            self.assertIn(f"with frames read as {kind}: another KIND of --as may be right\n".encode(), done.stderr)
 
     def test_interrupted(self):
         """What was read before is written, with what was left out, and the status tells."""

@@ -7,7 +7,7 @@ from .internet import Internet
 from .lapb import Lapb, SideBy, unframe
 from .links import KINDS, LINKS, Carried
 from .packets import Packet, Side
-from .told import Reason, Topic
+from .told import Reason, Refusal, Topic, Why
 from .xot import Xot
 
 XOT_PORT = 1998
@@ -92,6 +92,12 @@ class Reading:
         for packet in self.xot.end():
             yield Carrier.XOT, packet
         self.lapb.end()
+
+    def no_packet(self):
+        """The refusal of a capture that has no packet."""
+        kinds = " and ".join(sorted(set(self.choices.kinds.values())))
+        hint = f", with frames read as {kinds}: another KIND of --as may be right" if kinds else ""
+        return Refusal(Why.NO_PACKET, f"no packet of X.25 in {self.frames} frames{hint}")
 
     def unknown(self, frame):
         """What a frame of an unknown link type holds."""

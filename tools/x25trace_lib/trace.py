@@ -49,7 +49,7 @@ class Trace:
     def header(self):
         """The header; XOT circuits get their channels by it."""
         if not self.carriers:
-            raise Refusal(Why.NO_PACKET, f"no packet of X.25 in {self.reading.frames} frames")
+            raise self.reading.no_packet()
         if len(self.carriers) > 1:
             words = " and ".join(f"{many} packets in {carrier.value}" for carrier, many in self.carriers.items())
             raise Refusal(Why.MIXED, f"{words}; a trace is of one interface: --only tells which")
