@@ -32,14 +32,15 @@ def bash_cases(options):
     """What completes the value of an option: its choices, or nothing."""
     chosen = [it for it in options if it.choices]
     lines = [f"""{it.names[0]}) mapfile -t COMPREPLY < <(compgen -W '{" ".join(it.choices)}' -- "$word"); return ;;""" for it in chosen]
-    lines.append("|".join(it.names[0] for it in options if not it.choices) + ") return ;;")
+    if others := [it.names[0] for it in options if not it.choices]:
+        lines.append(f"{'|'.join(others)}) return ;;")
     return "".join(f"        {line}\n" for line in lines)
 
 
 def bash(program):
     """The completion in bash."""
     options = [it for it in OPTIONS[program]() if it.names]
-    cases = bash_cases([it for it in options if it.value and not it.is_value_free])
+    cases = bash_cases([it for it in options if it.value and not it.is_file and not it.is_value_free])
     return BASH.format(program=program, cases=cases, names=" ".join(name for it in options for name in it.names))
 
 
@@ -53,9 +54,9 @@ def zsh_text(text):
 def zsh_line(option):
     """The specification of an option."""
     help_text, value = zsh_text(option.help), zsh_text(option.value)
+    action = f"({' '.join(option.choices)})" if option.choices else "_files" * option.is_file
     if not option.names:
-        return f"  '*:{value}:_files'"
-    action = f"({' '.join(option.choices)})" if option.choices else ""
+        return f"  '{'*' if option.is_repeated else '1'}:{value}:{action}'"
     colon = "::" if option.is_value_free else ":"
     message = f"{colon}{value}:{action}" if option.value else ""
     if len(option.names) > 1:
@@ -72,7 +73,7 @@ def zsh(program):
 def fish_line(program, option):
     """The line of an option."""
     names = " ".join(f"-l {name[2:]}" if name.startswith("--") else f"-s {name[1:]}" for name in option.names)
-    value = " -x" if option.value and not option.is_value_free else ""
+    value = (" -r" if option.is_file else " -x") if option.value and not option.is_value_free else ""
     choices = f" -a '{' '.join(option.choices)}'" if option.choices else ""
     told = option.help.replace("\\", "\\\\").replace("'", "\\'")
     return f"complete -c {program} {names}{value}{choices} -d '{told}'"

@@ -49,7 +49,7 @@ def synopsis(program):
     """The lines of a synopsis: the options but for those that print a text, and what stands without a name."""
     shown = [it for it in OPTIONS[program]() if len(it.names) < 2]
     ordered = sorted(shown, key=lambda it: not it.names)
-    return "".join(f"{head(it)} ...\n" if it.is_needed else f"[{head(it)}]\n" for it in ordered)
+    return "".join(head(it) + " ..." * it.is_repeated + "\n" if it.is_needed else f"[{head(it)}]\n" for it in ordered)
 
 
 def entry(title, text):

@@ -17,6 +17,7 @@ FLAG = re.compile(r"flag\(\s*alloc,\s*" + TEXT + r",\s*" + TEXT + r",?\s*\)")
 ARGUMENT = re.compile(r"Arg::new\(alloc, " + TEXT + r"\)(.*?)\n\}", re.DOTALL)
 CALL = re.compile(r"\.(\w+)\((.*?)\)\n")
 ORDER = re.compile(r"\.arg\((?:flag\(\s*alloc,\s*" + TEXT + r"|(\w+))")
+FILES = ("FILE", "CAPTURE", "OUT", "PROGRAM")
 TITLES_OF_ARGPARSE = ("positional arguments", "options")
 
 
@@ -33,6 +34,11 @@ class Option:
     is_value_free: bool = False
     is_needed: bool = False
     is_repeated: bool = False
+
+    @property
+    def is_file(self):
+        """Whether its value is the name of a file."""
+        return self.value in FILES
 
 
 def plain(text):
@@ -72,7 +78,7 @@ def option_of_trace(action, group):
     has_value = action.nargs != 0
     value = (action.metavar or "|".join(choices)) if has_value else ""
     told = Option(tuple(action.option_strings), action.help, value, choices=choices, group=group)
-    told.is_needed, told.is_repeated = action.required, isinstance(action.default, list)
+    told.is_needed, told.is_repeated = action.required, isinstance(action.default, list) or action.nargs == "+"
     return told
 
 

@@ -1,4 +1,5 @@
-"""The files of a package: programs, manual pages, completions, documents, examples and PROVED."""
+"""The files of a package: programs, manual pages, completions, documents, the traces that these name, and PROVED."""
+import functools
 import gzip
 import hashlib
 import posixpath
@@ -11,10 +12,12 @@ from option_tables import OPTIONS, ROOT
 DOCUMENTS = "share/doc/x25scan"
 # What is installed below the folder of the documents, by its place in the repository.
 READ = {f"docs/{name}.md": f"{name}.md" for name in ("GUIDE", "REPORT", "CODES", "TRACE", "RULES", "CAPTURES")}
-READ |= {"CHANGELOG.md": "CHANGELOG.md", "examples": "examples"}
+READ |= {"CHANGELOG.md": "CHANGELOG.md"}
+# Folders of which the documents name files; what is installed of them keeps its place in the repository.
+EXAMPLES, CAPTURES, TRACES = "examples", "tests/captures/files", "tests/traces"
 LINK = re.compile(r"\[([^\]\n]*)\]\(([^)#\s]*)(#[^)\s]*)?\)")
 INSTALLED_PROGRAM = re.compile(rf"(?<![\w/])(?:bin|tools)/({'|'.join(OPTIONS)})(?![\w/])")
-# x25trace and its library stand as in the repository, and a link leads to its launcher.
+# x25trace, its library and a link to x25scan stand as in the repository; a link leads to the launcher.
 TRACE = "share/x25scan"
 
 
@@ -24,9 +27,13 @@ class Refusal(Exception):
 
 @dataclass(frozen=True)
 class Release:
-    """What is released: the bytes of the program, its version, the kit that proved it, and the commit with its date."""
+    """What is released: the bytes of the program, its version, the kit that proved it, and the commit with its date.
+
+    Of a program that was named it is not known whether it was proved of this commit.
+    """
 
     program: bytes
+    is_named: bool
     version: str
     kit: str
     commit: str
@@ -44,20 +51,34 @@ class File:
     target: str = ""
 
 
-def link_of(match, folder):
-    """A link as it is where it is installed, or its text where it leads to nothing that is."""
+def place_of(path, target):
+    """The place in the repository that a link of a document leads to."""
+    return posixpath.normpath(posixpath.join(posixpath.dirname(path), target))
+
+
+@functools.cache
+def shown():
+    """The examples, the traces that a document links to, and the captures that one names, by their place in the repository."""
+    texts = {path: (ROOT / path).read_text() for path in READ}
+    linked = {place_of(path, target) for path, text in texts.items() for _, target, _ in LINK.findall(text)}
+    traces = {it for it in linked if it.startswith(TRACES) and it.endswith(".trace")}
+    captures = {f"{CAPTURES}/{it.name}" for it in (ROOT / CAPTURES).iterdir() if it.name in texts["docs/CAPTURES.md"]}
+    return traces | captures | {f"{EXAMPLES}/{it.name}" for it in (ROOT / EXAMPLES).iterdir()}
+
+
+def link_of(match, path):
+    """A link of a document as it is where this is installed, or its text where it leads to nothing that is."""
     text, target, part = match[1], match[2], match[3] or ""
     if not target or "://" in target:
         return match[0]
-    place = posixpath.normpath(posixpath.join(folder, target))
-    if place.startswith("examples/"):
-        return f"[{text}]({place}{part})"
-    return f"[{text}]({READ[place]}{part})" if place in READ else text
+    place = place_of(path, target)
+    installed = place if place in (*shown(), EXAMPLES, CAPTURES) else READ.get(place)
+    return f"[{text}]({installed}{part})" if installed else text
 
 
 def document(path):
     """A document with the links and the names of programs that hold where it is installed."""
-    text = LINK.sub(lambda it: link_of(it, posixpath.dirname(path)), (ROOT / path).read_text())
+    text = LINK.sub(lambda it: link_of(it, path), (ROOT / path).read_text())
     return INSTALLED_PROGRAM.sub(r"\1", text).encode()
 
 
@@ -65,6 +86,7 @@ def programs(release):
     """The programs, and what x25trace is made of."""
     yield File("bin/x25scan", release.program, 0o755)
     yield File("bin/x25trace", target=f"../{TRACE}/bin/x25trace")
+    yield File(f"{TRACE}/bin/x25scan", target="../../../bin/x25scan")
     for path in ("bin/x25trace", "tools/x25trace"):
         yield File(f"{TRACE}/{path}", (ROOT / path).read_bytes(), 0o755)
     for path in sorted((ROOT / "tools" / "x25trace_lib").glob("*.py")):
@@ -82,18 +104,19 @@ def pages_and_completions(zsh_folder):
 
 
 def documents():
-    """The documents and the examples."""
+    """The documents, and the traces and captures that they name."""
     for path, name in READ.items():
-        if path.endswith(".md"):
-            yield File(f"{DOCUMENTS}/{name}", document(path))
-    for path in sorted((ROOT / "examples").iterdir()):
-        yield File(f"{DOCUMENTS}/examples/{path.name}", path.read_bytes())
+        yield File(f"{DOCUMENTS}/{name}", document(path))
+    for path in shown():
+        yield File(f"{DOCUMENTS}/{path}", (ROOT / path).read_bytes())
 
 
 def proved(release, files):
     """By which kit and of which commit, with the sums of the files; `sha256sum -c` reads it where bin and share are."""
     sums = "".join(f"{hashlib.sha256(it.content).hexdigest()}  {it.path}\n" for it in files if not it.target)
-    text = f"# x25scan {release.version}, {release.kit}\n# commit {release.commit}\n{sums}"
+    known = "the program is the one that was named: whether it was proved of this commit is not known"
+    commit = f"# commit {release.commit}\n" + (f"# {known}\n" if release.is_named else "")
+    text = f"# x25scan {release.version}, {release.kit}\n{commit}{sums}"
     return File(f"{DOCUMENTS}/PROVED", text.encode())
 
 
