@@ -120,8 +120,8 @@ class Called(unittest.TestCase):
             self.assertIn(b"packets that --only does not name", done.stderr)
 
     def test_words(self):
-        refused = ("--win 0 a", "--size 100 a", "--dte host a", "--as 147=x26 a", "", "--sender 0=t a", "--svc 4 --in 2 a",
-                   "--join --no-join a", "--wi 2 a", "- -")
+        refused = ("--win 0 a", "--size 100 a", "--dte host a", "--as 147=x26 a", "", "--sender 0=t a",
+                   "--svc 4 --in 2 a", "--join --no-join a", "--wi 2 a", "- -")
         for words in refused:
             done = run(*words.split())
             self.assertEqual((done.returncode, done.stdout), (64, b""), words)
@@ -211,6 +211,7 @@ class Streams(unittest.TestCase):
             self.assertEqual(done.returncode, 2, kind)
             self.assertLess(len(done.stderr.splitlines()), 12, kind)
             self.assertIn(b"1008", done.stderr, kind)
+            self.assertIn(f"with frames read as {kind}: another KIND of --as may be right\n".encode(), done.stderr)
 
     def test_interrupted(self):
         """What was read before is written, with what was left out, and the status tells."""

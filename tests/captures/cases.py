@@ -9,7 +9,9 @@ import tcp_cases
 import time_cases
 import xot_cases
 
-TOPICS = (link_cases, carrier_cases, tcp_cases, gap_cases, xot_cases, lapb_cases, damage_cases, header_cases, time_cases)
+TOPICS = (
+    link_cases, carrier_cases, tcp_cases, gap_cases, xot_cases, lapb_cases, damage_cases, header_cases, time_cases,
+)
 
 
 def all_cases():

@@ -4,7 +4,7 @@ import subprocess
 import tempfile
 
 from forms import *
-from link_cases import ACCEPTED, CALL, packets_of
+from link_cases import ACCEPTED, CALL
 from with_tshark import PROGRAM as TSHARK
 
 PROGRAM = pathlib.Path(__file__).resolve().parent.parent.parent / "bin" / "x25trace"
@@ -12,8 +12,8 @@ TIMEOUT = 60
 END = option(0, b"")
 MICROSECONDS = option(9, b"\6") + END
 CALL_WORDS = (
-    "x25scan: Call 1, outgoing on logical channel 1: called -, calling -; opened by packet {0}, up with {1}, open at the "
-    "end; from the DTE 0 data packets with 0 octets, from the DCE 0 data packets with 0 octets; 0 segments"
+    "x25scan: Call 1, outgoing on logical channel 1: called -, calling -; opened by packet {0}, up with {1}, open at "
+    "the end; from the DTE 0 data packets with 0 octets, from the DCE 0 data packets with 0 octets; 0 segments"
 )
 FINDING = (
     "x25scan: F {0} T d1 1: Invalid P(S): P(S) 2 where 0 comes next. The DCE resets the channel (d3). "
@@ -102,22 +102,36 @@ def from_pcapng():
                  for at, one in enumerate(frames())]
         yield f"pcapng with simple blocks {order}", file(before, -1), file(after, -1)
         before = [obsolete(one, order=order, time=at) for at, one in enumerate(frames())]
-        after = [one if at not in TOLD else block(2, one[8:-4] + said(at, order), order) for at, one in enumerate(before)]
+        after = [one if at not in TOLD else block(2, one[8:-4] + said(at, order), order)
+                 for at, one in enumerate(before)]
         # Wireshark numbers the custom block as a frame: it stands behind those with packets.
         yield f"pcapng with obsolete blocks {order}", file([*before, custom], -1), file([*after, custom], -1)
 
 
-TOPICS = (from_pcap, from_pcap_with_lengths, from_modified_pcap, from_snoop, from_pcapng)
+def from_damaged_files():
+    """What can be read is there, whole: a section's header before it, and the end of the block that the file ends in."""
+    blocks = [enhanced(one, time=at) for at, one in enumerate(frames())]
+    last = enhanced(ethernet(bytes(46), 0x0806))
+    told = [enhanced(one, time=at, options=said(at)) for at, one in enumerate(frames())]
+    before = section() + interface(1)
+    kept = enhanced(ethernet(bytes(46), 0x0806)[:40], length=60)
+    yield "pcapng that ends in a frame", before + b"".join(blocks) + last[:68], before + b"".join(told) + kept, 1
+    yield "pcapng that ends in a head", before + b"".join(blocks) + last[:20], before + b"".join(told), 1
+    bad = block(0x0A0D0D0A, struct.pack("<I", 0x1A2B3C4D))[:4] + b"\xff\xff\xff\xff" + section()[8:]
+    yield "pcapng with a damaged section", bad + interface(1) + b"".join(blocks), before + b"".join(told), 1
 
 
-def complaints(scanner, capture, wanted):
+TOPICS = (from_damaged_files, from_pcap, from_pcap_with_lengths, from_modified_pcap, from_snoop, from_pcapng)
+
+
+def complaints(scanner, capture, wanted, status=0):
     """What is wrong with the capture that is written for one."""
     with tempfile.TemporaryDirectory() as folder:
         name, out = pathlib.Path(folder, "capture"), pathlib.Path(folder, "out.pcapng")
         name.write_bytes(capture)
         words = [PROGRAM, *GIVEN, "--scanner", scanner, "--comments", out, name]
         done = subprocess.run(words, capture_output=True, timeout=TIMEOUT)
-        if (done.returncode, done.stdout) != (0, b"") or b"2 comments, in 2 frames of " not in done.stderr:
+        if (done.returncode, done.stdout) != (status, b"") or b"2 comments, in 2 frames of " not in done.stderr:
             return [f"status {done.returncode}: {done.stdout} {done.stderr.decode()}"]
         octets = out.read_bytes()
         said = [] if octets == wanted else [f"got {octets.hex(' ', 4)}", f"wanted {wanted.hex(' ', 4)}"]
@@ -137,5 +151,5 @@ def tshark_complaints(out):
 def outcomes(scanner):
     """Names of tests, and what is wrong with each."""
     for topic in TOPICS:
-        for name, capture, wanted in topic():
-            yield f"comments in {name}", complaints(scanner, capture, wanted)
+        for name, *files in topic():
+            yield f"comments in {name}", complaints(scanner, *files)

@@ -14,7 +14,7 @@ from x25trace_lib.captures import Captures
 from x25trace_lib.live import Live
 from x25trace_lib.reading import Reading
 from x25trace_lib.source import Waiting
-from x25trace_lib.told import Ledger, Refusal
+from x25trace_lib.told import Ledger
 from x25trace_lib.trace import Trace
 from x25trace_lib.words import chosen, parsed
 
@@ -25,8 +25,11 @@ GIVEN = ["--mod", "8", "--win", "2", "--size", "128", "--pvc", "0", "--svc", "4"
 STREAMS = {"stdin": subprocess.PIPE, "stdout": subprocess.PIPE, "stderr": subprocess.PIPE}
 NUMBERS = re.compile(r"MOD (\d+) WIN (\d+) SIZE (\d+) PVC (\d+) (?:SVC (\d+)|IN (\d+) TWO (\d+) OUT (\d+))")
 OPTIONS = ("--mod", "--win", "--size", "--pvc", "--svc", "--in", "--two", "--out")
-HEAD = re.compile(r"X25 |# from |# estimated |# WIN |# SIZE |# connection |# \d+ packets are not of modulo |.* gets no channel")
-CHANNEL = "# connection 1 is channel 1: 192.0.2.1 port 1025 (T) and 192.0.2.2 port 1998 (N), logical channel 1 in the capture"
+HEAD = re.compile(
+    r"X25 |# from |# estimated |# WIN |# SIZE |# connection |# \d+ packets are not of modulo |.* gets no channel"
+)
+ENDS = "192.0.2.1 port 1025 (T) and 192.0.2.2 port 1998 (N)"
+CHANNEL = f"# connection 1 is channel 1: {ENDS}, logical channel 1 in the capture"
 
 
 def said_by(stream, many):
@@ -113,7 +116,8 @@ class Cases(unittest.TestCase):
         choices, wishes = chosen(parsed([*words, *given, "x"]))
         ledger, out = Ledger(), io.StringIO()
         reading = Reading(ledger, choices)
-        frames = Captures([str(HERE / "files" / f"{case.name}.{case.ending}")], choices.kinds, ledger, Waiting()).frames()
+        names = [str(HERE / "files" / f"{case.name}.{case.ending}")]
+        frames = Captures(names, choices.kinds, ledger, Waiting()).frames()
         trace = kind(ledger, reading, wishes, True)
         if kind is Trace:
             trace.gather(frames)

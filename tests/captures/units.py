@@ -91,10 +91,10 @@ class Comments(unittest.TestCase):
             "6 T 10010B0000", "# DTE, logical channel 1: call request, called -, calling -",
             "# 7 is of frame 6", "7 T 100104AA", "#! F 7 T p2 20: Invalid packet type for state p2: words",
             "9 T 100104AA", "#! F 9 T p2 20: Invalid packet type for state p2: other words",
-            "# Call 1, outgoing on logical channel 1: called -, calling -; opened by packet 6, never up, open at the end",
-            "# Call 2, incoming on logical channel 1: called -, calling -; opened by packet 7, never up, open at the end",
+            "# Call 1, outgoing on logical channel 1: called -, calling -; opened by packet 6, never up, open",
+            "# Call 2, incoming on logical channel 1: called -, calling -; opened by packet 7, never up, open",
         ]
-        call = "x25scan: Call {} on logical channel 1: called -, calling -; opened by packet {}, never up, open at the end"
+        call = "x25scan: Call {} on logical channel 1: called -, calling -; opened by packet {}, never up, open"
         self.assertEqual(dict(comments_of(f"{line}\n" for line in lines)), {
             6: ["x25scan: F 7 T p2 20: Invalid packet type for state p2: words", call.format("1, outgoing", 6),
                 call.format("2, incoming", 7)],

@@ -41,7 +41,7 @@ class Channels:
         self.taken, self.free = set(), []
 
     def give(self, circuit):
-        """Gives a circuit its channel, 1 to PVC for permanent ones, those behind for calls; returns whether one was left."""
+        """Gives a circuit its channel, 1 to PVC for permanent ones, those behind for calls; whether one was left."""
         places = self.permanent if circuit.permanent else self.calls[circuit.caller or Side.T]
         channel = places.fresh(self.taken) or places.again(self.free)
         if channel is not None:

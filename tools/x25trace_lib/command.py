@@ -1,5 +1,6 @@
 """What x25trace does with its command line: its streams, its signals and its exit status."""
 import errno
+import gc
 import os
 import pathlib
 import signal
@@ -116,6 +117,8 @@ def program(arguments):
         say("reading or writing failed: standard output is closed")
         return Status.FAILED
     waiting = Waiting()
+    # Nothing that is made for a frame refers to itself, so there is nothing to search for.
+    gc.disable()
     signal.signal(signal.SIGPIPE, signal.SIG_DFL)
     signal.signal(signal.SIGINT, waiting.interrupt)
     return main(arguments, waiting)

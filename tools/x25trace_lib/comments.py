@@ -95,15 +95,27 @@ def whole(order, kind, octets):
         # Sections become longer: -1 says that their length is not known.
         return body[:8] + b"\xff" * 8 + body[16:]
     if kind in (Block.ENHANCED, Block.PACKET) and len(body) >= OCTETS_AT:
-        kept = min(struct.unpack_from(order + "I", body, KEPT_AT)[0], len(body) - OCTETS_AT)
-        return body[:KEPT_AT] + struct.pack(order + "I", kept) + body[KEPT_AT + 4:]
+        kept, length = struct.unpack_from(order + "II", body, KEPT_AT)
+        there = len(body) - OCTETS_AT
+        if there < kept:
+            return body[:KEPT_AT] + struct.pack(order + "II", there, max(length, kept)) + body[OCTETS_AT:]
     return body
 
 
+def section(order):
+    return block(order, Block.SECTION, struct.pack(order + "IHHq", BYTE_ORDER_MAGIC, 1, 0, -1))
+
+
 def of_pcapng(form, comments):
-    """The blocks of a pcapng file."""
+    """The blocks of a pcapng file; before the first one a section's header, where that is damaged."""
+    begun = False
     for start, kind, octets in form.blocks():
         frame = form.frame_of(kind, start, form.body(octets))
+        if frame is None and len(octets) < form.word(octets, 4):
+            continue
+        if not begun and kind != Block.SECTION:
+            yield section(form.order)
+        begun = True
         texts = comments.get(frame.number, ()) if frame else ()
         body = whole(form.order, kind, octets)
         if texts:
@@ -121,7 +133,7 @@ def of_records(form, comments):
     options = option("<", TIME_RESOLUTION, bytes((decimals,)))
     if form.check:
         options += option("<", CHECK_LENGTH, bytes((8 * form.check,)))
-    yield block("<", Block.SECTION, struct.pack("<IHHq", BYTE_ORDER_MAGIC, 1, 0, -1))
+    yield section("<")
     yield block("<", Block.INTERFACE, struct.pack("<HHI", form.link, 0, form.snap) + options + END)
     for frame in form.frames():
         octets, length = form.recorded

@@ -236,10 +236,8 @@ def hidden(wishes, header, estimator):
         seen.append(f"SIZE {header.size}")
     if not seen:
         return None
-    return (
-        f"{' and '.join(seen)} {'are' if seen[1:] else 'is'} estimated, so data that broke a smaller value is not found: "
-        "give --win and --size where you know them"
-    )
+    estimates = f"{' and '.join(seen)} {'are' if len(seen) > 1 else 'is'} estimated"
+    return f"{estimates}, so data that broke a smaller value is not found: give --win and --size where you know them"
 
 
 def estimates(wishes, header, estimator):

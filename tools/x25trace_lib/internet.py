@@ -15,7 +15,11 @@ FRAGMENT_HEADER = 44
 # Extension headers whose second octet counts units of eight octets after the first eight.
 EXTENSIONS = frozenset((0, 43, 60, 135, 139, 140))
 AUTHENTICATION = 51
-TCP_HEADER = struct.Struct(">HHIIBB")
+# Version and header length, total length, identification, flags and offset, protocol, and the two addresses.
+IPV4_HEADER = struct.Struct(">BxHHHxBxx4s4s")
+MORE, PLACE = 0x2000, 0x1FFF
+# The two ports, sequence and acknowledgement number, header length and flags.
+TCP_HEADER = struct.Struct(">2s2sIIBB")
 SYN, FIN, RST, ACK = 2, 1, 4, 16
 
 
@@ -79,7 +83,7 @@ class Internet:
 
     def __init__(self, ledger, ports):
         self.ledger = ledger
-        self.ports = frozenset(ports)
+        self.ports = frozenset(port.to_bytes(2, "big") for port in ports)
         self.fragments = Fragments(ledger)
         self.strangers = Strangers()
 
@@ -107,18 +111,17 @@ class Internet:
         return self.bad(frame, f"its Internet header has version {version}")
 
     def version_4(self, frame, octets, at):
-        header = 4 * (octets[at] & 15)
-        total = octets[at + 2] << 8 | octets[at + 3] or frame.length - at
+        first, total, number, place, protocol, source, target = IPV4_HEADER.unpack_from(octets, at)
+        header = 4 * (first & 15)
+        total = total or frame.length - at
         if header < 20 or total < header:
             return self.bad(frame, f"its IPv4 header has length {header}, its packet {total}")
-        protocol, begin, end = octets[at + 9], at + header, at + total
-        ends = octets[at + 12:at + 16], octets[at + 16:at + 20]
-        place = (octets[at + 6] & 0x3F) << 8 | octets[at + 7]
-        if place:
-            identity = (protocol, *ends, octets[at + 4:at + 6])
-            return self.fragment(frame, identity, 8 * (place & 0x1FFF), begin, end, place < 0x2000)
+        begin, end = at + header, at + total
+        if place & (MORE | PLACE):
+            identity = (protocol, source, target, number)
+            return self.fragment(frame, identity, 8 * (place & PLACE), begin, end, not place & MORE)
         if protocol == TCP:
-            return self.tcp(frame, octets, begin, end, *ends)
+            return self.tcp(frame, octets, begin, end, source, target)
         return self.tunnel(frame, protocol, octets, begin, end)
 
     def version_6(self, frame, octets, at):
@@ -184,8 +187,8 @@ class Internet:
             return self.bad(frame, f"its TCP header has length {(size >> 4) * 4}")
         return Segment(
             frame.number,
-            source + octets[begin:begin + 2],
-            target + octets[begin + 2:begin + 4],
+            source + from_port,
+            target + to_port,
             sequence,
             acknowledged if flags & ACK else None,
             flags,

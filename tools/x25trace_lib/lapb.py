@@ -87,6 +87,7 @@ class Lapb:
     def __init__(self, ledger, modulus, side_by, swapped):
         self.ledger = ledger
         self.modulus = self.given = modulus
+        self.circle = modulus or 8
         self.side_by = side_by
         # Which side the recording host is: by what is said, or as the addresses of frames with a direction tell.
         by_direction = side_by is SideBy.DIRECTION
@@ -137,13 +138,12 @@ class Lapb:
             return self.supervisory(frame, octets, receive, final)
         send = control >> 1 if wide else control >> 1 & 7
         side = self.side(COMMAND_SIDES, octets[0], frame.direction)
-        before = self.acknowledge(frame.number, side.other, receive, True)
+        before = ()
+        if receive != self.ways[side.other].acknowledged:
+            before = self.acknowledge(frame.number, side.other, receive, True)
         packet = Packet(frame.number, self.named(side), None if cut else octets[3 if wide else 2:], None, frame.time)
-        return [*before, *self.information(side, send, packet)]
-
-    @property
-    def circle(self):
-        return self.modulus or 8
+        packets = self.information(side, send, packet)
+        return [*before, *packets] if before else packets
 
     def unnumbered(self, frame, address, kind):
         """A frame that sets up the link begins its numbers anew; each such frame is told."""
@@ -152,7 +152,7 @@ class Lapb:
         side = self.side(COMMAND_SIDES if kind in COMMANDS else RESPONSE_SIDES, address, frame.direction)
         self.ledger.tell(Topic.LINK_FRAME, f"frame {frame.number}: {NAMES[kind]} of {self.named(side).name}")
         if kind in (Unnumbered.SABM, Unnumbered.SABME) and self.given is None:
-            self.modulus = 8 if kind == Unnumbered.SABM else 128
+            self.modulus = self.circle = 8 if kind == Unnumbered.SABM else 128
         if kind in (Unnumbered.SABM, Unnumbered.SABME, Unnumbered.UA):
             for way in self.ways.values():
                 self.drop_held(way)
@@ -216,9 +216,10 @@ class Lapb:
             packets = self.catch_up(packet.frame, side, way, send)
         if way.next is None or send == way.next:
             # A held one with this number was not taken, so it came again; those behind it may have been.
-            self.ledger.left_out(Reason.UNTAKEN_FRAME, way.held.pop(send, None) is not None)
+            if way.held:
+                self.ledger.left_out(Reason.UNTAKEN_FRAME, way.held.pop(send, None) is not None)
             way.next = (send + 1) % self.circle
-            return [*packets, *self.given_out(packet)]
+            return [*packets, *self.given_out(packet)] if packets else self.given_out(packet)
         if self.repeats(way, send):
             self.ledger.left_out(Reason.REPEATED_FRAME)
         elif send not in way.held:

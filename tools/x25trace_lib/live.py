@@ -4,7 +4,7 @@ from .estimate import header_of
 from .packets import LONGEST, Type, channel_of
 from .reading import Carrier
 from .spool import LAST_NUMBER, Rows, comment, on_channel
-from .told import Reason, Refusal, Why
+from .told import Reason
 from .trace import LARGEST_TEXT
 
 
@@ -37,12 +37,12 @@ class Live:
             else:
                 self.write_row(packet)
         if self.carrier is None:
-            raise Refusal(Why.NO_PACKET, f"no packet of X.25 in {self.reading.frames} frames")
+            raise self.reading.no_packet()
         for words in self.ledger.lines():
             self.put(comment(words))
 
     def begin(self, carrier, packet, out):
-        """Writes the header. On a line a restart shows the beginning; with XOT other connections may be open already."""
+        """Writes the header. On a line a restart shows the beginning; with XOT other connections may be open."""
         self.carrier, self.out = carrier, out
         if self.wishes.join is None:
             octets = packet.octets

@@ -7,7 +7,7 @@ from .internet import Internet
 from .lapb import Lapb, SideBy, unframe
 from .links import KINDS, LINKS, Carried
 from .packets import Packet, Side
-from .told import Reason, Topic
+from .told import Reason, Refusal, Topic, Why
 from .xot import Xot
 
 XOT_PORT = 1998
@@ -64,6 +64,7 @@ class Reading:
     def packets(self, frames):
         """Pairs of a carrier and a packet."""
         wanted, only, openers = self.choices.interfaces, self.choices.only, self.openers
+        segment_of, take = self.internet.segment, self.xot.take
         for frame in frames:
             self.frames += 1
             if wanted and frame.interface not in wanted:
@@ -74,22 +75,29 @@ class Reading:
             carrier = CARRIERS.get(carried)
             if carrier is None:
                 self.not_carried(frame, carried)
-            elif only is not None and carrier is not only:
+                continue
+            if only is not None and carrier is not only:
                 self.ledger.left_out(Reason.OTHER_CARRIER)
+                continue
+            if carrier is Carrier.XOT:
+                segment = segment_of(frame, at)
+                packets = take(segment) if segment else ()
+            elif carrier is Carrier.LAPB:
+                packets = self.from_link(frame, carried, at)
             else:
-                for packet in self.carried_by(carrier, frame, carried, at):
-                    yield carrier, packet
+                packets = self.from_packet(frame, carried, at)
+            for packet in packets:
+                yield carrier, packet
         self.internet.end()
         for packet in self.xot.end():
             yield Carrier.XOT, packet
         self.lapb.end()
 
-    def carried_by(self, carrier, frame, carried, at):
-        """The packets that a frame completes."""
-        if carrier is Carrier.XOT:
-            segment = self.internet.segment(frame, at)
-            return self.xot.take(segment) if segment else ()
-        return self.from_link(frame, carried, at) if carrier is Carrier.LAPB else self.from_packet(frame, carried, at)
+    def no_packet(self):
+        """The refusal of a capture that has no packet."""
+        kinds = " and ".join(sorted(set(self.choices.kinds.values())))
+        hint = f", with frames read as {kinds}: another KIND of --as may be right" if kinds else ""
+        return Refusal(Why.NO_PACKET, f"no packet of X.25 in {self.frames} frames{hint}")
 
     def unknown(self, frame):
         """What a frame of an unknown link type holds."""

@@ -69,9 +69,10 @@ class Source:
 
     def read(self, many):
         """The next octets; fewer where the file ends."""
-        if len(self.ahead) - self.at < many:
-            self.fill(many)
         octets = self.ahead[self.at:self.at + many]
+        if len(octets) < many:
+            self.fill(many)
+            octets = self.ahead[:many]
         self.at += len(octets)
         return octets
 

@@ -20,7 +20,7 @@ def time_line(time):
 
 
 class Rows:
-    """Numbers rows: by their frames, or on from the row before where that number was had, or where frames are too many."""
+    """Numbers rows: by their frames, or on from the row before where a number was had, or frames are too many."""
 
     def __init__(self, by_frames=True):
         self.by_frames = by_frames
@@ -74,25 +74,31 @@ class Spool:
         return self.number <= self.last_number
 
     def replay(self, circuits):
-        """The lines of the trace behind its header."""
+        """The text of the trace behind its header, in parts."""
         self.write()
         self.file.seek(0)
-        row = Rows(self.by_frames).row
+        row, channels, lines = Rows(self.by_frames).row, {"0": None}, []
         for line in self.file:
             if line[0] == "#":
-                yield line
+                lines.append(line)
                 continue
             key, frame, words = line.split(" ", 2)
-            which, _, time = key.partition("@")
-            if which != "0":
+            which, _, time = key.partition("@") if self.times else (key, "", "")
+            if which not in channels:
                 circuit = circuits[int(which) - 1]
-                if circuit.channel is None:
+                channels[which] = circuit.channel
+                if circuit.channel is not None:
+                    lines.append(comment(circuit.shown_words()))
+            if which != "0":
+                channel = channels[which]
+                if channel is None:
                     continue
-                if not circuit.shown:
-                    circuit.shown = True
-                    yield comment(circuit.shown_words())
-                words = on_channel(words, circuit.channel)
-            yield row(int(frame), words, int(time) if time else None)
+                words = on_channel(words, channel)
+            lines.append(row(int(frame), words, int(time) if time else None))
+            if len(lines) > self.MOST_LINES:
+                yield "".join(lines)
+                lines.clear()
+        yield "".join(lines)
 
     def close(self):
         self.file.close()

@@ -27,7 +27,7 @@ def weight(payload):
 
 
 class Strangers:
-    """The pairs of ports between which segments look like XOT."""
+    """The pairs of ports, in octets, between which segments look like XOT."""
 
     def __init__(self):
         self.weights, self.segments = Counter(), Counter()
@@ -36,7 +36,7 @@ class Strangers:
 
     def see(self, one, other, payload):
         many = weight(payload)
-        pair = (min(one, other), max(one, other))
+        pair = tuple(sorted((one, other)))
         if many and (pair in self.weights or len(self.weights) < MOST_PAIRS):
             self.weights[pair] += many
             self.segments[pair] += 1
@@ -53,5 +53,5 @@ class Strangers:
             port = min(weights, key=lambda one: (-weights[one], one not in self.servers, one))
             if weights[port] < ENOUGH:
                 return
-            yield port, segments[port]
+            yield int.from_bytes(port, "big"), segments[port]
             left = {pair: many for pair, many in left.items() if port not in pair}

@@ -99,20 +99,14 @@ class Connection:
         segment.sequence = (segment.sequence + 1) % CIRCLE
 
     def takes(self, index, segment):
-        """Takes a segment that simply follows, as most do: nothing waits, and its octets come next; else it is fed."""
-        stream, acknowledged = self.streams[index], segment.acknowledged
-        if (
-            segment.sequence != stream.next
-            or self.cost
-            or segment.flags & ENDS
-            or segment.missing
-            or not segment.payload
-            or acknowledged is None
-            or not self.answers(index, segment)
-        ):
+        """Takes a segment of octets that simply follows all that both sides sent, as most do; others are to be fed."""
+        stream, other, payload = self.streams[index], self.streams[1 - index], segment.payload
+        if segment.sequence != stream.next or segment.acknowledged != other.next or not payload:
             return False
-        self.streams[1 - index].acknowledged = acknowledged
-        stream.next = (stream.next + len(segment.payload)) % CIRCLE
+        if self.cost or segment.flags & ENDS or segment.missing:
+            return False
+        other.acknowledged = segment.acknowledged
+        stream.next = (stream.next + len(payload)) % CIRCLE
         return True
 
     def feed(self, index, segment):

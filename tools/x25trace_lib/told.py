@@ -118,7 +118,7 @@ class Ledger:
         if self.told[topic] <= self.MOST_SAID:
             self.say(words)
         elif self.told[topic] == self.MOST_SAID + 1:
-            self.say("more messages like the last one follow; they are comments of the trace only")
+            self.say("more messages like the last one are not shown; a trace has them as comments")
 
     def damaged(self, reason, words, many=1):
         """Counts a damage and tells it."""

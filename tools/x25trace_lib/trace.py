@@ -49,7 +49,7 @@ class Trace:
     def header(self):
         """The header; XOT circuits get their channels by it."""
         if not self.carriers:
-            raise Refusal(Why.NO_PACKET, f"no packet of X.25 in {self.reading.frames} frames")
+            raise self.reading.no_packet()
         if len(self.carriers) > 1:
             words = " and ".join(f"{many} packets in {carrier.value}" for carrier, many in self.carriers.items())
             raise Refusal(Why.MIXED, f"{words}; a trace is of one interface: --only tells which")
@@ -66,8 +66,8 @@ class Trace:
         assign(used, header, self.ledger)
         return header
 
-    def lines(self, name):
-        """The lines of the trace."""
+    def parts(self, name):
+        """The text of the trace, in parts."""
         header = self.header()
         yield comment(f"from {name} by x25trace, {self.reading.frames} frames; a row has the number of its frame")
         guesses = estimates(self.wishes, header, self.estimator)
@@ -94,9 +94,9 @@ class Trace:
     def write(self, name, out):
         """Writes the trace; returns how many bytes it has."""
         size = 0
-        for line in self.lines(name):
-            size += len(line)
-            out.write(line)
+        for part in self.parts(name):
+            size += len(part)
+            out.write(part)
         if size > LARGEST_TEXT:
             words = f"the trace has {size} bytes, and x25scan reads {LARGEST_TEXT}: split the capture"
             self.ledger.damaged(Reason.LARGE_TEXT, words)

@@ -105,8 +105,8 @@ def parser():
     words.add_argument("--times", action="store_true",
                        help="a comment '#@ SECONDS' before each row: the time of its frame, since 1970 (UTC)")
     words.add_argument("--comments", metavar="OUT",
-                       help="instead of the trace write the capture again, to this pcapng file, with what x25scan finds "
-                       "as comments of its frames")
+                       help="instead of the trace write the capture again, to this pcapng file, with what x25scan "
+                       "finds as comments of its frames")
     words.add_argument("--scanner", metavar="PROGRAM",
                        help="the x25scan of --comments, else bin/x25scan beside this program")
     reading_words(words.add_argument_group("reading"))

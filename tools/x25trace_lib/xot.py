@@ -40,12 +40,13 @@ class Circuit:
     last_row: int = 0
     channel: int | None = None
     again: bool = False
-    shown: bool = False
     rests: list = field(default_factory=lambda: [b"", b""])
     synchronised: list = field(default_factory=lambda: [True, True])
     has_gaps: bool = False
     # Whether a gap comes before the next packet.
     misses: bool = False
+    # Whether its packets are left out from here on: where it broke, and where its connection ended.
+    left: bool = False
     broken: bool = False
     ended: bool = False
 
@@ -139,6 +140,8 @@ class Xot:
                 self.ledger.left_out(Reason.NO_OCTETS)
                 return ()
             connection, index, circuit = self.open(segment, False)
+        if not circuit.left and connection.takes(index, segment):
+            return self.packets(circuit, Chunk(index, segment.frame, segment.payload, segment.time))
         return self.feed(connection, index, circuit, segment)
 
     def begin(self, connection, circuit, segment):
@@ -176,11 +179,9 @@ class Xot:
         return circuit
 
     def feed(self, connection, index, circuit, segment):
-        if circuit.ended or circuit.broken:
+        if circuit.left:
             self.pass_over(connection, index, segment)
             events = ()
-        elif connection.takes(index, segment):
-            return self.packets(circuit, Chunk(index, segment.frame, segment.payload, segment.time))
         else:
             events = connection.feed(index, segment)
         if segment.flags & RST or connection.over:
@@ -229,7 +230,7 @@ class Xot:
         if circuit.ended:
             return
         yield from self.close(connection, circuit)
-        circuit.ended = True
+        circuit.left = circuit.ended = True
         words = circuit.end_words()
         if words and not circuit.broken:
             self.ledger.tell(Topic.CONNECTION, f"frame {frame}: connection {circuit.number}: {words}")
@@ -313,7 +314,7 @@ class Xot:
             self.ledger.left_out(Reason.UNSYNCHRONISED)
             self.ledger.damaged(Reason.PASSED_OCTETS, f"{words}; {many} octets are passed over", many)
             return
-        circuit.broken = True
+        circuit.left = circuit.broken = True
         self.ledger.damaged(Reason.NOT_XOT, f"{words}; it is left out from here on")
 
     def packet(self, circuit, chunk, side, octets):
