@@ -2,7 +2,7 @@ use Rattle.std.proofs.Common.{◌≡◌, ◌∙◌, ap, refl, subst, sym, true, 
 use Rattle.clap.specs.Words.{HasKind, app_of, fault_of, found_of, first_value, is_simple, is_simple_and_free, matches_of, first_of}
 use Rattle.clap.proofs.OnLiterals.{clap_on_literals}
 use Rattle.clap.proofs.WalkLemmas.{first_value-rows}
-use Rattle.command_options.specs.Options.{HasWorkers, annotation_by, command, is_given, named_by}
+use Rattle.command_options.specs.Options.{annotation_by, command, is_given, named_by}
 use Rattle.command_options.proofs.options.parse.Goals as goal
 use Rattle.command_options.proofs.options.parse.Goals.{Joined-matches}
 
@@ -33,7 +33,7 @@ value_of c id =
     ∙ ap (first_of id) (rows ∙ ap (λ app. matches_of app (map (λ word. word.now) c.args.words.now)) told)
 
 pub returns-in-Ok-clause-workers : goal.returns-in-Ok-clause-workers
-returns-in-Ok-clause-workers c = subst (λ asked. HasWorkers asked _) (value_of c (codes "workers")) c.options_in.ensures.workers
+returns-in-Ok-clause-workers c = λ text n asked is. c.options_in.ensures.workers text n (value_of c (codes "workers") ∙ asked) is
 
 pub returns-in-Ok-clause-alone : goal.returns-in-Ok-clause-alone
 returns-in-Ok-clause-alone c = c.options_in.ensures.alone ∙ ap is_given (value_of c (codes "alone"))
