@@ -1,5 +1,5 @@
 -- Annotations that grow line by line.
-use Rattle.std.proofs.Common.{◌≡◌, ◌∙◌, sym, ap, subst, refl, ℕ, ◌+◌, ◌-◌, ◌≤◌, List, [], ◌∷◌, ◌++◌, length, take, Option, Some, None, arith, append_assoc, append-nil, inl, inr}
+use Rattle.std.proofs.Common.{◌≡◌, ◌∙◌, sym, ap, subst, refl, ℕ, ◌+◌, ◌-◌, ◌≤◌, Bool, true, false, List, [], ◌∷◌, ◌++◌, length, take, Option, Some, None, arith, append_assoc, append-nil}
 use Rattle.std.specs.List.{AllByRecursion}
 use Rattle.std.specs.Option.{option_or}
 use Rattle.std.proofs.lemmas.Grind.{flat_map-append}
@@ -15,27 +15,30 @@ use Rattle.line_model.proofs.TextLemmas.{begun-lf, begun-more, ended-lf, ended-m
 use Rattle.trace_text.proofs.FeedLemmas.{early-none, no_fault, size-sound}
 use Rattle.trace_text.proofs.RefusalLemmas.{more_lines}
 use Rattle.trace_text.specs.Watched.{found_in}
-use Rattle.annotated_trace.specs.Annotation.{Annotated, AreComments, AreMarked, IsAnnotationOf, IsMarked, IsOneLine, all_lines, bare_lines, marks_in, with_comments}
+use Rattle.annotated_trace.specs.Annotation.{Annotated, AreComments, AreMarked, IsAnnotationOf, IsMarked, IsMarkedWhere, IsOneLine, all_lines, bare_lines, with_comments}
 use Rattle.annotated_trace.specs.Annotators.{HasAnnotated, HasFirst}
-use Rattle.annotated_trace.specs.Marking.{AreMarksBehind, HasCommentsOf}
-use Rattle.annotated_trace.specs.declared.choice.Choice.{Choice}
-use Rattle.annotated_trace.specs.declared.choice.Choice.TheVariants.{EveryRow, ChosenRows}
+use Rattle.annotated_trace.specs.Marking.{HasRightComments, HaveMarksOf, IsToldRightly}
+use Rattle.annotated_trace.specs.declared.rows.Rows.{Rows}
+use Rattle.annotated_trace.specs.declared.rows.Rows.TheVariants.{All, Chosen}
 use Rattle.annotated_trace.proofs.LinesOfText.{text_append}
 
 -- ---- one more line
 
-pub nothing_annotated : (choice : Choice) → IsAnnotationOf choice [] []
+pub nothing_annotated : (choice : Rows) → IsAnnotationOf choice [] []
 nothing_annotated choice = record { annotated = []; bare = refl; written = refl; comments = tt; marked = tt }
 
-marked_behind : (choice : Choice) (before : List Line) (xs : List Annotated) (a : Annotated) → AreMarked choice before xs → IsMarked choice (before ++ bare_lines xs) a → AreMarked choice before (xs ++ a ∷ [])
+marked_behind : (choice : Rows) (before : List Line) (xs : List Annotated) (a : Annotated) → AreMarked choice before xs → IsMarked choice (before ++ bare_lines xs) a → AreMarked choice before (xs ++ a ∷ [])
 marked_behind choice before [] a h k = (subst (λ b. IsMarked choice b a) (append-nil before) k, tt)
 marked_behind choice before (x ∷ xs) a h k =
     (h.0, marked_behind choice (before ++ x.line ∷ []) xs a h.1 (subst (λ b. IsMarked choice b a) (sym (append_assoc before (x.line ∷ []) (bare_lines xs))) k))
 
-mark_line_of : (choice : Choice) (ls : List Line) (a : Annotated) (findings : List Finding) → found_in (ls ++ a.line ∷ []) ≡ found_in ls ++ findings → AreMarksBehind choice findings (marks_in a.comments) → IsMarked choice ls a
-mark_line_of EveryRow ls a findings came marks = record { findings = findings; came = came; marks = marks }
-mark_line_of ChosenRows ls a findings came (inl none) = inl none
-mark_line_of ChosenRows ls a findings came (inr marks) = inr (record { findings = findings; came = came; marks = marks })
+marked_where : (channel call : Option ℕ) (told : Bool) (ls : List Line) (a : Annotated) (findings : List Finding) → found_in (ls ++ a.line ∷ []) ≡ found_in ls ++ findings → HaveMarksOf (Chosen channel call) told findings a.comments → IsMarkedWhere told ls a
+marked_where channel call true ls a findings came marks = record { findings = findings; came = came; marks = marks }
+marked_where channel call false ls a findings came none = none
+
+mark_line_of : (choice : Rows) (told : Bool) (ls : List Line) (a : Annotated) (findings : List Finding) → IsToldRightly choice ls a.line told → found_in (ls ++ a.line ∷ []) ≡ found_in ls ++ findings → HaveMarksOf choice told findings a.comments → IsMarked choice ls a
+mark_line_of All told ls a findings right came marks = record { findings = findings; came = came; marks = marks }
+mark_line_of (Chosen channel call) told ls a findings right came marks = subst (λ b. IsMarkedWhere b ls a) right (marked_where channel call told ls a findings came marks)
 
 all_behind : (xs : List Annotated) (a : Annotated) → AllByRecursion (λ x. AreComments x.comments) xs → AreComments a.comments → AllByRecursion (λ x. AreComments x.comments) (xs ++ a ∷ [])
 all_behind [] a h k = (k, tt)
@@ -46,16 +49,16 @@ last_written xs a =
     ap text (flat_map-append with_comments xs (a ∷ [])) ∙ text_append (all_lines xs) (all_lines (a ∷ []))
     ∙ ap (λ ls. text (all_lines xs) ++ text ls) (append-nil (with_comments a)) ∙ ap (λ bytes. text (all_lines xs) ++ bytes) (sym (append_assoc a.line (10 ∷ []) (text a.comments)))
 
-pub more_annotated : (choice : Choice) (ls : List Line) (l : Line) (comments : List Line) (findings : List Finding) (bytes : List ℕ) → IsAnnotationOf choice ls bytes → AreComments comments → AreMarksBehind choice findings (marks_in comments)
+pub more_annotated : (choice : Rows) (told : Bool) (ls : List Line) (l : Line) (comments : List Line) (findings : List Finding) (bytes : List ℕ) → IsAnnotationOf choice ls bytes → AreComments comments → IsToldRightly choice ls l told → HaveMarksOf choice told findings comments
     → found_in (ls ++ l ∷ []) ≡ found_in ls ++ findings → IsAnnotationOf choice (ls ++ l ∷ []) (bytes ++ ((l ++ 10 ∷ []) ++ text comments))
-more_annotated choice ls l comments findings bytes h cs marks came =
+more_annotated choice told ls l comments findings bytes h cs right marks came =
     let a : Annotated = record { line = l; comments = comments } in
     record {
       annotated = h.annotated ++ a ∷ [];
       bare = map-append (λ (x : Annotated). x.line) h.annotated (a ∷ []) ∙ ap (λ xs. xs ++ l ∷ []) h.bare;
       written = ap (λ xs. xs ++ ((l ++ 10 ∷ []) ++ text comments)) h.written ∙ sym (last_written h.annotated a);
       comments = all_behind h.annotated a h.comments cs;
-      marked = marked_behind choice [] h.annotated a h.marked (subst (λ b. IsMarked choice b a) (sym h.bare) (mark_line_of choice ls a findings came marks));
+      marked = marked_behind choice [] h.annotated a h.marked (subst (λ b. IsMarked choice b a) (sym h.bare) (mark_line_of choice told ls a findings right came marks));
     }
 
 -- ---- a line that ends
@@ -71,13 +74,14 @@ regroup : (sent held begun front more : List ℕ) → sent ++ (((held ++ begun) 
 regroup sent held begun front more = simp append_assoc
 
 -- what was held, and now with a line and the comments behind it
-pub line_annotated : (choice : Choice) (x front end begun sent held line now : List ℕ) (findings : List Finding) → end ≡ front ++ 10 ∷ [] → IsOneLine front → begun ≡ begun_line x → IsAnnotationOf choice (ended_lines x) (sent ++ held)
-    → found_in (ended_lines (x ++ end)) ≡ found_in (ended_lines x) ++ findings → line ≡ (held ++ begun) ++ end → HasCommentsOf choice findings line now → IsAnnotationOf choice (ended_lines (x ++ end)) (sent ++ now)
-line_annotated choice x front end begun sent held line now findings e one b h came put c =
+pub line_annotated : (choice : Rows) (x front end begun sent held line now : List ℕ) (findings : List Finding) → end ≡ front ++ 10 ∷ [] → IsOneLine front → begun ≡ begun_line x → IsAnnotationOf choice (ended_lines x) (sent ++ held)
+    → found_in (ended_lines (x ++ end)) ≡ found_in (ended_lines x) ++ findings → line ≡ (held ++ begun) ++ end → HasRightComments choice (ended_lines x) (begun_line x ++ front) findings line now → IsAnnotationOf choice (ended_lines (x ++ end)) (sent ++ now)
+line_annotated choice x front end begun sent held line now findings e one b h came put told =
+    let c = told.2 in
     let lines : ended_lines (x ++ end) ≡ ended_lines x ++ (begun_line x ++ front) ∷ [] = ap (λ xs. ended_lines (x ++ xs)) e ∙ line_ends x front one in
     let all : sent ++ now ≡ (sent ++ held) ++ (((begun_line x ++ front) ++ 10 ∷ []) ++ text c.behind) =
     ap (λ xs. sent ++ xs) (c.written ∙ ap (λ xs. xs ++ text c.behind) (put ∙ ap (λ xs. (held ++ xs) ++ end) b ∙ ap (λ xs. (held ++ begun_line x) ++ xs) e)) ∙ regroup sent held (begun_line x) front (text c.behind) in
-    let more = more_annotated choice (ended_lines x) (begun_line x ++ front) c.behind findings (sent ++ held) h c.comments c.marks (ap found_in (sym lines) ∙ came) in
+    let more = more_annotated choice told.0 (ended_lines x) (begun_line x ++ front) c.behind findings (sent ++ held) h c.comments told.1 c.marks (ap found_in (sym lines) ∙ came) in
     subst (λ ls. IsAnnotationOf choice ls (sent ++ now)) (sym lines) (subst (IsAnnotationOf choice (ended_lines x ++ (begun_line x ++ front) ∷ [])) (sym all) more)
 
 -- ---- where a line is faulty
@@ -146,7 +150,7 @@ before_begun x more at sound one h = lines_before x more at (fault_begun x more 
 
 -- ---- a first part
 
-pub first_of : (choice : Choice) (before taken : Option (List ℕ)) (held x more : List ℕ) → HasAnnotated choice before taken held (ended_lines x) → HasFirst choice before taken (ended_lines (x ++ more))
+pub first_of : (choice : Rows) (before taken : Option (List ℕ)) (held x more : List ℕ) → HasAnnotated choice before taken held (ended_lines x) → HasFirst choice before taken (ended_lines (x ++ more))
 first_of choice before taken held x more h =
     let lines = more_lines x more in
     record { done = ended_lines x; others = lines.0; lines = lines.1; left = held; annotated = h }

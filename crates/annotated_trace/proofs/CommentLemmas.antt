@@ -1,13 +1,13 @@
 -- The comments behind a line.
-use Rattle.std.proofs.Common.{◌≡◌, ◌∙◌, sym, ap, subst, refl, ℕ, List, [], ◌++◌, Result, Ok, Err, OnOk, OnErr, IfErr, append_assoc, append-nil, inl, inr}
+use Rattle.std.proofs.Common.{◌≡◌, ◌∙◌, sym, ap, subst, refl, ℕ, true, false, List, [], ◌++◌, Option, Result, Ok, Err, OnOk, OnErr, IfErr, append_assoc, append-nil}
 use Rattle.line_model.specs.text.Text.{Line}
 use Rattle.line_model.specs.traces.Traces.{text}
 use Rattle.line_model.specs.declared.finding.Finding.{Finding}
 use Rattle.annotated_trace.specs.Annotation.{AreMarksOf, marks_in}
-use Rattle.annotated_trace.specs.Marking.{AreMarksBehind, HasCommentsOf, HasMarksOf}
+use Rattle.annotated_trace.specs.Marking.{HasCommentsOf, HasMarksOf, HaveMarksOf}
 use Rattle.annotated_trace.specs.Wording.{AreNotes}
-use Rattle.annotated_trace.specs.declared.choice.Choice.{Choice}
-use Rattle.annotated_trace.specs.declared.choice.Choice.TheVariants.{EveryRow, ChosenRows}
+use Rattle.annotated_trace.specs.declared.rows.Rows.{Rows}
+use Rattle.annotated_trace.specs.declared.rows.Rows.TheVariants.{All, Chosen}
 use Rattle.annotated_trace.proofs.LinesOfText.{text_append}
 use Rattle.annotated_trace.proofs.MarkLemmas.{marks_in-append}
 use Rattle.annotated_trace.proofs.MarkingLemmas.{both_comments}
@@ -17,30 +17,30 @@ pub always : {T E : Type 0} (r : Result T E) (P : Type 0) → P → OnOk r P
 always (Ok x) P h = h
 always (Err e) P h = tt
 
-behind_of : (choice : Choice) (findings : List Finding) (marks : List Line) → AreMarksOf findings marks → AreMarksBehind choice findings marks
-behind_of EveryRow findings marks h = h
-behind_of ChosenRows findings marks h = inr h
+behind_of : (choice : Rows) (findings : List Finding) (behind : List Line) → AreMarksOf findings (marks_in behind) → HaveMarksOf choice true findings behind
+behind_of All findings behind h = h
+behind_of (Chosen channel call) findings behind h = h
 
-pub marks_alone : (choice : Choice) (findings : List Finding) (before after : List ℕ) → HasMarksOf findings before after → HasCommentsOf choice findings before after
-marks_alone choice findings before after h = record {
+pub marks_alone : (findings : List Finding) (before after : List ℕ) → HasMarksOf findings before after → HasCommentsOf All false findings before after
+marks_alone findings before after h = record {
   behind = h.marks;
   written = h.written;
   comments = h.comments;
-  marks = behind_of choice findings (marks_in h.marks) (subst (AreMarksOf findings) (sym h.all) h.marks_are);
+  marks = subst (AreMarksOf findings) (sym h.all) h.marks_are;
 }
 
-pub notes_and_marks : (choice : Choice) (findings : List Finding) (before mid after : List ℕ) (notes : List Line) → mid ≡ before ++ text notes → AreNotes notes → HasMarksOf findings mid after → HasCommentsOf choice findings before after
+pub notes_and_marks : (choice : Rows) (findings : List Finding) (before mid after : List ℕ) (notes : List Line) → mid ≡ before ++ text notes → AreNotes notes → HasMarksOf findings mid after → HasCommentsOf choice true findings before after
 notes_and_marks choice findings before mid after notes e n h =
     let all : marks_in (notes ++ h.marks) ≡ h.marks = marks_in-append notes h.marks ∙ ap (λ xs. xs ++ marks_in h.marks) (notes_mark_nothing notes n) ∙ h.all in
     record {
       behind = notes ++ h.marks;
       written = h.written ∙ ap (λ xs. xs ++ text h.marks) e ∙ append_assoc before (text notes) (text h.marks) ∙ ap (λ xs. before ++ xs) (sym (text_append notes h.marks));
       comments = both_comments notes h.marks (notes_are_comments notes n) h.comments;
-      marks = behind_of choice findings (marks_in (notes ++ h.marks)) (subst (AreMarksOf findings) (sym all) h.marks_are);
+      marks = behind_of choice findings (notes ++ h.marks) (subst (AreMarksOf findings) (sym all) h.marks_are);
     }
 
-pub left_out : (findings : List Finding) (out : List ℕ) → HasCommentsOf ChosenRows findings out out
-left_out findings out = record { behind = []; written = sym (append-nil out); comments = tt; marks = inl refl }
+pub left_out : (channel call : Option ℕ) (findings : List Finding) (out : List ℕ) → HasCommentsOf (Chosen channel call) false findings out out
+left_out channel call findings out = record { behind = []; written = sym (append-nil out); comments = tt; marks = refl }
 
 pub part_err : {T E : Type 0} (r : Result T E) (P Q : Type 0) → OnErr r P → (P → Q) → IfErr r (λ e. Q)
 part_err (Ok x) P Q h k = tt

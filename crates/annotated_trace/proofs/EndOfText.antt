@@ -23,7 +23,7 @@ use Rattle.annotated_trace.specs.Annotators.{HasAnnotated, HasFirstOf, IsAnnotat
 use Rattle.annotated_trace.specs.Marking.{HasClosing, HasFirstOfClosing, StopsClosing}
 use Rattle.trace_text.specs.StandsFor.{IsFaultOf}
 use Rattle.trace_text.specs.Watched.{IsReportOf}
-use Rattle.annotated_trace.specs.declared.choice.Choice.{Choice}
+use Rattle.annotated_trace.specs.declared.rows.Rows.{Rows}
 use Rattle.trace_text.proofs.EndLemmas.{one_line, one_kind, fault-last, head-sound, rows-all}
 use Rattle.annotated_trace.proofs.AnnotatedLemmas.{some_same}
 use Rattle.annotated_trace.proofs.PassedLemmas.{sent_all}
@@ -141,7 +141,7 @@ no_last : (x : List ℕ) → begun_line x ≡ [] → lines_of x ≡ ended_lines 
 no_last x h = ap (λ b. ended_lines x ++ line_or_none b) h ∙ append-nil (ended_lines x)
 
 -- comments behind the lines
-closed : (choice : Choice) (x front rest : List ℕ) (closing : List Line) → begun_line x ≡ [] → IsAnnotationOf choice (ended_lines x) front → rest ≡ text closing → AreComments closing → marks_in closing ≡ [] → IsAnnotation choice x (front ++ rest)
+closed : (choice : Rows) (x front rest : List ℕ) (closing : List Line) → begun_line x ≡ [] → IsAnnotationOf choice (ended_lines x) front → rest ≡ text closing → AreComments closing → marks_in closing ≡ [] → IsAnnotation choice x (front ++ rest)
 closed choice x front rest closing none lines written comments unmarked = record {
   front = front;
   closing = closing;
@@ -155,7 +155,7 @@ closed choice x front rest closing none lines written comments unmarked = record
 behind : (before taken after : Option (List ℕ)) (sent more : List ℕ) → taken ≡ with_more before sent → after ≡ with_more taken more → after ≡ with_more before (sent ++ more)
 behind before taken after sent more t a = a ∙ ap (λ o. with_more o more) t ∙ with_more-append before sent more
 
-pub all_annotated : (choice : Choice) (x : List ℕ) (before taken after : Option (List ℕ)) (r : Report) (sums : Summary) → begun_line x ≡ [] → HasAnnotated choice before taken [] (ended_lines x) → HasClosing taken after → IsReportOf x r
+pub all_annotated : (choice : Rows) (x : List ℕ) (before taken after : Option (List ℕ)) (r : Report) (sums : Summary) → begun_line x ≡ [] → HasAnnotated choice before taken [] (ended_lines x) → HasClosing taken after → IsReportOf x r
     → sums ≡ r.summary → IsAnnotated choice x before after sums
 all_annotated choice x before taken after r sums none h c told s = record {
   sound = told.sound;
@@ -165,7 +165,7 @@ all_annotated choice x before taken after r sums none h c told s = record {
   counted = s ∙ sums_of x r told;
 }
 
-pub first_annotated : (choice : Choice) (x : List ℕ) (before taken after : Option (List ℕ)) → begun_line x ≡ [] → HasAnnotated choice before taken [] (ended_lines x) → HasFirstOfClosing taken after → HasFirstOf choice x before after
+pub first_annotated : (choice : Rows) (x : List ℕ) (before taken after : Option (List ℕ)) → begun_line x ≡ [] → HasAnnotated choice before taken [] (ended_lines x) → HasFirstOfClosing taken after → HasFirstOf choice x before after
 first_annotated choice x before taken after none h c = record {
   front = h.sent ++ c.front;
   left = c.left;
@@ -175,7 +175,7 @@ first_annotated choice x before taken after none h c = record {
 }
 
 -- the sink failed before the comments behind all lines
-pub part_annotated : (choice : Choice) (x : List ℕ) (before taken after : Option (List ℕ)) (held front left : List ℕ) → begun_line x ≡ [] → HasAnnotated choice before taken held (ended_lines x) → held ≡ front ++ left → after ≡ with_more taken front → HasFirstOf choice x before after
+pub part_annotated : (choice : Rows) (x : List ℕ) (before taken after : Option (List ℕ)) (held front left : List ℕ) → begun_line x ≡ [] → HasAnnotated choice before taken held (ended_lines x) → held ≡ front ++ left → after ≡ with_more taken front → HasFirstOf choice x before after
 part_annotated choice x before taken after held front left none h split t = record {
   front = h.sent ++ front;
   left = left;
@@ -185,7 +185,7 @@ part_annotated choice x before taken after held front left none h split t = reco
 
 -- ---- of the text without the LF
 
-same_annotation : (choice : Choice) (x bytes : List ℕ) → 0 < length (begun_line x) → IsAnnotation choice (x ++ 10 ∷ []) bytes → IsAnnotation choice x bytes
+same_annotation : (choice : Rows) (x bytes : List ℕ) → 0 < length (begun_line x) → IsAnnotation choice (x ++ 10 ∷ []) bytes → IsAnnotation choice x bytes
 same_annotation choice x bytes some a = record {
   front = a.front;
   closing = a.closing;
@@ -203,24 +203,24 @@ same_sums x some h k =
     ap (λ o. elim o as (λ _. Summary) [ None ↦ no_summary | Some i ↦ (report_of i (rows y)).summary ]) header ∙ ap (λ l. elim (head x) as (λ _. Summary) [ None ↦ no_summary | Some i ↦ (report_of i l).summary ]) rs
 
 -- the lines that were held and the closing comments
-pub all_closed : (choice : Choice) (x : List ℕ) (before taken after : Option (List ℕ)) (held : List ℕ) (r : Report) (result : Result Summary Fault) → begun_line x ≡ [] → HasAnnotated choice before taken held (ended_lines x) → IsReportOf x r → OnOk result (HasClosing (with_more taken held) after)
+pub all_closed : (choice : Rows) (x : List ℕ) (before taken after : Option (List ℕ)) (held : List ℕ) (r : Report) (result : Result Summary Fault) → begun_line x ≡ [] → HasAnnotated choice before taken held (ended_lines x) → IsReportOf x r → OnOk result (HasClosing (with_more taken held) after)
     → IfOk result (λ sums. sums ≡ r.summary) → IfOk result (IsAnnotated choice x before after)
 all_closed choice x before taken after held r (Ok sums) none h told closing same =
     all_annotated choice x before (with_more taken held) after r sums none (sent_all choice before taken (with_more taken held) held (ended_lines x) h refl) closing told same
 all_closed choice x before taken after held r (Err f) none h told closing same = tt
 
 -- a first part of them
-pub first_closed : (choice : Choice) (x : List ℕ) (before taken after : Option (List ℕ)) (held : List ℕ) → begun_line x ≡ [] → HasAnnotated choice before taken held (ended_lines x) → StopsClosing held taken after → HasFirstOf choice x before after
+pub first_closed : (choice : Rows) (x : List ℕ) (before taken after : Option (List ℕ)) (held : List ℕ) → begun_line x ≡ [] → HasAnnotated choice before taken held (ended_lines x) → StopsClosing held taken after → HasFirstOf choice x before after
 first_closed choice x before taken after held none h (inl p) = part_annotated choice x before taken after held p.front p.left none h p.whole p.taken
 first_closed choice x before taken after held none h (inr p) =
     first_annotated choice x before (with_more taken held) after none (sent_all choice before taken (with_more taken held) held (ended_lines x) h refl) p
 
-pub same_annotated : (choice : Choice) (x : List ℕ) (before after : Option (List ℕ)) (sums : Summary) → 0 < length (begun_line x) → fault (x ++ 10 ∷ []) ≡ fault x → IsAnnotated choice (x ++ 10 ∷ []) before after sums → IsAnnotated choice x before after sums
+pub same_annotated : (choice : Rows) (x : List ℕ) (before after : Option (List ℕ)) (sums : Summary) → 0 < length (begun_line x) → fault (x ++ 10 ∷ []) ≡ fault x → IsAnnotated choice (x ++ 10 ∷ []) before after sums → IsAnnotated choice x before after sums
 same_annotated choice x before after sums some e a =
     let sound : fault x ≡ None = sym e ∙ a.sound in
     record { sound = sound; bytes = a.bytes; taken = a.taken; annotation = same_annotation choice x a.bytes some a.annotation; counted = a.counted ∙ same_sums x some sound a.sound }
 
-pub same_first : (choice : Choice) (x : List ℕ) (before after : Option (List ℕ)) → 0 < length (begun_line x) → HasFirstOf choice (x ++ 10 ∷ []) before after → HasFirstOf choice x before after
+pub same_first : (choice : Rows) (x : List ℕ) (before after : Option (List ℕ)) → 0 < length (begun_line x) → HasFirstOf choice (x ++ 10 ∷ []) before after → HasFirstOf choice x before after
 same_first choice x before after some f = record { front = f.front; left = f.left; taken = f.taken; annotation = same_annotation choice x (f.front ++ f.left) some f.annotation }
 
 -- ---- steps of the end
@@ -233,11 +233,11 @@ if_ok (Ok x) P Q h k = k x h
 if_ok (Err e) P Q h k = tt
 
 -- the last line was ended
-pub last_held : (choice same : Choice) (before taken : Option (List ℕ)) (held now x y : List ℕ) → same ≡ choice → (h : HasAnnotated choice before taken held (ended_lines x)) → IsAnnotationOf choice (ended_lines y) (h.sent ++ now) → HasAnnotated same before taken now (ended_lines y)
+pub last_held : (choice same : Rows) (before taken : Option (List ℕ)) (held now x y : List ℕ) → same ≡ choice → (h : HasAnnotated choice before taken held (ended_lines x)) → IsAnnotationOf choice (ended_lines y) (h.sent ++ now) → HasAnnotated same before taken now (ended_lines y)
 last_held choice same before taken held now x y e h lines =
     subst (λ k. HasAnnotated k before taken now (ended_lines y)) (sym e) (record { sent = h.sent; taken_is = h.taken_is; lines = lines })
 
-pub ended_annotated : (choice same : Choice) (x : List ℕ) (before after : Option (List ℕ)) (r : Result Summary Fault) → same ≡ choice → 0 < length (begun_line x) → early x ≡ None → early (x ++ 10 ∷ []) ≡ None → IfOk r (IsAnnotated same (x ++ 10 ∷ []) before after) → IfOk r (IsAnnotated choice x before after)
+pub ended_annotated : (choice same : Rows) (x : List ℕ) (before after : Option (List ℕ)) (r : Result Summary Fault) → same ≡ choice → 0 < length (begun_line x) → early x ≡ None → early (x ++ 10 ∷ []) ≡ None → IfOk r (IsAnnotated same (x ++ 10 ∷ []) before after) → IfOk r (IsAnnotated choice x before after)
 ended_annotated choice same x before after r e some h k a =
     if_ok r (IsAnnotated same (x ++ 10 ∷ []) before after) (IsAnnotated choice x before after) a (λ sums b. same_annotated choice x before after sums some (same_fault x some h k) (subst (λ c. IsAnnotated c (x ++ 10 ∷ []) before after sums) e b))
 

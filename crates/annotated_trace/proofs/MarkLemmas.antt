@@ -7,7 +7,7 @@ use Rattle.line_model.specs.declared.finding.Finding.{Finding}
 use Rattle.line_model.specs.declared.interface.Interface.{Interface}
 use Rattle.trace_text.specs.Watched.{found_in}
 use Rattle.annotated_trace.specs.Annotation.{Annotated, AreMarked, AreMarksOf, all_lines, bare_lines, is_mark, marks_in}
-use Rattle.annotated_trace.specs.declared.choice.Choice.TheVariants.{EveryRow}
+use Rattle.annotated_trace.specs.declared.rows.Rows.TheVariants.{All}
 use Rattle.annotated_trace.specs.Laws.{MarksLaw}
 use Rattle.annotated_trace.proofs.SameReport.{annotation_lines, lines_are}
 use Rattle.trace_text.proofs.EndLemmas.{head-sound, rows-all}
@@ -35,7 +35,7 @@ pub record Come (before : List Line) (annotated : List Annotated) : Type 0 where
   pub came : found_in (before ++ bare_lines annotated) ≡ found_in before ++ findings
   pub marks : AreMarksOf findings (marks_in (all_lines annotated))
 
-come : (before : List Line) (annotated : List Annotated) → AreMarked EveryRow before annotated → marks_in (bare_lines annotated) ≡ [] → Come before annotated
+come : (before : List Line) (annotated : List Annotated) → AreMarked All before annotated → marks_in (bare_lines annotated) ≡ [] → Come before annotated
 come before [] h none = record { findings = []; came = ap found_in (append-nil before) ∙ sym (append-nil (found_in before)); marks = tt }
 come before (a ∷ annotated) h none =
     let here = h.0 in

@@ -12,19 +12,19 @@ use Rattle.annotated_trace.specs.Annotation.{IsAnnotationOf, IsOneLine}
 use Rattle.annotated_trace.specs.Annotators.{HasAnnotated, HasFirst, HasLinesBefore, IsRefusalOf, IsStoppedAt, StandsFor, is_line}
 use Rattle.trace_text.specs.StandsFor.{IsFaultOf}
 use Rattle.annotated_trace.specs.declared.annotator.Annotator.{Annotator}
-use Rattle.annotated_trace.specs.declared.choice.Choice.{Choice}
+use Rattle.annotated_trace.specs.declared.rows.Rows.{Rows}
 use Rattle.annotated_trace.proofs.AnnotatedLemmas.{before_begun, before_line, first_of}
 use Rattle.line_model.proofs.DeviceLemmas.{with_more-append}
 
 -- some first bytes of a chunk were fed, and what is annotated grew with them
-pub record Passed {A W D : Type 0} (S : W → List ℕ → Type 0) (a0 a : Annotator A W D) (taken0 taken : Option (List ℕ)) (chunk rest : List ℕ) : Type 0 where
+pub record Passed {A W D : Type 0} (S : W → D → Rows → List ℕ → Type 0) (a0 a : Annotator A W D) (taken0 taken : Option (List ℕ)) (chunk rest : List ℕ) : Type 0 where
   pub fed : List ℕ
   pub whole : chunk ≡ fed ++ rest
   pub stands : (x : List ℕ) → StandsFor S a0 x → StandsFor S a (x ++ fed)
   pub annotated : (x : List ℕ) (before : Option (List ℕ)) → StandsFor S a0 x → HasAnnotated a0.choice before taken0 a0.held.items (ended_lines x) → HasAnnotated a0.choice before taken a.held.items (ended_lines (x ++ fed))
   pub same : a.choice ≡ a0.choice
 
-pub nothing_passed : {A W D : Type 0} → (S : W → List ℕ → Type 0) (a : Annotator A W D) (taken : Option (List ℕ)) (chunk : List ℕ) → Passed S a a taken taken chunk chunk
+pub nothing_passed : {A W D : Type 0} → (S : W → D → Rows → List ℕ → Type 0) (a : Annotator A W D) (taken : Option (List ℕ)) (chunk : List ℕ) → Passed S a a taken taken chunk chunk
 nothing_passed S a taken chunk = record {
   fed = [];
   whole = refl;
@@ -45,7 +45,7 @@ behind_line fed front back rest end chunk w e k =
     w ∙ ap (λ xs. fed ++ xs) (e ∙ sym (append_assoc front (10 ∷ []) back) ∙ ap (λ xs. xs ++ back) (sym k)) ∙ sym (append_assoc fed end back)
 
 -- what was annotated, and the line with it
-annotated_line : (choice same : Choice) (before taken taken2 : Option (List ℕ)) (held held1 held2 x y sent : List ℕ) → same ≡ choice
+annotated_line : (choice same : Rows) (before taken taken2 : Option (List ℕ)) (held held1 held2 x y sent : List ℕ) → same ≡ choice
     → ((front : List ℕ) → IsAnnotationOf same (ended_lines x) (front ++ held) → IsAnnotationOf same (ended_lines y) (front ++ held1))
     → taken2 ≡ with_more taken sent → sent ++ held2 ≡ held1 → HasAnnotated choice before taken held (ended_lines x) → HasAnnotated choice before taken2 held2 (ended_lines y)
 annotated_line choice same before taken taken2 held held1 held2 x y sent e step t put h =
@@ -57,16 +57,20 @@ annotated_line choice same before taken taken2 held held1 held2 x y sent e step 
       lines = subst (IsAnnotationOf choice (ended_lines y)) (ap (λ xs. h.sent ++ xs) (sym put) ∙ sym (append_assoc h.sent sent held2)) lines;
     }
 
-pub line_passed : {A W D : Type 0} → (S : W → List ℕ → Type 0) (a0 a a1 a2 : Annotator A W D) (taken0 taken taken2 : Option (List ℕ)) (chunk rest front back end sent : List ℕ) → Passed S a0 a taken0 taken chunk rest → rest ≡ front ++ 10 ∷ back
-    → end ≡ front ++ 10 ∷ [] → IsOneLine front → ((x front : List ℕ) → StandsFor S a x → end ≡ front ++ 10 ∷ [] → StandsFor S a1 (x ++ end))
+same_read : {A W D : Type 0} → (S : W → D → Rows → List ℕ → Type 0) (a1 a2 : Annotator A W D) (x : List ℕ) → a2.trace ≡ a1.trace → a2.describer ≡ a1.describer → a2.choice ≡ a1.choice → S a1.trace a1.describer a1.choice x → S a2.trace a2.describer a2.choice x
+same_read S a1 a2 x t d c h =
+    subst (λ w. S w a2.describer a2.choice x) (sym t) (subst (λ y. S a1.trace y a2.choice x) (sym d) (subst (λ k. S a1.trace a1.describer k x) (sym c) h))
+
+pub line_passed : {A W D : Type 0} → (S : W → D → Rows → List ℕ → Type 0) (a0 a a1 a2 : Annotator A W D) (taken0 taken taken2 : Option (List ℕ)) (chunk rest front back end sent : List ℕ) → Passed S a0 a taken0 taken chunk rest → rest ≡ front ++ 10 ∷ back
+    → end ≡ front ++ 10 ∷ [] → IsOneLine front → ((x front : List ℕ) → StandsFor S a x → end ≡ front ++ 10 ∷ [] → IsOneLine front → StandsFor S a1 (x ++ end))
     → ((x front sent : List ℕ) → StandsFor S a x → end ≡ front ++ 10 ∷ [] → IsOneLine front → IsAnnotationOf a.choice (ended_lines x) (sent ++ a.held.items) → IsAnnotationOf a.choice (ended_lines (x ++ end)) (sent ++ a1.held.items))
-    → a1.choice ≡ a.choice → a2.trace ≡ a1.trace → a2.begun.items ≡ a1.begun.items → a2.choice ≡ a1.choice → taken2 ≡ with_more taken sent → sent ++ a2.held.items ≡ a1.held.items → Passed S a0 a2 taken0 taken2 chunk back
-line_passed S a0 a a1 a2 taken0 taken taken2 chunk rest front back end sent p e k one stands held same1 t b same2 took put = record {
+    → a1.choice ≡ a.choice → a2.trace ≡ a1.trace → a2.describer ≡ a1.describer → a2.begun.items ≡ a1.begun.items → a2.choice ≡ a1.choice → taken2 ≡ with_more taken sent → sent ++ a2.held.items ≡ a1.held.items → Passed S a0 a2 taken0 taken2 chunk back
+line_passed S a0 a a1 a2 taken0 taken taken2 chunk rest front back end sent p e k one stands held same1 t d b same2 took put = record {
   fed = p.fed ++ end;
   whole = behind_line p.fed front back rest end chunk p.whole e k;
   stands = λ x s.
-      let next = stands (x ++ p.fed) front (p.stands x s) k in
-      subst (StandsFor S a2) (append_assoc x p.fed end) (record { trace = subst (λ w. S w ((x ++ p.fed) ++ end)) (sym t) next.trace; begun = b ∙ next.begun });
+      let next = stands (x ++ p.fed) front (p.stands x s) k one in
+      subst (StandsFor S a2) (append_assoc x p.fed end) (record { trace = same_read S a1 a2 ((x ++ p.fed) ++ end) t d same2 next.trace; begun = b ∙ next.begun });
   annotated = λ x before s h.
       let now = annotated_line a0.choice a.choice before taken taken2 a.held.items a1.held.items a2.held.items (x ++ p.fed) ((x ++ p.fed) ++ end) sent p.same (λ f g. held (x ++ p.fed) front f (p.stands x s) k one g) took put (p.annotated x before s h) in
       subst (λ y. HasAnnotated a0.choice before taken2 a2.held.items (ended_lines y)) (append_assoc x p.fed end) now;
@@ -79,22 +83,22 @@ line_passed S a0 a a1 a2 taken0 taken taken2 chunk rest front back end sent p e 
 chunk_behind : (x fed end back chunk : List ℕ) → chunk ≡ (fed ++ end) ++ back → x ++ chunk ≡ ((x ++ fed) ++ end) ++ back
 chunk_behind x fed end back chunk w = ap (λ c. x ++ c) w ∙ sym (append_assoc x (fed ++ end) back) ∙ ap (λ c. c ++ back) (sym (append_assoc x fed end))
 
-pub line_refusal : {A W D : Type 0} → (S : W → List ℕ → Type 0) (a0 a : Annotator A W D) (taken0 taken : Option (List ℕ)) (chunk rest front back end x : List ℕ) (f : Fault) → (p : Passed S a0 a taken0 taken chunk rest) → rest ≡ front ++ 10 ∷ back
+pub line_refusal : {A W D : Type 0} → (S : W → D → Rows → List ℕ → Type 0) (a0 a : Annotator A W D) (taken0 taken : Option (List ℕ)) (chunk rest front back end x : List ℕ) (f : Fault) → (p : Passed S a0 a taken0 taken chunk rest) → rest ≡ front ++ 10 ∷ back
     → end ≡ front ++ 10 ∷ [] → IsFaultOf (early ((x ++ p.fed) ++ end)) f → IsRefusalOf (early (x ++ chunk)) f
 line_refusal S a0 a taken0 taken chunk rest front back end x Memory p e k h = tt
 line_refusal S a0 a taken0 taken chunk rest front back end x (Trace line kind) p e k h =
     ap early (chunk_behind x p.fed end back chunk (behind_line p.fed front back rest end chunk p.whole e k)) ∙ early-append ((x ++ p.fed) ++ end) back (line, kind) h
 line_refusal S a0 a taken0 taken chunk rest front back end x _ p e k h = absurd h
 
-pub rest_refusal : {A W D : Type 0} → (S : W → List ℕ → Type 0) (a0 a : Annotator A W D) (taken0 taken : Option (List ℕ)) (chunk rest x : List ℕ) (f : Fault) → (p : Passed S a0 a taken0 taken chunk rest) → IsFaultOf (early ((x ++ p.fed) ++ rest)) f → IsRefusalOf (early (x ++ chunk)) f
+pub rest_refusal : {A W D : Type 0} → (S : W → D → Rows → List ℕ → Type 0) (a0 a : Annotator A W D) (taken0 taken : Option (List ℕ)) (chunk rest x : List ℕ) (f : Fault) → (p : Passed S a0 a taken0 taken chunk rest) → IsFaultOf (early ((x ++ p.fed) ++ rest)) f → IsRefusalOf (early (x ++ chunk)) f
 rest_refusal S a0 a taken0 taken chunk rest x Memory p h = tt
 rest_refusal S a0 a taken0 taken chunk rest x (Trace line kind) p h = ap early (ap (λ c. x ++ c) p.whole ∙ sym (append_assoc x p.fed rest)) ∙ h
 rest_refusal S a0 a taken0 taken chunk rest x _ p h = absurd h
 
-other_held : (choice : Choice) (before taken : Option (List ℕ)) (held other : List ℕ) (ls : List (List ℕ)) → other ≡ held → HasAnnotated choice before taken held ls → HasAnnotated choice before taken other ls
+other_held : (choice : Rows) (before taken : Option (List ℕ)) (held other : List ℕ) (ls : List (List ℕ)) → other ≡ held → HasAnnotated choice before taken held ls → HasAnnotated choice before taken other ls
 other_held choice before taken held other ls e h = subst (λ k. HasAnnotated choice before taken k ls) (sym e) h
 
-pub line_stopped : {A W D : Type 0} → (S : W → List ℕ → Type 0) (a0 a : Annotator A W D) (taken0 taken before : Option (List ℕ)) (chunk rest front back end x held : List ℕ) (f : Fault) → (p : Passed S a0 a taken0 taken chunk rest) → rest ≡ front ++ 10 ∷ back
+pub line_stopped : {A W D : Type 0} → (S : W → D → Rows → List ℕ → Type 0) (a0 a : Annotator A W D) (taken0 taken before : Option (List ℕ)) (chunk rest front back end x held : List ℕ) (f : Fault) → (p : Passed S a0 a taken0 taken chunk rest) → rest ≡ front ++ 10 ∷ back
     → end ≡ front ++ 10 ∷ [] → IsOneLine front → StandsFor S a0 x → early (x ++ p.fed) ≡ None → HasAnnotated a0.choice before taken0 a0.held.items (ended_lines x) → IsFaultOf (early ((x ++ p.fed) ++ end)) f → (f ≢ Memory → held ≡ a.held.items)
     → IsStoppedAt a0.choice before taken held (ended_lines (x ++ chunk)) f
 line_stopped S a0 a taken0 taken before chunk rest front back end x held Memory p e k one s sound h fault same =
@@ -106,13 +110,13 @@ line_stopped S a0 a taken0 taken before chunk rest front back end x held (Trace 
     (subst (λ ls. HasAnnotated a0.choice before taken a.held.items ls) (sym lines) (p.annotated x before s h))
 line_stopped S a0 a taken0 taken before chunk rest front back end x held _ p e k one s sound h fault same = absurd fault
 
-pub rest_annotated : {A W D : Type 0} → (S : W → List ℕ → Type 0) (a0 a : Annotator A W D) (taken0 taken before : Option (List ℕ)) (chunk rest x held : List ℕ) → (p : Passed S a0 a taken0 taken chunk rest) → IsOneLine rest → StandsFor S a0 x
+pub rest_annotated : {A W D : Type 0} → (S : W → D → Rows → List ℕ → Type 0) (a0 a : Annotator A W D) (taken0 taken before : Option (List ℕ)) (chunk rest x held : List ℕ) → (p : Passed S a0 a taken0 taken chunk rest) → IsOneLine rest → StandsFor S a0 x
     → HasAnnotated a0.choice before taken0 a0.held.items (ended_lines x) → held ≡ a.held.items → HasAnnotated a0.choice before taken held (ended_lines (x ++ chunk))
 rest_annotated S a0 a taken0 taken before chunk rest x held p one s h same =
     let lines : ended_lines (x ++ chunk) ≡ ended_lines (x ++ p.fed) = ap (λ c. ended_lines (x ++ c)) p.whole ∙ ap ended_lines (sym (append_assoc x p.fed rest)) ∙ ended-more (x ++ p.fed) rest one in
     other_held a0.choice before taken a.held.items held (ended_lines (x ++ chunk)) same (subst (λ ls. HasAnnotated a0.choice before taken a.held.items ls) (sym lines) (p.annotated x before s h))
 
-pub rest_stopped : {A W D : Type 0} → (S : W → List ℕ → Type 0) (a0 a : Annotator A W D) (taken0 taken before : Option (List ℕ)) (chunk rest x held : List ℕ) (f : Fault) → (p : Passed S a0 a taken0 taken chunk rest) → IsOneLine rest → StandsFor S a0 x
+pub rest_stopped : {A W D : Type 0} → (S : W → D → Rows → List ℕ → Type 0) (a0 a : Annotator A W D) (taken0 taken before : Option (List ℕ)) (chunk rest x held : List ℕ) (f : Fault) → (p : Passed S a0 a taken0 taken chunk rest) → IsOneLine rest → StandsFor S a0 x
     → early (x ++ p.fed) ≡ None → HasAnnotated a0.choice before taken0 a0.held.items (ended_lines x) → held ≡ a.held.items → IsFaultOf (early ((x ++ p.fed) ++ rest)) f → IsStoppedAt a0.choice before taken held (ended_lines (x ++ chunk)) f
 rest_stopped S a0 a taken0 taken before chunk rest x held Memory p one s sound h same fault =
     subst (λ y. HasFirst a0.choice before taken (ended_lines y)) (sym (ap (λ c. x ++ c) p.whole ∙ sym (append_assoc x p.fed rest))) (first_of a0.choice before taken a.held.items (x ++ p.fed) rest (p.annotated x before s h))
@@ -123,50 +127,50 @@ rest_stopped S a0 a taken0 taken before chunk rest x held _ p one s sound h same
 
 -- ---- what a sink was given
 
-pub sent_all : (choice : Choice) (before taken taken2 : Option (List ℕ)) (held : List ℕ) (ls : List (List ℕ)) → HasAnnotated choice before taken held ls → taken2 ≡ with_more taken held → HasAnnotated choice before taken2 [] ls
+pub sent_all : (choice : Rows) (before taken taken2 : Option (List ℕ)) (held : List ℕ) (ls : List (List ℕ)) → HasAnnotated choice before taken held ls → taken2 ≡ with_more taken held → HasAnnotated choice before taken2 [] ls
 sent_all choice before taken taken2 held ls h t = record {
   sent = h.sent ++ held;
   taken_is = t ∙ ap (λ o. with_more o held) h.taken_is ∙ with_more-append before h.sent held;
   lines = subst (IsAnnotationOf choice ls) (sym (append-nil (h.sent ++ held))) h.lines;
 }
 
-pub sent_part : (choice : Choice) (before taken taken2 : Option (List ℕ)) (held front left : List ℕ) (ls : List (List ℕ)) → HasAnnotated choice before taken held ls → held ≡ front ++ left → taken2 ≡ with_more taken front → HasAnnotated choice before taken2 left ls
+pub sent_part : (choice : Rows) (before taken taken2 : Option (List ℕ)) (held front left : List ℕ) (ls : List (List ℕ)) → HasAnnotated choice before taken held ls → held ≡ front ++ left → taken2 ≡ with_more taken front → HasAnnotated choice before taken2 left ls
 sent_part choice before taken taken2 held front left ls h split t = record {
   sent = h.sent ++ front;
   taken_is = t ∙ ap (λ o. with_more o front) h.taken_is ∙ with_more-append before h.sent front;
   lines = subst (IsAnnotationOf choice ls) (ap (λ xs. h.sent ++ xs) split ∙ sym (append_assoc h.sent front left)) h.lines;
 }
 
-pub all_first : (choice : Choice) (before taken : Option (List ℕ)) (held : List ℕ) (ls : List (List ℕ)) → HasAnnotated choice before taken held ls → HasFirst choice before taken ls
+pub all_first : (choice : Rows) (before taken : Option (List ℕ)) (held : List ℕ) (ls : List (List ℕ)) → HasAnnotated choice before taken held ls → HasFirst choice before taken ls
 all_first choice before taken held ls h = record { done = ls; others = []; lines = sym (append-nil ls); left = held; annotated = h }
 
-good_first : (choice : Choice) (before taken : Option (List ℕ)) (held : List ℕ) (ls : List (List ℕ)) (n : ℕ) → HasAnnotated choice before taken held (take n ls) → HasFirst choice before taken ls
+good_first : (choice : Rows) (before taken : Option (List ℕ)) (held : List ℕ) (ls : List (List ℕ)) (n : ℕ) → HasAnnotated choice before taken held (take n ls) → HasFirst choice before taken ls
 good_first choice before taken held ls n h = record { done = take n ls; others = drop n ls; lines = sym (take-append-drop n ls); left = held; annotated = h }
 
 -- ---- after a refusal
 
-pub stopped_first : (choice : Choice) (before taken : Option (List ℕ)) (held : List ℕ) (ls : List (List ℕ)) (f : Fault) → IsStoppedAt choice before taken held ls f → HasFirst choice before taken ls
+pub stopped_first : (choice : Rows) (before taken : Option (List ℕ)) (held : List ℕ) (ls : List (List ℕ)) (f : Fault) → IsStoppedAt choice before taken held ls f → HasFirst choice before taken ls
 stopped_first choice before taken held ls (Trace line kind) h = good_first choice before taken held ls (line - 1) h
 stopped_first choice before taken held ls _ h = h
 
-pub not_line : (choice : Choice) (before taken : Option (List ℕ)) (ls : List (List ℕ)) (f : Fault) → is_line f ≡ false → HasLinesBefore choice before taken ls f
+pub not_line : (choice : Rows) (before taken : Option (List ℕ)) (ls : List (List ℕ)) (f : Fault) → is_line f ≡ false → HasLinesBefore choice before taken ls f
 not_line choice before taken ls (Trace line kind) h = absurd (let bad : true ≡ false = h in cc)
 not_line choice before taken ls _ h = tt
 
-pub line_sent : (choice : Choice) (before taken taken2 : Option (List ℕ)) (held : List ℕ) (ls : List (List ℕ)) (f : Fault) → is_line f ≡ true → IsStoppedAt choice before taken held ls f → taken2 ≡ with_more taken held → HasLinesBefore choice before taken2 ls f
+pub line_sent : (choice : Rows) (before taken taken2 : Option (List ℕ)) (held : List ℕ) (ls : List (List ℕ)) (f : Fault) → is_line f ≡ true → IsStoppedAt choice before taken held ls f → taken2 ≡ with_more taken held → HasLinesBefore choice before taken2 ls f
 line_sent choice before taken taken2 held ls (Trace line kind) e h t = sent_all choice before taken taken2 held (good_lines (Some (line, kind)) ls) h t
 line_sent choice before taken taken2 held ls _ e h t = tt
 
-pub line_first : (choice : Choice) (before taken taken2 : Option (List ℕ)) (held : List ℕ) (ls : List (List ℕ)) (f : Fault) → is_line f ≡ true → IsStoppedAt choice before taken held ls f → taken2 ≡ with_more taken held → HasFirst choice before taken2 ls
+pub line_first : (choice : Rows) (before taken taken2 : Option (List ℕ)) (held : List ℕ) (ls : List (List ℕ)) (f : Fault) → is_line f ≡ true → IsStoppedAt choice before taken held ls f → taken2 ≡ with_more taken held → HasFirst choice before taken2 ls
 line_first choice before taken taken2 held ls (Trace line kind) e h t = good_first choice before taken2 [] ls (line - 1) (sent_all choice before taken taken2 held (take (line - 1) ls) h t)
 line_first choice before taken taken2 held ls _ e h t = absurd (let bad : false ≡ true = e in cc)
 
-pub line_part : (choice : Choice) (before taken taken2 : Option (List ℕ)) (held front left : List ℕ) (ls : List (List ℕ)) (f : Fault) → is_line f ≡ true → IsStoppedAt choice before taken held ls f → held ≡ front ++ left → taken2 ≡ with_more taken front → HasFirst choice before taken2 ls
+pub line_part : (choice : Rows) (before taken taken2 : Option (List ℕ)) (held front left : List ℕ) (ls : List (List ℕ)) (f : Fault) → is_line f ≡ true → IsStoppedAt choice before taken held ls f → held ≡ front ++ left → taken2 ≡ with_more taken front → HasFirst choice before taken2 ls
 line_part choice before taken taken2 held front left ls (Trace line kind) e h split t = good_first choice before taken2 left ls (line - 1) (sent_part choice before taken taken2 held front left (take (line - 1) ls) h split t)
 line_part choice before taken taken2 held front left ls _ e h split t = absurd (let bad : false ≡ true = e in cc)
 
 -- what was held is much, and the sink failed
-pub much_stopped : {A W D : Type 0} → (S : W → List ℕ → Type 0) (a0 a1 : Annotator A W D) (taken0 taken taken2 before : Option (List ℕ)) (chunk back x held front left : List ℕ) (f : Fault) → (q : Passed S a0 a1 taken0 taken chunk back) → StandsFor S a0 x
+pub much_stopped : {A W D : Type 0} → (S : W → D → Rows → List ℕ → Type 0) (a0 a1 : Annotator A W D) (taken0 taken taken2 before : Option (List ℕ)) (chunk back x held front left : List ℕ) (f : Fault) → (q : Passed S a0 a1 taken0 taken chunk back) → StandsFor S a0 x
     → HasAnnotated a0.choice before taken0 a0.held.items (ended_lines x) → a1.held.items ≡ front ++ left → taken2 ≡ with_more taken front → f ≡ Write → IsStoppedAt a0.choice before taken2 held (ended_lines (x ++ chunk)) f
 much_stopped S a0 a1 taken0 taken taken2 before chunk back x held front left f q s h split t w =
     let part = sent_part a0.choice before taken taken2 a1.held.items front left (ended_lines (x ++ q.fed)) (q.annotated x before s h) split t in

@@ -6,7 +6,7 @@ use Rattle.line_model.specs.declared.fault.Fault.TheVariants.{Memory, Trace, Rea
 use Rattle.line_model.specs.declared.totals.Summary.{Summary}
 use Rattle.annotated_trace.specs.Annotators.{HasAnnotated, HasFirst, HasFirstOf, HasLinesBefore, IsAnnotated, IsEndRefusal, StandsFor}
 use Rattle.annotated_trace.specs.declared.annotator.Annotator.{Annotator}
-use Rattle.annotated_trace.specs.declared.choice.Choice.{Choice}
+use Rattle.annotated_trace.specs.declared.rows.Rows.{Rows}
 
 -- the faults that it may meet
 abbrev pub IsAnnotatingFault : Fault → Type 0
@@ -25,7 +25,7 @@ abbrev pub IsAllGiven : (before after : Option (List ℕ)) (given : List ℕ) �
 IsAllGiven before after given = (x : List ℕ) → before ≡ Some x → (x ≡ given) × (after ≡ Some [])
 
 -- an annotator was fed all that a source gave, and the sink has the annotation of the lines that ended
-pub record HasFed {A W D : Type 0} (stands_for : W → List ℕ → Type 0) (left after before taken : Option (List ℕ)) (choice : Choice) (a : Annotator A W D) : Type 0 where
+pub record HasFed {A W D : Type 0} (stands_for : W → D → Rows → List ℕ → Type 0) (left after before taken : Option (List ℕ)) (choice : Rows) (a : Annotator A W D) : Type 0 where
   pub given : List ℕ
   pub stands : StandsFor stands_for a given
   pub annotated : HasAnnotated choice before taken [] (ended_lines given)
@@ -33,7 +33,7 @@ pub record HasFed {A W D : Type 0} (stands_for : W → List ℕ → Type 0) (lef
   pub source : IsAllGiven left after given
 
 -- a source gave a text without a fault, and the sink took an annotation of it; the sums are those of its report
-pub record Annotates (choice : Choice) (left after before taken : Option (List ℕ)) (sums : Summary) : Type 0 where
+pub record Annotates (choice : Rows) (left after before taken : Option (List ℕ)) (sums : Summary) : Type 0 where
   pub given : List ℕ
   pub source : IsAllGiven left after given
   pub annotated : IsAnnotated choice given before taken sums
@@ -48,23 +48,23 @@ IsReadRefusal given _ = ⊥
 
 -- the bytes that were given are refused while they are read, and the sink has a first part of the annotation of their lines, at a faulty
 -- line that of all lines before it, if it stood well
-pub record StopsReading (choice : Choice) (given : List ℕ) (before taken : Option (List ℕ)) (well : Type 0) (told : Fault) : Type 0 where
+pub record StopsReading (choice : Rows) (given : List ℕ) (before taken : Option (List ℕ)) (well : Type 0) (told : Fault) : Type 0 where
   pub refusal : IsReadRefusal given told
   pub first : HasFirst choice before taken (ended_lines given)
   pub at_line : well → HasLinesBefore choice before taken (ended_lines given) told
 
 -- a sink has the annotation of the lines that ended, or where it failed a first part of the text's
-abbrev pub StopsFirst : Choice → (given : List ℕ) (before taken : Option (List ℕ)) → Type 0
+abbrev pub StopsFirst : Rows → (given : List ℕ) (before taken : Option (List ℕ)) → Type 0
 StopsFirst choice given before taken = HasAnnotated choice before taken [] (ended_lines given) ⊎ HasFirstOf choice given before taken
 
 -- the whole text is refused at its end
-pub record StopsAtEnd (choice : Choice) (left after : Option (List ℕ)) (given : List ℕ) (before taken : Option (List ℕ)) (told : Fault) : Type 0 where
+pub record StopsAtEnd (choice : Rows) (left after : Option (List ℕ)) (given : List ℕ) (before taken : Option (List ℕ)) (told : Fault) : Type 0 where
   pub source : IsAllGiven left after given
   pub refusal : IsEndRefusal given told
   pub first : StopsFirst choice given before taken
 
 -- a source gave some bytes, and they are refused
-pub record Stops (choice : Choice) (left after before taken : Option (List ℕ)) (well : Type 0) (told : Fault) : Type 0 where
+pub record Stops (choice : Rows) (left after before taken : Option (List ℕ)) (well : Type 0) (told : Fault) : Type 0 where
   pub given : List ℕ
   pub source : IsGiven left after given
   pub why : StopsReading choice given before taken well told ⊎ StopsAtEnd choice left after given before taken told

@@ -1,13 +1,14 @@
 -- A trace with comments behind its lines.
-use Rattle.std.specs.Prelude.{◌≡◌, ◌⊎◌, ℕ, ◌==◌, ◌&&◌, ◌≤◌, Bool, true, false, List, [], ◌∷◌, ◌++◌, filter, flat_map, map, length, codes}
+use Rattle.std.specs.Prelude.{◌≡◌, ℕ, ◌==◌, ◌&&◌, ◌≤◌, Bool, true, false, List, [], ◌∷◌, ◌++◌, filter, flat_map, map, length, codes}
 use Rattle.std.specs.List.{list_any, AllByRecursion}
 use Rattle.line_model.specs.observer.Report.{finding_line}
 use Rattle.line_model.specs.text.Text.{Line, is_comment, is_lf, line_limit, lines_of}
 use Rattle.line_model.specs.traces.Traces.{text}
 use Rattle.line_model.specs.declared.finding.Finding.{Finding}
 use Rattle.trace_text.specs.Watched.{found_in}
-use Rattle.annotated_trace.specs.declared.choice.Choice.{Choice}
-use Rattle.annotated_trace.specs.declared.choice.Choice.TheVariants.{EveryRow, ChosenRows}
+use Rattle.annotated_trace.specs.Rows.{is_told_line}
+use Rattle.annotated_trace.specs.declared.rows.Rows.{Rows}
+use Rattle.annotated_trace.specs.declared.rows.Rows.TheVariants.{All, Chosen}
 
 -- the bytes have no LF
 abbrev pub IsOneLine : List ℕ → Type 0
@@ -73,18 +74,23 @@ pub record HasItsMarks (before : List Line) (a : Annotated) : Type 0 where
   pub came : found_in (before ++ a.line ∷ []) ≡ found_in before ++ findings
   pub marks : AreMarksOf findings (marks_in a.comments)
 
--- so it is with every line, or with those that are told of, and behind the others stand none
-abbrev pub IsMarked : Choice → (before : List Line) → Annotated → Type 0
-IsMarked EveryRow before a = HasItsMarks before a
-IsMarked ChosenRows before a = (marks_in a.comments ≡ []) ⊎ HasItsMarks before a
+-- so it is with a line that is told of, and no comment stands behind another
+abbrev pub IsMarkedWhere : (told : Bool) → (before : List Line) → Annotated → Type 0
+IsMarkedWhere true before a = HasItsMarks before a
+IsMarkedWhere false before a = a.comments ≡ []
+
+-- so it is with every line where all rows are told of; else with exactly the lines of those that are chosen
+abbrev pub IsMarked : Rows → (before : List Line) → Annotated → Type 0
+IsMarked All before a = HasItsMarks before a
+IsMarked (Chosen channel call) before a = IsMarkedWhere (is_told_line (Chosen channel call) before a.line) before a
 
 -- of lines that stand behind others
-abbrev pub AreMarked : Choice → (before : List Line) → List Annotated → Type 0
+abbrev pub AreMarked : Rows → (before : List Line) → List Annotated → Type 0
 AreMarked choice before [] = Unit {0}
 AreMarked choice before (a ∷ annotated) = IsMarked choice before a × AreMarked choice (before ++ a.line ∷ []) annotated
 
 -- bytes are some lines, each with comments behind it that mark its findings
-pub record IsAnnotationOf (choice : Choice) (ls : List Line) (bytes : List ℕ) : Type 0 where
+pub record IsAnnotationOf (choice : Rows) (ls : List Line) (bytes : List ℕ) : Type 0 where
   pub annotated : List Annotated
   pub bare : bare_lines annotated ≡ ls
   pub written : bytes ≡ text (all_lines annotated)
@@ -92,7 +98,7 @@ pub record IsAnnotationOf (choice : Choice) (ls : List Line) (bytes : List ℕ) 
   pub marked : AreMarked choice [] annotated
 
 -- an annotation of a whole text: that of its lines, and behind them comments that mark nothing
-pub record IsAnnotation (choice : Choice) (source bytes : List ℕ) : Type 0 where
+pub record IsAnnotation (choice : Rows) (source bytes : List ℕ) : Type 0 where
   pub front : List ℕ
   pub closing : List Line
   pub lines : IsAnnotationOf choice (lines_of source) front

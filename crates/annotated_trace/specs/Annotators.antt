@@ -1,7 +1,7 @@
 -- An annotator: what it was fed, and what its sink has.
 use Rattle.std.specs.Prelude.{◌≡◌, ◌⊎◌, ℕ, Bool, true, false, List, [], ◌++◌, length, Option, Some, None}
 use Rattle.line_model.specs.basics.Device.{with_more}
-use Rattle.line_model.specs.text.Text.{Line, begun_line, fault, good_lines, text_limit}
+use Rattle.line_model.specs.text.Text.{Line, begun_line, ended_lines, fault, good_lines, text_limit}
 use Rattle.line_model.specs.traces.Traces.{trace_summary}
 use Rattle.line_model.specs.declared.fault.Fault.{Fault}
 use Rattle.line_model.specs.declared.fault.Fault.TheVariants.{Memory, Trace, Write}
@@ -9,22 +9,28 @@ use Rattle.line_model.specs.declared.fault.Kind.{Kind}
 use Rattle.line_model.specs.declared.fault.Kind.TheVariants.{TextLarge}
 use Rattle.line_model.specs.declared.totals.Summary.{Summary}
 use Rattle.annotated_trace.specs.Annotation.{IsAnnotation, IsAnnotationOf}
-use Rattle.annotated_trace.specs.declared.choice.Choice.{Choice}
+use Rattle.annotated_trace.specs.declared.rows.Rows.{Rows}
+use Rattle.annotated_trace.specs.declared.describer.Describer.{Ghosts as Teller}
+use Rattle.trace_text.specs.declared.watcher.Watcher.{Ghosts as Reader}
 use Rattle.annotated_trace.specs.declared.annotator.Annotator.{Annotator}
 
+-- a trace was fed this text, and a describer that tells of these rows has described its lines
+abbrev pub HasRead : {A W D : Type 0} → Reader W A → Teller D A W → W → D → Rows → (text : List ℕ) → Type 0
+HasRead reader teller w d choice text = reader.stands_for w text × teller.described d (ended_lines text) × (teller.rows d ≡ choice)
+
 -- it was fed this text, and refused none of it
-pub record StandsFor {A W D : Type 0} (stands_for : W → List ℕ → Type 0) (a : Annotator A W D) (text : List ℕ) : Type 0 where
-  pub trace : stands_for a.trace text
+pub record StandsFor {A W D : Type 0} (stands_for : W → D → Rows → List ℕ → Type 0) (a : Annotator A W D) (text : List ℕ) : Type 0 where
+  pub trace : stands_for a.trace a.describer a.choice text
   pub begun : a.begun.items ≡ begun_line text
 
 -- a sink that had `before` took, with what is held, the annotation of some lines
-pub record HasAnnotated (choice : Choice) (before taken : Option (List ℕ)) (held : List ℕ) (ls : List Line) : Type 0 where
+pub record HasAnnotated (choice : Rows) (before taken : Option (List ℕ)) (held : List ℕ) (ls : List Line) : Type 0 where
   pub sent : List ℕ
   pub taken_is : taken ≡ with_more before sent
   pub lines : IsAnnotationOf choice ls (sent ++ held)
 
 -- it took a first part of the annotation of the first ones of some lines
-pub record HasFirst (choice : Choice) (before taken : Option (List ℕ)) (ls : List Line) : Type 0 where
+pub record HasFirst (choice : Rows) (before taken : Option (List ℕ)) (ls : List Line) : Type 0 where
   pub done : List Line
   pub others : List Line
   pub lines : ls ≡ done ++ others
@@ -32,12 +38,12 @@ pub record HasFirst (choice : Choice) (before taken : Option (List ℕ)) (ls : L
   pub annotated : HasAnnotated choice before taken left done
 
 -- what a sink has where a text is refused: at a faulty line the annotation of the lines before it, with what is held; else a first part
-abbrev pub IsStoppedAt : Choice → (before taken : Option (List ℕ)) (held : List ℕ) (ls : List Line) → Fault → Type 0
+abbrev pub IsStoppedAt : Rows → (before taken : Option (List ℕ)) (held : List ℕ) (ls : List Line) → Fault → Type 0
 IsStoppedAt choice before taken held ls (Trace line kind) = HasAnnotated choice before taken held (good_lines (Some (line, kind)) ls)
 IsStoppedAt choice before taken held ls _ = HasFirst choice before taken ls
 
 -- at a faulty line
-abbrev pub HasLinesBefore : Choice → (before taken : Option (List ℕ)) (ls : List Line) → Fault → Type 0
+abbrev pub HasLinesBefore : Rows → (before taken : Option (List ℕ)) (ls : List Line) → Fault → Type 0
 HasLinesBefore choice before taken ls (Trace line kind) = HasAnnotated choice before taken [] (good_lines (Some (line, kind)) ls)
 HasLinesBefore choice before taken ls _ = Unit {0}
 
@@ -79,7 +85,7 @@ IsEndRefusal x Write = fault x ≡ None
 IsEndRefusal x _ = ⊥
 
 -- the text has no fault, the sink took an annotation of it, and the sums are those of its report
-pub record IsAnnotated (choice : Choice) (x : List ℕ) (before after : Option (List ℕ)) (sums : Summary) : Type 0 where
+pub record IsAnnotated (choice : Rows) (x : List ℕ) (before after : Option (List ℕ)) (sums : Summary) : Type 0 where
   pub sound : fault x ≡ None
   pub bytes : List ℕ
   pub taken : after ≡ with_more before bytes
@@ -87,7 +93,7 @@ pub record IsAnnotated (choice : Choice) (x : List ℕ) (before after : Option (
   pub counted : sums ≡ trace_summary x
 
 -- the sink took a first part of an annotation of the text
-pub record HasFirstOf (choice : Choice) (x : List ℕ) (before after : Option (List ℕ)) : Type 0 where
+pub record HasFirstOf (choice : Rows) (x : List ℕ) (before after : Option (List ℕ)) : Type 0 where
   pub front : List ℕ
   pub left : List ℕ
   pub taken : after ≡ with_more before front

@@ -5,8 +5,8 @@ use Rattle.line_model.specs.text.Text.{fault, head, lines_of, rows, text_limit}
 use Rattle.line_model.specs.traces.Traces.{trace_report}
 use Rattle.line_model.specs.declared.interface.Interface.{Interface}
 use Rattle.annotated_trace.specs.Annotation.{AreMarksOf, IsAnnotation, marks_in}
-use Rattle.annotated_trace.specs.declared.choice.Choice.{Choice}
-use Rattle.annotated_trace.specs.declared.choice.Choice.TheVariants.{EveryRow}
+use Rattle.annotated_trace.specs.declared.rows.Rows.{Rows}
+use Rattle.annotated_trace.specs.declared.rows.Rows.TheVariants.{All}
 
 -- a text without a fault has the header and the rows of another, and so its report
 pub record SaysTheSame (source bytes : List ℕ) : Type 0 where
@@ -17,9 +17,9 @@ pub record SaysTheSame (source bytes : List ℕ) : Type 0 where
 
 -- each annotation says the same as its text, if it is no larger than a text may be
 abbrev pub ReportLaw : Type 0
-ReportLaw = (choice : Choice) (source bytes : List ℕ) → fault source ≡ None → IsAnnotation choice source bytes → length bytes ≤ text_limit → SaysTheSame source bytes
+ReportLaw = (choice : Rows) (source bytes : List ℕ) → fault source ≡ None → IsAnnotation choice source bytes → length bytes ≤ text_limit → SaysTheSame source bytes
 
 -- the marks of an annotation are those of the report's findings, in their order; those aside that the text had before
 abbrev pub MarksLaw : Type 0
-MarksLaw = (source bytes : List ℕ) (i : Interface) → fault source ≡ None → head source ≡ Some i → marks_in (lines_of source) ≡ [] → IsAnnotation EveryRow source bytes
+MarksLaw = (source bytes : List ℕ) (i : Interface) → fault source ≡ None → head source ≡ Some i → marks_in (lines_of source) ≡ [] → IsAnnotation All source bytes
     → AreMarksOf (report_of i (rows source)).findings (marks_in (lines_of bytes))

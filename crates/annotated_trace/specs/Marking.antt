@@ -1,5 +1,5 @@
 -- The marks that are written.
-use Rattle.std.specs.Prelude.{◌≡◌, ◌⊎◌, ℕ, ◌<◌, ◌^◌, List, [], ◌∷◌, ◌++◌, Option, codes, decimal}
+use Rattle.std.specs.Prelude.{◌≡◌, ◌⊎◌, ℕ, Bool, true, false, ◌<◌, ◌^◌, List, [], ◌∷◌, ◌++◌, Option, codes, decimal}
 use Rattle.line_model.specs.basics.Device.{with_more}
 use Rattle.line_model.specs.observer.Report.{code_word, side_word, state_word}
 use Rattle.line_model.specs.text.Text.{Line}
@@ -8,8 +8,9 @@ use Rattle.line_model.specs.declared.finding.Code.{Code}
 use Rattle.line_model.specs.declared.finding.Code.TheVariants.{Number, Pad}
 use Rattle.line_model.specs.declared.finding.Finding.{Finding}
 use Rattle.annotated_trace.specs.Annotation.{AreComments, AreMarksOf, IsComment, IsMarkOf, explained, marks_in}
-use Rattle.annotated_trace.specs.declared.choice.Choice.{Choice}
-use Rattle.annotated_trace.specs.declared.choice.Choice.TheVariants.{EveryRow, ChosenRows}
+use Rattle.annotated_trace.specs.Rows.{is_told_line}
+use Rattle.annotated_trace.specs.declared.rows.Rows.{Rows}
+use Rattle.annotated_trace.specs.declared.rows.Rows.TheVariants.{All, Chosen}
 
 -- a finding's line of the report, without its LF
 abbrev pub finding_words : Finding → List ℕ
@@ -39,17 +40,28 @@ pub record HasMarksOf (findings : List Finding) (before after : List ℕ) : Type
   pub all : marks_in marks ≡ marks
   pub marks_are : AreMarksOf findings marks
 
--- these are the marks behind a line with these findings, or there are none where not each row is told of
-abbrev pub AreMarksBehind : Choice → List Finding → List Line → Type 0
-AreMarksBehind EveryRow findings marks = AreMarksOf findings marks
-AreMarksBehind ChosenRows findings marks = (marks ≡ []) ⊎ AreMarksOf findings marks
+-- the comments behind a line with these findings have their marks; where rows are chosen, there are none behind another line
+abbrev pub HaveMarksOf : Rows → (told : Bool) → List Finding → List Line → Type 0
+HaveMarksOf All told findings behind = AreMarksOf findings (marks_in behind)
+HaveMarksOf (Chosen channel call) true findings behind = AreMarksOf findings (marks_in behind)
+HaveMarksOf (Chosen channel call) false findings behind = behind ≡ []
 
 -- the comments behind a line with these findings were appended to bytes
-pub record HasCommentsOf (choice : Choice) (findings : List Finding) (before after : List ℕ) : Type 0 where
+pub record HasCommentsOf (choice : Rows) (told : Bool) (findings : List Finding) (before after : List ℕ) : Type 0 where
   pub behind : List Line
   pub written : after ≡ before ++ text behind
   pub comments : AreComments behind
-  pub marks : AreMarksBehind choice findings (marks_in behind)
+  pub marks : HaveMarksOf choice told findings behind
+
+-- what a describer says of the line after others: where rows are chosen, whether it is told of
+abbrev pub IsToldRightly : Rows → (before : List Line) → Line → (told : Bool) → Type 0
+IsToldRightly All before l told = Unit {0}
+IsToldRightly (Chosen channel call) before l told = told ≡ is_told_line (Chosen channel call) before l
+
+-- the comments behind the line after others, which is told of or not, were appended to bytes
+abbrev pub HasRightComments : (choice : Rows) (before : List Line) → Line → List Finding → (bytes bytes_after : List ℕ) → Type 0
+HasRightComments choice before l findings bytes bytes_after =
+    (told : Bool) × IsToldRightly choice before l told × HasCommentsOf choice told findings bytes bytes_after
 
 -- a sink took comments that mark nothing
 pub record HasClosing (before after : Option (List ℕ)) : Type 0 where

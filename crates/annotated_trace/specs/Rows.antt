@@ -1,33 +1,71 @@
 -- Which rows of a trace are told of.
-use Rattle.std.specs.Prelude.{ℕ, Bool, true, false, ◌==◌, ◌&&◌, ◌||◌, Option}
-use Rattle.std.specs.Option.{option_map_or}
+use Rattle.std.specs.Prelude.{ℕ, Bool, true, false, ◌==◌, ◌&&◌, ◌||◌, not, is_none, List, [], ◌∷◌, ◌++◌, Option, None, Some, if◌then◌else◌}
+use Rattle.std.specs.List.{enumerate_from, list_any}
+use Rattle.line_model.specs.basics.Records.{CallRecord, Row}
+use Rattle.line_model.specs.declared.interface.Interface.{Interface}
 use Rattle.line_model.specs.declared.packet.Packet.{Packet}
 use Rattle.line_model.specs.declared.packet.Packet.TheVariants.{Channel}
-use Rattle.annotated_trace.specs.declared.choice.Choice.{Choice}
-use Rattle.annotated_trace.specs.declared.choice.Choice.TheVariants.{EveryRow, ChosenRows}
+use Rattle.line_model.specs.observer.Calls.{calls_of}
+use Rattle.line_model.specs.observer.Machine.{routed, walk}
+use Rattle.line_model.specs.observer.Observer.{events, start, x25}
+use Rattle.line_model.specs.packets.Classes.{packet_of}
+use Rattle.line_model.specs.text.RowLine.{row_of}
+use Rattle.line_model.specs.text.Text.{Line, has_header, head_of, is_comment, rows_in}
 use Rattle.annotated_trace.specs.declared.rows.Rows.{Rows}
 use Rattle.annotated_trace.specs.declared.rows.Rows.TheVariants.{All, Chosen}
 
--- each row is told of, or some are chosen
-abbrev pub choice_of : Rows → Choice
-choice_of All = EveryRow
-choice_of (Chosen channel call) = ChosenRows
+-- whether a call is open on a logical channel in an epoch
+abbrev pub is_open_on : (epoch channel : ℕ) → CallRecord → Bool
+is_open_on e k c = (c.epoch == e) && ((c.channel == k) && is_none c.ended)
 
--- the logical channel that is named, where one is
-abbrev pub is_channel : (named : Option ℕ) → (channel : ℕ) → Bool
-is_channel named channel = option_map_or (λ n. n == channel) named true
+-- whether the call of a number is open there; calls count from 1, as in the report
+abbrev pub has_open : (number epoch channel : ℕ) → List CallRecord → Bool
+has_open n e k cs = list_any (λ (q : ℕ × CallRecord). (q.0 == n) && is_open_on e k q.1) (enumerate_from 1 cs)
 
--- one of two calls is the one that is named, where one is
-abbrev pub is_call : (named : Option ℕ) → (first last : ℕ) → Bool
-is_call named first last = option_map_or (λ n. (n == first) || (n == last)) named true
+-- whether a row is one of a call's, by the logical channel that took it: the call was open there before the row, or is after it
+abbrev pub is_of_call_on : Option ℕ → (number epoch : ℕ) → (before after : List CallRecord) → Bool
+is_of_call_on None n e before after = false
+is_of_call_on (Some k) n e before after = has_open n e k before || has_open n e k after
 
--- whether a row of a logical channel is told of, by the calls that were open before it and after it
-abbrev pub tells_row : Rows → (channel first last : ℕ) → Bool
-tells_row All channel first last = true
-tells_row (Chosen on of) channel first last = is_channel on channel && is_call of first last
+-- whether a row, after others, is one of the rows of the call of a number in the report
+abbrev pub is_of_call : Interface → (before : List Row) → Row → (number : ℕ) → Bool
+is_of_call i before r n =
+    is_of_call_on (routed (x25 i) (walk (x25 i) (start i) before).line r) n (walk (x25 i) (start i) before).epoch (calls_of (events i before)) (calls_of (events i (before ++ r ∷ [])))
 
--- whether a row that the restart machine judged is told of: it belongs to no call
-abbrev pub tells_interface_row : Rows → Packet → Bool
-tells_interface_row All packet = true
-tells_interface_row rows (Channel channel kind) = tells_row rows channel 0 0
-tells_interface_row rows _ = false
+-- whether a packet names a logical channel
+abbrev pub names : (channel : ℕ) → Packet → Bool
+names n (Channel k kind) = k == n
+names n _ = false
+
+-- whether a packet names the logical channel that is asked for, where one is
+abbrev pub names_asked : Option ℕ → Packet → Bool
+names_asked None packet = true
+names_asked (Some n) packet = names n packet
+
+-- the number of the call that is asked for; 0, which no call has, where none is
+abbrev pub asked_call : Rows → ℕ
+asked_call (Chosen channel (Some n)) = n
+asked_call _ = 0
+
+-- whether a row is told of: all are, or those of a logical channel and of a call, where they are named
+abbrev pub tells : Rows → Packet → (of_call : Bool) → Bool
+tells All packet of_call = true
+tells (Chosen channel None) packet of_call = names_asked channel packet
+tells (Chosen channel (Some n)) packet of_call = names_asked channel packet && of_call
+
+-- whether a row, after others, is told of
+abbrev pub is_told : Rows → Interface → (before : List Row) → Row → Bool
+is_told rows i before r = tells rows (packet_of i r.octets) (is_of_call i before r (asked_call rows))
+
+-- the row that a line writes after others, if it writes one
+abbrev pub row_written : (before : List Line) → Line → Option Row
+row_written before l = if has_header before && not (is_comment l) then row_of l else None
+
+-- whether that row is told of
+abbrev pub is_told_if : Rows → Option Interface → (before : List Row) → Option Row → Bool
+is_told_if rows (Some i) before (Some r) = is_told rows i before r
+is_told_if rows _ before _ = false
+
+-- whether the line after others writes a row that is told of
+abbrev pub is_told_line : Rows → (before : List Line) → Line → Bool
+is_told_line rows before l = is_told_if rows (head_of before) (rows_in before) (row_written before l)

@@ -1,11 +1,10 @@
 //! A scan of one thread that writes a trace again.
 
 ghost use Rattle.std.specs.Prelude.{◌≡◌, ℕ, ◌+◌, ◌<◌, ◌≤◌, ◌^◌, [], Err, IfErr, IfOk, OnOk};
-ghost use Rattle.annotated_trace.specs.Annotators.{StandsFor};
+ghost use Rattle.annotated_trace.specs.Annotators.{HasRead, StandsFor};
 ghost use Rattle.annotated_trace.specs.Annotating.{Annotates, HasFed, IsAnnotatingFault, Stops};
 
 use crate::annotator::Annotator;
-use crate::choice::Choice;
 use crate::describer::Describer;
 use line_model::device::{Sink, Source};
 use line_model::fault::Fault;
@@ -22,9 +21,9 @@ fn feed_all<A: Allocator + Copy, W: Watcher<A>, D: Describer<A, W>, S: Source, K
     sink: &mut K,
     annotator: &mut Annotator<A, W, D>,
 ) -> Result<(), Fault>
-    requires nothing { StandsFor W.stands_for annotator.old [] }
+    requires nothing { StandsFor (HasRead W.Watcher D.Describer) annotator.old [] }
     requires none_held { annotator.old.held.items ≡ [] }
-    ensures whole { OnOk result (HasFed W.stands_for (S.left source.old) (S.left source.new)
+    ensures whole { OnOk result (HasFed (HasRead W.Watcher D.Describer) (S.left source.old) (S.left source.new)
         (K.taken sink.old) (K.taken sink.new) annotator.old.choice annotator.new) }
     ensures stopped { IfErr result (Stops annotator.old.choice (S.left source.old)
         (S.left source.new) (K.taken sink.old) (K.taken sink.new) (K.failures sink.new
@@ -55,24 +54,24 @@ fn feed_all<A: Allocator + Copy, W: Watcher<A>, D: Describer<A, W>, S: Source, K
 pub fn annotate<A: Allocator + Copy, W: Watcher<A>, D: Describer<A, W>, S: Source, K: Sink>(
     alloc: A,
     trace: W,
-    choice: Choice,
     describer: D,
     source: &mut S,
     sink: &mut K,
 ) -> Result<Summary, Fault>
     requires fresh { W.stands_for trace [] }
-    // The source gave a text without a fault, and the sink took an annotation of it.
-    ensures annotated { IfOk result (Annotates choice (S.left source.old) (S.left source.new)
+    // The source gave a text without a fault, and the sink took an annotation of it, of exactly the rows that the
+    // describer chooses.
+    ensures annotated { IfOk result (Annotates (D.rows describer) (S.left source.old) (S.left source.new)
         (K.taken sink.old) (K.taken sink.new)) }
     // A refusal is by the bytes that were given, and the sink has a first part of their annotation.
-    ensures stopped { IfErr result (Stops choice (S.left source.old) (S.left source.new)
+    ensures stopped { IfErr result (Stops (D.rows describer) (S.left source.old) (S.left source.new)
         (K.taken sink.old) (K.taken sink.new) (K.failures sink.new ≡ K.failures sink.old)) }
     ensures kinds { IfErr result IsAnnotatingFault }
     ensures read_failed { result ≡ Err Fault.Read → S.failures source.old < S.failures source.new }
     ensures write_failed { result ≡ Err Fault.Write → K.failures sink.old < K.failures sink.new }
     ensures asked { S.calls source.new ≤ S.calls source.old + (2 ^ 30 + 1) }
 {
-    let mut annotator = Annotator::new(alloc, trace, choice, describer);
+    let mut annotator = Annotator::new(alloc, trace, describer);
     match feed_all(source, sink, &mut annotator) {
         Ok(()) => annotator.end(sink),
         Err(fault) => Err(fault),

@@ -5,13 +5,13 @@ ghost use Rattle.line_model.specs.text.Text.{begun_line, early, ended_lines};
 ghost use Rattle.line_model.specs.declared.fault.Fault.TheVariants.{Memory};
 ghost use Rattle.annotated_trace.specs.Annotation.{IsAnnotationOf, IsOneLine};
 ghost use Rattle.trace_text.specs.StandsFor.{IsFaultOf, IsTextFault};
-ghost use Rattle.annotated_trace.specs.Annotators.{HasAnnotated, HasFirst, HasFirstOf, HasLinesBefore, IsAnnotated, IsAnnotatorFault, IsCloseRefusal, IsEndRefusal, IsRefusalOf, IsStoppedAt, StandsFor, is_line};
+ghost use Rattle.annotated_trace.specs.Annotators.{HasAnnotated, HasFirst, HasFirstOf, HasLinesBefore, HasRead, IsAnnotated, IsAnnotatorFault, IsCloseRefusal, IsEndRefusal, IsRefusalOf, IsStoppedAt, StandsFor, is_line};
 
-use crate::choice::Choice;
 use crate::closing::send_closing;
 use crate::commenting::{Scratch, append_comments};
 use crate::describer::Describer;
 use crate::holding::{send_held, send_much};
+use crate::rows::Rows;
 use line_model::device::Sink;
 use line_model::fault::Fault;
 use line_model::totals::Summary;
@@ -42,7 +42,8 @@ fn is_line(fault: Fault) -> bool
 pub struct Annotator<A: Allocator, W: Watcher<A>, D: Describer<A, W>> {
     trace: W,
     describer: D,
-    choice: Choice,
+    /// The rows that are told of.
+    choice: Rows,
     /// What stands after the last LF.
     begun: Vec<u8, A>,
     scratch: Scratch<A>,
@@ -51,14 +52,16 @@ pub struct Annotator<A: Allocator, W: Watcher<A>, D: Describer<A, W>> {
 }
 
 impl<A: Allocator + Copy, W: Watcher<A>, D: Describer<A, W>> Annotator<A, W, D> {
-    /// An annotator of a trace of which nothing was fed. Where not every row is told of, the describer chooses. It takes
-    /// no memory.
-    pub fn new(alloc: A, trace: W, choice: Choice, describer: D) -> Self
+    /// An annotator of a trace of which nothing was fed. It tells of the rows that the describer chooses, and takes no
+    /// memory.
+    pub fn new(alloc: A, trace: W, mut describer: D) -> Self
         requires fresh { W.stands_for trace [] }
-        ensures stands { StandsFor W.stands_for result [] }
-        ensures choice { result.choice ≡ choice }
+        ensures stands { StandsFor (HasRead W.Watcher D.Describer) result [] }
+        ensures choice { result.choice ≡ D.rows describer }
         ensures held { result.held.items ≡ [] }
     {
+        let choice = describer.rows();
+        describer.begin();
         Annotator {
             trace,
             describer,
@@ -71,16 +74,16 @@ impl<A: Allocator + Copy, W: Watcher<A>, D: Describer<A, W>> Annotator<A, W, D> 
 
     /// Takes the end of a line with its LF, and holds the line and its comments.
     fn take_line(&mut self, end: &[u8]) -> Result<(), Fault>
-        requires { (text : List ℕ) × StandsFor W.stands_for self.old text }
-        ensures stands { (text front : List ℕ) → StandsFor W.stands_for self.old text
-            → end.now ≡ front ++ 10 ∷ [] → OnOk result (StandsFor W.stands_for self.new (text
-            ++ end.now)) }
-        ensures held { (text front sent : List ℕ) → StandsFor W.stands_for self.old text
+        requires { (text : List ℕ) × StandsFor (HasRead W.Watcher D.Describer) self.old text }
+        ensures stands { (text front : List ℕ) → StandsFor (HasRead W.Watcher D.Describer) self.old text
+            → end.now ≡ front ++ 10 ∷ [] → IsOneLine front
+            → OnOk result (StandsFor (HasRead W.Watcher D.Describer) self.new (text ++ end.now)) }
+        ensures held { (text front sent : List ℕ) → StandsFor (HasRead W.Watcher D.Describer) self.old text
             → end.now ≡ front ++ 10 ∷ [] → IsOneLine front
             → IsAnnotationOf self.old.choice (ended_lines text) (sent ++ self.old.held.items)
             → OnOk result (IsAnnotationOf self.old.choice (ended_lines (text ++ end.now)) (sent
             ++ self.new.held.items)) }
-        ensures refused { (text : List ℕ) → StandsFor W.stands_for self.old text
+        ensures refused { (text : List ℕ) → StandsFor (HasRead W.Watcher D.Describer) self.old text
             → IfErr result (IsFaultOf (early (text ++ end.now))) }
         ensures not_held { IfErr result (λ fault. fault ≢ Memory
             → self.new.held.items ≡ self.old.held.items) }
@@ -106,10 +109,10 @@ impl<A: Allocator + Copy, W: Watcher<A>, D: Describer<A, W>> Annotator<A, W, D> 
 
     /// Takes bytes without an LF.
     fn begin(&mut self, more: &[u8]) -> Result<(), Fault>
-        requires { (text : List ℕ) × StandsFor W.stands_for self.old text }
-        ensures stands { (text : List ℕ) → StandsFor W.stands_for self.old text → IsOneLine more.now
-            → OnOk result (StandsFor W.stands_for self.new (text ++ more.now)) }
-        ensures refused { (text : List ℕ) → StandsFor W.stands_for self.old text
+        requires { (text : List ℕ) × StandsFor (HasRead W.Watcher D.Describer) self.old text }
+        ensures stands { (text : List ℕ) → StandsFor (HasRead W.Watcher D.Describer) self.old text → IsOneLine more.now
+            → OnOk result (StandsFor (HasRead W.Watcher D.Describer) self.new (text ++ more.now)) }
+        ensures refused { (text : List ℕ) → StandsFor (HasRead W.Watcher D.Describer) self.old text
             → IfErr result (IsFaultOf (early (text ++ more.now))) }
         ensures held { self.new.held.items ≡ self.old.held.items }
         ensures choice { self.new.choice ≡ self.old.choice }
@@ -125,18 +128,18 @@ impl<A: Allocator + Copy, W: Watcher<A>, D: Describer<A, W>> Annotator<A, W, D> 
 
     /// Takes a chunk, and holds its lines and their comments, of which the sink is given what is much.
     fn take_lines<K: Sink>(&mut self, chunk: &[u8], sink: &mut K) -> Result<(), Fault>
-        requires { (text : List ℕ) × StandsFor W.stands_for self.old text }
-        ensures stands { (text : List ℕ) → StandsFor W.stands_for self.old text
-            → OnOk result (StandsFor W.stands_for self.new (text ++ chunk.now)) }
+        requires { (text : List ℕ) × StandsFor (HasRead W.Watcher D.Describer) self.old text }
+        ensures stands { (text : List ℕ) → StandsFor (HasRead W.Watcher D.Describer) self.old text
+            → OnOk result (StandsFor (HasRead W.Watcher D.Describer) self.new (text ++ chunk.now)) }
         ensures annotated { (text : List ℕ) (before : Option (List ℕ))
-            → StandsFor W.stands_for self.old text
+            → StandsFor (HasRead W.Watcher D.Describer) self.old text
             → HasAnnotated self.old.choice before (K.taken sink.old) self.old.held.items
             (ended_lines text) → OnOk result (HasAnnotated self.old.choice before
             (K.taken sink.new) self.new.held.items (ended_lines (text ++ chunk.now))) }
-        ensures refused { (text : List ℕ) → StandsFor W.stands_for self.old text
+        ensures refused { (text : List ℕ) → StandsFor (HasRead W.Watcher D.Describer) self.old text
             → IfErr result (IsRefusalOf (early (text ++ chunk.now))) }
         ensures stopped { (text : List ℕ) (before : Option (List ℕ))
-            → StandsFor W.stands_for self.old text
+            → StandsFor (HasRead W.Watcher D.Describer) self.old text
             → HasAnnotated self.old.choice before (K.taken sink.old) self.old.held.items
             (ended_lines text) → IfErr result
             (IsStoppedAt self.old.choice before (K.taken sink.new) self.new.held.items
@@ -165,27 +168,27 @@ impl<A: Allocator + Copy, W: Watcher<A>, D: Describer<A, W>> Annotator<A, W, D> 
     /// refuses by the first line that is faulty however the text goes on, and has written the lines before it; where the
     /// sink fails; and for want of memory.
     pub fn feed<K: Sink>(&mut self, chunk: &[u8], sink: &mut K) -> Result<(), Fault>
-        requires fed { (text : List ℕ) × StandsFor W.stands_for self.old text }
+        requires fed { (text : List ℕ) × StandsFor (HasRead W.Watcher D.Describer) self.old text }
         // Of any text that it was fed: it was fed that text with the chunk.
-        ensures stands { (text : List ℕ) → StandsFor W.stands_for self.old text
-            → OnOk result (StandsFor W.stands_for self.new (text ++ chunk.now)) }
+        ensures stands { (text : List ℕ) → StandsFor (HasRead W.Watcher D.Describer) self.old text
+            → OnOk result (StandsFor (HasRead W.Watcher D.Describer) self.new (text ++ chunk.now)) }
         // A sink that has the annotation of the lines that ended has that of the text with the chunk, and nothing is held.
         ensures annotated { (text : List ℕ) (before : Option (List ℕ))
-            → StandsFor W.stands_for self.old text
+            → StandsFor (HasRead W.Watcher D.Describer) self.old text
             → HasAnnotated self.old.choice before (K.taken sink.old) self.old.held.items
             (ended_lines text) → OnOk result (HasAnnotated self.old.choice before
             (K.taken sink.new) [] (ended_lines (text ++ chunk.now))) }
         ensures none_held { OnOk result (self.new.held.items ≡ []) }
-        ensures refused { (text : List ℕ) → StandsFor W.stands_for self.old text
+        ensures refused { (text : List ℕ) → StandsFor (HasRead W.Watcher D.Describer) self.old text
             → IfErr result (IsRefusalOf (early (text ++ chunk.now))) }
         // At a refusal it has a first part, at a faulty line the annotation of all lines before it, if it did not fail.
         ensures taken { (text : List ℕ) (before : Option (List ℕ))
-            → StandsFor W.stands_for self.old text
+            → StandsFor (HasRead W.Watcher D.Describer) self.old text
             → HasAnnotated self.old.choice before (K.taken sink.old) self.old.held.items
             (ended_lines text) → IfErr result (λ fault.
             HasFirst self.old.choice before (K.taken sink.new) (ended_lines (text ++ chunk.now))) }
         ensures at_line { (text : List ℕ) (before : Option (List ℕ))
-            → StandsFor W.stands_for self.old text
+            → StandsFor (HasRead W.Watcher D.Describer) self.old text
             → HasAnnotated self.old.choice before (K.taken sink.old) self.old.held.items
             (ended_lines text) → K.failures sink.new ≡ K.failures sink.old
             → IfErr result (HasLinesBefore self.old.choice before (K.taken sink.new)
@@ -212,15 +215,15 @@ impl<A: Allocator + Copy, W: Watcher<A>, D: Describer<A, W>> Annotator<A, W, D> 
 
     /// Writes the comments behind a text that an LF ended.
     fn close<K: Sink>(self, sink: &mut K) -> Result<Summary, Fault>
-        requires { (text : List ℕ) × StandsFor W.stands_for self text × (begun_line text ≡ []) }
+        requires { (text : List ℕ) × StandsFor (HasRead W.Watcher D.Describer) self text × (begun_line text ≡ []) }
         ensures annotated { (text : List ℕ) (before : Option (List ℕ))
-            → StandsFor W.stands_for self text → begun_line text ≡ []
+            → StandsFor (HasRead W.Watcher D.Describer) self text → begun_line text ≡ []
             → HasAnnotated self.choice before (K.taken sink.old) self.held.items (ended_lines text)
             → IfOk result (IsAnnotated self.choice text before (K.taken sink.new)) }
-        ensures refused { (text : List ℕ) → StandsFor W.stands_for self text
+        ensures refused { (text : List ℕ) → StandsFor (HasRead W.Watcher D.Describer) self text
             → IfErr result (IsCloseRefusal text) }
         ensures taken { (text : List ℕ) (before : Option (List ℕ))
-            → StandsFor W.stands_for self text → begun_line text ≡ []
+            → StandsFor (HasRead W.Watcher D.Describer) self text → begun_line text ≡ []
             → HasAnnotated self.choice before (K.taken sink.old) self.held.items (ended_lines text)
             → result ≡ Err Fault.Write → HasFirstOf self.choice text before (K.taken sink.new) }
         ensures not_written { IfErr result (λ fault. fault ≢ Fault.Write → sink.new ≡ sink.old) }
@@ -244,16 +247,16 @@ impl<A: Allocator + Copy, W: Watcher<A>, D: Describer<A, W>> Annotator<A, W, D> 
     /// closing comments; answers the last line of the report as numbers. It refuses by the first faulty line; for want of
     /// memory; where the sink fails; and where a text is so large that the LF would stand behind the first 2^30 bytes.
     pub fn end<K: Sink>(mut self, sink: &mut K) -> Result<Summary, Fault>
-        requires fed { (text : List ℕ) × StandsFor W.stands_for self text }
+        requires fed { (text : List ℕ) × StandsFor (HasRead W.Watcher D.Describer) self text }
         // A sink that has the annotation of the lines that ended has that of the text.
         ensures annotated { (text : List ℕ) (before : Option (List ℕ))
-            → StandsFor W.stands_for self text
+            → StandsFor (HasRead W.Watcher D.Describer) self text
             → HasAnnotated self.choice before (K.taken sink.old) self.held.items (ended_lines text)
             → IfOk result (IsAnnotated self.choice text before (K.taken sink.new)) }
-        ensures refused { (text : List ℕ) → StandsFor W.stands_for self text
+        ensures refused { (text : List ℕ) → StandsFor (HasRead W.Watcher D.Describer) self text
             → IfErr result (IsEndRefusal text) }
         ensures taken { (text : List ℕ) (before : Option (List ℕ))
-            → StandsFor W.stands_for self text
+            → StandsFor (HasRead W.Watcher D.Describer) self text
             → HasAnnotated self.choice before (K.taken sink.old) self.held.items (ended_lines text)
             → result ≡ Err Fault.Write → HasFirstOf self.choice text before (K.taken sink.new) }
         ensures not_written { IfErr result (λ fault. fault ≢ Fault.Write → sink.new ≡ sink.old) }

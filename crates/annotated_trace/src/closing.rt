@@ -13,9 +13,10 @@ use line_model::report::Report;
 use line_model::totals::Summary;
 use std::alloc::Allocator;
 use std::marker::Brand;
+use trace_text::watcher::Watcher;
 
 /// As `write_closing`, to the sink of an origin.
-fn write_to<'a, A: Allocator, W, D: Describer<A, W>, K: Sink, B: Origin>(
+fn write_to<'a, A: Allocator, W: Watcher<A>, D: Describer<A, W>, K: Sink, B: Origin>(
     report: &Report<A>,
     describer: &mut D,
     to: Lent<'a, K>,
@@ -40,7 +41,7 @@ fn take_back<K>(_sink: &mut K)
 
 /// Gives a sink the comments behind the last line of a text. It takes no memory. Where the sink fails it took a first part
 /// of them.
-fn write_closing<A: Allocator, W, D: Describer<A, W>, K: Sink>(
+fn write_closing<A: Allocator, W: Watcher<A>, D: Describer<A, W>, K: Sink>(
     report: &Report<A>,
     describer: &mut D,
     sink: &mut K,
@@ -57,7 +58,7 @@ fn write_closing<A: Allocator, W, D: Describer<A, W>, K: Sink>(
 
 /// Gives a sink what is held, and behind it the comments behind the last line of a text; answers the last line of the
 /// report as numbers. Where the sink fails it took a first part of them.
-pub fn send_closing<A: Allocator, W, D: Describer<A, W>, K: Sink>(
+pub fn send_closing<A: Allocator, W: Watcher<A>, D: Describer<A, W>, K: Sink>(
     report: &Report<A>,
     describer: &mut D,
     held: &mut Vec<u8, A>,

@@ -1,12 +1,13 @@
 //! The comments behind a line.
 
-ghost use Rattle.std.specs.Prelude.{OnOk};
-ghost use Rattle.annotated_trace.specs.Marking.{HasCommentsOf, HasMarksOf};
+ghost use Rattle.std.specs.Prelude.{◌≡◌, ℕ, ◌++◌, ◌∷◌, [], List, OnOk};
+ghost use Rattle.line_model.specs.text.Text.{Line, ended_lines};
+ghost use Rattle.annotated_trace.specs.Marking.{HasMarksOf, HasRightComments};
 
-use crate::choice::Choice;
 use crate::describer::Describer;
 use crate::marks::append_mark;
 use crate::notes::{Notes, Words};
+use crate::rows::Rows;
 use std::alloc::{AllocError, Allocator};
 use trace_text::watcher::Watcher;
 
@@ -34,7 +35,10 @@ fn append_marks<A: Allocator + Copy, W: Watcher<A>, D: Describer<A, W>>(
     words: &mut Words<A>,
     out: &mut Vec<u8, A>,
 ) -> Result<(), AllocError>
-    ensures { OnOk result (HasMarksOf (W.last_found trace.now) out.old.items out.new.items) }
+    ensures marks { OnOk result (HasMarksOf (W.last_found trace.now) out.old.items out.new.items) }
+    ensures described { (lines : List Line) → D.described describer.old lines
+        → D.described describer.new lines }
+    ensures rows { D.rows describer.new ≡ D.rows describer.old }
 {
     let found = trace.found();
     for finding in found {
@@ -48,13 +52,21 @@ fn append_marks<A: Allocator + Copy, W: Watcher<A>, D: Describer<A, W>>(
 /// Appends the comments behind the last line.
 pub fn append_comments<A: Allocator + Copy, W: Watcher<A>, D: Describer<A, W>>(
     trace: &W,
-    choice: Choice,
+    choice: Rows,
     describer: &mut D,
     scratch: &mut Scratch<A>,
     out: &mut Vec<u8, A>,
 ) -> Result<(), AllocError>
-    ensures { OnOk result (HasCommentsOf choice
+    ensures comments { (before : List Line) (line : Line) (text : List ℕ)
+        → D.described describer.old before → D.rows describer.old ≡ choice
+        → W.stands_for trace.now text → ended_lines text ≡ before ++ line ∷ []
+        → OnOk result (HasRightComments choice before line
         (W.last_found trace.now) out.old.items out.new.items) }
+    ensures described { (before : List Line) (line : Line) (text : List ℕ)
+        → D.described describer.old before → W.stands_for trace.now text
+        → ended_lines text ≡ before ++ line ∷ []
+        → OnOk result (D.described describer.new (before ++ line ∷ [])) }
+    ensures rows { D.rows describer.new ≡ D.rows describer.old }
 {
     scratch.notes.clear();
     let told = describer.describe(trace, &mut scratch.notes)?;
@@ -63,7 +75,7 @@ pub fn append_comments<A: Allocator + Copy, W: Watcher<A>, D: Describer<A, W>>(
             scratch.notes.append_to(out)?;
             append_marks(trace, describer, &mut scratch.words, out)
         }
-        (false, Choice::EveryRow) => append_marks(trace, describer, &mut scratch.words, out),
-        (false, Choice::ChosenRows) => Ok(()),
+        (false, Rows::All) => append_marks(trace, describer, &mut scratch.words, out),
+        (false, Rows::Chosen { .. }) => Ok(()),
     }
 }

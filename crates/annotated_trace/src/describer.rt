@@ -2,17 +2,48 @@
 
 use crate::notes::{Notes, Words};
 use crate::page::{ClosingPage, Origin};
+use crate::rows::Rows;
 use line_model::device::Sink;
 use line_model::finding::Finding;
 use line_model::report::Report;
 use std::alloc::{AllocError, Allocator};
+use trace_text::watcher::Watcher;
 
-/// Finds the words of an annotated trace. What it says is free: `Notes`, `Words` and `ClosingPage` keep the form. `W` is
-/// the trace that it reads of, as `Live<A, C>`.
-pub trait Describer<A: Allocator, W>: Drop {
-    /// Says what a line did, which the trace has just taken, and whether it is told of at all: where it is not, what was
-    /// said is left out.
-    fn describe(&mut self, trace: &W, notes: &mut Notes<A>) -> Result<bool, AllocError>;
+/// Finds the words of an annotated trace, and knows which rows are told of. What it says is free: `Notes`, `Words` and
+/// `ClosingPage` keep the form. `W` is the trace that it reads of, as `Live<A, C>`.
+pub trait Describer<A: Allocator, W: Watcher<A>>: Drop {
+    ghost use Rattle.std.specs.Prelude.{◌≡◌, ℕ, ◌++◌, ◌∷◌, [], List, IfOk, OnOk};
+    ghost use Rattle.line_model.specs.text.Text.{Line, ended_lines};
+    ghost use Rattle.annotated_trace.specs.Marking.{IsToldRightly};
+    ghost use Rattle.annotated_trace.specs.declared.rows.Rows.{Rows as AnyRows};
+
+    /// It has described these lines.
+    ghost described: { Self → List Line → Type 0 };
+
+    /// The rows that are told of.
+    ghost rows: { Self → AnyRows };
+
+    /// The rows that are told of.
+    fn rows(&self) -> Rows
+        ensures { result ≡ rows self.now };
+
+    /// A trace begins, of which no line was described.
+    fn begin(&mut self)
+        ensures described { described self.new [] }
+        ensures rows { rows self.new ≡ rows self.old };
+
+    /// Says what a line did, which the trace has just taken, and whether it writes a row that is told of: where it does
+    /// not, what was said is left out.
+    fn describe(&mut self, trace: &W, notes: &mut Notes<A>) -> Result<bool, AllocError>
+        ensures told { (before : List Line) (line : Line) (text : List ℕ)
+            → described self.old before → W.stands_for trace.now text
+            → ended_lines text ≡ before ++ line ∷ []
+            → IfOk result (IsToldRightly (rows self.old) before line) }
+        ensures described { (before : List Line) (line : Line) (text : List ℕ)
+            → described self.old before → W.stands_for trace.now text
+            → ended_lines text ≡ before ++ line ∷ []
+            → OnOk result (described self.new (before ++ line ∷ [])) }
+        ensures rows { rows self.new ≡ rows self.old };
 
     /// Says what is wrong with the row of a finding, which is among those of the last line; these words stand behind its
     /// mark.
@@ -21,7 +52,10 @@ pub trait Describer<A: Allocator, W>: Drop {
         trace: &W,
         finding: &Finding,
         words: &mut Words<A>,
-    ) -> Result<(), AllocError>;
+    ) -> Result<(), AllocError>
+        ensures described { (lines : List Line) → described self.old lines
+            → described self.new lines }
+        ensures rows { rows self.new ≡ rows self.old };
 
     /// Says what stands behind the last line of a text that has ended: its report in words. A sink takes them as they are
     /// said, so there is nothing that it could refuse for.

@@ -3,7 +3,6 @@
 
 pub mod annotating;
 pub mod annotator;
-pub mod choice;
 mod closing;
 mod commenting;
 pub mod describer;

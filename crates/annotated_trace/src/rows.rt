@@ -1,9 +1,8 @@
 //! Which rows of a trace are told of.
 
 ghost use Rattle.std.specs.Prelude.{◌≡◌};
-ghost use Rattle.annotated_trace.specs.Rows.{choice_of, is_call, is_channel, tells_interface_row, tells_row};
+ghost use Rattle.annotated_trace.specs.Rows.{asked_call, names_asked, tells};
 
-use crate::choice::Choice;
 use line_model::packet::Packet;
 
 /// Which rows are told of.
@@ -19,59 +18,44 @@ pub enum Rows {
 }
 
 impl Rows {
-    /// Whether each row is told of, or some are chosen.
-    pub fn choice(self) -> Choice
-        ensures { result ≡ choice_of self }
+    /// The number of the call that is named, 0 where none is.
+    pub fn asked_call(self) -> u32
+        ensures { result ≡ asked_call self }
     {
         match self {
-            Rows::All => Choice::EveryRow,
-            Rows::Chosen { .. } => Choice::ChosenRows,
+            Rows::Chosen {
+                call: Some(number),
+                ..
+            } => number,
+            _ => 0,
         }
     }
 
-    /// Whether a row of a logical channel is told of, by the calls that were open before it and after it.
-    pub fn has(self, channel: u16, first: u32, last: u32) -> bool
-        ensures { result ≡ tells_row self channel first last }
+    /// Whether a row is told of, by its packet and by whether it is one of the rows of the call that is named.
+    pub fn tells(self, packet: &Packet, of_call: bool) -> bool
+        ensures { result ≡ tells self packet.now of_call }
     {
         match self {
             Rows::All => true,
             Rows::Chosen {
-                channel: on,
-                call: of,
-            } => is_channel(on, channel) && is_call(of, first, last),
-        }
-    }
-
-    /// Whether a row that the restart machine judged is told of: it belongs to no call.
-    pub fn has_of_interface(self, packet: &Packet) -> bool
-        ensures { result ≡ tells_interface_row self packet.now }
-    {
-        match packet {
-            Packet::Channel { channel, .. } => self.has(*channel, 0, 0),
-            _ => match self {
-                Rows::All => true,
-                Rows::Chosen { .. } => false,
-            },
+                channel,
+                call: None,
+            } => names_asked(channel, packet),
+            Rows::Chosen {
+                channel,
+                call: Some(_),
+            } => names_asked(channel, packet) && of_call,
         }
     }
 }
 
-/// Whether a logical channel is the one that is named, where one is.
-fn is_channel(named: Option<u16>, channel: u16) -> bool
-    ensures { result ≡ is_channel named channel }
+/// Whether a packet names the logical channel that is asked for, where one is.
+fn names_asked(asked: Option<u16>, packet: &Packet) -> bool
+    ensures { result ≡ names_asked asked packet.now }
 {
-    match named {
-        Some(named) => named == channel,
-        None => true,
-    }
-}
-
-/// Whether one of two calls is the one that is named, where one is.
-fn is_call(named: Option<u32>, first: u32, last: u32) -> bool
-    ensures { result ≡ is_call named first last }
-{
-    match named {
-        Some(named) => named == first || named == last,
-        None => true,
+    match (asked, packet) {
+        (None, _) => true,
+        (Some(asked), Packet::Channel { channel, .. }) => *channel == asked,
+        (Some(_), _) => false,
     }
 }

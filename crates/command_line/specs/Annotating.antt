@@ -3,14 +3,14 @@ use Rattle.std.specs.Prelude.{◌≡◌, ◌⊎◌, ℕ, Bool, true, false, List
 use Rattle.line_model.specs.declared.fault.Fault.{Fault}
 use Rattle.line_model.specs.declared.totals.Summary.{Summary}
 use Rattle.annotated_trace.specs.Annotating.{Annotates, Stops}
-use Rattle.annotated_trace.specs.declared.choice.Choice.{Choice}
+use Rattle.annotated_trace.specs.declared.rows.Rows.{Rows}
 use Rattle.command_line.specs.Program.{IsUnread, fault_status, summary_status}
 
 -- a source that had `left` was annotated to a sink, and the status is that of the sums; or it was refused, and the status is that of the fault
-abbrev pub IsAnnotateStatus : Choice → (left after before taken : Option (List ℕ)) → (well : Type 0) → (status : ℕ) → Type 0
-IsAnnotateStatus choice left after before taken well status =
-    ((sums : Summary) × Annotates choice left after before taken sums × (status ≡ summary_status sums))
-    ⊎ ((fault : Fault) × Stops choice left after before taken well fault × (status ≡ fault_status fault))
+abbrev pub IsAnnotateStatus : Rows → (left after before taken : Option (List ℕ)) → (well : Type 0) → (status : ℕ) → Type 0
+IsAnnotateStatus rows left after before taken well status =
+    ((sums : Summary) × Annotates rows left after before taken sums × (status ≡ summary_status sums))
+    ⊎ ((fault : Fault) × Stops rows left after before taken well fault × (status ≡ fault_status fault))
 
 -- JSON was asked for too: nothing was read or written
 pub record IsRefused {S K : Type 0} (source source' : S) (sink sink' : K) (status : ℕ) : Type 0 where
@@ -19,7 +19,7 @@ pub record IsRefused {S K : Type 0} (source source' : S) (sink sink' : K) (statu
   pub usage : status ≡ 64
 
 -- what is answered where an annotation is asked for, by whether JSON is too
-abbrev pub IsAnnotateAnswer : {S K : Type 0} → (json : Bool) → Choice → (source source' : S) (sink sink' : K) → (left after before taken : Option (List ℕ)) → (well : Type 0) → (status : ℕ) → Type 0
-IsAnnotateAnswer true choice source source' sink sink' left after before taken well status = IsRefused source source' sink sink' status
-IsAnnotateAnswer false choice source source' sink sink' left after before taken well status =
-    IsUnread source source' sink sink' status ⊎ IsAnnotateStatus choice left after before taken well status
+abbrev pub IsAnnotateAnswer : {S K : Type 0} → (json : Bool) → Rows → (source source' : S) (sink sink' : K) → (left after before taken : Option (List ℕ)) → (well : Type 0) → (status : ℕ) → Type 0
+IsAnnotateAnswer true rows source source' sink sink' left after before taken well status = IsRefused source source' sink sink' status
+IsAnnotateAnswer false rows source source' sink sink' left after before taken well status =
+    IsUnread source source' sink sink' status ⊎ IsAnnotateStatus rows left after before taken well status

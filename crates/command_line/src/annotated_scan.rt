@@ -2,7 +2,6 @@
 
 ghost use Rattle.std.specs.Prelude.{◌≡◌, ◌+◌, ◌<◌, ◌≤◌, ◌^◌, Err, IfErr, IfOk};
 ghost use Rattle.annotated_trace.specs.Annotating.{Annotates, IsAnnotatingFault, Stops};
-ghost use Rattle.annotated_trace.specs.Rows.{choice_of};
 
 use annotated_trace::annotating::annotate as annotate_by;
 use annotated_trace::rows::Rows;
@@ -21,11 +20,11 @@ pub fn annotate<A: Allocator + Copy, S: Source, K: Sink>(
     source: &mut S,
     sink: &mut K,
 ) -> Result<Summary, Fault>
-    // The source gave a text without a fault, and the sink took an annotation of it.
-    ensures annotated { IfOk result (Annotates (choice_of rows) (S.left source.old)
+    // The source gave a text without a fault, and the sink took an annotation of exactly these rows of it.
+    ensures annotated { IfOk result (Annotates rows (S.left source.old)
         (S.left source.new) (K.taken sink.old) (K.taken sink.new)) }
     // A refusal is by the bytes that were given, and the sink has a first part of their annotation.
-    ensures stopped { IfErr result (Stops (choice_of rows) (S.left source.old) (S.left source.new)
+    ensures stopped { IfErr result (Stops rows (S.left source.old) (S.left source.new)
         (K.taken sink.old) (K.taken sink.new) (K.failures sink.new ≡ K.failures sink.old)) }
     ensures kinds { IfErr result IsAnnotatingFault }
     ensures read_failed { result ≡ Err Fault.Read → S.failures source.old < S.failures source.new }
@@ -35,7 +34,6 @@ pub fn annotate<A: Allocator + Copy, S: Source, K: Sink>(
     annotate_by(
         alloc,
         Live::<A, PackedChannel<A>>::new(alloc),
-        rows.choice(),
         Descriptions::new(alloc, rows),
         source,
         sink,

@@ -1,7 +1,6 @@
 //! The trace once more, with comments behind its rows.
 
 ghost use Rattle.std.specs.Prelude.{◌≡◌, ◌<◌, ◌≤◌, ◌+◌, ◌^◌, ◌⊎◌, map, option_map};
-ghost use Rattle.annotated_trace.specs.Rows.{choice_of};
 ghost use Rattle.command_line.specs.Annotating.{IsAnnotateAnswer, IsAnnotateStatus};
 ghost use Rattle.command_line.specs.Program.{IsUnread, trace_of};
 
@@ -22,7 +21,7 @@ fn run_annotate<S: Input, K: Sink, E: Sink>(
     sink: &mut K,
     errors: &mut E,
 ) -> u8
-    ensures status { IsAnnotateStatus (choice_of rows) (S.left source.old) (S.left source.new)
+    ensures status { IsAnnotateStatus rows (S.left source.old) (S.left source.new)
         (K.taken sink.old) (K.taken sink.new) (K.failures sink.new ≡ K.failures sink.old) result }
     ensures range { result < 4 }
     ensures asked { S.calls source.new ≤ S.calls source.old + (2 ^ 30 + 1) }
@@ -43,7 +42,7 @@ fn annotate_named<S: Input, K: Sink, E: Sink>(
     errors: &mut E,
 ) -> u8
     ensures status { IsUnread source.old source.new sink.old sink.new result
-        ⊎ IsAnnotateStatus (choice_of rows) (S.named source.old name.now) (S.left source.new)
+        ⊎ IsAnnotateStatus rows (S.named source.old name.now) (S.left source.new)
         (K.taken sink.old) (K.taken sink.new) (K.failures sink.new ≡ K.failures sink.old) result }
     ensures range { result < 4 }
     ensures asked { S.calls source.new ≤ S.calls source.old + (2 ^ 30 + 1) }
@@ -66,7 +65,7 @@ fn annotate_input<S: Input, K: Sink, E: Sink>(
     ensures status { let name = option_map (λ name. name.now) options.entry.trace in
         let trace = trace_of name (S.left source.old) (S.named source.old) in
         IsUnread source.old source.new sink.old sink.new result
-        ⊎ IsAnnotateStatus (choice_of rows) trace (S.left source.new)
+        ⊎ IsAnnotateStatus rows trace (S.left source.new)
         (K.taken sink.old) (K.taken sink.new) (K.failures sink.new ≡ K.failures sink.old) result }
     ensures range { result < 4 }
     ensures asked { S.calls source.new ≤ S.calls source.old + (2 ^ 30 + 1) }
@@ -99,7 +98,7 @@ pub(crate) fn annotate_trace<S: Input, K: Sink, E: Sink>(
 ) -> u8
     ensures answer { let name = option_map (λ name. name.now) options.entry.trace in
         let trace = trace_of name (S.left source.old) (S.named source.old) in
-        IsAnnotateAnswer options.entry.json (choice_of rows) source.old source.new sink.old sink.new
+        IsAnnotateAnswer options.entry.json rows source.old source.new sink.old sink.new
         trace (S.left source.new) (K.taken sink.old) (K.taken sink.new)
         (K.failures sink.new ≡ K.failures sink.old) result }
     ensures unwritten { result ≡ 64 → sink.new ≡ sink.old }

@@ -2,10 +2,9 @@
 
 ghost use Rattle.std.specs.Prelude.{◌≡◌, ◌≢◌, ℕ, ◌<◌, ◌≤◌, ◌+◌, ◌^◌, ◌⊎◌, IfSome, List, [], None, Some, false, map, option_map, true};
 ghost use Rattle.clap.specs.Words.{kind_of};
-ghost use Rattle.command_options.specs.Options.{annotation, as_json, asked_word, follows, named_trace, words_fault};
+ghost use Rattle.command_options.specs.Options.{AreAskedRows, annotates, as_json, asked_word, follows, named_trace, words_fault};
 ghost use Rattle.command_line.specs.Explaining.{IsAnswered};
-ghost use Rattle.annotated_trace.specs.declared.choice.Choice.{Choice};
-ghost use Rattle.annotated_trace.specs.Rows.{choice_of};
+ghost use Rattle.annotated_trace.specs.declared.rows.Rows.{Rows};
 ghost use Rattle.command_line.specs.Annotating.{IsAnnotateAnswer};
 ghost use Rattle.command_line.specs.Program.{IsFollowStatus, IsStatus, IsUnread, IsWordsStatus, TellsOf, fault_status, summary_status, trace_of, words_status};
 
@@ -308,15 +307,15 @@ fn run<S: Input, K: Sink, E: Sink, R: Threads + Wait + Clock + Sync>(
     ensures told { let name = option_map (λ name. name.now) options.entry.trace in
         let trace = trace_of name (S.left source.old) (S.named source.old) in
         option_map (λ word. word.now) options.entry.explain ≡ None
-        → option_map choice_of options.entry.annotate ≡ None
+        → options.entry.annotate ≡ None
         → IsUnread source.old source.new sink.old sink.new result
         ⊎ TellsOf options.entry.json options.entry.follow trace (S.left source.new)
         (K.taken sink.old) (K.taken sink.new) (K.failures sink.new ≡ K.failures sink.old) result }
     ensures annotated { let name = option_map (λ name. name.now) options.entry.trace in
         let trace = trace_of name (S.left source.old) (S.named source.old) in
         option_map (λ word. word.now) options.entry.explain ≡ None
-        → IfSome (option_map choice_of options.entry.annotate) (λ choice.
-        IsAnnotateAnswer options.entry.json choice source.old source.new sink.old sink.new trace
+        → IfSome options.entry.annotate (λ rows.
+        IsAnnotateAnswer options.entry.json rows source.old source.new sink.old sink.new trace
         (S.left source.new) (K.taken sink.old) (K.taken sink.new)
         (K.failures sink.new ≡ K.failures sink.old) result) }
     ensures explained { IfSome (option_map (λ word. word.now) options.entry.explain) (λ word.
@@ -384,20 +383,20 @@ pub fn program<S: Input, K: Sink, E: Sink, R: Threads + Wait + Clock + Sync>(
     // where they ask for JSON. Or it could not be opened, or memory ran out, and nothing was read.
     ensures told { let asked = map (λ word. word.now) words.now in
         let trace = trace_of (named_trace asked) (S.left source.old) (S.named source.old) in
-        words_fault asked ≡ [] → asked_word asked ≡ None → annotation asked ≡ None
+        words_fault asked ≡ [] → asked_word asked ≡ None → annotates asked ≡ false
         → IsUnread source.old source.new sink.old sink.new result
         ⊎ TellsOf (as_json asked) (follows asked) trace (S.left source.new)
         (K.taken sink.old) (K.taken sink.new) (K.failures sink.new ≡ K.failures sink.old) result }
-    // Where they ask for an annotation, of each row or of those that they choose, the sink took one of that trace, or it
-    // was refused. Where they ask for JSON with it, they are refused.
+    // Where they ask for an annotation, of each row or of exactly those that they choose, the sink took one of that trace,
+    // or it was refused. Where they ask for JSON with it, they are refused.
     ensures annotated { let asked = map (λ word. word.now) words.now in
         let trace = trace_of (named_trace asked) (S.left source.old) (S.named source.old) in
-        (choice : Choice) → words_fault asked ≡ [] → asked_word asked ≡ None
-        → annotation asked ≡ Some choice
+        words_fault asked ≡ [] → asked_word asked ≡ None → annotates asked ≡ true
         → IsUnread source.old source.new sink.old sink.new result
-        ⊎ IsAnnotateAnswer (as_json asked) choice source.old source.new sink.old sink.new trace
+        ⊎ ((rows : Rows) × AreAskedRows asked rows
+        × IsAnnotateAnswer (as_json asked) rows source.old source.new sink.old sink.new trace
         (S.left source.new) (K.taken sink.old) (K.taken sink.new)
-        (K.failures sink.new ≡ K.failures sink.old) result }
+        (K.failures sink.new ≡ K.failures sink.old) result) }
     // Where they ask for the explanation of a word the source is not asked, and the table answers.
     ensures explained { let asked = map (λ word. word.now) words.now in
         (word : List ℕ) → words_fault asked ≡ [] → asked_word asked ≡ Some word

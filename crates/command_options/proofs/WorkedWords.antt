@@ -1,9 +1,8 @@
 -- What some command lines are by the rules of `clap`, by computing.
 use Rattle.std.proofs.Common.{◌≡◌, false, true, refl, codes, [], ◌∷◌, Some, None}
-use Rattle.annotated_trace.specs.declared.choice.Choice.TheVariants.{EveryRow, ChosenRows}
 use Rattle.clap.proofs.OnLiterals.{clap_on_literals}
 use Rattle.clap.specs.declared.error.kind.ErrorKind.TheVariants.{ArgumentConflict, DisplayHelp, DisplayVersion, UnknownArgument, ValueValidation}
-use Rattle.command_options.specs.Options.{alone, annotation, as_json, asked_word, asked_workers, follows, named_trace, shows_progress, words_fault}
+use Rattle.command_options.specs.Options.{alone, annotates, as_json, asked_word, asked_workers, follows, named_trace, shows_progress, words_fault}
 
 no_arguments : words_fault (codes "x25scan" ∷ []) ≡ []
 unfolding clap_on_literals
@@ -133,15 +132,15 @@ followed_json : words_fault (codes "x25scan" ∷ codes "--follow" ∷ codes "--j
 unfolding clap_on_literals
 followed_json = refl
 
-annotated : annotation (codes "x25scan" ∷ codes "--annotate" ∷ codes "day.trace" ∷ []) ≡ Some EveryRow
+annotated : annotates (codes "x25scan" ∷ codes "--annotate" ∷ codes "day.trace" ∷ []) ≡ true
 unfolding clap_on_literals
 annotated = refl
 
-annotated_call : annotation (codes "x25scan" ∷ codes "--call" ∷ codes "7" ∷ []) ≡ Some ChosenRows
+annotated_call : annotates (codes "x25scan" ∷ codes "--call" ∷ codes "7" ∷ []) ≡ true
 unfolding clap_on_literals
 annotated_call = refl
 
-not_annotated : annotation (codes "x25scan" ∷ codes "--follow" ∷ []) ≡ None
+not_annotated : annotates (codes "x25scan" ∷ codes "--follow" ∷ []) ≡ false
 unfolding clap_on_literals
 not_annotated = refl
 

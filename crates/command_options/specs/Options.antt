@@ -1,9 +1,9 @@
 -- The command line: `x25scan [--workers N] [--alone] [--follow] [--json] [--annotate [--channel N] [--call N]] [--progress] [--explain [WORD]] [FILE]` (profile).
-use Rattle.std.specs.Prelude.{◌≡◌, ◌≤◌, ℕ, Bool, false, true, List, [], ◌∷◌, Option, None, Some, codes, pos, if◌then◌else◌}
+use Rattle.std.specs.Prelude.{◌≡◌, ◌≤◌, ℕ, Bool, false, true, List, [], ◌∷◌, Option, None, Some, MatchOption, codes, pos, if◌then◌else◌}
 use Rattle.std.specs.Str.{bytes_eq}
 use Rattle.std.specs.Str.Parse.{IsNumeral, digits_value, without_leading_plus}
-use Rattle.annotated_trace.specs.declared.choice.Choice.{Choice}
-use Rattle.annotated_trace.specs.declared.choice.Choice.TheVariants.{EveryRow, ChosenRows}
+use Rattle.annotated_trace.specs.declared.rows.Rows.{Rows}
+use Rattle.annotated_trace.specs.declared.rows.Rows.TheVariants.{All, Chosen}
 use Rattle.clap.specs.Words.{App, Kinds, Rule, Text, fault_of, first_of, matches_of, new_app, new_rule, with_rule}
 use Rattle.clap.specs.Simple.{on_top}
 use Rattle.clap.specs.declared.builder.action.ArgAction.TheVariants.{Set, SetTrue}
@@ -83,16 +83,21 @@ abbrev pub is_given : Option Text → Bool
 is_given None = false
 is_given (Some text) = bytes_eq text (codes "true")
 
--- the number from 1 to 64 that a text is; a plus may come first
-pub record IsWorkers (text : Text) (n : ℕ) : Type 0 where
+-- the number from 1 to another that a text is; a plus may come first
+pub record IsNumber (last : ℕ) (text : Text) (n : ℕ) : Type 0 where
   pub digits : IsNumeral 10 (without_leading_plus text)
   pub value : n ≡ digits_value 10 (without_leading_plus text)
   pub some : 1 ≤ n
-  pub few : n ≤ 64
+  pub few : n ≤ last
 
 -- the number of workers is the one that a text asks for
 abbrev pub HasWorkers : Option Text → ℕ → Type 0
-HasWorkers asked workers = (text : Text) (n : ℕ) → asked ≡ Some text → IsWorkers text n → workers ≡ n
+HasWorkers asked workers = (text : Text) (n : ℕ) → asked ≡ Some text → IsNumber 64 text n → workers ≡ n
+
+-- a number is the one that a text asks for; there is none where no text does
+abbrev pub HasNumber : (last : ℕ) → Option Text → Option ℕ → Type 0
+HasNumber last None number = number ≡ None
+HasNumber last (Some text) number = (n : ℕ) → IsNumber last text n → number ≡ Some n
 
 -- how many workers the words ask for: another text than a number from 1 to 64 is a fault of the words
 abbrev pub asked_workers : List Text → Option Text
@@ -114,18 +119,30 @@ follows words = is_given (first_of (codes "follow") (matches_of command words))
 abbrev pub as_json : List Text → Bool
 as_json words = is_given (first_of (codes "json") (matches_of command words))
 
--- which annotation these ask for: that of all rows, or where a channel or a call is named that of chosen ones
-abbrev pub annotation_by : (flag channel call : Option Text) → Option Choice
-annotation_by flag None None = if is_given flag then Some EveryRow else None
-annotation_by flag None (Some call) = Some ChosenRows
-annotation_by flag (Some channel) None = Some ChosenRows
-annotation_by flag (Some channel) (Some call) = Some ChosenRows
+-- whether these ask for an annotation: a channel or a call that is named does too
+abbrev pub annotates_by : (flag channel call : Option Text) → Bool
+annotates_by flag None None = is_given flag
+annotates_by flag channel call = true
 
--- which annotation of the trace the words ask for, if they do
-abbrev pub annotation : List Text → Option Choice
-annotation words =
-    annotation_by (first_of (codes "annotate") (matches_of command words)) (first_of (codes "channel") (matches_of command words))
+-- these ask for an annotation of these rows: of all, or of those of the channel and of the call that are named
+abbrev pub AreRowsBy : (channel call : Option Text) → Rows → Type 0
+AreRowsBy channel call All = (channel ≡ None) × (call ≡ None)
+AreRowsBy channel call (Chosen number place) = HasNumber 4095 channel number × HasNumber 999999999 call place
+
+-- they ask for an annotation of these rows, or for none
+abbrev pub AskFor : (flag channel call : Option Text) → Option Rows → Type 0
+AskFor flag channel call asked =
+    MatchOption asked (annotates_by flag channel call ≡ false) (λ rows. (annotates_by flag channel call ≡ true) × AreRowsBy channel call rows)
+
+-- whether the words ask for an annotation of the trace
+abbrev pub annotates : List Text → Bool
+annotates words =
+    annotates_by (first_of (codes "annotate") (matches_of command words)) (first_of (codes "channel") (matches_of command words))
     (first_of (codes "call") (matches_of command words))
+
+-- the rows that it is asked for
+abbrev pub AreAskedRows : List Text → Rows → Type 0
+AreAskedRows words rows = AreRowsBy (first_of (codes "channel") (matches_of command words)) (first_of (codes "call") (matches_of command words)) rows
 
 -- the word whose explanation is asked for; no text where the list of all words is
 abbrev pub asked_word : List Text → Option Text

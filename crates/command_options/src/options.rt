@@ -1,9 +1,8 @@
 //! The command line.
 
-ghost use Rattle.std.specs.Prelude.{◌≡◌, ◌≤◌, IfOk, codes, false, map, option_map};
-ghost use Rattle.annotated_trace.specs.Rows.{choice_of};
+ghost use Rattle.std.specs.Prelude.{◌≡◌, ◌≤◌, IfOk, MatchOption, codes, false, map, option_map, true};
 ghost use Rattle.clap.specs.Words.{FailsBy, app_of, first_value, found_of, rule_of};
-ghost use Rattle.command_options.specs.Options.{HasWorkers, alone, annotation, annotation_by, as_json, asked_word, asked_workers, call_rule, channel_rule, command, explain_rule, flag_rule, follows, is_given, named_by, named_trace, shows_progress, trace_rule, versioned, with_asking, with_scanning, with_telling, words_fault, workers_rule};
+ghost use Rattle.command_options.specs.Options.{AreAskedRows, AskFor, HasNumber, HasWorkers, alone, annotates, as_json, asked_word, asked_workers, call_rule, channel_rule, command, explain_rule, flag_rule, follows, is_given, named_by, named_trace, shows_progress, trace_rule, versioned, with_asking, with_scanning, with_telling, words_fault, workers_rule};
 
 use crate::help::{ABOUT, AFTER_HELP, VERSION};
 use annotated_trace::rows::Rows;
@@ -199,12 +198,27 @@ fn trace_in<'a>(matches: &ArgMatches<'a>) -> Option<&'a str>
     }
 }
 
+/// The logical channel that is named. `clap` has seen to it that the text is a number from 1 to 4095.
+fn channel_in(matches: &ArgMatches<'_>) -> Option<u16>
+    ensures { HasNumber 4095 (first_value (found_of matches.now) (codes "channel")) result }
+{
+    let text = matches.get_str("channel")?;
+    text.parse::<u16>().ok()
+}
+
+/// The call that is named. `clap` has seen to it that the text is a number from 1 to 999999999.
+fn call_in(matches: &ArgMatches<'_>) -> Option<u32>
+    ensures { HasNumber 999999999 (first_value (found_of matches.now) (codes "call")) result }
+{
+    let text = matches.get_str("call")?;
+    text.parse::<u32>().ok()
+}
+
 /// Which rows comments are asked for, if they are: a choice of rows asks for them too.
 fn rows_in(matches: &ArgMatches<'_>) -> Option<Rows>
-    ensures { option_map choice_of result ≡ annotation_by
-        (first_value (found_of matches.now) (codes "annotate"))
+    ensures { AskFor (first_value (found_of matches.now) (codes "annotate"))
         (first_value (found_of matches.now) (codes "channel"))
-        (first_value (found_of matches.now) (codes "call")) }
+        (first_value (found_of matches.now) (codes "call")) result }
 {
     match (matches.get_str("channel"), matches.get_str("call")) {
         (None, None) => {
@@ -215,8 +229,8 @@ fn rows_in(matches: &ArgMatches<'_>) -> Option<Rows>
             }
         }
         _ => Some(Rows::Chosen {
-            channel: matches.get_one::<u16>("channel"),
-            call: matches.get_one::<u32>("call"),
+            channel: channel_in(matches),
+            call: call_in(matches),
         }),
     }
 }
@@ -246,10 +260,9 @@ fn options_in<'a>(matches: &ArgMatches<'a>) -> Options<'a>
     ensures follow { result.follow ≡ is_given
         (first_value (found_of matches.now) (codes "follow")) }
     ensures json { result.json ≡ is_given (first_value (found_of matches.now) (codes "json")) }
-    ensures annotate { option_map choice_of result.annotate
-        ≡ annotation_by (first_value (found_of matches.now) (codes "annotate"))
+    ensures annotate { AskFor (first_value (found_of matches.now) (codes "annotate"))
         (first_value (found_of matches.now) (codes "channel"))
-        (first_value (found_of matches.now) (codes "call")) }
+        (first_value (found_of matches.now) (codes "call")) result.annotate }
     ensures explain { option_map (λ word. word.now) result.explain
         ≡ first_value (found_of matches.now) (codes "explain") }
     ensures trace { option_map (λ name. name.now) result.trace
@@ -284,8 +297,9 @@ pub fn parse<'a>(alloc: Global, words: &'a [&'a str]) -> Result<Options<'a>, Err
         ≡ follows (map (λ word. word.now) words.entry.now)) }
     ensures json { IfOk result (λ options. options.json
         ≡ as_json (map (λ word. word.now) words.entry.now)) }
-    ensures annotate { IfOk result (λ options. option_map choice_of options.annotate
-        ≡ annotation (map (λ word. word.now) words.entry.now)) }
+    ensures annotate { let asked = map (λ word. word.now) words.entry.now in
+        IfOk result (λ options. MatchOption options.annotate (annotates asked ≡ false)
+        (λ rows. (annotates asked ≡ true) × AreAskedRows asked rows)) }
     ensures explain { IfOk result (λ options. option_map (λ word. word.now) options.explain
         ≡ asked_word (map (λ word. word.now) words.entry.now)) }
     ensures trace { IfOk result (λ options. option_map (λ name. name.now) options.trace

@@ -1,5 +1,6 @@
 //! The describer of an annotated trace.
 
+use crate::chosen::Chosen;
 use crate::closing;
 use crate::effects::{Passed, channel_move, event, of_call, restart_move};
 use crate::faults::{Before, fault};
@@ -120,13 +121,9 @@ fn is_pad_call(view: Option<View>) -> bool {
     }
 }
 
-/// Tells what each row is and did: it remembers what was known of each logical channel before the row, and counts the
-/// calls, and what is not counted.
+/// What is remembered of the rows before: what was known of each logical channel, the calls, and what was not counted.
 #[derive(Drop)]
-pub struct Descriptions<A: Allocator> {
-    rows: Rows,
-    /// How many rows were described.
-    packets: u32,
+struct Course<A: Allocator> {
     epoch: u32,
     restart: RState,
     calls: u32,
@@ -135,12 +132,10 @@ pub struct Descriptions<A: Allocator> {
     uncounted: Uncounted,
 }
 
-impl<A: Allocator + Copy> Descriptions<A> {
-    /// No row was described. It takes no memory.
-    pub fn new(alloc: A, rows: Rows) -> Self {
-        Descriptions {
-            rows,
-            packets: 0,
+impl<A: Allocator + Copy> Course<A> {
+    /// There was no row. It takes no memory.
+    fn new(alloc: A) -> Self {
+        Course {
             epoch: 1,
             restart: RState::R1,
             calls: 0,
@@ -150,20 +145,20 @@ impl<A: Allocator + Copy> Descriptions<A> {
         }
     }
 
-    /// Describes the observer's last row, and answers whether it is told of.
+    /// Describes the observer's last row.
     fn row<C: Channel<A>, P: Page>(
         &mut self,
         seen: &Seen<'_>,
         observer: &Observer<A, C>,
         notes: &mut P,
-    ) -> Result<bool, AllocError> {
+    ) -> Result<(), AllocError> {
         match seen.packet {
             Packet::Channel { channel, kind } if self.restart == RState::R1 => {
                 self.on_channel(seen, channel, kind, observer, notes)
             }
             _ => {
                 self.on_interface(seen, observer, notes);
-                Ok(self.rows.has_of_interface(&seen.packet))
+                Ok(())
             }
         }
     }
@@ -201,10 +196,9 @@ impl<A: Allocator + Copy> Descriptions<A> {
         kind: PacketKind,
         observer: &Observer<A, C>,
         notes: &mut P,
-    ) -> Result<bool, AllocError> {
+    ) -> Result<(), AllocError> {
         let mut lane = self.lanes.get(channel);
         self.remember(seen, &lane);
-        let first_call = lane.call;
         let fresh = seen.interface.fresh_state(self.epoch, channel);
         let state = lane.state(fresh);
         self.say_on_channel(seen, kind, observer.events(), &mut lane, notes);
@@ -217,9 +211,7 @@ impl<A: Allocator + Copy> Descriptions<A> {
                 self.leave_out(seen, &lane, notes);
             }
         }
-        let last_call = lane.call;
-        self.lanes.set(channel, lane_after.with_course(&lane))?;
-        Ok(self.rows.has(channel, first_call, last_call))
+        self.lanes.set(channel, lane_after.with_course(&lane))
     }
 
     /// Remembers what stands before a row with a finding.
@@ -289,18 +281,37 @@ impl<A: Allocator + Copy> Descriptions<A> {
     }
 }
 
-impl<A: Allocator + Copy, C: Channel<A>> Describer<A, Live<A, C>> for Descriptions<A> {
-    fn describe(&mut self, trace: &Live<A, C>, notes: &mut Notes<A>) -> Result<bool, AllocError> {
-        let Some(observer) = trace.observer() else {
-            return Ok(false);
-        };
-        let Some(interface) = trace.interface() else {
-            return Ok(false);
-        };
-        if observer.packets() == self.packets {
-            return Ok(false);
+/// Tells what each row is and did, or each of those that are chosen.
+#[derive(Drop)]
+pub struct Descriptions<A: Allocator> {
+    alloc: A,
+    chosen: Chosen,
+    course: Course<A>,
+}
+
+impl<A: Allocator + Copy> Descriptions<A> {
+    ghost use Rattle.std.specs.Prelude.{◌≡◌};
+
+    /// No row was described. It takes no memory.
+    pub fn new(alloc: A, rows: Rows) -> Self
+        ensures { result.chosen.rows ≡ rows }
+    {
+        Descriptions {
+            alloc,
+            chosen: Chosen::new(rows),
+            course: Course::new(alloc),
         }
-        self.packets = observer.packets();
+    }
+
+    /// Describes the last row of a trace.
+    fn say_row<C: Channel<A>>(
+        course: &mut Course<A>,
+        trace: &Live<A, C>,
+        notes: &mut Notes<A>,
+    ) -> Result<(), AllocError> {
+        let (Some(observer), Some(interface)) = (trace.observer(), trace.interface()) else {
+            return Ok(());
+        };
         let row = trace.row();
         let octets = row.octets.as_slice();
         let seen = Seen {
@@ -312,8 +323,32 @@ impl<A: Allocator + Copy, C: Channel<A>> Describer<A, Live<A, C>> for Descriptio
             faulty: !trace.found().is_empty(),
         };
         let mut telling = Telling::new(notes);
-        let told = self.row(&seen, observer, &mut telling)?;
-        telling.answer()?;
+        course.row(&seen, observer, &mut telling)?;
+        telling.answer()
+    }
+}
+
+impl<A: Allocator + Copy, C: Channel<A>> Describer<A, Live<A, C>> for Descriptions<A> {
+    ghost use Rattle.descriptions.specs.Choosing.{HasChosen};
+
+    ghost described = { λ d lines. HasChosen lines d.chosen };
+
+    ghost rows = { λ d. d.chosen.rows };
+
+    fn rows(&self) -> Rows {
+        self.chosen.rows()
+    }
+
+    fn begin(&mut self) {
+        self.chosen = Chosen::new(self.chosen.rows());
+        self.course = Course::new(self.alloc);
+    }
+
+    fn describe(&mut self, trace: &Live<A, C>, notes: &mut Notes<A>) -> Result<bool, AllocError> {
+        let Some(told) = self.chosen.take(trace) else {
+            return Ok(false);
+        };
+        Self::say_row(&mut self.course, trace, notes)?;
         Ok(told)
     }
 
@@ -324,13 +359,13 @@ impl<A: Allocator + Copy, C: Channel<A>> Describer<A, Live<A, C>> for Descriptio
         words: &mut Words<A>,
     ) -> Result<(), AllocError> {
         let mut telling = Telling::new(words);
-        if let Some(before) = &self.before {
+        if let Some(before) = &self.course.before {
             fault(&mut telling, before, trace.row().octets.as_slice(), finding);
         }
         telling.answer()
     }
 
     fn close<K: Sink, B: Origin>(&mut self, report: &Report<A>, page: &mut ClosingPage<'_, K, B>) {
-        closing::report(page, report, &self.uncounted);
+        closing::report(page, report, &self.course.uncounted);
     }
 }

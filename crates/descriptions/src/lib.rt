@@ -1,8 +1,10 @@
 //! What the rows of a trace are and did, in words.
 #![tactic(auto)]
 
+mod call_rows;
 mod calls;
 mod causes;
+mod chosen;
 mod closing;
 pub mod descriptions;
 mod diagnostics;

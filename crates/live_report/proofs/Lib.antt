@@ -1,10 +1,11 @@
 pub mod LaneLemmas
 pub mod EndingLemmas
+pub mod FindingLemmas
+pub mod LastLemmas
 pub mod StandLemmas
 pub mod TakeLemmas
 pub mod TellingLemmas
 pub mod WholeLemmas
-pub mod FindingLemmas
 pub mod FoundLemmas
 pub mod WatchLemmas
 pub mod LiveLemmas

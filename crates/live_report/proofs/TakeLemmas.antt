@@ -19,6 +19,7 @@ use Rattle.restart_epochs.proofs.Routes.{is_to_channel, is_quiet}
 use Rattle.restart_epochs.proofs.Taken.{Told, takes_channel, takes_quietly, takes_entering, takes_leaving}
 use Rattle.restart_epochs.proofs.Listings.{rows_with, has_one_more}
 use Rattle.live_report.specs.declared.observer.Observer.{Observer}
+use Rattle.live_report.specs.LastRows.{KnowsLast}
 use Rattle.live_report.specs.Observing.{AreRows, Holds, StandsFor}
 use Rattle.live_report.proofs.StandLemmas.{MayCome, may_come, next_stands}
 use Rattle.line_model.proofs.Posts.{length-values}
@@ -96,44 +97,44 @@ kept_small I N S i rs o r p step s sound told =
 
 pub kept_stands : {A C : Type 0} → (I : C → Interface) (N : C → ℕ) (S : C → Channel → Type 0) (i : Interface) (rs : List Row) (o new : Observer A C) (r : Row) (p : Packet) (step : Routing) (s : StandsFor I N S i rs o) → AreRows (rs ++ r ∷ [])
     → Told s.cutting (record { row = r; packet = p }) step → is_to_channel step.route ≡ true
-    → Holds I N S (kept_with s.cutting (channel_of r.octets) (record { row = r; packet = p })) (map value (given_of i rs)) new → StandsFor I N S i (rs ++ r ∷ []) new
-kept_stands I N S i rs o new r p step s sound told to holds =
+    → Holds I N S (kept_with s.cutting (channel_of r.octets) (record { row = r; packet = p })) (map value (given_of i rs)) new → KnowsLast i (rs ++ r ∷ []) new.last new.events.items → StandsFor I N S i (rs ++ r ∷ []) new
+kept_stands I N S i rs o new r p step s sound told to holds known =
     let item : Item = record { row = r; packet = p } in
     let k = channel_of r.octets in
     let after = kept_with s.cutting k item in
     let kept = is_kept s.cutting k item in
     next_stands I N S i rs r [] o new after s sound (takes_channel i rs s.cutting after item step s.cut told to kept) (kept_bound I N S i rs o r p step s sound told) kept.counted
-    (subst (λ l. Holds I N S after l new) (sym (append-nil (map value (given_of i rs)))) holds)
+    (subst (λ l. Holds I N S after l new) (sym (append-nil (map value (given_of i rs)))) holds) known
 
 -- ---- a row of the restart machine
 
 pub quiet_stands : {A C : Type 0} → (I : C → Interface) (N : C → ℕ) (S : C → Channel → Type 0) (i : Interface) (rs : List Row) (o new : Observer A C) (r : Row) (p : Packet) (step : Routing) (found : List Finding) (s : StandsFor I N S i rs o) → AreRows (rs ++ r ∷ [])
     → Told s.cutting (record { row = r; packet = p }) step → is_quiet step.route ≡ true → found ≡ route_finding r step.route
-    → Holds I N S (stepped_with s.cutting r step.after s.cutting.epoch found) (map value (given_of i rs)) new → StandsFor I N S i (rs ++ r ∷ []) new
-quiet_stands I N S i rs o new r p step found s sound told quiet is holds =
+    → Holds I N S (stepped_with s.cutting r step.after s.cutting.epoch found) (map value (given_of i rs)) new → KnowsLast i (rs ++ r ∷ []) new.last new.events.items → StandsFor I N S i (rs ++ r ∷ []) new
+quiet_stands I N S i rs o new r p step found s sound told quiet is holds known =
     let may = next_of I N S i rs o r s sound in
     let after = stepped_with s.cutting r step.after s.cutting.epoch found in
     let stepped = is_stepped s.cutting r step.after s.cutting.epoch found in
     next_stands I N S i rs r [] o new after s sound (takes_quietly i rs s.cutting after (record { row = r; packet = p }) step found s.cut told quiet is stepped)
     (stepped_bounds s.cutting after r step.after s.cutting.epoch found s.bounds stepped (omega arith) may.rising may.number may.octets) stepped.counted
-    (subst (λ l. Holds I N S after l new) (sym (append-nil (map value (given_of i rs)))) holds)
+    (subst (λ l. Holds I N S after l new) (sym (append-nil (map value (given_of i rs)))) holds) known
 
 pub enter_stands : {A C : Type 0} → (I : C → Interface) (N : C → ℕ) (S : C → Channel → Type 0) (i : Interface) (rs : List Row) (o new : Observer A C) (r : Row) (p : Packet) (step : Routing) (found : List Finding) (s : StandsFor I N S i rs o) → AreRows (rs ++ r ∷ [])
     → Told s.cutting (record { row = r; packet = p }) step → step.route ≡ Enter → found ≡ route_finding r step.route
-    → Holds I N S (stepped_with s.cutting r step.after (s.cutting.epoch + 1) found) (map value (given_of i rs)) new → StandsFor I N S i (rs ++ r ∷ []) new
-enter_stands I N S i rs o new r p step found s sound told enter is holds =
+    → Holds I N S (stepped_with s.cutting r step.after (s.cutting.epoch + 1) found) (map value (given_of i rs)) new → KnowsLast i (rs ++ r ∷ []) new.last new.events.items → StandsFor I N S i (rs ++ r ∷ []) new
+enter_stands I N S i rs o new r p step found s sound told enter is holds known =
     let may = next_of I N S i rs o r s sound in
     let after = stepped_with s.cutting r step.after (s.cutting.epoch + 1) found in
     let stepped = is_stepped s.cutting r step.after (s.cutting.epoch + 1) found in
     next_stands I N S i rs r [] o new after s sound (takes_entering i rs s.cutting after (record { row = r; packet = p }) step found s.cut told enter is stepped)
     (stepped_bounds s.cutting after r step.after (s.cutting.epoch + 1) found s.bounds stepped (omega arith) may.rising may.number may.octets) stepped.counted
-    (subst (λ l. Holds I N S after l new) (sym (append-nil (map value (given_of i rs)))) holds)
+    (subst (λ l. Holds I N S after l new) (sym (append-nil (map value (given_of i rs)))) holds) known
 
 pub leave_stands : {A C : Type 0} → (I : C → Interface) (N : C → ℕ) (S : C → Channel → Type 0) (i : Interface) (rs : List Row) (o new : Observer A C) (r : Row) (p : Packet) (step : Routing) (code : Option ℕ) (found : List Finding) (s : StandsFor I N S i rs o) → AreRows (rs ++ r ∷ [])
     → Told s.cutting (record { row = r; packet = p }) step → step.route ≡ Leave code → found ≡ route_finding r step.route
     → Holds I N S (left_with s.cutting r step.after found) (map value (given_of i rs) ++ map value (pieces_out s.cutting.interface s.cutting.epoch (Some r.number) (rows_of s.cutting.open_rows) (length (map value (given_of i rs))) s.cutting.open_rows.channels)) new
-    → StandsFor I N S i (rs ++ r ∷ []) new
-leave_stands I N S i rs o new r p step code found s sound told leave is holds =
+    → KnowsLast i (rs ++ r ∷ []) new.last new.events.items → StandsFor I N S i (rs ++ r ∷ []) new
+leave_stands I N S i rs o new r p step code found s sound told leave is holds known =
     let may = next_of I N S i rs o r s sound in
     let c = s.cutting in
     let after = left_with c r step.after found in
@@ -141,4 +142,4 @@ leave_stands I N S i rs o new r p step code found s sound told leave is holds =
     next_stands I N S i rs r (pieces_out c.interface c.epoch (Some r.number) (rows_of c.open_rows) c.given c.open_rows.channels) o new after s sound
     (takes_leaving i rs c after (record { row = r; packet = p }) step code found s.cut told leave is left)
     (left_bounds c after r step.after found s.bounds left may.rising may.number may.octets) left.counted
-    (subst (λ n. Holds I N S after (map value (given_of i rs) ++ map value (pieces_out c.interface c.epoch (Some r.number) (rows_of c.open_rows) n c.open_rows.channels)) new) (length-values (given_of i rs) ∙ sym s.cut.given) holds)
+    (subst (λ n. Holds I N S after (map value (given_of i rs) ++ map value (pieces_out c.interface c.epoch (Some r.number) (rows_of c.open_rows) n c.open_rows.channels)) new) (length-values (given_of i rs) ∙ sym s.cut.given) holds) known

@@ -1,5 +1,6 @@
 pub mod Lanes
 pub mod Telling
+pub mod LastRows
 pub mod Observing
 pub mod Reports
 pub mod Found

@@ -13,6 +13,7 @@ use Rattle.restart_epochs.specs.OpenRows.{rows_of}
 use Rattle.restart_epochs.specs.Cutting.{Cutting, IsCutting, StandsFor as IsCutterOf, given_of, pieces_out}
 use Rattle.report_merge.specs.Gathered.{gathered}
 use Rattle.live_report.specs.declared.observer.Observer.{Observer}
+use Rattle.live_report.specs.LastRows.{KnowsLast}
 use Rattle.live_report.specs.Lanes.{OpenFor, begun_piece}
 
 -- rows as a trace has them: their numbers rise, and their octets are few
@@ -44,6 +45,7 @@ pub record StandsFor {A C : Type 0} (interface_of : C → Interface) (number_of 
   pub last : cutting.last ≡ last_or 0 (map (λ r. r.number) rs)
   pub octets : cutting.octets ≡ sum_by (λ r. length r.octets) rs
   pub holds : Holds interface_of number_of stands_for cutting (map value (given_of i rs)) o
+  pub row : KnowsLast i rs o.last o.events.items
 
 -- the same two by the members of a machine of one channel
 abbrev pub IsHolding : {A C : Type 0} → Machine C A → Cutting → List PieceReport → Observer A C → Type 0

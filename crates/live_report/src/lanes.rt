@@ -4,6 +4,8 @@ ghost use Rattle.std.specs.Prelude.{◌≡◌, ◌<◌, ◌++◌, ◌∷◌, [],
 ghost use Rattle.line_model.specs.basics.Bounds.{IsPiece};
 ghost use Rattle.line_model.specs.declared.fault.Fault.TheVariants.{Memory};
 ghost use Rattle.restart_epochs.specs.OpenRows.{OpenRows, rows_of, HasMore};
+ghost use Rattle.channel_run.specs.Live.{channel_so_far};
+ghost use Rattle.channel_run.specs.Run.{row_events};
 ghost use Rattle.live_report.specs.Lanes.{begun_piece, item, FindsOn, IsOut, LanesStandFor};
 
 use channel_run::live::LiveChannel;
@@ -57,6 +59,9 @@ pub fn step_channel<A: Allocator + Copy, C: Channel<A>>(
         → OnOk result (LanesStandFor C.Channel interface.now epoch after lanes.new) }
     ensures finding { (rows : OpenRows) → LanesStandFor C.Channel interface.now epoch rows lanes.old
         → IfOk result (FindsOn (begun_piece interface.now epoch channel (rows_of rows channel)) row.now) }
+    ensures events { (rows : OpenRows) → LanesStandFor C.Channel interface.now epoch rows lanes.old
+        → OnOk result (events.new.items ≡ row_events interface.now epoch channel
+        (channel_so_far (begun_piece interface.now epoch channel (rows_of rows channel))) row.now) }
     ensures memory { IfErr result (λ fault. fault ≡ Memory) }
 {
     let alloc = *events.allocator();

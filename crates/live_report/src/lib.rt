@@ -4,6 +4,7 @@
 mod ending;
 pub mod follow;
 mod lanes;
+pub mod last_row;
 pub mod laws;
 pub mod live;
 pub mod observer;

@@ -1,18 +1,22 @@
 //! The observer that runs: it walks a trace row by row, and keeps what it found, not what it read.
 
-ghost use Rattle.std.specs.Prelude.{option_to_list, ◌≡◌, ℕ, ◌<◌, ◌+◌, ◌^◌, ◌++◌, ◌∷◌, [], List, length, IfErr, IfOk, IfSome, OnOk};
+ghost use Rattle.std.specs.Prelude.{option_to_list, ◌≡◌, ℕ, ◌<◌, ◌+◌, ◌^◌, ◌++◌, ◌∷◌, [], List, None, Some, length, IfErr, IfOk, IfSome, MatchOption, OnOk};
 ghost use Rattle.line_model.specs.basics.Bounds.{IsPiece};
 ghost use Rattle.line_model.specs.basics.Records as records;
 ghost use Rattle.line_model.specs.declared.fault.Fault.TheVariants.{Memory};
+ghost use Rattle.line_model.specs.declared.interface.Interface.{Interface as AnyInterface};
 ghost use Rattle.restart_epochs.specs.OpenRows.{rows_of, no_rows, IsListing};
-ghost use Rattle.restart_epochs.specs.Cutting.{Cutting, IsKeptOn, IsStepped, IsLeft};
+ghost use Rattle.restart_epochs.specs.Cutting.{Cutting, IsKeptOn, IsStepped, IsLeft, observer};
 ghost use Rattle.channel_run.specs.Live.{channel_so_far};
+ghost use Rattle.channel_run.specs.Run.{row_events};
 ghost use Rattle.channel_run.specs.Views.{IsViewOf};
 ghost use Rattle.live_report.specs.Lanes.{item, FindsOn};
+ghost use Rattle.live_report.specs.LastRows.{IsLastRow};
 ghost use Rattle.live_report.specs.Observing.{open_piece, with_ended, HasWalked, IsHolding, IsObserver, MayWalk, TellsFinding, TellsReport, WalksOn};
 
 use crate::ending::end_channels;
 use crate::lanes::step_channel;
+use crate::last_row::LastRow;
 use crate::telling::tell_channels;
 use channel_run::live::LiveChannel;
 use channel_run::run::{Channel, View};
@@ -44,7 +48,9 @@ pub struct Observer<A: Allocator, C: Channel<A>> {
     ended: Parts<A>,
     /// The channels that have rows in the epoch that has not ended.
     lanes: Lanes<LiveChannel<A, C>, A>,
-    /// The events of the last row.
+    /// The row that was taken last, as it was judged.
+    last: Option<LastRow>,
+    /// The events of the last row that a channel took.
     events: Vec<Event, A>,
 }
 
@@ -61,6 +67,7 @@ impl<A: Allocator + Copy, C: Channel<A>> Observer<A, C> {
             findings: Vec::new(alloc),
             ended: Parts::new(alloc),
             lanes: Lanes::new(alloc),
+            last: None,
             events: Vec::new(alloc),
         }
     }
@@ -84,6 +91,12 @@ impl<A: Allocator + Copy, C: Channel<A>> Observer<A, C> {
         ensures finding { (c : Cutting) (reports : List records.PieceReport)
             → IsHolding C.Channel c reports self.old
             → IfOk result (FindsOn (open_piece c channel) row.now) }
+        ensures last { OnOk result (self.new.last
+            ≡ Some (record { packet = packet.now; channel = Some channel })) }
+        ensures events { (c : Cutting) (reports : List records.PieceReport)
+            → IsHolding C.Channel c reports self.old
+            → OnOk result (self.new.events.items ≡ row_events c.interface c.epoch channel
+            (channel_so_far (open_piece c channel)) row.now) }
         ensures memory { IfErr result (λ fault. fault ≡ Memory) }
     {
         let found = step_channel(
@@ -96,12 +109,17 @@ impl<A: Allocator + Copy, C: Channel<A>> Observer<A, C> {
             &mut self.lanes,
         )?;
         self.packets += 1;
+        self.last = Some(LastRow {
+            packet: *packet,
+            channel: Some(channel),
+        });
         Ok(found)
     }
 
     /// Takes a row that steps the restart machine and neither leaves r1 nor enters it.
     fn advance(
         &mut self,
+        packet: &Packet,
         machine: Restart,
         finding: Option<Finding>,
     ) -> Result<Option<Finding>, Fault>
@@ -111,17 +129,24 @@ impl<A: Allocator + Copy, C: Channel<A>> Observer<A, C> {
             → IsStepped row machine c.epoch (option_to_list finding) c after
             → OnOk result (IsHolding C.Channel after reports self.new) }
         ensures found { IfOk result (λ found. found ≡ finding) }
+        ensures last { OnOk result (self.new.last
+            ≡ Some (record { packet = packet.now; channel = None })) }
         ensures memory { IfErr result (λ fault. fault ≡ Memory) }
     {
         note(&mut self.findings, finding)?;
         self.machine = machine;
         self.packets += 1;
+        self.last = Some(LastRow {
+            packet: *packet,
+            channel: None,
+        });
         Ok(finding)
     }
 
     /// Takes a row that enters r1.
     fn enter(
         &mut self,
+        packet: &Packet,
         machine: Restart,
         finding: Option<Finding>,
     ) -> Result<Option<Finding>, Fault>
@@ -133,15 +158,18 @@ impl<A: Allocator + Copy, C: Channel<A>> Observer<A, C> {
             → IsStepped row machine (c.epoch + 1) (option_to_list finding) c after
             → OnOk result (IsHolding C.Channel after reports self.new) }
         ensures found { IfOk result (λ found. found ≡ finding) }
+        ensures last { OnOk result (self.new.last
+            ≡ Some (record { packet = packet.now; channel = None })) }
         ensures memory { IfErr result (λ fault. fault ≡ Memory) }
     {
         self.epoch += 1;
-        self.advance(machine, finding)
+        self.advance(packet, machine, finding)
     }
 
     /// Takes a row of this number that leaves r1, and ends the channels of the epoch.
     fn leave(
         &mut self,
+        packet: &Packet,
         machine: Restart,
         number: u32,
         finding: Option<Finding>,
@@ -155,12 +183,18 @@ impl<A: Allocator + Copy, C: Channel<A>> Observer<A, C> {
             → after.open_rows ≡ no_rows → IsLeft row machine (option_to_list finding) c after
             → OnOk result (IsHolding C.Channel after (with_ended number reports c) self.new) }
         ensures found { IfOk result (λ found. found ≡ finding) }
+        ensures last { OnOk result (self.new.last
+            ≡ Some (record { packet = packet.now; channel = None })) }
         ensures memory { IfErr result (λ fault. fault ≡ Memory) }
     {
         note(&mut self.findings, finding)?;
         end_channels(Some(number), &mut self.lanes, &mut self.ended)?;
         self.machine = machine;
         self.packets += 1;
+        self.last = Some(LastRow {
+            packet: *packet,
+            channel: None,
+        });
         Ok(finding)
     }
 
@@ -173,16 +207,29 @@ impl<A: Allocator + Copy, C: Channel<A>> Observer<A, C> {
 
     /// Which stretch between restarts goes on, counted from 1.
     pub fn epoch(&self) -> u32
-        ensures { result ≡ self.now.epoch }
+        ensures kept { result ≡ self.now.epoch }
+        ensures walked { (i : AnyInterface) (rows : List records.Row)
+            → HasWalked C.Channel i rows self.now → result ≡ (observer i rows).epoch }
     {
         self.epoch
     }
 
     /// How many rows were taken.
     pub fn packets(&self) -> u32
-        ensures { result ≡ self.now.packets }
+        ensures kept { result ≡ self.now.packets }
+        ensures walked { (i : AnyInterface) (rows : List records.Row)
+            → HasWalked C.Channel i rows self.now → result ≡ length rows }
     {
         self.packets
+    }
+
+    /// The row that was taken last, as it was judged; none before the first row.
+    pub fn last_row(&self) -> Option<LastRow>
+        ensures { (i : AnyInterface) (before : List records.Row) (row : records.Row)
+            → HasWalked C.Channel i (before ++ row ∷ []) self.now
+            → MatchOption result ⊥ (λ last. IsLastRow i before row last self.now.events.items) }
+    {
+        self.last
     }
 
     /// The events of the last row that a channel took.
@@ -220,10 +267,10 @@ impl<A: Allocator + Copy, C: Channel<A>> Observer<A, C> {
         let finding = finding_of(route, row.number, row.side);
         match route {
             Route::ToChannel => self.step(logical_channel(octets), row, &packet),
-            Route::Leave(_) => self.leave(machine, row.number, finding),
-            Route::Enter => self.enter(machine, finding),
-            Route::Found(_, _) => self.advance(machine, finding),
-            Route::Pass => self.advance(machine, finding),
+            Route::Leave(_) => self.leave(&packet, machine, row.number, finding),
+            Route::Enter => self.enter(&packet, machine, finding),
+            Route::Found(_, _) => self.advance(&packet, machine, finding),
+            Route::Pass => self.advance(&packet, machine, finding),
         }
     }
 

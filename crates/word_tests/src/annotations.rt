@@ -2,13 +2,14 @@
 
 mod closing;
 
-ghost use Rattle.std.specs.Prelude.{◌≡◌, ◌<◌};
+ghost use Rattle.std.specs.Prelude.{◌≡◌, ◌<◌, ⊤};
+ghost use Rattle.annotated_trace.specs.declared.rows.Rows.TheVariants.{All};
 
 use annotated_trace::annotating::annotate;
-use annotated_trace::choice::Choice;
 use annotated_trace::describer::Describer;
 use annotated_trace::notes::{Notes, Words};
 use annotated_trace::page::{ClosingPage, Origin};
+use annotated_trace::rows::Rows;
 use channel_machine::channel::{PackedChannel, PlainChannel};
 use line_model::count::Count;
 use line_model::device::Sink;
@@ -21,6 +22,7 @@ use std::marker::Brand;
 use std::process::Abort;
 use std::sync::ledger::{Blank, Ledger};
 use test_devices::{CutSink, CutSource, Cuts};
+use trace_text::watcher::Watcher;
 
 /// Numbers lines, and says so of each from one of them on.
 #[derive(Drop)]
@@ -29,7 +31,17 @@ struct Numbered {
     first: u64,
 }
 
-impl<A: Allocator + Copy, W> Describer<A, W> for Numbered {
+impl<A: Allocator + Copy, W: Watcher<A>> Describer<A, W> for Numbered {
+    ghost described = { λ d lines. ⊤ };
+
+    ghost rows = { λ d. All };
+
+    fn rows(&self) -> Rows {
+        Rows::All
+    }
+
+    fn begin(&mut self) {}
+
     fn describe(&mut self, _trace: &W, notes: &mut Notes<A>) -> Result<bool, AllocError> {
         self.lines = self.lines.wrapping_add(1);
         notes.say("line\n")?;
@@ -67,7 +79,6 @@ fn annotated_on<A, D, C: Ledger, F: Ledger, L: Ledger>(
     alloc: Global,
     text: &[u8],
     cuts: Cuts,
-    choice: Choice,
     describer: D,
     calls: Blank,
     read_failures: Blank,
@@ -100,7 +111,7 @@ where
         failures: Count::<L>::open(write_failures),
     };
     let trace = Live::<A, PackedChannel<A>>::new(heap);
-    let fault = annotate(heap, trace, choice, describer, &mut source, &mut sink).err();
+    let fault = annotate(heap, trace, describer, &mut source, &mut sink).err();
     Answer {
         fault,
         bytes: sink.taken,
@@ -108,14 +119,7 @@ where
 }
 
 /// The annotation of a trace by a describer, from a source and to a sink that cut and fail so.
-fn annotated_by<A, D>(
-    heap: A,
-    alloc: Global,
-    text: &[u8],
-    cuts: Cuts,
-    choice: Choice,
-    describer: D,
-) -> Answer
+fn annotated_by<A, D>(heap: A, alloc: Global, text: &[u8], cuts: Cuts, describer: D) -> Answer
 where
     A: Allocator + Copy,
     D: Describer<A, Live<A, PackedChannel<A>>>,
@@ -125,7 +129,6 @@ where
         alloc,
         text,
         cuts,
-        choice,
         describer,
         Blank::new(1),
         Blank::new(1),
@@ -134,10 +137,10 @@ where
 }
 
 /// The annotation of a trace that comes in pieces of so many bytes, with the numbers of its lines.
-fn annotated(alloc: Global, text: &[u8], step: usize, choice: Choice, first: u64) -> Answer {
+fn annotated(alloc: Global, text: &[u8], step: usize, first: u64) -> Answer {
     let cuts = Cuts::of_steps(step, step);
     let describer = Numbered { lines: 0, first };
-    annotated_by(alloc, alloc, text, cuts, choice, describer)
+    annotated_by(alloc, alloc, text, cuts, describer)
 }
 
 fn report_on<L: Ledger>(blank: Blank, alloc: Global, text: &[u8]) -> Answer
@@ -185,7 +188,7 @@ const ANNOTATED: &[u8] =
 
 /// Annotates the trace as its source cuts it, and reads what was written again.
 fn check_step(rt: &impl Abort, alloc: Global, step: usize) {
-    let answer = annotated(alloc, TRACE, step, Choice::EveryRow, 0);
+    let answer = annotated(alloc, TRACE, step, 0);
     agree(rt, &answer, None, ANNOTATED);
     let again = report(alloc, answer.bytes.as_slice());
     agree(rt, &again, None, REPORT);

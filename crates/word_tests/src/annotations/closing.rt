@@ -1,10 +1,13 @@
 //! Closing comments that are longer than what is held of them.
 
+ghost use Rattle.std.specs.Prelude.{⊤};
+ghost use Rattle.annotated_trace.specs.declared.rows.Rows.TheVariants.{All};
+
 use crate::annotations::{Answer, annotated_by};
-use annotated_trace::choice::Choice;
 use annotated_trace::describer::Describer;
 use annotated_trace::notes::{Notes, Words};
 use annotated_trace::page::{ClosingPage, Origin};
+use annotated_trace::rows::Rows;
 use line_model::device::Sink;
 use line_model::fault::Fault;
 use line_model::finding::Finding;
@@ -14,6 +17,7 @@ use std::process::Abort;
 use std::test::Fail;
 use test_devices::Cuts;
 use test_devices::scarce::Scarce;
+use trace_text::watcher::Watcher;
 
 /// A row, and a last line without an LF.
 const LINES: &str = "X25 1 MOD 8 WIN 2 SIZE 128 PVC 0 SVC 4\n1 T 10010B0000";
@@ -38,7 +42,17 @@ struct Wordy {
     times: usize,
 }
 
-impl<A: Allocator + Copy, W> Describer<A, W> for Wordy {
+impl<A: Allocator + Copy, W: Watcher<A>> Describer<A, W> for Wordy {
+    ghost described = { λ d lines. ⊤ };
+
+    ghost rows = { λ d. All };
+
+    fn rows(&self) -> Rows {
+        Rows::All
+    }
+
+    fn begin(&mut self) {}
+
     fn describe(&mut self, _trace: &W, _notes: &mut Notes<A>) -> Result<bool, AllocError> {
         Ok(false)
     }
@@ -103,14 +117,7 @@ impl Answer {
 /// The annotation of the trace, with so many lines behind the first one of its closing.
 fn annotated<A: Allocator + Copy>(heap: A, alloc: Global, cuts: Cuts, times: usize) -> Answer {
     let describer = Wordy { times };
-    annotated_by(
-        heap,
-        alloc,
-        LINES.as_bytes(),
-        cuts,
-        Choice::ChosenRows,
-        describer,
-    )
+    annotated_by(heap, alloc, LINES.as_bytes(), cuts, describer)
 }
 
 /// It holds for this number.

@@ -1,5 +1,6 @@
 use Rattle.std.proofs.Common.{◌≡◌, ◌++◌, ap, length-append, length-take, [], arith, rules, take}
 use Rattle.std.proofs.lemmas.Grind.{common_steps}
+use Rattle.annotated_trace.specs.Annotators.{HasRead}
 use Rattle.annotated_trace.proofs.AnnotatedLemmas.{few_bytes}
 use Rattle.annotated_trace.proofs.ReadingLemmas.{all_read, annotating_fault, begun, failed_read, fed_more, held_of, stopped_at}
 use Rattle.annotated_trace.proofs.annotating.feed_all.Goals as goal
@@ -7,10 +8,10 @@ use Rattle.annotated_trace.proofs.annotating.feed_all.Goals as goal
 pub loop-n-init : goal.loop-n-init
 loop-n-init g c = record {
   calls = omega arith;
-  room = omega (arith, g.met.W.Watcher.sized c.args.annotator.now.trace [] c.requires.nothing.trace);
+  room = omega (arith, g.met.W.Watcher.sized c.args.annotator.now.trace [] c.requires.nothing.trace.0);
   failures = omega arith;
   rising = omega arith;
-  reached = begun g.W.Watcher.stands_for (g.S.Source.left c.args.source.now) (g.K.Sink.taken c.args.sink.now) c.args.annotator.now c.requires.nothing c.requires.none_held;
+  reached = begun (HasRead g.W.Watcher g.D.Describer) (g.S.Source.left c.args.source.now) (g.K.Sink.taken c.args.sink.now) c.args.annotator.now c.requires.nothing c.requires.none_held;
 }
 
 pub loop-n-preserved : goal.loop-n-preserved
@@ -20,17 +21,17 @@ loop-n-preserved g c =
     let bytes = take c.in-Ok.n c.read.new.buffer in
     let before = g.K.Sink.taken c.args.sink.now in
     let stands = c.in-Ok-feed.ensures.stands r.given r.stands in
-    let held = held_of g.W.Watcher.stands_for (g.S.Source.left c.args.source.now) (g.S.Source.left c.loop-n.source) before (g.K.Sink.taken c.loop-n.sink) c.args.annotator.now.choice c.loop-n.annotator r in
-    let old = g.met.W.Watcher.sized c.loop-n.annotator.trace r.given r.stands.trace in
-    let new = g.met.W.Watcher.sized c.feed.new.self.trace (r.given ++ bytes) stands.trace in
+    let held = held_of (HasRead g.W.Watcher g.D.Describer) (g.S.Source.left c.args.source.now) (g.S.Source.left c.loop-n.source) before (g.K.Sink.taken c.loop-n.sink) c.args.annotator.now.choice c.loop-n.annotator r in
+    let old = g.met.W.Watcher.sized c.loop-n.annotator.trace r.given r.stands.trace.0 in
+    let new = g.met.W.Watcher.sized c.feed.new.self.trace (r.given ++ bytes) stands.trace.0 in
     let size = length-append r.given bytes in
     let some = length-take c.in-Ok.n c.read.new.buffer in
     record {
       calls = grind (arith, common_steps, old, new, size, some);
-      room = omega (arith, new, few_bytes (r.given ++ bytes) (g.met.W.Watcher.sound c.feed.new.self.trace (r.given ++ bytes) stands.trace));
+      room = omega (arith, new, few_bytes (r.given ++ bytes) (g.met.W.Watcher.sound c.feed.new.self.trace (r.given ++ bytes) stands.trace.0));
       failures = grind (arith, common_steps);
       rising = omega (arith, rising, c.feed.ensures.rising);
-      reached = fed_more g.W.Watcher.stands_for (g.S.Source.left c.args.source.now) (g.S.Source.left c.loop-n.source) (g.S.Source.left c.read.new.self) before (g.K.Sink.taken c.loop-n.sink) (g.K.Sink.taken c.feed.new.sink) c.args.annotator.now.choice c.loop-n.annotator
+      reached = fed_more (HasRead g.W.Watcher g.D.Describer) (g.S.Source.left c.args.source.now) (g.S.Source.left c.loop-n.source) (g.S.Source.left c.read.new.self) before (g.K.Sink.taken c.loop-n.sink) (g.K.Sink.taken c.feed.new.sink) c.args.annotator.now.choice c.loop-n.annotator
           c.feed.new.self _ _ r c.in-Ok.ensures.given stands (c.in-Ok-feed.ensures.annotated r.given before r.stands held) c.in-Ok-feed.ensures.none_held c.in-Ok-feed.ensures.choice;
     }
 
@@ -38,16 +39,16 @@ pub returns-in-Err-feed-clause-stopped : goal.returns-in-Err-feed-clause-stopped
 returns-in-Err-feed-clause-stopped g c =
     let r = c.loop-n.invariant.reached in
     let before = g.K.Sink.taken c.args.sink.now in
-    let held = held_of g.W.Watcher.stands_for (g.S.Source.left c.args.source.now) (g.S.Source.left c.loop-n.source) before (g.K.Sink.taken c.loop-n.sink) c.args.annotator.now.choice c.loop-n.annotator r in
-    stopped_at g.W.Watcher.stands_for (g.S.Source.left c.args.source.now) (g.S.Source.left c.loop-n.source) (g.S.Source.left c.read.new.self) before (g.K.Sink.taken c.loop-n.sink) (g.K.Sink.taken c.feed.new.sink) c.args.annotator.now.choice c.loop-n.annotator _ _
+    let held = held_of (HasRead g.W.Watcher g.D.Describer) (g.S.Source.left c.args.source.now) (g.S.Source.left c.loop-n.source) before (g.K.Sink.taken c.loop-n.sink) c.args.annotator.now.choice c.loop-n.annotator r in
+    stopped_at (HasRead g.W.Watcher g.D.Describer) (g.S.Source.left c.args.source.now) (g.S.Source.left c.loop-n.source) (g.S.Source.left c.read.new.self) before (g.K.Sink.taken c.loop-n.sink) (g.K.Sink.taken c.feed.new.sink) c.args.annotator.now.choice c.loop-n.annotator _ _
     (g.K.Sink.failures c.args.sink.now) (g.K.Sink.failures c.loop-n.sink) (g.K.Sink.failures c.feed.new.sink) c.in-Err-feed.fault r c.in-Ok.ensures.given (c.in-Err-feed.ensures.refused r.given r.stands)
     (c.in-Err-feed.ensures.taken r.given before r.stands held) c.loop-n.invariant.rising c.feed.ensures.rising (c.in-Err-feed.ensures.at_line r.given before r.stands held)
 
 pub returns-in-Err-clause-stopped : goal.returns-in-Err-clause-stopped
 returns-in-Err-clause-stopped g c =
     let r = c.loop-n.invariant.reached in
-    failed_read g.W.Watcher.stands_for (g.S.Source.left c.args.source.now) (g.S.Source.left c.loop-n.source) (g.S.Source.left c.read.new.self) (g.K.Sink.taken c.args.sink.now) (g.K.Sink.taken c.loop-n.sink) c.args.annotator.now.choice c.loop-n.annotator _
-    r (g.met.W.Watcher.sound c.loop-n.annotator.trace r.given r.stands.trace) c.in-Err.ensures.failed
+    failed_read (HasRead g.W.Watcher g.D.Describer) (g.S.Source.left c.args.source.now) (g.S.Source.left c.loop-n.source) (g.S.Source.left c.read.new.self) (g.K.Sink.taken c.args.sink.now) (g.K.Sink.taken c.loop-n.sink) c.args.annotator.now.choice c.loop-n.annotator _
+    r (g.met.W.Watcher.sound c.loop-n.annotator.trace r.given r.stands.trace.0) c.in-Err.ensures.failed
 
 pub returns-in-Err-feed-clause-kinds : goal.returns-in-Err-feed-clause-kinds
 returns-in-Err-feed-clause-kinds g c = annotating_fault c.in-Err-feed.fault c.in-Err-feed.ensures.kinds
@@ -55,7 +56,7 @@ returns-in-Err-feed-clause-kinds g c = annotating_fault c.in-Err-feed.fault c.in
 pub returns-in-Ok-eq0-clause-whole : goal.returns-in-Ok-eq0-clause-whole
 returns-in-Ok-eq0-clause-whole g c =
     let zero : c.in-Ok-eq0.field-0 ≡ 0 = search rules in
-    all_read g.W.Watcher.stands_for (g.S.Source.left c.args.source.now) (g.S.Source.left c.loop-n.source) (g.S.Source.left c.read.new.self) (g.K.Sink.taken c.args.sink.now) (g.K.Sink.taken c.loop-n.sink) c.args.annotator.now.choice c.loop-n.annotator _ _
+    all_read (HasRead g.W.Watcher g.D.Describer) (g.S.Source.left c.args.source.now) (g.S.Source.left c.loop-n.source) (g.S.Source.left c.read.new.self) (g.K.Sink.taken c.args.sink.now) (g.K.Sink.taken c.loop-n.sink) c.args.annotator.now.choice c.loop-n.annotator _ _
     c.loop-n.invariant.reached c.in-Ok-eq0.ensures.given (search rules) (ap (λ n. take n c.read.new.buffer) zero)
 
 pub loop-n-smaller : goal.loop-n-smaller
@@ -63,9 +64,9 @@ loop-n-smaller g c =
     let r = c.loop-n.invariant.reached in
     let bytes = take c.in-Ok.n c.read.new.buffer in
     let stands = c.in-Ok-feed.ensures.stands r.given r.stands in
-    let old = g.met.W.Watcher.sized c.loop-n.annotator.trace r.given r.stands.trace in
-    let new = g.met.W.Watcher.sized c.feed.new.self.trace (r.given ++ bytes) stands.trace in
+    let old = g.met.W.Watcher.sized c.loop-n.annotator.trace r.given r.stands.trace.0 in
+    let new = g.met.W.Watcher.sized c.feed.new.self.trace (r.given ++ bytes) stands.trace.0 in
     let size = length-append r.given bytes in
     let some = length-take c.in-Ok.n c.read.new.buffer in
-    let few = few_bytes (r.given ++ bytes) (g.met.W.Watcher.sound c.feed.new.self.trace (r.given ++ bytes) stands.trace) in
+    let few = few_bytes (r.given ++ bytes) (g.met.W.Watcher.sound c.feed.new.self.trace (r.given ++ bytes) stands.trace.0) in
     grind (arith, common_steps, old, new, size, some, few)

@@ -1,4 +1,5 @@
 use Rattle.std.proofs.Common.{◌+◌, ◌-◌, ◌≤◌}
+use Rattle.annotated_trace.specs.Annotators.{HasRead}
 use Rattle.annotated_trace.proofs.ReadingLemmas.{Reached}
 use Rattle.annotated_trace.proofs.annotating.feed_all.Given as goal
 
@@ -8,7 +9,7 @@ invariant-loop-n g l = record {
   room : g.W.Watcher.size l.annotator.trace ≤ 1073741824;
   failures : g.S.Source.failures l.fn.source ≤ g.S.Source.failures l.source;
   rising : g.K.Sink.failures l.fn.sink ≤ g.K.Sink.failures l.sink;
-  reached : Reached g.W.Watcher.stands_for (g.S.Source.left l.fn.source) (g.S.Source.left l.source) (g.K.Sink.taken l.fn.sink) (g.K.Sink.taken l.sink) l.fn.annotator.choice l.annotator;
+  reached : Reached (HasRead g.W.Watcher g.D.Describer) (g.S.Source.left l.fn.source) (g.S.Source.left l.source) (g.K.Sink.taken l.fn.sink) (g.K.Sink.taken l.sink) l.fn.annotator.choice l.annotator;
 }
 
 abbrev pub decreases-loop-n : goal.decreases-loop-n

@@ -1,8 +1,14 @@
+use Rattle.std.proofs.Common.{◌∙◌, ap, sym, subst, true}
+use Rattle.annotated_trace.specs.Marking.{IsToldRightly}
 use Rattle.annotated_trace.proofs.CommentLemmas.{notes_and_marks}
 use Rattle.annotated_trace.proofs.commenting.append_comments.Goals as goal
 use Rattle.trace_text.proofs.FeedLemmas.{on_ok}
 
-pub returns-in_ok-append_to-in-true-default : goal.returns-in_ok-append_to-in-true-default
-returns-in_ok-append_to-in-true-default g c =
-    on_ok c.append_marks.result _ _ c.append_marks.ensures (λ h.
-    notes_and_marks c.args.choice _ c.args.out.now.items c.append_to.new.out.items c.append_marks.new.out.items _ c.in_ok-append_to-in-true-default.ensures.ok c.append_to.ensures.notes h)
+pub returns-in_ok-append_to-in-true-default-clause-comments : goal.returns-in_ok-append_to-in-true-default-clause-comments
+returns-in_ok-append_to-in-true-default-clause-comments g c before line text d rows s lines =
+    on_ok c.append_marks.result _ _ c.append_marks.ensures.marks (λ h. (
+      true,
+      subst (λ choice. IsToldRightly choice before line true) rows
+          (subst (IsToldRightly (g.D.Describer.rows c.args.describer.now) before line) c.in-true-default.is-0 (c.in_ok-told.ensures.told before line text d s lines)),
+      notes_and_marks c.args.choice _ c.args.out.now.items c.append_to.new.out.items c.append_marks.new.out.items _ c.in_ok-append_to-in-true-default.ensures.ok c.append_to.ensures.notes h,
+    ))

@@ -2,7 +2,7 @@ use Rattle.std.proofs.Common.{◌≡◌, ◌∙◌, ap, refl, subst, sym, true, 
 use Rattle.clap.specs.Words.{HasKind, app_of, fault_of, found_of, first_value, is_simple, is_simple_and_free, matches_of, first_of}
 use Rattle.clap.proofs.OnLiterals.{clap_on_literals}
 use Rattle.clap.proofs.WalkLemmas.{first_value-rows}
-use Rattle.command_options.specs.Options.{annotation_by, command, is_given, named_by}
+use Rattle.command_options.specs.Options.{AskFor, command, is_given, named_by}
 use Rattle.command_options.proofs.options.parse.Goals as goal
 use Rattle.command_options.proofs.options.parse.Goals.{Joined-matches}
 
@@ -49,8 +49,13 @@ returns-in-Ok-clause-json c = c.options_in.ensures.json ∙ ap is_given (value_o
 
 pub returns-in-Ok-clause-annotate : goal.returns-in-Ok-clause-annotate
 returns-in-Ok-clause-annotate c =
-    c.options_in.ensures.annotate
-    ∙ (λ i. annotation_by (value_of c (codes "annotate") i) (value_of c (codes "channel") i) (value_of c (codes "call") i))
+    let words : List (List ℕ) = map (λ word. word.now) c.args.words.now in
+    let channel = first_of (codes "channel") (matches_of command words) in
+    let call = first_of (codes "call") (matches_of command words) in
+    let found = found_of c.in-Ok.matches in
+    subst (λ flag. AskFor flag channel call c.options_in.result.annotate) (value_of c (codes "annotate"))
+    (subst (λ named. AskFor (first_value found (codes "annotate")) named call c.options_in.result.annotate) (value_of c (codes "channel"))
+    (subst (λ named. AskFor (first_value found (codes "annotate")) (first_value found (codes "channel")) named c.options_in.result.annotate) (value_of c (codes "call")) c.options_in.ensures.annotate))
 
 pub returns-in-Ok-clause-explain : goal.returns-in-Ok-clause-explain
 returns-in-Ok-clause-explain c = c.options_in.ensures.explain ∙ value_of c (codes "explain")

@@ -32,3 +32,8 @@ pub returns-clause-finding : goal.returns-clause-finding
 returns-clause-finding g c rows f =
     let p = begun_piece c.args.interface.now c.args.epoch c.args.channel (rows_of rows c.args.channel) in
     c.in_ok-found.ensures.finding p (subst (λ live. IsLive g.C.Channel.interface_of g.C.Channel.number_of g.C.Channel.stands_for live p) (sym c.deref_mut.ensures.value) (c.in_ok-live.ensures.out rows f).stands)
+
+pub returns-clause-events : goal.returns-clause-events
+returns-clause-events g c rows f =
+    let p = begun_piece c.args.interface.now c.args.epoch c.args.channel (rows_of rows c.args.channel) in
+    c.in_ok-found.ensures.events p (subst (λ live. IsLive g.C.Channel.interface_of g.C.Channel.number_of g.C.Channel.stands_for live p) (sym c.deref_mut.ensures.value) (c.in_ok-live.ensures.out rows f).stands)

@@ -3,12 +3,16 @@ use Rattle.std.specs.Prelude.{IfErr}
 use Rattle.std.proofs.lemmas.Result.{IfOk-from_err, err_from_is_err_and}
 use Rattle.line_model.specs.text.Text.{early}
 use Rattle.trace_text.specs.StandsFor.{IsFaultOf, IsTextFault}
-use Rattle.line_model.proofs.TextLemmas.{begun-more}
+use Rattle.line_model.proofs.TextLemmas.{begun-more, ended-more}
 use Rattle.annotated_trace.proofs.annotator.Annotator.begin.Goals as goal
 
 pub returns-clause-stands : goal.returns-clause-stands
 returns-clause-stands g c text s one = record {
-  trace = c.in-Ok.ensures.stands text s.trace;
+  trace = (
+    c.in-Ok.ensures.stands text s.trace.0,
+    subst (g.D.Describer.described c.args.self.now.describer) (sym (ended-more text c.args.more.now one)) s.trace.1,
+    s.trace.2,
+  );
   begun = c.in_ok-extend_from_slice.ensures.items ∙ ap (λ xs. xs ++ c.args.more.now) s.begun ∙ sym (begun-more text c.args.more.now one);
 }
 

@@ -6,10 +6,10 @@ use Rattle.annotated_trace.proofs.annotator.Annotator.close.Goals as goal
 
 pub returns-in-Ok-clause-annotated : goal.returns-in-Ok-clause-annotated
 returns-in-Ok-clause-annotated g c text before s none h =
-    all_closed c.args.self.choice text before (g.K.Sink.taken c.args.sink.now) (g.K.Sink.taken c.send_closing.new.sink) c.args.self.held.items c.in-Ok.report c.send_closing.result none h (c.in-Ok.ensures.told text s.trace) c.send_closing.ensures.ok c.send_closing.ensures.sums
+    all_closed c.args.self.choice text before (g.K.Sink.taken c.args.sink.now) (g.K.Sink.taken c.send_closing.new.sink) c.args.self.held.items c.in-Ok.report c.send_closing.result none h (c.in-Ok.ensures.told text s.trace.0) c.send_closing.ensures.ok c.send_closing.ensures.sums
 
 pub returns-in-Ok-clause-refused : goal.returns-in-Ok-clause-refused
-returns-in-Ok-clause-refused g c text s = write_refused c.send_closing.result text (c.in-Ok.ensures.told text s.trace).sound c.send_closing.ensures.write
+returns-in-Ok-clause-refused g c text s = write_refused c.send_closing.result text (c.in-Ok.ensures.told text s.trace.0).sound c.send_closing.ensures.write
 
 pub returns-in-Ok-clause-taken : goal.returns-in-Ok-clause-taken
 returns-in-Ok-clause-taken g c text before s none h w =
@@ -28,7 +28,7 @@ pub returns-clause-annotated : goal.returns-clause-annotated
 returns-clause-annotated g c text before s none h = tt
 
 pub returns-clause-refused : goal.returns-clause-refused
-returns-clause-refused g c text s = close_refused text c.in-Err.fault (c.in-Err.ensures.refused text s.trace)
+returns-clause-refused g c text s = close_refused text c.in-Err.fault (c.in-Err.ensures.refused text s.trace.0)
 
 pub returns-clause-taken : goal.returns-clause-taken
 returns-clause-taken g c text before s none h w = absurd (no_write c.in-Err.fault c.in-Err.ensures.kinds w)

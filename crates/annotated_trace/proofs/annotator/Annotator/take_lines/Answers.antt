@@ -1,6 +1,6 @@
 use Rattle.std.proofs.Common.{◌∙◌, ◌+◌, ℕ, List, ap, append_assoc, length-append, sym, subst, refl, length, take, [], ◌∷◌, ◌++◌, arith}
 use Rattle.line_model.specs.text.Text.{early}
-use Rattle.annotated_trace.specs.Annotators.{IsAnnotatorFault, IsRefusalOf, StandsFor}
+use Rattle.annotated_trace.specs.Annotators.{HasRead, IsAnnotatorFault, IsRefusalOf, StandsFor}
 use Rattle.annotated_trace.proofs.CommentLemmas.{always}
 use Rattle.annotated_trace.proofs.PassedLemmas.{line_end, line_passed, line_refusal, line_stopped, much_stopped, nothing_passed, rest_annotated, rest_refusal, rest_stopped}
 use Rattle.annotated_trace.proofs.StopLemmas.{no_write, text_kind}
@@ -14,7 +14,7 @@ returns-in-Err-clause-refused g c text s =
     let front = c.in-Some.front.now in
     let rest = c.loop-front.rest.now in
     let end = line_end front c.in-Some.back.now rest c.in-Some.ensures.0 in
-    line_refusal g.W.Watcher.stands_for c.args.self.now c.loop-front.self (g.K.Sink.taken c.args.sink.now) (g.K.Sink.taken c.loop-front.sink) c.args.chunk.now rest front c.in-Some.back.now (take (length front + 1) rest) text c.in-Err.fault p c.in-Some.ensures.0 end
+    line_refusal (HasRead g.W.Watcher g.D.Describer) c.args.self.now c.loop-front.self (g.K.Sink.taken c.args.sink.now) (g.K.Sink.taken c.loop-front.sink) c.args.chunk.now rest front c.in-Some.back.now (take (length front + 1) rest) text c.in-Err.fault p c.in-Some.ensures.0 end
     (c.in-Err.ensures.refused (text ++ p.fed) (p.stands text s))
 
 pub returns-in-Err-clause-stopped : goal.returns-in-Err-clause-stopped
@@ -24,8 +24,8 @@ returns-in-Err-clause-stopped g c text before s h =
     let rest = c.loop-front.rest.now in
     let end = line_end front c.in-Some.back.now rest c.in-Some.ensures.0 in
     let stands = p.stands text s in
-    line_stopped g.W.Watcher.stands_for c.args.self.now c.loop-front.self (g.K.Sink.taken c.args.sink.now) (g.K.Sink.taken c.loop-front.sink) before c.args.chunk.now rest front c.in-Some.back.now (take (length front + 1) rest) text c.take_line.new.self.held.items
-    c.in-Err.fault p c.in-Some.ensures.0 end c.in-Some.ensures.1 s (g.met.W.Watcher.sound c.loop-front.self.trace (text ++ p.fed) stands.trace) h (c.in-Err.ensures.refused (text ++ p.fed) stands) c.in-Err.ensures.not_held
+    line_stopped (HasRead g.W.Watcher g.D.Describer) c.args.self.now c.loop-front.self (g.K.Sink.taken c.args.sink.now) (g.K.Sink.taken c.loop-front.sink) before c.args.chunk.now rest front c.in-Some.back.now (take (length front + 1) rest) text c.take_line.new.self.held.items
+    c.in-Err.fault p c.in-Some.ensures.0 end c.in-Some.ensures.1 s (g.met.W.Watcher.sound c.loop-front.self.trace (text ++ p.fed) stands.trace.0) h (c.in-Err.ensures.refused (text ++ p.fed) stands) c.in-Err.ensures.not_held
 
 pub loop-front-preserved : goal.loop-front-preserved
 loop-front-preserved g c =
@@ -35,8 +35,8 @@ loop-front-preserved g c =
     let end = line_end front c.in-Some.back.now rest c.in-Some.ensures.0 in
     let put = c.in-Ok-send_much.ensures.ok in
     record {
-      passed = line_passed g.W.Watcher.stands_for c.args.self.now c.loop-front.self c.take_line.new.self (record c.take_line.new.self { held = c.send_much.new.held }) (g.K.Sink.taken c.args.sink.now) (g.K.Sink.taken c.loop-front.sink)
-          (g.K.Sink.taken c.send_much.new.sink) c.args.chunk.now rest front c.in-Some.back.now (take (length front + 1) rest) put.0 p c.in-Some.ensures.0 end c.in-Some.ensures.1 c.in-Ok.ensures.stands c.in-Ok.ensures.held c.in-Ok.ensures.choice refl refl refl
+      passed = line_passed (HasRead g.W.Watcher g.D.Describer) c.args.self.now c.loop-front.self c.take_line.new.self (record c.take_line.new.self { held = c.send_much.new.held }) (g.K.Sink.taken c.args.sink.now) (g.K.Sink.taken c.loop-front.sink)
+          (g.K.Sink.taken c.send_much.new.sink) c.args.chunk.now rest front c.in-Some.back.now (take (length front + 1) rest) put.0 p c.in-Some.ensures.0 end c.in-Some.ensures.1 c.in-Ok.ensures.stands c.in-Ok.ensures.held c.in-Ok.ensures.choice refl refl refl refl
           put.1 put.2;
       rising = omega (arith, c.loop-front.invariant.rising, c.in-Ok-send_much.ensures.rising);
     }
@@ -48,15 +48,15 @@ returns-in-Err-send_much-clause-stopped g c text before s h =
     let rest = c.loop-front.rest.now in
     let end = line_end front c.in-Some.back.now rest c.in-Some.ensures.0 in
     let taken = g.K.Sink.taken c.loop-front.sink in
-    let q = line_passed g.W.Watcher.stands_for c.args.self.now c.loop-front.self c.take_line.new.self c.take_line.new.self (g.K.Sink.taken c.args.sink.now) taken taken c.args.chunk.now rest front c.in-Some.back.now (take (length front + 1) rest) [] p c.in-Some.ensures.0
-    end c.in-Some.ensures.1 c.in-Ok.ensures.stands c.in-Ok.ensures.held c.in-Ok.ensures.choice refl refl refl (sym (with_more-nil taken)) refl in
+    let q = line_passed (HasRead g.W.Watcher g.D.Describer) c.args.self.now c.loop-front.self c.take_line.new.self c.take_line.new.self (g.K.Sink.taken c.args.sink.now) taken taken c.args.chunk.now rest front c.in-Some.back.now (take (length front + 1) rest) [] p c.in-Some.ensures.0
+    end c.in-Some.ensures.1 c.in-Ok.ensures.stands c.in-Ok.ensures.held c.in-Ok.ensures.choice refl refl refl refl (sym (with_more-nil taken)) refl in
     let part = c.in-Err-send_much.ensures.part in
-    much_stopped g.W.Watcher.stands_for c.args.self.now c.take_line.new.self (g.K.Sink.taken c.args.sink.now) taken (g.K.Sink.taken c.send_much.new.sink) before c.args.chunk.now c.in-Some.back.now text c.send_much.new.held.items part.0 part.1
+    much_stopped (HasRead g.W.Watcher g.D.Describer) c.args.self.now c.take_line.new.self (g.K.Sink.taken c.args.sink.now) taken (g.K.Sink.taken c.send_much.new.sink) before c.args.chunk.now c.in-Some.back.now text c.send_much.new.held.items part.0 part.1
     c.in-Err-send_much.fault q s h part.2 part.3 c.in-Err-send_much.ensures.write
 
 pub returns-clause-annotated : goal.returns-clause-annotated
 returns-clause-annotated g c text before s h =
-    always c.begin.result _ (rest_annotated g.W.Watcher.stands_for c.args.self.now c.loop-front.self (g.K.Sink.taken c.args.sink.now) (g.K.Sink.taken c.loop-front.sink) before c.args.chunk.now c.loop-front.rest.now text c.begin.new.self.held.items
+    always c.begin.result _ (rest_annotated (HasRead g.W.Watcher g.D.Describer) c.args.self.now c.loop-front.self (g.K.Sink.taken c.args.sink.now) (g.K.Sink.taken c.loop-front.sink) before c.args.chunk.now c.loop-front.rest.now text c.begin.new.self.held.items
     c.loop-front.invariant.passed c.in_default.ensures s h c.begin.ensures.held)
 
 pub returns-clause-stopped : goal.returns-clause-stopped
@@ -64,8 +64,8 @@ returns-clause-stopped g c text before s h =
     let p = c.loop-front.invariant.passed in
     let stands = p.stands text s in
     on_err c.begin.result _ _ (c.begin.ensures.refused (text ++ p.fed) stands) (λ f fault.
-    rest_stopped g.W.Watcher.stands_for c.args.self.now c.loop-front.self (g.K.Sink.taken c.args.sink.now) (g.K.Sink.taken c.loop-front.sink) before c.args.chunk.now c.loop-front.rest.now text c.begin.new.self.held.items f p c.in_default.ensures s
-    (g.met.W.Watcher.sound c.loop-front.self.trace (text ++ p.fed) stands.trace) h c.begin.ensures.held fault)
+    rest_stopped (HasRead g.W.Watcher g.D.Describer) c.args.self.now c.loop-front.self (g.K.Sink.taken c.args.sink.now) (g.K.Sink.taken c.loop-front.sink) before c.args.chunk.now c.loop-front.rest.now text c.begin.new.self.held.items f p c.in_default.ensures s
+    (g.met.W.Watcher.sound c.loop-front.self.trace (text ++ p.fed) stands.trace.0) h c.begin.ensures.held fault)
 
 pub returns-in-Err-clause-stands : goal.returns-in-Err-clause-stands
 returns-in-Err-clause-stands g c text s = tt
@@ -101,7 +101,7 @@ pub returns-clause-rising : goal.returns-clause-rising
 returns-clause-rising g c = c.loop-front.invariant.rising
 
 pub loop-front-init : goal.loop-front-init
-loop-front-init g c = record { passed = nothing_passed g.W.Watcher.stands_for c.args.self.now (g.K.Sink.taken c.args.sink.now) c.args.chunk.now; rising = omega arith }
+loop-front-init g c = record { passed = nothing_passed (HasRead g.W.Watcher g.D.Describer) c.args.self.now (g.K.Sink.taken c.args.sink.now) c.args.chunk.now; rising = omega arith }
 
 pub loop-front-smaller : goal.loop-front-smaller
 loop-front-smaller g c = omega (arith, ap (λ (l : List ℕ). length l) c.in-Some.ensures.0, length-append c.in-Some.front.now (10 ∷ c.in-Some.back.now))
@@ -120,13 +120,13 @@ pub returns-clause-stands : goal.returns-clause-stands
 returns-clause-stands g c text s =
     let p = c.loop-front.invariant.passed in
     on_ok c.begin.result _ _ (c.begin.ensures.stands (text ++ p.fed) (p.stands text s) c.in_default.ensures)
-    (λ h. subst (StandsFor g.W.Watcher.stands_for c.begin.new.self) (append_assoc text p.fed c.loop-front.rest.now ∙ ap (λ xs. text ++ xs) (sym p.whole)) h)
+    (λ h. subst (StandsFor (HasRead g.W.Watcher g.D.Describer) c.begin.new.self) (append_assoc text p.fed c.loop-front.rest.now ∙ ap (λ xs. text ++ xs) (sym p.whole)) h)
 
 pub returns-clause-refused : goal.returns-clause-refused
 returns-clause-refused g c text s =
     let p = c.loop-front.invariant.passed in
     on_err c.begin.result _ _ (c.begin.ensures.refused (text ++ p.fed) (p.stands text s))
-    (λ f fault. rest_refusal g.W.Watcher.stands_for c.args.self.now c.loop-front.self (g.K.Sink.taken c.args.sink.now) (g.K.Sink.taken c.loop-front.sink) c.args.chunk.now c.loop-front.rest.now text f p fault)
+    (λ f fault. rest_refusal (HasRead g.W.Watcher g.D.Describer) c.args.self.now c.loop-front.self (g.K.Sink.taken c.args.sink.now) (g.K.Sink.taken c.loop-front.sink) c.args.chunk.now c.loop-front.rest.now text f p fault)
 
 pub returns-clause-choice : goal.returns-clause-choice
 returns-clause-choice g c = c.begin.ensures.choice ∙ c.loop-front.invariant.passed.same

@@ -30,3 +30,10 @@ returns-clause-finding g c was reports h =
     let here = lanes_same g.C.Channel.interface_of g.C.Channel.number_of g.C.Channel.stands_for was.interface self.interface was.epoch self.epoch was.open_rows was.open_rows self.lanes h.lanes h.interface h.epoch (record { rows = λ k. refl; channels = refl }) in
     c.in_ok-found.ensures.finding was.open_rows here
     ∙ (λ t. findings_of (row_events (h.interface t) (h.epoch t) c.args.channel (channel_so_far (begun_piece (h.interface t) (h.epoch t) c.args.channel (rows_of was.open_rows c.args.channel))) c.args.row.now))
+
+pub returns-clause-events : goal.returns-clause-events
+returns-clause-events g c was reports h =
+    let self = c.args.self.now in
+    let here = lanes_same g.C.Channel.interface_of g.C.Channel.number_of g.C.Channel.stands_for was.interface self.interface was.epoch self.epoch was.open_rows was.open_rows self.lanes h.lanes h.interface h.epoch (record { rows = λ k. refl; channels = refl }) in
+    c.in_ok-found.ensures.events was.open_rows here
+    ∙ (λ t. row_events (h.interface t) (h.epoch t) c.args.channel (channel_so_far (begun_piece (h.interface t) (h.epoch t) c.args.channel (rows_of was.open_rows c.args.channel))) c.args.row.now)

@@ -9,9 +9,10 @@ use Rattle.restart_epochs.specs.OpenRows.{rows_of}
 use Rattle.restart_epochs.specs.Cutting.{IsKeptOn, given_of, pieces_out, route_finding}
 use Rattle.restart_epochs.proofs.Listings.{bare, has_one_more, listing}
 use Rattle.restart_epochs.proofs.Routes.{is_to_channel, is_quiet}
-use Rattle.restart_epochs.proofs.Taken.{enters_unready, on_ok}
+use Rattle.restart_epochs.proofs.Taken.{enters_unready, on_ok, on_ok_both}
 use Rattle.live_report.specs.Observing.{Holds}
 use Rattle.live_report.proofs.FindingLemmas.{channel_finds, line_finds}
+use Rattle.live_report.proofs.LastLemmas.{channel_last, line_last}
 use Rattle.live_report.proofs.TakeLemmas.{told_of, kept_with, kept_small, kept_stands, is_kept, stepped_with, is_stepped, quiet_stands, enter_stands, left_with, is_left, leave_stands}
 use Rattle.live_report.proofs.observer.Observer.take.Goals as goal
 
@@ -46,10 +47,13 @@ returns-in-ToChannel-clause-stands g c i rs s sound =
     let told = told_of g.C.Channel.interface_of g.C.Channel.number_of g.C.Channel.stands_for i rs c.args.self.now r p step s c.as_slice-octets.result.now c.row.inside.side (length c.as_slice-octets.result.now) octets (ap (λ x. x.side) c.row.view_is) (ap (λ l. length l) octets) c.decode-packet.ensures c.step-route.ensures in
     let k : c.logical_channel.result ≡ channel_of r.octets = c.logical_channel.ensures ∙ ap channel_of octets in
     let after = kept_with s.cutting (channel_of r.octets) (record { row = r; packet = p }) in
-    on_ok c.step.result _ _
-    (c.step.ensures.holds s.cutting after (map value (given_of i rs)) s.holds
+    let reports = map value (given_of i rs) in
+    on_ok_both c.step.result _ _ _
+    (c.step.ensures.holds s.cutting after reports s.holds
     (subst (λ n. IsKeptOn n (record { row = r; packet = p }) s.cutting after) (sym k) (is_kept s.cutting (channel_of r.octets) (record { row = r; packet = p })))
     (subst (λ n. IsPiece s.cutting.interface n (rows_of after.open_rows n)) (sym k) (kept_small g.C.Channel.interface_of g.C.Channel.number_of g.C.Channel.stands_for i rs c.args.self.now r p step s sound told)))
+    (on_ok_both c.step.result _ _ _ c.step.ensures.last (c.step.ensures.events s.cutting reports s.holds)
+    (channel_last i rs s.cutting r p step c.logical_channel.result c.step.new.self.last c.step.new.self.events.items s.cut told (ap is_to_channel c.in-ToChannel.is) k))
     (kept_stands g.C.Channel.interface_of g.C.Channel.number_of g.C.Channel.stands_for i rs c.args.self.now c.step.new.self r p step s sound told (ap is_to_channel c.in-ToChannel.is))
 
 pub returns-in-Leave-clause-stands : goal.returns-in-Leave-clause-stands
@@ -62,8 +66,9 @@ returns-in-Leave-clause-stands g c i rs s sound =
     let number : c.row.inside.number ≡ r.number = ap (λ x. x.number) c.row.view_is in
     let found = option_to_list c.finding_of-finding.result in
     let after = left_with s.cutting r step.after found in
-    on_ok c.leave.result _ _
+    on_ok_both c.leave.result _ _ _
     (c.leave.ensures.holds s.cutting after (map value (given_of i rs)) r s.holds (listing i rs s.cutting s.cut) (sym number) refl (is_left s.cutting r step.after found))
+    (on_ok c.leave.result _ _ c.leave.ensures.last (line_last i rs s.cutting r p step c.leave.new.self.last c.leave.new.self.events.items s.cut told (ap is_to_channel c.in-Leave.is)))
     (λ holds. leave_stands g.C.Channel.interface_of g.C.Channel.number_of g.C.Channel.stands_for i rs c.args.self.now c.leave.new.self r p step c.in-Leave.field-0 found s sound told c.in-Leave.is (c.finding_of-finding.ensures c.row.inside.octets.items ∙ ap (λ x. route_finding x step.route) c.row.view_is)
     (subst (λ n. Holds g.C.Channel.interface_of g.C.Channel.number_of g.C.Channel.stands_for after (map value (given_of i rs) ++ map value (pieces_out s.cutting.interface s.cutting.epoch (Some n) (rows_of s.cutting.open_rows) (length (map value (given_of i rs))) s.cutting.open_rows.channels)) c.leave.new.self) number holds))
 
@@ -76,8 +81,9 @@ returns-in-Enter-clause-stands g c i rs s sound =
     let told = told_of g.C.Channel.interface_of g.C.Channel.number_of g.C.Channel.stands_for i rs c.args.self.now r p step s c.as_slice-octets.result.now c.row.inside.side (length c.as_slice-octets.result.now) octets (ap (λ x. x.side) c.row.view_is) (ap (λ l. length l) octets) c.decode-packet.ensures c.step-route.ensures in
     let found = option_to_list c.finding_of-finding.result in
     let after = stepped_with s.cutting r step.after (s.cutting.epoch + 1) found in
-    on_ok c.enter.result _ _
+    on_ok_both c.enter.result _ _ _
     (c.enter.ensures.holds s.cutting after (map value (given_of i rs)) r s.holds (bare i rs s.cutting s.cut (enters_unready i rs s.cutting (record { row = r; packet = p }) step s.cut told c.in-Enter.is)) (is_stepped s.cutting r step.after (s.cutting.epoch + 1) found))
+    (on_ok c.enter.result _ _ c.enter.ensures.last (line_last i rs s.cutting r p step c.enter.new.self.last c.enter.new.self.events.items s.cut told (ap is_to_channel c.in-Enter.is)))
     (enter_stands g.C.Channel.interface_of g.C.Channel.number_of g.C.Channel.stands_for i rs c.args.self.now c.enter.new.self r p step found s sound told c.in-Enter.is (c.finding_of-finding.ensures c.row.inside.octets.items ∙ ap (λ x. route_finding x step.route) c.row.view_is))
 
 pub returns-in-Found-clause-stands : goal.returns-in-Found-clause-stands
@@ -89,8 +95,9 @@ returns-in-Found-clause-stands g c i rs s sound =
     let told = told_of g.C.Channel.interface_of g.C.Channel.number_of g.C.Channel.stands_for i rs c.args.self.now r p step s c.as_slice-octets.result.now c.row.inside.side (length c.as_slice-octets.result.now) octets (ap (λ x. x.side) c.row.view_is) (ap (λ l. length l) octets) c.decode-packet.ensures c.step-route.ensures in
     let found = option_to_list c.finding_of-finding.result in
     let after = stepped_with s.cutting r step.after s.cutting.epoch found in
-    on_ok c.advance.result _ _
+    on_ok_both c.advance.result _ _ _
     (c.advance.ensures.holds s.cutting after (map value (given_of i rs)) r s.holds (is_stepped s.cutting r step.after s.cutting.epoch found))
+    (on_ok c.advance.result _ _ c.advance.ensures.last (line_last i rs s.cutting r p step c.advance.new.self.last c.advance.new.self.events.items s.cut told (ap is_to_channel c.in-Found.is)))
     (quiet_stands g.C.Channel.interface_of g.C.Channel.number_of g.C.Channel.stands_for i rs c.args.self.now c.advance.new.self r p step found s sound told (ap is_quiet c.in-Found.is) (c.finding_of-finding.ensures c.row.inside.octets.items ∙ ap (λ x. route_finding x step.route) c.row.view_is))
 
 pub returns-in-Pass-clause-stands : goal.returns-in-Pass-clause-stands
@@ -102,8 +109,9 @@ returns-in-Pass-clause-stands g c i rs s sound =
     let told = told_of g.C.Channel.interface_of g.C.Channel.number_of g.C.Channel.stands_for i rs c.args.self.now r p step s c.as_slice-octets.result.now c.row.inside.side (length c.as_slice-octets.result.now) octets (ap (λ x. x.side) c.row.view_is) (ap (λ l. length l) octets) c.decode-packet.ensures c.step-route.ensures in
     let found = option_to_list c.finding_of-finding.result in
     let after = stepped_with s.cutting r step.after s.cutting.epoch found in
-    on_ok c.advance-in-Pass.result _ _
+    on_ok_both c.advance-in-Pass.result _ _ _
     (c.advance-in-Pass.ensures.holds s.cutting after (map value (given_of i rs)) r s.holds (is_stepped s.cutting r step.after s.cutting.epoch found))
+    (on_ok c.advance-in-Pass.result _ _ c.advance-in-Pass.ensures.last (line_last i rs s.cutting r p step c.advance-in-Pass.new.self.last c.advance-in-Pass.new.self.events.items s.cut told (ap is_to_channel c.in-Pass.is)))
     (quiet_stands g.C.Channel.interface_of g.C.Channel.number_of g.C.Channel.stands_for i rs c.args.self.now c.advance-in-Pass.new.self r p step found s sound told (ap is_quiet c.in-Pass.is) (c.finding_of-finding.ensures c.row.inside.octets.items ∙ ap (λ x. route_finding x step.route) c.row.view_is))
 
 pub returns-in-ToChannel-clause-finding : goal.returns-in-ToChannel-clause-finding

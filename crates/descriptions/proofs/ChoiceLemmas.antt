@@ -1,0 +1,156 @@
+-- Which rows are told of, line by line.
+use Rattle.std.proofs.Common.{◌≡◌, ◌≢◌, ◌∙◌, sym, ap, subst, refl, ℕ, ◌+◌, Bool, true, false, true≢false, not, ◌&&◌, ◌||◌, cond, List, [], ◌∷◌, ◌++◌, length, length-append, drop, Option, Some, None, IfSome, arith, append-nil}
+use Rattle.std.specs.List.{filter_map}
+use Rattle.std.specs.Prelude.{MatchOption}
+use Rattle.std.specs.Option.{option_map, option_to_list}
+use Rattle.std.proofs.lemmas.List.Elements.{filter_map-append}
+use Rattle.line_model.specs.declared.interface.Interface.{Interface}
+use Rattle.line_model.specs.declared.packet.Packet.{Packet}
+use Rattle.line_model.specs.basics.Records.{Row}
+use Rattle.line_model.specs.observer.Calls.{calls_of}
+use Rattle.line_model.specs.observer.Machine.{routed}
+use Rattle.line_model.specs.observer.Observer.{events, x25}
+use Rattle.line_model.specs.packets.Classes.{packet_of}
+use Rattle.line_model.specs.text.RowLine.{row_of}
+use Rattle.line_model.specs.text.Text.{Line, content_of, has_header, head_in, head_of, is_comment, is_some_line, rows_in}
+use Rattle.line_model.proofs.LineLemmas.{content-line, head-comment, head-later, no_content, rows_in-comment, rows_in-first}
+use Rattle.annotated_trace.specs.Rows.{is_told, is_told_if, row_written}
+use Rattle.annotated_trace.specs.Marking.{IsToldRightly}
+use Rattle.annotated_trace.specs.declared.rows.Rows.{Rows}
+use Rattle.annotated_trace.specs.declared.rows.Rows.TheVariants.{All, Chosen as Some_rows}
+use Rattle.descriptions.specs.CallRows.{Follows}
+use Rattle.descriptions.specs.declared.chosen.Chosen.{Chosen}
+use Rattle.descriptions.specs.Choosing.{HasChosen, told_where}
+
+-- ---- the row of a line
+
+pub no_rows : rows_in [] ≡ []
+unfolding rows_in
+no_rows = refl
+
+drop_later : (ls : List Line) (l : Line) → is_some_line ls ≡ true → drop 1 (ls ++ l ∷ []) ≡ drop 1 ls ++ l ∷ []
+drop_later [] l h = cc
+drop_later (m ∷ ls) l h = refl
+
+one_mapped : (l : Line) (o : Option Row) → row_of l ≡ o → filter_map row_of (l ∷ []) ≡ option_to_list o
+one_mapped l None h = rw h refl
+one_mapped l (Some r) h = rw h refl
+
+later_rows : (ls : List Line) (l : Line) → is_comment l ≡ false → has_header ls ≡ true → rows_in (ls ++ l ∷ []) ≡ rows_in ls ++ option_to_list (row_of l)
+unfolding rows_in has_header
+later_rows ls l c h =
+    ap (λ x. filter_map row_of (drop 1 x)) (content-line ls l c) ∙ ap (filter_map row_of) (drop_later (content_of ls) l h)
+    ∙ filter_map-append row_of (drop 1 (content_of ls)) (l ∷ []) ∙ ap (λ x. filter_map row_of (drop 1 (content_of ls)) ++ x) (one_mapped l (row_of l) refl)
+
+no_row_in : (ls : List Line) (l : Line) (a : Bool) → is_comment l ≡ true → has_header ls ≡ a → row_written ls l ≡ None
+no_row_in ls l true c h = λ t. cond (h t && not (c t)) (row_of l) None
+no_row_in ls l false c h = ap (λ b. cond (b && not (is_comment l)) (row_of l) None) h
+
+-- the rows that lines write, with one more line
+pub rows_written : (ls : List Line) (l : Line) → rows_in (ls ++ l ∷ []) ≡ rows_in ls ++ option_to_list (row_written ls l)
+rows_written ls l = by (is_comment l) (has_header ls) refl refl
+  where
+    nothing : row_written ls l ≡ None → rows_in ls ≡ rows_in ls ++ option_to_list (row_written ls l)
+    nothing e = sym (append-nil (rows_in ls)) ∙ ap (λ o. rows_in ls ++ option_to_list o) (sym e)
+
+    by : (c h : Bool) → is_comment l ≡ c → has_header ls ≡ h → rows_in (ls ++ l ∷ []) ≡ rows_in ls ++ option_to_list (row_written ls l)
+    by true h is headed = rows_in-comment ls l is ∙ nothing (no_row_in ls l h is headed)
+    by false false is headed = rows_in-first ls l is headed ∙ nothing (ap (λ b. cond (b && not (is_comment l)) (row_of l) None) headed)
+    by false true is headed = later_rows ls l is headed ∙ ap (λ o. rows_in ls ++ option_to_list o) (sym (λ t. cond (headed t && not (is t)) (row_of l) None))
+
+-- where a line writes a row, a header stands before it
+pub headed_row : (ls : List Line) (l : Line) (r : Row) → row_written ls l ≡ Some r → head_of (ls ++ l ∷ []) ≡ head_of ls
+headed_row ls l r e = by (is_comment l) (has_header ls) refl refl
+  where
+    by : (c h : Bool) → is_comment l ≡ c → has_header ls ≡ h → head_of (ls ++ l ∷ []) ≡ head_of ls
+    by true h is headed = head-comment ls l is
+    by false true is headed = head-later ls l is headed
+    by false false is headed = absurd (let bad : None ≡ Some r = sym (ap (λ b. cond (b && not (is_comment l)) (row_of l) None) headed) ∙ e in cc)
+
+no_head : (ls : List Line) → has_header ls ≡ false → head_of ls ≡ None
+unfolding head_of
+no_head ls h = ap head_in (no_content ls h)
+
+pub head_kept : (ls : List Line) (l : Line) (i : Interface) → IfSome (head_of (ls ++ l ∷ [])) (λ j. j ≡ i) → IfSome (head_of ls) (λ j. j ≡ i)
+head_kept ls l i h = by (is_comment l) (has_header ls) refl refl
+  where
+    by : (c b : Bool) → is_comment l ≡ c → has_header ls ≡ b → IfSome (head_of ls) (λ j. j ≡ i)
+    by true b is headed = subst (λ o. IfSome o (λ j. j ≡ i)) (head-comment ls l is) h
+    by false true is headed = subst (λ o. IfSome o (λ j. j ≡ i)) (head-later ls l is headed) h
+    by false false is headed = subst (λ o. IfSome o (λ j. j ≡ i)) (sym (no_head ls headed)) tt
+
+-- ---- whether there is one
+
+pub none_written : (rows : List Row) (o : Option Row) → length (rows ++ option_to_list o) ≡ length rows → o ≡ None
+none_written rows None h = refl
+none_written rows (Some r) h = absurd (omega (arith, h, length-append rows (r ∷ [])))
+
+pub no_rows_written : (rows : List Row) (o : Option Row) → rows ++ option_to_list o ≡ [] → o ≡ None
+no_rows_written rows None h = refl
+no_rows_written rows (Some r) h = absurd (omega (arith, ap (λ (l : List Row). length l) h, length-append rows (r ∷ [])))
+
+pub one_written : (rows : List Row) (o : Option Row) → length (rows ++ option_to_list o) ≢ length rows → (r : Row) × (o ≡ Some r)
+one_written rows None h = absurd (h (ap (λ l. length l) (append-nil rows)))
+one_written rows (Some r) h = (r, refl)
+
+-- ---- what is answered
+
+pub told_none : (rows : Rows) (i : Option Interface) (before : List Row) (o : Option Row) → o ≡ None → None ≡ told_where rows i before o
+told_none rows i before o e = ap (told_where rows i before) (sym e)
+
+pub told_some : (rows : Rows) (head : Option Interface) (i : Interface) (before : List Row) (o : Option Row) (r : Row) (told : Bool) → head ≡ Some i → o ≡ Some r → told ≡ is_told rows i before r → Some told ≡ told_where rows head before o
+told_some rows head i before o r told h e is = ap (λ b. Some b) is ∙ sym (λ t. told_where rows (h t) before (e t))
+
+-- what is said where nothing is told of
+pub not_told : (rows : Rows) (head : Option Interface) (before : List Row) (o : Option Row) → None ≡ told_where rows head before o → false ≡ is_told_if rows head before o
+not_told rows None before None h = refl
+not_told rows (Some i) before None h = refl
+not_told rows head before (Some r) h = absurd (let bad : None ≡ Some (is_told_if rows head before (Some r)) = h in cc)
+
+pub told_as : (rows : Rows) (head : Option Interface) (before : List Row) (o : Option Row) (told : Bool) → Some told ≡ told_where rows head before o → told ≡ is_told_if rows head before o
+told_as rows head before None told h = absurd (let bad : Some told ≡ None = h in cc)
+told_as rows head before (Some r) told h = same told (is_told_if rows head before (Some r)) h
+  where
+    same : (a b : Bool) → Some a ≡ Some b → a ≡ b
+    same a b e = cc
+
+-- what the describer says
+
+pub rightly_none : (rows : Rows) (before : List Line) (l : Line) → None ≡ told_where rows (head_of before) (rows_in before) (row_written before l) → IsToldRightly rows before l false
+rightly_none All before l h = tt
+rightly_none (Some_rows channel call) before l h = not_told (Some_rows channel call) (head_of before) (rows_in before) (row_written before l) h
+
+pub rightly_some : (rows : Rows) (before : List Line) (l : Line) (told : Bool) → Some told ≡ told_where rows (head_of before) (rows_in before) (row_written before l) → IsToldRightly rows before l told
+rightly_some All before l told h = tt
+rightly_some (Some_rows channel call) before l told h = told_as (Some_rows channel call) (head_of before) (rows_in before) (row_written before l) told h
+
+-- ---- what is known of options
+
+pub none_is : {T : Type 0} (o : Option T) → ((x : T) → ¬ (o ≡ Some x)) → None ≡ o
+none_is None h = refl
+none_is (Some x) h = absurd (h x refl)
+
+pub none_mapped : {T U : Type 0} (f : T → U) (o : Option T) → ((x : T) → ¬ (o ≡ Some x)) → option_map f o ≡ None
+none_mapped f None h = refl
+none_mapped f (Some x) h = absurd (h x refl)
+
+pub some_one : {T : Type 0} (o : Option T) (P : T → Type 0) → MatchOption o ⊥ P → ((x : T) → ¬ (o ≡ Some x)) → ⊥
+some_one None P h none = h
+some_one (Some x) P h none = none x refl
+
+pub head_is : (o : Option Interface) (i : Interface) → o ≡ Some i → IfSome o (λ j. j ≡ i)
+head_is o i h = subst (λ x. IfSome x (λ j. j ≡ i)) (sym h) refl
+
+pub same_head : (o : Option Interface) (i j : Interface) → o ≡ Some i → IfSome o (λ x. x ≡ j) → i ≡ j
+same_head o i j h k = subst (λ x. IfSome x (λ y. y ≡ j)) h k
+
+-- ---- a line that writes no row
+
+pub chosen_same : (before : List Line) (l : Line) (c : Chosen) → HasChosen before c → row_written before l ≡ None → HasChosen (before ++ l ∷ []) c
+chosen_same before l c h none =
+    let same : rows_in (before ++ l ∷ []) ≡ rows_in before = rows_written before l ∙ ap (λ o. rows_in before ++ option_to_list o) none ∙ append-nil (rows_in before) in
+    record {
+      packets = h.packets ∙ ap (λ rs. length rs) (sym same);
+      number = h.number;
+      call = λ i head. subst (λ rs. Follows i rs c.call) (sym same) (h.call i (head_kept before l i head));
+    }

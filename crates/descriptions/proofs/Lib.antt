@@ -1,0 +1,4 @@
+pub mod OpenCalls
+pub mod CallLemmas
+pub mod FollowLemmas
+pub mod ChoiceLemmas

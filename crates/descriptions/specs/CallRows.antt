@@ -1,0 +1,42 @@
+-- One call of a trace, as its events come: whether it is open, and where.
+use Rattle.std.specs.Prelude.{◌≡◌, ℕ, ◌-◌, ◌≤◌, ◌==◌, ◌&&◌, Bool, true, false, List, Option, None, Some, IfSome, length}
+use Rattle.line_model.specs.declared.event.Event.{Event}
+use Rattle.line_model.specs.declared.interface.Interface.{Interface}
+use Rattle.line_model.specs.basics.Records.{Row}
+use Rattle.line_model.specs.observer.Calls.{calls_of, is_end, is_opening}
+use Rattle.line_model.specs.observer.Observer.{events, is_ready}
+use Rattle.restart_epochs.specs.Cutting.{observer}
+use Rattle.annotated_trace.specs.Rows.{has_open}
+use Rattle.descriptions.specs.declared.call_rows.CallRows.{CallRows}
+use Rattle.descriptions.specs.declared.call_rows.Place.{Place}
+
+-- whether a place is this one
+abbrev pub is_at : (epoch channel : ℕ) → Option Place → Bool
+is_at e k None = false
+is_at e k (Some p) = (p.epoch == e) && (p.channel == k)
+
+-- it stands for these events, as far as they are of an epoch
+pub record Hears (e : ℕ) (es : List Event) (w : CallRows) : Type 0 where
+  pub to_come : w.to_come ≡ w.number - length (calls_of es)
+  pub place : (k : ℕ) → has_open w.number e k (calls_of es) ≡ is_at e k w.place
+  pub known : IfSome w.place (λ p. p.epoch ≤ e)
+
+-- it stands for these rows of a trace: where channels take rows, it is open as the definitions' observer has it
+pub record Follows (i : Interface) (rs : List Row) (w : CallRows) : Type 0 where
+  pub to_come : w.to_come ≡ w.number - length (calls_of (events i rs))
+  pub place : is_ready (observer i rs).line ≡ true → (k : ℕ) → has_open w.number (observer i rs).epoch k (calls_of (events i rs)) ≡ is_at (observer i rs).epoch k w.place
+  pub known : IfSome w.place (λ p. p.epoch ≤ (observer i rs).epoch)
+
+-- an event that opens a call on a logical channel in an epoch
+pub record OpensAt (e k : ℕ) (f : Event) : Type 0 where
+  pub epoch : f.epoch ≡ e
+  pub channel : f.channel ≡ k
+  pub opening : is_opening f ≡ true
+  pub no_end : is_end f ≡ false
+
+-- one that ends a call
+pub record EndsAt (e k : ℕ) (f : Event) : Type 0 where
+  pub epoch : f.epoch ≡ e
+  pub channel : f.channel ≡ k
+  pub no_opening : is_opening f ≡ false
+  pub end : is_end f ≡ true

@@ -1,0 +1,24 @@
+-- Which rows are told of, line by line.
+use Rattle.std.specs.Prelude.{◌≡◌, ℕ, Bool, List, Option, None, Some, IfSome, length}
+use Rattle.line_model.specs.declared.interface.Interface.{Interface}
+use Rattle.line_model.specs.basics.Records.{Row}
+use Rattle.line_model.specs.text.Text.{Line, head_of, rows_in}
+use Rattle.annotated_trace.specs.Rows.{asked_call, is_told_if, row_written}
+use Rattle.annotated_trace.specs.declared.rows.Rows.{Rows}
+use Rattle.descriptions.specs.CallRows.{Follows}
+use Rattle.descriptions.specs.declared.chosen.Chosen.{Chosen}
+
+-- it has judged the rows of these lines
+pub record HasChosen (ls : List Line) (c : Chosen) : Type 0 where
+  pub packets : c.packets ≡ length (rows_in ls)
+  pub number : c.call.number ≡ asked_call c.rows
+  pub call : (i : Interface) → IfSome (head_of ls) (λ j. j ≡ i) → Follows i (rows_in ls) c.call
+
+-- whether a row is told of, where there is one
+abbrev pub told_where : Rows → Option Interface → (before : List Row) → Option Row → Option Bool
+told_where rows i before None = None
+told_where rows i before (Some r) = Some (is_told_if rows i before (Some r))
+
+-- whether the row of the line after others is told of, where it writes one
+abbrev pub told_of_line : Chosen → (before : List Line) → Line → Option Bool
+told_of_line c before l = told_where c.rows (head_of before) (rows_in before) (row_written before l)

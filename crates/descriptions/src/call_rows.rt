@@ -1,0 +1,108 @@
+//! Which rows are those of one call.
+
+ghost use Rattle.std.specs.Prelude.{◌≡◌, ℕ, ◌++◌, ◌∷◌, ◌||◌, [], List};
+ghost use Rattle.std.specs.List.{AllByRecursion};
+ghost use Rattle.line_model.specs.declared.event.Event.{Event as AnyEvent};
+ghost use Rattle.line_model.specs.declared.interface.Interface.{Interface};
+ghost use Rattle.line_model.specs.observer.Calls.{calls_of};
+ghost use Rattle.annotated_trace.specs.Rows.{has_open};
+ghost use Rattle.descriptions.specs.CallRows.{EndsAt, Follows, Hears, OpensAt, is_at};
+
+use line_model::event::{Event, What};
+
+/// Where a call is open.
+#[derive(Clone, Copy)]
+struct Place {
+    epoch: u32,
+    channel: u16,
+}
+
+/// A call by its number in the report: whether it is open, and where.
+#[derive(Clone, Copy)]
+pub(crate) struct CallRows {
+    /// 0 is the number of no call.
+    number: u32,
+    /// How many calls are still to be opened, up to this one.
+    to_come: u32,
+    place: Option<Place>,
+}
+
+impl CallRows {
+    /// The call of a number in a trace of which no row was taken.
+    pub(crate) fn new(number: u32) -> Self
+        ensures follows { (i : Interface) → Follows i [] result }
+        ensures number { result.number ≡ number }
+    {
+        CallRows {
+            number,
+            to_come: number,
+            place: None,
+        }
+    }
+
+    /// Whether it is open on a logical channel in an epoch.
+    fn is_open(&self, epoch: u32, channel: u16) -> bool
+        ensures { result ≡ is_at epoch channel self.now.place }
+    {
+        match self.place {
+            Some(place) => place.epoch == epoch && place.channel == channel,
+            None => false,
+        }
+    }
+
+    /// A call is opened.
+    fn open(&mut self, epoch: u32, channel: u16)
+        ensures heard { (es : List AnyEvent) (e : AnyEvent) → OpensAt epoch channel e → Hears epoch es self.old
+            → Hears epoch (es ++ e ∷ []) self.new }
+        ensures number { self.new.number ≡ self.old.number }
+    {
+        if self.to_come == 1 {
+            self.place = Some(Place { epoch, channel });
+            self.to_come = 0;
+        } else {
+            self.to_come = self.to_come.saturating_sub(1);
+        }
+    }
+
+    /// The call that is open on a logical channel ends.
+    fn end(&mut self, epoch: u32, channel: u16)
+        ensures heard { (es : List AnyEvent) (e : AnyEvent) → EndsAt epoch channel e → Hears epoch es self.old
+            → Hears epoch (es ++ e ∷ []) self.new }
+        ensures number { self.new.number ≡ self.old.number }
+    {
+        if self.is_open(epoch, channel) {
+            self.place = None;
+        }
+    }
+
+    /// Hears the next event of an epoch.
+    fn hear(&mut self, event: &Event)
+        ensures heard { (es : List AnyEvent) → Hears event.now.epoch es self.old
+            → Hears event.now.epoch (es ++ event.now ∷ []) self.new }
+        ensures number { self.new.number ≡ self.old.number }
+    {
+        match event.what {
+            What::Open { .. } => self.open(event.epoch, event.channel),
+            What::End(_) => self.end(event.epoch, event.channel),
+            _ => {}
+        }
+    }
+
+    /// Takes the events of the next row of a logical channel: whether the row is one of the call's.
+    pub(crate) fn take(&mut self, epoch: u32, channel: u16, events: &[Event]) -> bool
+        ensures told { (es : List AnyEvent) → AllByRecursion (λ f. f.epoch ≡ epoch) events.now
+            → Hears epoch es self.old
+            → result ≡ (has_open self.old.number epoch channel (calls_of es)
+            || has_open self.old.number epoch channel (calls_of (es ++ events.now))) }
+        ensures heard { (es : List AnyEvent) → AllByRecursion (λ f. f.epoch ≡ epoch) events.now
+            → Hears epoch es self.old → Hears epoch (es ++ events.now) self.new }
+        ensures number { self.new.number ≡ self.old.number }
+    {
+        let was_open = self.is_open(epoch, channel);
+        for event in events {
+            self.hear(event);
+        }
+        let is_open = self.is_open(epoch, channel);
+        was_open || is_open
+    }
+}

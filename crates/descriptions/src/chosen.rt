@@ -1,0 +1,119 @@
+//! Which rows are told of.
+
+ghost use Rattle.std.specs.Prelude.{◌≡◌, ℕ, ◌++◌, ◌∷◌, [], List};
+ghost use Rattle.line_model.specs.declared.interface.Interface.{Interface};
+ghost use Rattle.line_model.specs.basics.Records.{Row};
+ghost use Rattle.line_model.specs.text.Text.{Line, ended_lines};
+ghost use Rattle.live_report.specs.LastRows.{IsLastRow};
+ghost use Rattle.live_report.specs.Lives.{WasFed};
+ghost use Rattle.live_report.specs.Observing.{HasWalked};
+ghost use Rattle.annotated_trace.specs.Rows.{asked_call, is_of_call, is_told};
+ghost use Rattle.descriptions.specs.CallRows.{Follows};
+ghost use Rattle.descriptions.specs.Choosing.{HasChosen, told_of_line};
+
+use crate::call_rows::CallRows;
+use annotated_trace::rows::Rows;
+use channel_run::run::Channel;
+use live_report::last_row::LastRow;
+use live_report::live::Live;
+use live_report::observer::Observer;
+use std::alloc::Allocator;
+
+/// Whether the observer's last row is one of a call's.
+fn judge_call<A: Allocator + Copy, C: Channel<A>>(
+    call: &mut CallRows,
+    observer: &Observer<A, C>,
+    last: LastRow,
+) -> bool
+    ensures told { (i : Interface) (before : List Row) (r : Row) → Follows i before call.old
+        → HasWalked C.Channel i (before ++ r ∷ []) observer.now
+        → IsLastRow i before r last observer.now.events.items
+        → result ≡ is_of_call i before r call.old.number }
+    ensures follows { (i : Interface) (before : List Row) (r : Row) → Follows i before call.old
+        → HasWalked C.Channel i (before ++ r ∷ []) observer.now
+        → IsLastRow i before r last observer.now.events.items
+        → Follows i (before ++ r ∷ []) call.new }
+    ensures number { call.new.number ≡ call.old.number }
+{
+    match last.channel {
+        Some(channel) => call.take(observer.epoch(), channel, observer.events()),
+        None => false,
+    }
+}
+
+/// The rows that are told of, how many rows were judged, and the call that is named.
+#[derive(Clone, Copy)]
+pub(crate) struct Chosen {
+    rows: Rows,
+    packets: u32,
+    call: CallRows,
+}
+
+impl Chosen {
+    /// No line was judged.
+    pub(crate) fn new(rows: Rows) -> Self
+        ensures chosen { HasChosen [] result }
+        ensures rows { result.rows ≡ rows }
+    {
+        Chosen {
+            rows,
+            packets: 0,
+            call: CallRows::new(rows.asked_call()),
+        }
+    }
+
+    /// The rows that are told of.
+    pub(crate) fn rows(&self) -> Rows
+        ensures { result ≡ self.now.rows }
+    {
+        self.rows
+    }
+
+    /// Judges the observer's last row, the next one: whether it is told of.
+    fn judge<A: Allocator + Copy, C: Channel<A>>(&mut self, observer: &Observer<A, C>) -> bool
+        ensures told { (i : Interface) (before : List Row) (r : Row) → Follows i before self.old.call
+            → self.old.call.number ≡ asked_call self.old.rows
+            → HasWalked C.Channel i (before ++ r ∷ []) observer.now
+            → result ≡ is_told self.old.rows i before r }
+        ensures follows { (i : Interface) (before : List Row) (r : Row)
+            → Follows i before self.old.call
+            → HasWalked C.Channel i (before ++ r ∷ []) observer.now
+            → Follows i (before ++ r ∷ []) self.new.call }
+        ensures number { self.new.call.number ≡ self.old.call.number }
+        ensures rows { self.new.rows ≡ self.old.rows }
+        ensures packets { self.new.packets ≡ self.old.packets }
+    {
+        let Some(last) = observer.last_row() else {
+            return false;
+        };
+        let of_call = judge_call(&mut self.call, observer, last);
+        self.rows.tells(&last.packet, of_call)
+    }
+
+    /// Judges the last line of a trace, the next one: whether it writes a row that is told of; none where it writes no
+    /// row.
+    pub(crate) fn take<A: Allocator + Copy, C: Channel<A>>(
+        &mut self,
+        trace: &Live<A, C>,
+    ) -> Option<bool>
+        ensures told { (before : List Line) (line : Line) (text : List ℕ)
+            → HasChosen before self.old → WasFed C.Channel text trace.now
+            → ended_lines text ≡ before ++ line ∷ []
+            → result ≡ told_of_line self.old before line }
+        ensures chosen { (before : List Line) (line : Line) (text : List ℕ)
+            → HasChosen before self.old → WasFed C.Channel text trace.now
+            → ended_lines text ≡ before ++ line ∷ []
+            → HasChosen (before ++ line ∷ []) self.new }
+        ensures rows { self.new.rows ≡ self.old.rows }
+    {
+        let Some(observer) = trace.observer() else {
+            return None;
+        };
+        if observer.packets() == self.packets {
+            return None;
+        }
+        self.packets = observer.packets();
+        let told = self.judge(observer);
+        Some(told)
+    }
+}
