@@ -1,10 +1,11 @@
 -- What an annotator was fed of a source, and what its sink took.
-use Rattle.std.proofs.Common.{◌≡◌, ◌≢◌, ◌∙◌, sym, ap, subst, refl, ℕ, ◌<◌, ◌≤◌, List, [], ◌++◌, Option, Some, None, Result, Ok, Err, IfOk, IfErr, append-nil, append_assoc, arith, inl, inr}
+use Rattle.std.proofs.Common.{◌≡◌, ◌≢◌, ◌∙◌, sym, ap, subst, refl, ℕ, ◌<◌, ◌≤◌, ◌^◌, List, [], ◌++◌, length, Option, Some, None, Result, Ok, Err, IfOk, IfErr, append-nil, append_assoc, arith, inl, inr}
 use Rattle.line_model.specs.basics.Device.{Gives}
 use Rattle.line_model.specs.text.Text.{early, ended_lines}
 use Rattle.line_model.specs.declared.fault.Fault.{Fault}
 use Rattle.line_model.specs.declared.fault.Fault.TheVariants.{Memory, Trace, Read, Write}
 use Rattle.line_model.specs.declared.totals.Summary.{Summary}
+use Rattle.trace_text.proofs.DecidedLemmas.{decided_before}
 use Rattle.annotated_trace.specs.Annotating.{Annotates, HasFed, IsAllGiven, IsAnnotatingFault, IsGiven, IsReadRefusal, Stops, StopsFirst}
 use Rattle.annotated_trace.specs.Annotators.{HasAnnotated, HasFirst, HasFirstOf, HasLinesBefore, IsAnnotated, IsAnnotatorFault, IsEndRefusal, IsRefusalOf, StandsFor}
 use Rattle.annotated_trace.specs.declared.annotator.Annotator.{Annotator}
@@ -67,20 +68,20 @@ all_read S left after next before taken choice a bytes room r gives some none = 
 
 -- ---- where reading was refused
 
-read_refusal : (given : List ℕ) (f : Fault) → IsRefusalOf (early given) f → IsReadRefusal given f
-read_refusal given Memory h = tt
-read_refusal given (Trace line kind) h = h
-read_refusal given Write h = tt
-read_refusal given _ h = absurd h
+read_refusal : (given bytes : List ℕ) (f : Fault) → early given ≡ None → length bytes ≤ 2 ^ 16 → IsRefusalOf (early (given ++ bytes)) f → IsReadRefusal (given ++ bytes) f
+read_refusal given bytes Memory sound few h = decided_before given bytes sound few
+read_refusal given bytes (Trace line kind) sound few h = (decided_before given bytes sound few, h)
+read_refusal given bytes Write sound few h = decided_before given bytes sound few
+read_refusal given bytes _ sound few h = absurd h
 
 pub stopped_at : {A W D : Type 0} → (S : W → D → Rows → List ℕ → Type 0) (left after next before taken taken2 : Option (List ℕ)) (choice : Rows) (a : Annotator A W D) (bytes : List ℕ) (room x y z : ℕ) (f : Fault) → (r : Reached S left after before taken choice a)
-    → Gives after next bytes room → IsRefusalOf (early (r.given ++ bytes)) f → HasFirst a.choice before taken2 (ended_lines (r.given ++ bytes)) → x ≤ y → y ≤ z → (z ≡ y → HasLinesBefore a.choice before taken2 (ended_lines (r.given ++ bytes)) f)
+    → early r.given ≡ None → length bytes ≤ 2 ^ 16 → Gives after next bytes room → IsRefusalOf (early (r.given ++ bytes)) f → HasFirst a.choice before taken2 (ended_lines (r.given ++ bytes)) → x ≤ y → y ≤ z → (z ≡ y → HasLinesBefore a.choice before taken2 (ended_lines (r.given ++ bytes)) f)
     → Stops choice left next before taken2 (z ≡ x) f
-stopped_at S left after next before taken taken2 choice a bytes room x y z f r gives refusal first le le' all = record {
+stopped_at S left after next before taken taken2 choice a bytes room x y z f r sound few gives refusal first le le' all = record {
   given = r.given ++ bytes;
   source = more_given left after next r.given bytes room r.source gives;
   why = inl (record {
-    refusal = read_refusal (r.given ++ bytes) f refusal;
+    refusal = read_refusal r.given bytes f sound few refusal;
     first = subst (λ k. HasFirst k before taken2 (ended_lines (r.given ++ bytes))) r.same first;
     at_line = λ same. subst (λ k. HasLinesBefore k before taken2 (ended_lines (r.given ++ bytes)) f) r.same (all (omega (arith, le, le', same)));
   });
@@ -113,14 +114,15 @@ end_first choice given before taken taken2 (Trace line kind) h kept part r = inl
 end_first choice given before taken taken2 Write h kept part r = inr (part refl)
 end_first choice given before taken taken2 _ h kept part r = absurd r
 
-pub end_stops : {K : Type 0} → (choice same : Rows) (left after before : Option (List ℕ)) (well : Type 0) (given : List ℕ) (took : K → Option (List ℕ)) (old new : K) (r : Result Summary Fault) → same ≡ choice → IsAllGiven left after given
+pub end_stops : {K : Type 0} → (choice same : Rows) (left after before : Option (List ℕ)) (well : Type 0) (given : List ℕ) (took : K → Option (List ℕ)) (old new : K) (r : Result Summary Fault) → same ≡ choice → early given ≡ None → IsAllGiven left after given
     → HasAnnotated choice before (took old) [] (ended_lines given) → IfErr r (IsEndRefusal given) → IfErr r (λ fault. fault ≢ Write → new ≡ old) → (r ≡ Err Write → HasFirstOf same given before (took new)) → IfErr r (Stops choice left after before (took new) well)
-end_stops choice same left after before well given took old new (Ok sums) e s h refusal kept part = tt
-end_stops choice same left after before well given took old new (Err f) e s h refusal kept part = record {
+end_stops choice same left after before well given took old new (Ok sums) e sound s h refusal kept part = tt
+end_stops choice same left after before well given took old new (Err f) e sound s h refusal kept part = record {
   given = given;
   source = λ x told. let all = s x told in ([], all.0 ∙ sym (append-nil given), all.1);
   why = inr (record {
     source = s;
+    sound = sound;
     refusal = refusal;
     first = end_first choice given before (took old) (took new) f h (λ n. ap took (kept n)) (λ w. subst (λ k. HasFirstOf k given before (took new)) e (part (ap Err w))) refusal;
   });

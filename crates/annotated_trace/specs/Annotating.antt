@@ -1,5 +1,6 @@
 -- What a scan that annotates a trace answers, and what its sink took.
 use Rattle.std.specs.Prelude.{◌≡◌, ◌⊎◌, ℕ, List, [], ◌++◌, Option, Some, None}
+use Rattle.trace_text.specs.Decided.{NoneDecided}
 use Rattle.line_model.specs.text.Text.{early, ended_lines}
 use Rattle.line_model.specs.declared.fault.Fault.{Fault}
 use Rattle.line_model.specs.declared.fault.Fault.TheVariants.{Memory, Trace, Read, Write}
@@ -38,12 +39,13 @@ pub record Annotates (choice : Rows) (left after before taken : Option (List ℕ
   pub source : IsAllGiven left after given
   pub annotated : IsAnnotated choice given before taken sums
 
--- why a text is refused while it is read: a device failed, memory ran out, or a line is faulty however the text goes on
+-- why a text is refused while it is read: a line is faulty however the text goes on; or a device failed or memory ran out, and the bytes
+-- before the last call of the source show no faulty line
 abbrev pub IsReadRefusal : (given : List ℕ) → Fault → Type 0
-IsReadRefusal given Memory = Unit {0}
-IsReadRefusal given (Trace line kind) = early given ≡ Some (line, kind)
+IsReadRefusal given Memory = NoneDecided given
+IsReadRefusal given (Trace line kind) = NoneDecided given × (early given ≡ Some (line, kind))
 IsReadRefusal given Read = early given ≡ None
-IsReadRefusal given Write = Unit {0}
+IsReadRefusal given Write = NoneDecided given
 IsReadRefusal given _ = ⊥
 
 -- the bytes that were given are refused while they are read, and the sink has a first part of the annotation of their lines, at a faulty
@@ -57,9 +59,10 @@ pub record StopsReading (choice : Rows) (given : List ℕ) (before taken : Optio
 abbrev pub StopsFirst : Rows → (given : List ℕ) (before taken : Option (List ℕ)) → Type 0
 StopsFirst choice given before taken = HasAnnotated choice before taken [] (ended_lines given) ⊎ HasFirstOf choice given before taken
 
--- the whole text is refused at its end
+-- the whole text is refused at its end, and none of its lines was refused while it was read
 pub record StopsAtEnd (choice : Rows) (left after : Option (List ℕ)) (given : List ℕ) (before taken : Option (List ℕ)) (told : Fault) : Type 0 where
   pub source : IsAllGiven left after given
+  pub sound : early given ≡ None
   pub refusal : IsEndRefusal given told
   pub first : StopsFirst choice given before taken
 

@@ -33,6 +33,7 @@ fn feed_all<A: Allocator + Copy, W: Watcher<A>, D: Describer<A, W>, S: Source, K
     ensures read_failed { result ≡ Err Fault.Read → S.failures source.old < S.failures source.new }
     ensures write_failed { result ≡ Err Fault.Write → K.failures sink.old < K.failures sink.new }
     ensures rising { K.failures sink.old ≤ K.failures sink.new }
+    ensures called { S.calls source.old < S.calls source.new }
     ensures asked { S.calls source.new ≤ S.calls source.old + (2 ^ 30 + 1) }
 {
     let mut buffer = [0; CHUNK];
@@ -69,6 +70,8 @@ pub fn annotate<A: Allocator + Copy, W: Watcher<A>, D: Describer<A, W>, S: Sourc
     ensures kinds { IfErr result IsAnnotatingFault }
     ensures read_failed { result ≡ Err Fault.Read → S.failures source.old < S.failures source.new }
     ensures write_failed { result ≡ Err Fault.Write → K.failures sink.old < K.failures sink.new }
+    // The source is asked at least once.
+    ensures called { S.calls source.old < S.calls source.new }
     ensures asked { S.calls source.new ≤ S.calls source.old + (2 ^ 30 + 1) }
 {
     let mut annotator = Annotator::new(alloc, trace, describer);

@@ -1,5 +1,5 @@
 -- The exit status of a scan.
-use Rattle.std.proofs.Common.{◌≡◌, ◌∙◌, sym, ap, refl, subst, inl, inr, ◌⊎◌, ℕ, zero, suc, ◌<◌, List, [], ◌++◌, Option, Some, None, arith, append-nil, cond, ◌==◌}
+use Rattle.std.proofs.Common.{◌≡◌, ◌∙◌, sym, ap, refl, subst, inl, inr, ◌⊎◌, ℕ, zero, suc, ◌<◌, List, ◌++◌, Option, None, arith, append-nil, cond, ◌==◌}
 use Rattle.std.proofs.lemmas.Bool.Decides.{nat_tests}
 use Rattle.line_model.specs.text.Text.{fault}
 use Rattle.line_model.specs.declared.totals.Summary.{Summary}
@@ -35,13 +35,14 @@ reported_status text left before after well sums status r s =
     let whole : IsReported text before after (trace_summary text) = record { sound = r.sound; taken = r.taken; counted = refl } in
     counted text left before after well (trace_summary text).findings status whole refl (s ∙ ap summary_status r.counted)
 
-other_status : (text : List ℕ) (left before after : Option (List ℕ)) (well : Type 0) (status : ℕ) → status ≡ 3 → ((after ≡ before) ⊎ IsCutShort text before after well) → IsStatus text left before after well status
-other_status text left before after well status s part = record {
-  clean = λ e. absurd (omega (arith, e, s));
-  found = λ e. absurd (omega (arith, e, s));
-  faulty = λ e. absurd (omega (arith, e, s));
-  other = λ e. part;
-  range = omega (arith, s);
+other_status : (text : List ℕ) (left before after : Option (List ℕ)) (well : Type 0) (f : Fault) (status : ℕ) → status ≡ 3 → status ≡ fault_status f → IsRefusedBy IsRefusal text left f → ((after ≡ before) ⊎ IsCutShort text before after well)
+    → IsStatus text left before after well status
+other_status text left before after well f status is s r part = record {
+  clean = λ e. absurd (omega (arith, e, is));
+  found = λ e. absurd (omega (arith, e, is));
+  faulty = λ e. absurd (omega (arith, e, is));
+  other = λ e. record { cause = f; other = sym s ∙ is; refusal = r; taken = part };
+  range = omega (arith, is);
 }
 
 -- a sink failed on the report of a text that was read whole, which has no fault
@@ -60,8 +61,13 @@ refused_status text left before after well (Trace line kind) status r taken fail
   range = omega (arith, s);
 }
 refused_status text left before after well Write status r taken failed s =
-    other_status text left before after well status s (inr (cut_short text left before after well r taken (failed refl)))
-refused_status text left before after well _ status r taken failed s = other_status text left before after well status s (inl taken)
+    other_status text left before after well Write status s s r (inr (cut_short text left before after well r taken (failed refl)))
+refused_status text left before after well Memory status r taken failed s = other_status text left before after well Memory status s s r (inl taken)
+refused_status text left before after well Read status r taken failed s = other_status text left before after well Read status s s r (inl taken)
+refused_status text left before after well Start status r taken failed s = other_status text left before after well Start status s s r (inl taken)
+refused_status text left before after well (Double i) status r taken failed s = other_status text left before after well (Double i) status s s r (inl taken)
+refused_status text left before after well (Stranger i) status r taken failed s = other_status text left before after well (Stranger i) status s s r (inl taken)
+refused_status text left before after well (Missing i) status r taken failed s = other_status text left before after well (Missing i) status s s r (inl taken)
 
 pub status_range : (f : Fault) (status : ℕ) → status ≡ fault_status f → status < 4
 status_range (Trace line kind) status s = omega (arith, s)

@@ -48,12 +48,20 @@ pub record IsCutShort (text : List ℕ) (before after : Option (List ℕ)) (well
   pub count : ℕ
   pub part : after ≡ with_more before (take count (trace_report text))
 
+-- a fault other than the text's ended a scan: what it says of the bytes that were given; and the sink is as it was, or it failed on the
+-- report
+pub record IsStoppedBy (text : List ℕ) (left before after : Option (List ℕ)) (well : Type 0) : Type 0 where
+  pub cause : Fault
+  pub other : fault_status cause ≡ 3
+  pub refusal : IsRefusedBy IsRefusal text left cause
+  pub taken : (after ≡ before) ⊎ IsCutShort text before after well
+
 -- what the status says of a text, of which the source has `left`: the sink had `before` and has `after`, and `well` says that it did not fail
 pub record IsStatus (text : List ℕ) (left before after : Option (List ℕ)) (well : Type 0) (status : ℕ) : Type 0 where
   pub clean : status ≡ 0 → IsReported text before after (trace_summary text) × ((trace_summary text).findings ≡ 0)
   pub found : status ≡ 1 → IsReported text before after (trace_summary text) × (0 < (trace_summary text).findings)
   pub faulty : status ≡ 2 → IsFaulty text left × (after ≡ before)
-  pub other : status ≡ 3 → (after ≡ before) ⊎ IsCutShort text before after well
+  pub other : status ≡ 3 → IsStoppedBy text left before after well
   pub range : status < 4
 
 -- a text is refused by a faulty line, behind the lines of what was found before it

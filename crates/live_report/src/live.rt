@@ -28,7 +28,8 @@ use restart_epochs::routing::note;
 use std::alloc::Allocator;
 use trace_text::lines::{Lines, TextEnd};
 
-/// A trace that grows, and the observer of its rows so far.
+/// A trace that grows, and the observer of its rows so far. No line of a text that it stands for is known to be faulty, so
+/// want of memory hides no faulty line of an earlier chunk.
 #[derive(Drop)]
 pub struct Live<A: Allocator, C: Channel<A>> {
     lines: Lines<A>,

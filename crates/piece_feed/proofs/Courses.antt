@@ -1,5 +1,5 @@
 -- A source that is read while the pieces of its trace are fed.
-use Rattle.std.proofs.Common.{◌≡◌, ◌∙◌, sym, ap, subst, refl, ℕ, ◌<◌, List, [], ◌++◌, length, Option, Some, None, Result, Ok, Err, append_assoc, append-nil, inl, inr}
+use Rattle.std.proofs.Common.{◌≡◌, ◌∙◌, sym, ap, subst, refl, ℕ, ◌<◌, ◌≤◌, ◌^◌, List, [], ◌++◌, length, Option, Some, None, Result, Ok, Err, append_assoc, append-nil, inl, inr}
 use Rattle.std.specs.Prelude.{IfOk, IfErr, IfSome}
 use Rattle.std.specs.Option.{option_map}
 use Rattle.line_model.specs.work.Book.{KnownPlan}
@@ -11,6 +11,7 @@ use Rattle.line_model.specs.declared.fault.Fault.{Fault}
 use Rattle.line_model.specs.declared.fault.Fault.TheVariants.{Memory, Trace, Read as ReadFailed}
 use Rattle.line_model.proofs.TextLemmas.{early_rows-nothing}
 use Rattle.trace_text.specs.StandsFor.{IsFaultOf, IsTextFault}
+use Rattle.trace_text.proofs.DecidedLemmas.{decided_before, none_decided}
 use Rattle.piece_queue.specs.Passes.{PassView}
 use Rattle.piece_queue.specs.declared.rule.Record.{Record}
 use Rattle.workers.specs.Workers.{HasFed}
@@ -81,46 +82,47 @@ reading_fault _ h = absurd h
 no_read_fault : (f : Fault) → IsTextFault f → f ≡ ReadFailed → ⊥
 no_read_fault f h e = subst IsTextFault e h
 
-at_end : (text : List ℕ) (f : Fault) → IsFaultOf (fault text) f → IsRefusal text [] f
-at_end text Memory h = tt
-at_end text (Trace line kind) h = inr (refl, h)
-at_end text _ h = absurd h
+at_end : (text : List ℕ) (f : Fault) → early text ≡ None → IsFaultOf (fault text) f → IsRefusal text [] f
+at_end text Memory sound h = none_decided text sound
+at_end text (Trace line kind) sound h = (none_decided text sound, inr (refl, h))
+at_end text _ sound h = absurd h
 
-on_the_way : (given rest : List ℕ) (f : Fault) → IsFaultOf (early given) f → IsRefusal given rest f
-on_the_way given rest Memory h = tt
-on_the_way given rest (Trace line kind) h = inl h
-on_the_way given rest _ h = absurd h
+on_the_way : (text bytes rest : List ℕ) (f : Fault) → early text ≡ None → length bytes ≤ 2 ^ 16 → IsFaultOf (early (text ++ bytes)) f → IsRefusal (text ++ bytes) rest f
+on_the_way text bytes rest Memory sound few h = decided_before text bytes sound few
+on_the_way text bytes rest (Trace line kind) sound few h = (decided_before text bytes sound few, inl h)
+on_the_way text bytes rest _ sound few h = absurd h
 
 gave_this : (before : Option (List ℕ)) (text : List ℕ) (P : List ℕ → Type 0) → before ≡ Some text → IfSome before P → P text
 gave_this before text P e h = subst (λ o. IfSome o P) e h
 
-pub has_read : {A : Type 0} (before after : Option (List ℕ)) (failed : Type 0) (text : List ℕ) (fed : List Piece) (r : Result (Read A) Fault) → IfSome before (λ all. (all ≡ text) × (after ≡ Some []))
+pub has_read : {A : Type 0} (before after : Option (List ℕ)) (failed : Type 0) (text : List ℕ) (fed : List Piece) (r : Result (Read A) Fault) → early text ≡ None → IfSome before (λ all. (all ≡ text) × (after ≡ Some []))
     → IfOk r (IsReadOf text fed) → IfErr r (IsFaultOf (fault text)) → IfErr r IsTextFault → HasRead before after failed fed r
-has_read before after failed text fed (Ok read) source ok refused kinds = record {
+has_read before after failed text fed (Ok read) sound source ok refused kinds = record {
   told = λ all e. let at = gave_this before all _ e source in (subst (λ t. IsReadOf t fed read) (sym at.0) ok, at.1);
   of_text = (text, ok);
   kinds = tt;
   refused = λ all e. tt;
   read_failed = λ e. absurd (cc);
 }
-has_read before after failed text fed (Err f) source ok refused kinds = record {
+has_read before after failed text fed (Err f) sound source ok refused kinds = record {
   told = λ all e. tt;
   of_text = tt;
   kinds = reading_fault f kinds;
   refused = λ all e.
       let at = gave_this before all _ e source in
-      record { given = text; rest = []; whole = at.0 ∙ sym (append-nil text); left = at.1; refusal = at_end text f refused };
+      record { given = text; rest = []; whole = at.0 ∙ sym (append-nil text); left = at.1; refusal = at_end text f sound refused };
   read_failed = λ e. let same : f ≡ ReadFailed = cc in absurd (no_read_fault f kinds same);
 }
 
-pub has_refused : {A : Type 0} (before after : Option (List ℕ)) (failed : Type 0) (text : List ℕ) (fed : List Piece) (f : Fault) → Gave before after text → IsFaultOf (early text) f → IsTextFault f → HasRead {A = A} before after failed fed (Err f)
-has_refused before after failed text fed f source refused kinds = record {
+pub has_refused : {A : Type 0} (before after : Option (List ℕ)) (failed : Type 0) (text bytes : List ℕ) (fed : List Piece) (f : Fault) → early text ≡ None → length bytes ≤ 2 ^ 16 → Gave before after (text ++ bytes) → IsFaultOf (early (text ++ bytes)) f → IsTextFault f
+    → HasRead {A = A} before after failed fed (Err f)
+has_refused before after failed text bytes fed f sound few source refused kinds = record {
   told = λ all e. tt;
   of_text = tt;
   kinds = reading_fault f kinds;
   refused = λ all e.
       let at = gave_this before all _ e source in
-      record { given = text; rest = at.0; whole = at.1; left = at.2; refusal = on_the_way text at.0 f refused };
+      record { given = text ++ bytes; rest = at.0; whole = at.1; left = at.2; refusal = on_the_way text bytes at.0 f sound few refused };
   read_failed = λ e. let same : f ≡ ReadFailed = cc in absurd (no_read_fault f kinds same);
 }
 

@@ -4,6 +4,7 @@ use Rattle.line_model.specs.basics.Records.{Row, Piece}
 use Rattle.line_model.specs.declared.interface.Interface.{Interface}
 use Rattle.line_model.specs.text.Text.{early, fault, head, rows}
 use Rattle.line_model.specs.pieces.Plans.{plan, line_findings}
+use Rattle.trace_text.specs.Decided.{NoneDecided}
 use Rattle.line_model.specs.declared.fault.Fault.{Fault}
 use Rattle.line_model.specs.declared.fault.Fault.TheVariants.{Memory, Trace, Read as ReadFailed, Write, Start}
 use Rattle.piece_feed.specs.declared.reading.Read.{Read}
@@ -22,11 +23,11 @@ pub record IsReadOf {A : Type 0} (text : List ℕ) (fed : List Piece) (r : Read 
   pub header : head text ≡ Some r.interface
   pub cut : IsCutOf r.interface (rows text) fed r
 
--- what a refusal says of the bytes that were given: a faulty line is told as soon as it is known, else at the end of the text; where no
--- thread was made, none was given
+-- what a refusal says of the bytes that were given: the first faulty line is told as soon as they show it, else at the end of the text; where
+-- memory ran out, those before the last call of the source show none; where no thread was made, none was given
 abbrev pub IsRefusal : (given rest : List ℕ) → Fault → Type 0
-IsRefusal given rest Memory = Unit {0}
-IsRefusal given rest (Trace line kind) = (early given ≡ Some (line, kind)) ⊎ ((rest ≡ []) × (fault given ≡ Some (line, kind)))
+IsRefusal given rest Memory = NoneDecided given
+IsRefusal given rest (Trace line kind) = NoneDecided given × ((early given ≡ Some (line, kind)) ⊎ ((rest ≡ []) × (fault given ≡ Some (line, kind))))
 IsRefusal given rest ReadFailed = early given ≡ None
 IsRefusal given rest Write = (rest ≡ []) × (fault given ≡ None)
 IsRefusal given rest Start = given ≡ []

@@ -122,6 +122,7 @@ fn read_all<P: Plan, A: Allocator + Copy, S: Source, R: Wait + Clock>(
     ensures kept { HasFed pass.old.record_of pass.new.record_of }
     ensures read { HasRead (S.left source.old) (S.left source.new) (S.failures source.old
         < S.failures source.new) pass.new.pieces result }
+    ensures called { S.calls source.old < S.calls source.new }
     ensures asked { S.calls source.new ≤ S.calls source.old + (2 ^ 30 + 1) }
 {
     let mut buffer = [0; CHUNK];
@@ -153,7 +154,7 @@ impl<'a, P: Plan, A: Allocator + Copy, S: Source, T: Threads + Sync> Feed<P, A>
     // What starts threads may be shared with them. The plan is that of the bytes that the source tells.
     ghost can_feed = { λ task. IsSync T.row × (P.pieces ≡ option_map trace_plan (S.left task.source.now)) };
 
-    ghost feed_gives = { λ task fed after. (after.source.ghost_name ≡ task.source.ghost_name) × IsOutcome (S.left task.source.now) (S.left after.source.now) (S.failures task.source.now < S.failures after.source.now) fed after.outcome × (S.calls after.source.now ≤ S.calls task.source.now + (2 ^ 30 + 1)) };
+    ghost feed_gives = { λ task fed after. (after.source.ghost_name ≡ task.source.ghost_name) × IsOutcome (S.left task.source.now) (S.left after.source.now) (S.failures task.source.now < S.failures after.source.now) fed after.outcome × (S.calls task.source.now < S.calls after.source.now) × (S.calls after.source.now ≤ S.calls task.source.now + (2 ^ 30 + 1)) };
 
     ghost unfed = { λ task after. (after.source.ghost_name ≡ task.source.ghost_name) × (after.source.now ≡ task.source.now) };
 

@@ -1,5 +1,5 @@
 -- What a follower was fed of a source, and what its sink took.
-use Rattle.std.proofs.Common.{◌≡◌, ◌≢◌, ◌∙◌, sym, ap, subst, refl, ℕ, ◌<◌, ◌≤◌, List, [], ◌++◌, length, Option, Some, None, Result, Ok, Err, IfOk, IfErr, append-nil, append_assoc, arith, inl, inr}
+use Rattle.std.proofs.Common.{◌≡◌, ◌≢◌, ◌∙◌, sym, ap, subst, refl, ℕ, ◌<◌, ◌≤◌, ◌^◌, List, [], ◌++◌, length, Option, Some, None, Result, Ok, Err, IfOk, IfErr, append-nil, append_assoc, arith, inl, inr}
 use Rattle.std.proofs.Math.Seq.{take-length}
 use Rattle.line_model.specs.channels.Channels.{Channel}
 use Rattle.line_model.specs.basics.Device.{Gives, with_more}
@@ -15,6 +15,7 @@ use Rattle.live_report.specs.Found.{found_text}
 use Rattle.live_report.specs.Reports.{IsRefusal, IsReported}
 use Rattle.live_report.proofs.FollowLemmas.{nothing_told}
 use Rattle.piece_feed.specs.Readings.{IsRefusedBy}
+use Rattle.trace_text.proofs.DecidedLemmas.{decided_before, none_decided}
 use Rattle.trace_scan.specs.Follow.{IsFollowRefusal, IsFollowed, IsGiven, IsStopped, IsToldOf}
 
 -- a follower was fed what a source gave, and the sink has the lines of what was found
@@ -59,11 +60,11 @@ all_read I N S left after next before taken f bytes room r gives some none = rec
 
 -- ---- where reading was refused
 
-follow_refusal : (given rest : List ℕ) (f : Fault) → IsRefusalOf (early given) f → IsFollowRefusal given rest f
-follow_refusal given rest Memory h = tt
-follow_refusal given rest (Trace line kind) h = inl h
-follow_refusal given rest Write h = h
-follow_refusal given rest _ h = absurd h
+follow_refusal : (given bytes rest : List ℕ) (f : Fault) → early given ≡ None → length bytes ≤ 2 ^ 16 → IsRefusalOf (early (given ++ bytes)) f → IsFollowRefusal (given ++ bytes) rest f
+follow_refusal given bytes rest Memory sound few h = decided_before given bytes sound few
+follow_refusal given bytes rest (Trace line kind) sound few h = (decided_before given bytes sound few, inl h)
+follow_refusal given bytes rest Write sound few h = h
+follow_refusal given bytes rest _ sound few h = absurd h
 
 told_of : (before taken : Option (List ℕ)) (well : Type 0) (given rest : List ℕ) (f : Fault) → HasFirst before taken (found_text given) → (well → HasFindingsAtLine before taken given f) → IsToldOf before taken well given rest f
 told_of before taken well given rest (Trace line kind) first all = (first, all)
@@ -71,12 +72,12 @@ told_of before taken well given rest Write first all = inl first
 told_of before taken well given rest _ first all = first
 
 pub stopped_at : {A C : Type 0} → (I : C → Interface) (N : C → ℕ) (S : C → Channel → Type 0) (left after next before taken taken_next : Option (List ℕ)) (f : Follower A C) (bytes : List ℕ) (room : ℕ) (x y z : ℕ) (told : Fault)
-    → (r : Reached I N S left after before taken f) → Gives after next bytes room → IsRefusalOf (early (r.given ++ bytes)) told → HasFirst before taken_next (found_text (r.given ++ bytes)) → x ≤ y → y ≤ z
+    → (r : Reached I N S left after before taken f) → Gives after next bytes room → length bytes ≤ 2 ^ 16 → IsRefusalOf (early (r.given ++ bytes)) told → HasFirst before taken_next (found_text (r.given ++ bytes)) → x ≤ y → y ≤ z
     → (z ≡ y → HasFindingsAtLine before taken_next (r.given ++ bytes) told) → IsStopped left next before taken_next (z ≡ x) told
-stopped_at I N S left after next before taken taken_next f bytes room x y z told r gives refusal first le le' all = record {
+stopped_at I N S left after next before taken taken_next f bytes room x y z told r gives few refusal first le le' all = record {
   given = r.given ++ bytes;
   source = more_given left after next r.given bytes room r.source gives;
-  refusal = λ rest. follow_refusal (r.given ++ bytes) rest told refusal;
+  refusal = λ rest. follow_refusal r.given bytes rest told r.stands.live.reads.sound few refusal;
   told = λ rest. told_of before taken_next (z ≡ x) (r.given ++ bytes) rest told first (λ same. all (omega (arith, le, le', same)));
 }
 
@@ -112,8 +113,8 @@ end_some given before taken (Ok sums) h = (given, h)
 end_some given before taken (Err f) h = tt
 
 at_end : (given : List ℕ) (f : Fault) → early given ≡ None → IsRefusal given f → IsFollowRefusal given [] f
-at_end given Memory sound h = tt
-at_end given (Trace line kind) sound h = inr (refl, h)
+at_end given Memory sound h = none_decided given sound
+at_end given (Trace line kind) sound h = (none_decided given sound, inr (refl, h))
 at_end given Write sound h = sound
 at_end given _ sound h = absurd h
 

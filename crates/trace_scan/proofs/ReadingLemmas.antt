@@ -1,10 +1,11 @@
 -- How far a source was read.
-use Rattle.std.proofs.Common.{◌≡◌, ◌∙◌, sym, ap, subst, ℕ, ◌<◌, List, [], ◌++◌, Option, Some, append-nil}
+use Rattle.std.proofs.Common.{◌≡◌, ◌∙◌, sym, ap, subst, ℕ, ◌<◌, ◌≤◌, ◌^◌, List, [], ◌++◌, length, Option, Some, None, append-nil}
 use Rattle.line_model.specs.basics.Device.{Gives}
 use Rattle.line_model.specs.text.Text.{early}
 use Rattle.line_model.specs.declared.fault.Fault.{Fault}
 use Rattle.line_model.specs.declared.fault.Fault.TheVariants.{Memory, Trace}
 use Rattle.trace_text.specs.StandsFor.{IsFaultOf, IsTextFault}
+use Rattle.trace_text.proofs.DecidedLemmas.{decided_before}
 use Rattle.piece_feed.specs.Readings.{IsReadingFault}
 use Rattle.trace_scan.specs.Scan.{IsEarlyRefusal}
 
@@ -26,10 +27,11 @@ all_read left after stands text r bytes room given some none =
       more.1 ∙ ap (λ xs. Some xs) (sym (ap (λ xs. xs ++ more.0) none) ∙ sym more.2 ∙ rest),
     )
 
-pub early_refusal : (given rest : List ℕ) (f : Fault) → IsFaultOf (early given) f → IsEarlyRefusal given rest f
-early_refusal given rest Memory h = tt
-early_refusal given rest (Trace line kind) h = h
-early_refusal given rest _ h = absurd h
+-- a call gave some bytes more, and they show a faulty line, or memory ran out
+pub early_refusal : (given bytes rest : List ℕ) (f : Fault) → early given ≡ None → length bytes ≤ 2 ^ 16 → IsFaultOf (early (given ++ bytes)) f → IsEarlyRefusal (given ++ bytes) rest f
+early_refusal given bytes rest Memory sound few h = decided_before given bytes sound few
+early_refusal given bytes rest (Trace line kind) sound few h = (decided_before given bytes sound few, h)
+early_refusal given bytes rest _ sound few h = absurd h
 
 pub text_to_reading : (f : Fault) → IsTextFault f → IsReadingFault f
 text_to_reading Memory h = tt

@@ -1,7 +1,7 @@
 -- What a refusal says of the bytes that were given, and the report of a text that was read.
 use Rattle.std.proofs.Common.{◌≡◌, sym, refl, subst, ℕ, List, [], Some, None, Option, Result, Ok, Err, IfOk, IfErr, take, append-nil, inl, inr}
 use Rattle.line_model.specs.basics.Device.{with_more}
-use Rattle.line_model.specs.text.Text.{fault, head, rows}
+use Rattle.line_model.specs.text.Text.{early, fault, head, rows}
 use Rattle.line_model.specs.traces.Traces.{trace_report}
 use Rattle.line_model.specs.basics.Records.{Report}
 use Rattle.line_model.specs.observer.Report.{report_of}
@@ -11,6 +11,8 @@ use Rattle.line_model.specs.declared.fault.Fault.{Fault}
 use Rattle.line_model.specs.declared.fault.Fault.TheVariants.{Memory, Trace, Read, Write}
 use Rattle.live_report.specs.Reports.{IsRefusal as IsReportRefusal, IsReportFault, IsReported, IsTaken}
 use Rattle.trace_text.specs.Watched.{IsReportOf}
+use Rattle.trace_text.proofs.DecidedLemmas.{none_decided}
+use Rattle.live_report.proofs.LawLemmas.{no_fault_so_far}
 use Rattle.piece_feed.specs.Readings.{IsReadingFault, IsRefusal, IsRefusedBy}
 use Rattle.trace_scan.specs.Scan.{IsEarlyRefusal, IsPartTaken, IsScanFault}
 
@@ -19,26 +21,26 @@ report_is text i made sound h is = record { sound = sound; interface = i; header
 
 -- ---- where the whole text was read
 
-at_end : (text : List ℕ) (f : Fault) → IsReportRefusal text f → IsRefusal text [] f
-at_end text Memory h = tt
-at_end text (Trace line kind) h = inr (refl, h)
-at_end text Write h = (refl, h)
-at_end text _ h = absurd h
+at_end : (text : List ℕ) (f : Fault) → early text ≡ None → IsReportRefusal text f → IsRefusal text [] f
+at_end text Memory sound h = none_decided text sound
+at_end text (Trace line kind) sound h = (none_decided text sound, inr (refl, h))
+at_end text Write sound h = (refl, h)
+at_end text _ sound h = absurd h
 
-pub refused_at_end : (text : List ℕ) (left : Option (List ℕ)) (f : Fault) → IsReportRefusal text f → left ≡ Some [] → IsRefusedBy IsRefusal text left f
-refused_at_end text left f h e = record { given = text; rest = []; whole = sym (append-nil text); left = e; refusal = at_end text f h }
+pub refused_at_end : (text : List ℕ) (left : Option (List ℕ)) (f : Fault) → early text ≡ None → IsReportRefusal text f → left ≡ Some [] → IsRefusedBy IsRefusal text left f
+refused_at_end text left f sound h e = record { given = text; rest = []; whole = sym (append-nil text); left = e; refusal = at_end text f sound h }
 
-pub end_refused : (r : Result Summary Fault) (text : List ℕ) (left : Option (List ℕ)) → IfErr r (IsReportRefusal text) → left ≡ Some [] → IfErr r (IsRefusedBy IsRefusal text left)
-end_refused (Ok sums) text left h e = tt
-end_refused (Err f) text left h e = refused_at_end text left f h e
+pub end_refused : (r : Result Summary Fault) (text : List ℕ) (left : Option (List ℕ)) → early text ≡ None → IfErr r (IsReportRefusal text) → left ≡ Some [] → IfErr r (IsRefusedBy IsRefusal text left)
+end_refused (Ok sums) text left sound h e = tt
+end_refused (Err f) text left sound h e = refused_at_end text left f sound h e
 
 -- the sink's failure comes where the whole text was accepted
 pub write_refused : (text : List ℕ) (left : Option (List ℕ)) (f : Fault) → f ≡ Write → left ≡ Some [] → fault text ≡ None → IsRefusedBy IsRefusal text left f
-write_refused text left f w e h = refused_at_end text left f (subst (IsReportRefusal text) (sym w) h) e
+write_refused text left f w e h = refused_at_end text left f (no_fault_so_far text h) (subst (IsReportRefusal text) (sym w) h) e
 
 -- memory ran out after the whole text was accepted
-pub memory_refused : (text : List ℕ) (left : Option (List ℕ)) (f : Fault) → f ≡ Memory → left ≡ Some [] → IsRefusedBy IsRefusal text left f
-memory_refused text left f m e = refused_at_end text left f (subst (IsReportRefusal text) (sym m) tt) e
+pub memory_refused : (text : List ℕ) (left : Option (List ℕ)) (f : Fault) → f ≡ Memory → left ≡ Some [] → fault text ≡ None → IsRefusedBy IsRefusal text left f
+memory_refused text left f m e h = refused_at_end text left f (no_fault_so_far text h) (subst (IsReportRefusal text) (sym m) tt) e
 
 pub end_of_text : (r : Result Summary Fault) (text : List ℕ) (before after : Option (List ℕ)) → IfOk r (IsReported text before after) → IfOk r (λ sums. (x : List ℕ) × IsReported x before after sums)
 end_of_text (Ok sums) text before after h = (text, h)
@@ -63,8 +65,8 @@ end_kinds (Err f) h = report_scan f h
 -- ---- where reading was refused
 
 early_to_any : (given rest : List ℕ) (f : Fault) → IsEarlyRefusal given rest f → IsRefusal given rest f
-early_to_any given rest Memory h = tt
-early_to_any given rest (Trace line kind) h = inl h
+early_to_any given rest Memory h = h
+early_to_any given rest (Trace line kind) h = (h.0, inl h.1)
 early_to_any given rest Read h = h
 early_to_any given rest _ h = absurd h
 

@@ -1,11 +1,11 @@
 -- Where reading and working stop, and what the workers' reports are.
-use Rattle.std.proofs.Common.{◌≡◌, ◌∙◌, sym, ap, subst, refl, ℕ, true, List, length, take, Option, Some, None, Result, Ok, Err, ◌⊎◌, inl, inr}
+use Rattle.std.proofs.Common.{◌≡◌, ◌∙◌, sym, ap, subst, refl, ℕ, true, List, [], length, take, Option, Some, None, Result, Ok, Err, ◌⊎◌, inl, inr}
 use Rattle.std.specs.Prelude.{IfErr, IfOk, IfSome, MatchResult, is_some, is_ok}
 use Rattle.line_model.specs.declared.fault.Fault.{Fault}
 use Rattle.line_model.specs.declared.fault.Fault.TheVariants.{Memory, Trace, Read as ReadFailed, Write, Start}
 use Rattle.piece_feed.specs.declared.reading.Read.{Read}
-use Rattle.piece_feed.specs.Readings.{IsReadingFault}
-use Rattle.piece_feed.specs.Readings.{IsOutcome}
+use Rattle.piece_feed.specs.Readings.{IsOutcome, IsReadingFault, IsRefusal}
+use Rattle.trace_text.proofs.DecidedLemmas.{nothing_decided}
 use Rattle.live_report.specs.Reports.{IsTaken}
 use Rattle.trace_scan.specs.Scan.{IsPartTaken}
 use Rattle.trace_scan.specs.declared.threaded.ScanParts.{ScanParts}
@@ -72,7 +72,22 @@ worker_stopped None before after failed fed f k h m = absurd h
 worker_stopped (Some (Err e)) before after failed fed f k h m = absurd (cc)
 worker_stopped (Some (Ok read)) before after failed fed f k h m = record {
   kinds = memory_stops f m;
-  refused = λ text told. memory_refused text after f m (h.told text told).1;
+  refused = λ text told. let all = h.told text told in memory_refused text after f m all.1 all.0.sound;
+}
+
+-- the task came back without its turn: no byte was given
+unfed_refusal : (rest : List ℕ) (f : Fault) → (f ≡ Memory) ⊎ (f ≡ Start) → IsRefusal [] rest f
+unfed_refusal rest f (inl m) = subst (IsRefusal [] rest) (sym m) nothing_decided
+unfed_refusal rest f (inr s) = subst (IsRefusal [] rest) (sym s) refl
+
+unfed_stops : (f : Fault) → (f ≡ Memory) ⊎ (f ≡ Start) → IsStopFault f
+unfed_stops f (inl m) = subst IsStopFault (sym m) tt
+unfed_stops f (inr s) = subst IsStopFault (sym s) tt
+
+pub unfed_stopped : (before after : Option (List ℕ)) (f : Fault) → after ≡ before → (f ≡ Memory) ⊎ (f ≡ Start) → IsStopped before after f
+unfed_stopped before after f same why = record {
+  kinds = unfed_stops f why;
+  refused = λ text told. record { given = []; rest = text; whole = refl; left = same ∙ told; refusal = unfed_refusal text f why };
 }
 
 pub was_read : {A : Type 0} (o : Option (Result (Read A) Fault)) (before after : Option (List ℕ)) (failed : Type 0) (fed : List Piece) → IsOutcome before after failed fed o → is_some o ≡ true

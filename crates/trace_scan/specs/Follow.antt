@@ -2,6 +2,7 @@
 use Rattle.std.specs.Prelude.{◌≡◌, ◌⊎◌, ℕ, List, [], ◌++◌, Option, Some, None}
 use Rattle.line_model.specs.channels.Channels.{Channel}
 use Rattle.line_model.specs.text.Text.{early, fault}
+use Rattle.trace_text.specs.Decided.{NoneDecided}
 use Rattle.line_model.specs.traces.Traces.{trace_report}
 use Rattle.line_model.specs.declared.fault.Fault.{Fault}
 use Rattle.line_model.specs.declared.fault.Fault.TheVariants.{Memory, Trace, Read, Write}
@@ -10,11 +11,11 @@ use Rattle.live_report.specs.declared.follow.Follower.{Follower}
 use Rattle.live_report.specs.Follows.{HasFindings, HasFirst, StandsFor}
 use Rattle.live_report.specs.Found.{found_text}
 
--- what a refusal says of the bytes that were given: a faulty line is told as soon as it is known, else at the end of the text; a device
--- failed while no line was known to be faulty
+-- what a refusal says of the bytes that were given: the first faulty line is told as soon as they show it, else at the end of the text; a
+-- device failed while they showed none; where memory ran out, those before the last call of the source show none
 abbrev pub IsFollowRefusal : (given rest : List ℕ) → Fault → Type 0
-IsFollowRefusal given rest Memory = Unit {0}
-IsFollowRefusal given rest (Trace line kind) = (early given ≡ Some (line, kind)) ⊎ ((rest ≡ []) × (fault given ≡ Some (line, kind)))
+IsFollowRefusal given rest Memory = NoneDecided given
+IsFollowRefusal given rest (Trace line kind) = NoneDecided given × ((early given ≡ Some (line, kind)) ⊎ ((rest ≡ []) × (fault given ≡ Some (line, kind))))
 IsFollowRefusal given rest Read = early given ≡ None
 IsFollowRefusal given rest Write = early given ≡ None
 IsFollowRefusal given rest _ = ⊥

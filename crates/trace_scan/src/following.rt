@@ -34,6 +34,7 @@ fn follow_all<A: Allocator + Copy, C: Channel<A>, S: Source, K: Sink>(
     ensures read_failed { result ≡ Err Fault.Read → S.failures source.old < S.failures source.new }
     ensures write_failed { result ≡ Err Fault.Write → K.failures sink.old < K.failures sink.new }
     ensures rising { K.failures sink.old ≤ K.failures sink.new }
+    ensures called { S.calls source.old < S.calls source.new }
     ensures asked { S.calls source.new ≤ S.calls source.old + (2 ^ 30 + 1) }
 {
     let mut buffer = [0; CHUNK];
@@ -71,6 +72,8 @@ pub fn follow<A: Allocator + Copy, S: Source, K: Sink>(
     ensures taken { (text : List ℕ) → S.left source.old ≡ Some text
         → IfErr result (IsRefusedBy (IsToldOf (K.taken sink.old) (K.taken sink.new)
         (K.failures sink.new ≡ K.failures sink.old)) text (S.left source.new)) }
+    // The source is asked at least once.
+    ensures called { S.calls source.old < S.calls source.new }
     ensures asked { S.calls source.new ≤ S.calls source.old + (2 ^ 30 + 1) }
     // Of a source that does not tell its bytes: some bytes were given, and it is so of them.
     ensures of_text { IfOk result (λ sums. (text : List ℕ)

@@ -35,6 +35,7 @@ pub fn feed_all<A: Allocator + Copy, C: Channel<A>, S: Source>(
     ensures refused { (text : List ℕ) → S.left source.old ≡ Some text
         → IfErr result (IsRefusedBy IsEarlyRefusal text (S.left source.new)) }
     ensures read_failed { result ≡ Err Fault.Read → S.failures source.old < S.failures source.new }
+    ensures called { S.calls source.old < S.calls source.new }
     ensures asked { S.calls source.new ≤ S.calls source.old + (2 ^ 30 + 1) }
 {
     let mut buffer = [0; CHUNK];

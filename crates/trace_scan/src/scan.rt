@@ -40,6 +40,8 @@ pub fn scan_alone<A: Allocator + Copy, S: Source, K: Sink>(
         → IfErr result (IsTaken (K.taken sink.old) (K.taken sink.new) (trace_report text)) }
     // Whatever the source tells: where the sink failed, it took a first part of the report of a text without a fault.
     ensures part { result ≡ Err Fault.Write → IsPartTaken (K.taken sink.old) (K.taken sink.new) }
+    // The source is asked at least once.
+    ensures called { S.calls source.old < S.calls source.new }
     ensures asked { S.calls source.new ≤ S.calls source.old + (2 ^ 30 + 1) }
 {
     let mut live = Live::<A, PackedChannel<A>>::new(alloc);

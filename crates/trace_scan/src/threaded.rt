@@ -78,6 +78,7 @@ fn work_on_trace<
     ensures stopped { IfErr result (IsStopped (S.left source.old) (S.left source.new)) }
     ensures read_failed { result ≡ Err Fault.Read → S.failures source.old < S.failures source.new }
     ensures start { result ≡ Err Fault.Start → source.new ≡ source.old }
+    ensures unasked { S.calls source.new ≡ S.calls source.old → source.new ≡ source.old }
     ensures asked { S.calls source.new ≤ S.calls source.old + (2 ^ 30 + 1) }
 {
     let reading = Reading {
@@ -172,6 +173,8 @@ pub fn scan_with<
     ensures part { result ≡ Err Fault.Write → IsPartTaken (K.taken sink.old) (K.taken sink.new) }
     // No refusal of the merge but for want of memory.
     ensures kinds { IfErr result IsWorkedFault }
+    // A source that was not asked is as it was.
+    ensures unasked { S.calls source.new ≡ S.calls source.old → source.new ≡ source.old }
     ensures asked { S.calls source.new ≤ S.calls source.old + (2 ^ 30 + 1) }
 {
     let parts = match work_on_trace::<Brand, A, S, G, R>(

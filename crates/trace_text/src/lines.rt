@@ -27,7 +27,8 @@ const LINE_LIMIT: usize = 8500;
 /// ```
 ///
 /// Of the lines that an LF has ended it keeps what they say: the interface and the last number; of the line that has
-/// not ended the bytes, at most 8,500. After a refusal it answers the same fault from then on.
+/// not ended the bytes, at most 8,500. After a refusal it answers the same fault from then on. No line of a text that it
+/// stands for is known to be faulty, so want of memory hides no faulty line of an earlier chunk.
 #[derive(Drop)]
 pub struct Lines<A: Allocator> {
     /// The lines that an LF has ended.

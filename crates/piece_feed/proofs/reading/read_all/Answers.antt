@@ -3,6 +3,7 @@ use Rattle.std.proofs.lemmas.Grind.{common_steps}
 use Rattle.piece_feed.proofs.Courses.{Gave, course_begun, fed_none, fed_on, gave_all, gave_more, has_failed, has_read, has_refused, plan_so_far, plan_whole}
 use Rattle.piece_feed.proofs.Rows.{all_fed}
 use Rattle.piece_feed.proofs.Texts.{part_next}
+use Rattle.trace_text.proofs.DecidedLemmas.{few_given}
 use Rattle.piece_feed.proofs.reading.read_all.Goals as goal
 
 pub loop-text-init : goal.loop-text-init
@@ -10,6 +11,7 @@ loop-text-init g c = record {
   calls = omega arith;
   room = omega (arith, c.new-text.ensures.reads.start, ap (λ (xs : List ℕ). length xs) c.new-text.ensures.reads.begun);
   failures = omega arith;
+  least = omega arith;
   queue = refl;
   kept = fed_none c.args.pass.now.record_of c.requires.first.1;
   course = course_begun (g.S.Source.left c.args.source.now) c.new-text.result c.args.pass.now c.new-text.ensures c.requires.first.0 c.requires.none;
@@ -28,12 +30,14 @@ feed_pieces-requires-clause-next g c =
 pub loop-text-preserved : goal.loop-text-preserved
 loop-text-preserved g c =
     let inv = c.loop-text.invariant in
+    let least = inv.least in
     let course = inv.course in
     let source = gave_more (g.S.Source.left c.args.source.now) (g.S.Source.left c.loop-text.source) (g.S.Source.left c.read.new.self) course.text _ _ course.source c.in-Ok.ensures.given in
     record {
       calls = grind (arith, common_steps);
       room = c.in-Ok-take.ensures.limit;
       failures = grind (arith, common_steps);
+      least = omega (arith, least, c.read.ensures.calls);
       queue = c.feed_pieces.ensures.queue ∙ inv.queue;
       kept = fed_on c.args.pass.now.record_of c.loop-text.pass.record_of c.feed_pieces.new.pass.record_of inv.kept c.feed_pieces.ensures.kept;
       course = record {
@@ -52,7 +56,8 @@ returns-in-Err-take-clause-read g c =
     let inv = c.loop-text.invariant in
     let course = inv.course in
     let source = gave_more (g.S.Source.left c.args.source.now) (g.S.Source.left c.loop-text.source) (g.S.Source.left c.read.new.self) course.text _ _ course.source c.in-Ok.ensures.given in
-    has_refused (g.S.Source.left c.args.source.now) (g.S.Source.left c.read.new.self) _ (course.text ++ _) c.loop-text.pass.pieces c.in-Err-take.fault source
+    let few = few_given c.in-Ok.n (length c.loop-text.buffer) c.read.new.buffer c.in-Ok.ensures.fits (search rules) in
+    has_refused (g.S.Source.left c.args.source.now) (g.S.Source.left c.read.new.self) _ course.text _ c.loop-text.pass.pieces c.in-Err-take.fault course.cut.taken.reads.sound few source
     (c.in-Err-take.ensures.refused course.text course.cut.taken) c.in-Err-take.ensures.kinds
 
 pub finish-requires-clause-ready : goal.finish-requires-clause-ready
@@ -71,7 +76,7 @@ returns-in-Ok-eq0-clause-read g c =
     let after = g.S.Source.left c.read.new.self in
     let some : 0 < length c.loop-text.buffer = search rules in
     let all = gave_all before (g.S.Source.left c.loop-text.source) after course.text _ _ course.source c.in-Ok-eq0.ensures.given some (ap (λ n. take n c.read.new.buffer) c.in-Ok-eq0.field-0-test) in
-    has_read before after _ course.text c.finish.new.pass.pieces c.finish.result all (c.finish.ensures.read course.text course.cut) (c.finish.ensures.refused course.text course.cut) c.finish.ensures.kinds
+    has_read before after _ course.text c.finish.new.pass.pieces c.finish.result course.cut.taken.reads.sound all (c.finish.ensures.read course.text course.cut) (c.finish.ensures.refused course.text course.cut) c.finish.ensures.kinds
 
 pub returns-in-Ok-eq0-clause-kept : goal.returns-in-Ok-eq0-clause-kept
 returns-in-Ok-eq0-clause-kept g c = fed_on c.args.pass.now.record_of c.loop-text.pass.record_of c.finish.new.pass.record_of c.loop-text.invariant.kept c.finish.ensures.kept
@@ -83,3 +88,12 @@ returns-in-Err-clause-read g c =
     let before = g.S.Source.left c.args.source.now in
     has_failed before (g.S.Source.left c.read.new.self) _ course.text c.loop-text.pass.pieces (subst (λ o. Gave before o course.text) (sym c.in-Err.ensures.failed) course.source) course.cut.taken.reads.sound
     (omega (arith, inv.failures, c.in-Err.ensures.failures))
+
+pub returns-in-Ok-eq0-clause-called : goal.returns-in-Ok-eq0-clause-called
+returns-in-Ok-eq0-clause-called g c = let inv = c.loop-text.invariant in omega (arith, inv.least, c.read.ensures.calls)
+
+pub returns-in-Err-take-clause-called : goal.returns-in-Err-take-clause-called
+returns-in-Err-take-clause-called g c = let inv = c.loop-text.invariant in omega (arith, inv.least, c.read.ensures.calls)
+
+pub returns-in-Err-clause-called : goal.returns-in-Err-clause-called
+returns-in-Err-clause-called g c = let inv = c.loop-text.invariant in omega (arith, inv.least, c.read.ensures.calls)

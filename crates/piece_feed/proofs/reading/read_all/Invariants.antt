@@ -10,6 +10,7 @@ invariant-loop-text g l =
       calls : g.S.Source.calls l.source ≤ g.S.Source.calls l.fn.source + bytes_fed l.text.lines;
       room : bytes_fed l.text.lines ≤ 1073741824;
       failures : g.S.Source.failures l.fn.source ≤ g.S.Source.failures l.source;
+      least : g.S.Source.calls l.fn.source ≤ g.S.Source.calls l.source;
       queue : l.pass.queue ≡ l.fn.pass.queue;
       kept : HasFed l.fn.pass.record_of l.pass.record_of;
       course : Course (g.S.Source.left l.fn.source) (g.S.Source.left l.source) l.text l.pass;

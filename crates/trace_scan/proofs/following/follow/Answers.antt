@@ -42,3 +42,9 @@ returns-in-Err-clause-taken g c text told = stopped_taken text (g.S.Source.left 
 
 pub returns-in-Err-clause-of_given : goal.returns-in-Err-clause-of_given
 returns-in-Err-clause-of_given g c = stopped_given _ _ _ _ _ c.in-Err.fault c.in-Err.ensures.stopped
+
+pub returns-in-Ok-clause-called : goal.returns-in-Ok-clause-called
+returns-in-Ok-clause-called g c = c.follow_all.ensures.called
+
+pub returns-in-Err-clause-called : goal.returns-in-Err-clause-called
+returns-in-Err-clause-called g c = c.follow_all.ensures.called

@@ -10,6 +10,7 @@ invariant-loop-n g l =
       calls : g.S.Source.calls l.source ≤ g.S.Source.calls l.fn.source + bytes_fed l.live.lines;
       room : bytes_fed l.live.lines ≤ 1073741824;
       failures : g.S.Source.failures l.fn.source ≤ g.S.Source.failures l.source;
+      least : g.S.Source.calls l.fn.source ≤ g.S.Source.calls l.source;
       some : (text : List ℕ) × StandsFor g.C.Channel.interface_of g.C.Channel.number_of g.C.Channel.stands_for l.live text;
       fed : IsFed g.C.Channel.interface_of g.C.Channel.number_of g.C.Channel.stands_for l.live;
       given : (text : List ℕ) → g.S.Source.left l.fn.source ≡ Some text →

@@ -5,7 +5,7 @@ use Rattle.trace_scan.proofs.scan.scan_alone.Goals as goal
 pub returns-in-Ok-clause-refused : goal.returns-in-Ok-clause-refused
 returns-in-Ok-clause-refused g c text told =
     let fed = c.in-Ok.ensures.stands text told in
-    end_refused c.end.result text (g.S.Source.left c.feed_all.new.source) (c.end.ensures.refused text fed.0) fed.1
+    end_refused c.end.result text (g.S.Source.left c.feed_all.new.source) fed.0.reads.sound (c.end.ensures.refused text fed.0) fed.1
 
 pub returns-in-Ok-clause-kinds : goal.returns-in-Ok-clause-kinds
 returns-in-Ok-clause-kinds g c = end_kinds c.end.result c.end.ensures.kinds
@@ -34,3 +34,9 @@ returns-in-Ok-clause-reported g c text told = c.end.ensures.reported text (c.in-
 
 pub returns-in-Ok-clause-taken : goal.returns-in-Ok-clause-taken
 returns-in-Ok-clause-taken g c text told = c.end.ensures.taken text (c.in-Ok.ensures.stands text told).0
+
+pub returns-in-Ok-clause-called : goal.returns-in-Ok-clause-called
+returns-in-Ok-clause-called g c = c.feed_all.ensures.called
+
+pub returns-in-Err-clause-called : goal.returns-in-Err-clause-called
+returns-in-Err-clause-called g c = c.feed_all.ensures.called

@@ -12,8 +12,9 @@ use Rattle.trace_scan.proofs.threaded.scan_with.Goals as goal
 
 pub returns-in-Err-merge-clause-refused : goal.returns-in-Err-merge-clause-refused
 returns-in-Err-merge-clause-refused g c text told =
+    let read = c.in-Ok.ensures.parts.told text told in
     memory_refused text (g.S.Source.left c.work_on_trace.new.source) c.in-Err-merge.fault
-    (c.in-Err-merge.ensures.plan c.in-Ok.parts.read.interface (rows text) (of_walk (option_map trace_plan (g.S.Source.left c.args.source.now)) c.args.workers text c.in-Ok.ensures.parts.fed c.in-Ok.parts.read c.in-Ok.parts.gathered (c.in-Ok.ensures.parts.told text told).0 c.in-Ok.ensures.parts.whole)) (c.in-Ok.ensures.parts.told text told).1
+    (c.in-Err-merge.ensures.plan c.in-Ok.parts.read.interface (rows text) (of_walk (option_map trace_plan (g.S.Source.left c.args.source.now)) c.args.workers text c.in-Ok.ensures.parts.fed c.in-Ok.parts.read c.in-Ok.parts.gathered read.0 c.in-Ok.ensures.parts.whole)) read.1 read.0.sound
 
 pub returns-in-Ok-write_report-clause-reported : goal.returns-in-Ok-write_report-clause-reported
 returns-in-Ok-write_report-clause-reported g c text told =
@@ -82,3 +83,15 @@ returns-in-Ok-write_report-clause-of_text g c =
       record { sound = reported.sound; taken = reported.taken; counted = ap (λ r. r.summary) c.report.view_is ∙ reported.counted },
       totals_are (option_map trace_plan (g.S.Source.left c.args.source.now)) c.args.workers text c.in-Ok.ensures.parts.fed c.in-Ok.parts.read c.in-Ok.parts.gathered read c.in-Ok.ensures.parts.whole,
     )
+
+pub returns-in-Err-clause-unasked : goal.returns-in-Err-clause-unasked
+returns-in-Err-clause-unasked g c = c.work_on_trace.ensures.unasked
+
+pub returns-in-Err-merge-clause-unasked : goal.returns-in-Err-merge-clause-unasked
+returns-in-Err-merge-clause-unasked g c = c.work_on_trace.ensures.unasked
+
+pub returns-in-Err-write_report-clause-unasked : goal.returns-in-Err-write_report-clause-unasked
+returns-in-Err-write_report-clause-unasked g c = c.work_on_trace.ensures.unasked
+
+pub returns-in-Ok-write_report-clause-unasked : goal.returns-in-Ok-write_report-clause-unasked
+returns-in-Ok-write_report-clause-unasked g c = c.work_on_trace.ensures.unasked

@@ -1,7 +1,7 @@
-use Rattle.std.proofs.Common.{◌≡◌, subst, rules}
+use Rattle.std.proofs.Common.{◌≡◌, ◌<◌, ap, subst, arith, rules}
 use Rattle.std.specs.Prelude.{IfErr, IfOk}
 use Rattle.trace_scan.specs.Threaded.{AreScanParts, IsStopped}
-use Rattle.trace_scan.proofs.ThreadedLemmas.{parts_are, stopped}
+use Rattle.trace_scan.proofs.ThreadedLemmas.{parts_are, stopped, unfed_stopped}
 use Rattle.trace_scan.proofs.threaded.work_on_trace.Goals as goal
 
 pub returns-in-Ok-clause-stopped : goal.returns-in-Ok-clause-stopped
@@ -17,3 +17,15 @@ returns-in-Ok-clause-parts g c =
     let same : c.in-Ok.worked.task.source.now ≡ c.source-1.given.0 = search rules in
     subst (λ s. IfOk c.first_fault.result (AreScanParts g.P.Plan.pieces c.args.workers (g.S.Source.left c.args.source.now) (g.S.Source.left s))) same
     (parts_are c.first_fault.result c.in-Ok.worked.task.outcome c.in-Ok.worked.gathered g.P.Plan.pieces c.args.workers (g.S.Source.left c.args.source.now) (g.S.Source.left c.in-Ok.worked.task.source.now) _ w.0 c.first_fault.ensures.both w.1.1 w.2)
+
+pub returns-in-Ok-clause-unasked : goal.returns-in-Ok-clause-unasked
+returns-in-Ok-clause-unasked g c none =
+    let w = c.in-Ok.ensures.worked in
+    let same : c.in-Ok.worked.task.source.now ≡ c.source-1.given.0 = search rules in
+    let called : g.S.Source.calls c.args.source.now < g.S.Source.calls c.source-1.given.0 = subst (λ s. g.S.Source.calls c.args.source.now < g.S.Source.calls s) same w.1.2 in
+    absurd (omega (arith, called, none))
+
+pub returns-in-Err-clause-stopped : goal.returns-in-Err-clause-stopped
+returns-in-Err-clause-stopped g c =
+    let same : c.source-in-Err-1.given.0 ≡ c.args.source.now = search rules in
+    unfed_stopped (g.S.Source.left c.args.source.now) (g.S.Source.left c.source-in-Err-1.given.0) c.in-Err.fault (ap (g.S.Source.left) same) c.in-Err.ensures.refused.1
