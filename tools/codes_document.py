@@ -32,14 +32,22 @@ TITLES = {
     "Refusal": "Refusals",
     "Status": "Exit statuses",
     "Parameter": "PAD parameters",
+    "Field": "Fields of the report",
+    "Header": "Words of the header",
 }
-HEAD = """# The words of the report and of the refusals
+HEAD = """# The words of the report, of a header and of the refusals
 
-`x25scan --explain WORD` prints what stands here of a word, and `x25scan --explain` the list of all words. A word with
-several meanings stands in several tables: `--explain 22` tells all three of that one, `--explain "kind 22"` the one of a
-faulty line, and `--explain kind` all kinds; so it is with `line`, `side`, `direction`, `end`, `setting`, `absent`,
-`state`, `code`, `message`, `kind`, `refusal`, `status` and `parameter`. *Profile* marks what this project chose; X.25
-means the edition of 10/96. The last column has what is printed, and the trace that prints it.
+`x25scan --explain WORD` prints what stands here of a word, and `x25scan --explain` the list of all words. A word is known
+by its name too: `--explain echo` prints what `--explain "parameter 2"` does. A word with several meanings stands in
+several tables: `--explain 22` prints all three of that one, `--explain "kind 22"` the one of a faulty line, and
+`--explain kind` all kinds; so it is with `line`, `field`, `side`, `direction`, `end`, `setting`, `absent`, `state`,
+`code`, `message`, `header`, `kind`, `refusal`, `status` and `parameter`.
+
+A line that the program prints can be pasted: `--explain "F 5 T d1 1"` explains the line and each of its words by its
+field, `--explain "x25scan: line 3: kind 24"` the kind, and `--explain "write failed"` the refusal.
+
+*Profile* marks what this project chose; X.25 means the edition of 10/96. The last column has what is printed, and the
+trace that prints it.
 `tools/codes_document.py` writes this page from the table of [explanations](../crates/explanations).
 """
 PROOFS_HEAD = """

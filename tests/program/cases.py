@@ -1,8 +1,10 @@
 """Words of the command line, and what the program has to answer to them."""
 import os
+import pathlib
 import re
 import signal
 import subprocess
+import tempfile
 import time
 
 from case import Case
@@ -12,8 +14,10 @@ HEADER = b"X25 1 MOD 8 WIN 2 SIZE 128 PVC 0 SVC 4\n"
 CLEAN = HEADER
 CLEAN_REPORT = b"P 0 -\nZ 0 0 0 0 0\n"
 FOUND = HEADER + b"1 T -\n"
+CALL = HEADER + b"1 T 10010B0000\n2 N 10010F\n"
 FOUND_REPORT = b"F 1 T - 38\nP 0 -\nZ 1 1 0 0 0\n"
 ANY = re.compile(rb".*", re.DOTALL)
+FULL = b"x25scan: write failed\n  No space left on device (os error 28)\n"
 SHOWN = b" lines a second"
 NUMBERS = rb"x25scan: \d+ bytes read, \d+ lines, \d+ lines a second\n"
 
@@ -37,18 +41,22 @@ def file_cases():
     yield Case("a dash is standard input", ("-",), FOUND, 1, FOUND_REPORT, files=day)
     yield Case("no file is standard input", (), FOUND, 1, FOUND_REPORT, files=day)
     yield Case("a name begins with a dash behind two dashes", ("--", "-day.trace"), b"", 1, FOUND_REPORT, files={"-day.trace": FOUND})
-    yield Case("a named trace is refused as another is", ("day.trace",), b"", 2, b"", refused(2, 26, "The side t is written T."), files={"day.trace": HEADER + b"1 t -\n"})
-    missing = b"x25scan: cannot open night.trace: no such file\n"
+    faulty = {"day.trace": HEADER + b"1 t -\n"}
+    for words in ((), ("--alone",), ("--follow",), ("--json",)):
+        yield Case(f"a named trace is refused by its name {words}", (*words, "day.trace"), b"", 2, b"", refused(2, 26, "day.trace: The side t is written T."), files=faulty)
+    yield Case("a named trace is refused as it is annotated", ("--annotate", "day.trace"), b"", 2, HEADER, refused(2, 26, "day.trace: The side t is written T."), files=faulty)
+    missing = b"x25scan: cannot open night.trace: no such file\n  No such file or directory (os error 2)\n"
     yield Case("a file that is not there", ("night.trace",), FOUND, 3, b"", missing)
     yield Case("a file that is not there is not followed", ("--follow", "night.trace"), FOUND, 3, b"", missing)
-    yield Case("a name below a file", ("day.trace/x",), b"", 3, b"", b"x25scan: cannot open day.trace/x: no such file\n", files=day)
-    yield Case("a folder", ("days",), FOUND, 3, b"", b"x25scan: cannot open days: it is a directory\n", files={"days": None})
-    yield Case("the empty name", ("",), FOUND, 3, b"", b"x25scan: cannot open : no such file\n")
-    denied = b"x25scan: cannot open day.trace: permission denied\n"
+    yield Case("a name below a file", ("day.trace/x",), b"", 3, b"", b"x25scan: cannot open day.trace/x: no such file\n  Not a directory (os error 20)\n", files=day)
+    yield Case("a folder", ("days",), FOUND, 3, b"", b"x25scan: cannot open days: it is a directory\n  Is a directory (os error 21)\n", files={"days": None})
+    yield Case("the empty name", ("",), FOUND, 3, b"", b"x25scan: cannot open : no such file\n  No such file or directory (os error 2)\n")
+    denied = b"x25scan: cannot open day.trace: permission denied\n  Permission denied (os error 13)\n"
     yield Case("a file that may not be read", ("day.trace",), b"", 3, b"", denied, files=day, modes={"day.trace": 0})
     long = "x" * 300
-    yield Case("a name that is too long", (long,), FOUND, 3, b"", f"x25scan: cannot open {long}: the system refuses it\n".encode())
-    yield Case("two files", ("a", "b"), b"", 64, b"", pattern(rb"error: unexpected argument 'b' found.*"))
+    yield Case("a name that is too long", (long,), FOUND, 3, b"", f"x25scan: cannot open {long}: the system refuses it\n  File name too long (os error 36)\n".encode())
+    yield Case("two files", ("a", "b"), b"", 64, b"", pattern(rb"error: unexpected argument 'b' found.*\nx25scan reads one trace\. .*\n  awk '!/\^X25 / \|\| !n\+\+' FILE\.\. \| x25scan\n"))
+    yield Case("two files as they are told to be read", run=joined_traces)
 
 
 def word_cases():
@@ -62,8 +70,9 @@ def word_cases():
     yield Case("an explanation reads no file", ("--explain", "22", "day.trace"), report=pattern(rb"22 \(.*"))
     yield Case("a word that is not explained", ("--explain", "d4"), status=64, errors=b"x25scan: no such word: d4 (x25scan --explain lists them)\n")
     yield Case("no workers", ("--workers", "0"), status=64, errors=pattern(rb"error: .*0.*1\.\.=64.*"))
-    yield Case("an unknown word", ("--fast",), status=64, errors=pattern(rb"error: unexpected argument '--fast' found.*"))
-    yield Case("a word that is no text", (b"\xff",), status=64, errors=b"x25scan: arguments are no text\n")
+    yield Case("an unknown word", ("--fast",), status=64, errors=re.compile(rb"error: unexpected argument '--fast' found(?:(?!one trace).)*", re.DOTALL))
+    no_text = b"x25scan: arguments are no text\n  A word of the command line is not UTF-8. A file of such a name can be read as standard input: x25scan < FILE\n"
+    yield Case("a word that is no text", (b"\xff",), status=64, errors=no_text)
 
 
 def progress_cases():
@@ -85,7 +94,7 @@ def object_cases():
     twice = FOUND + FOUND.splitlines(keepends=True)[-1]
     yield Case("a refused trace has no objects", ("--json",), twice, 2, b"", refused(3, 25, told))
     yield Case("a refused trace that is followed has the objects before", ("--json", "--follow"), twice, 2, finding, refused(3, 25, told))
-    yield Case("a full device as JSON lines", ("--json",), FOUND, 3, b"", b"x25scan: write failed\n", output="/dev/full")
+    yield Case("a full device as JSON lines", ("--json",), FOUND, 3, b"", FULL, output="/dev/full")
 
 
 def annotation_cases():
@@ -95,8 +104,19 @@ def annotation_cases():
     for words in (("--annotate",), ("--annotate", "--alone"), ("--follow", "--annotate"), ("--workers", "64", "--annotate", "-")):
         yield Case(f"an annotated trace {words}", words, FOUND, 1, FOUND + noted + closing)
     yield Case("a file is annotated", ("--annotate", "day.trace"), b"", 1, FOUND + noted + closing, files={"day.trace": FOUND})
-    for words in (("--channel", "1"), ("--call", "7"), ("--annotate", "--channel", "4095", "--call", "999999999")):
+    for words in (("--channel", "1"), ("--annotate", "--channel", "4")):
         yield Case(f"rows that are not chosen have no comments {words}", words, FOUND, 1, FOUND + closing)
+    no_channel = b"x25scan: --channel %d: the header has logical channels 1 to %d\n"
+    yield Case("a channel that is not there", ("--channel", "5"), FOUND, 1, FOUND + closing, no_channel % (5, 4))
+    second = b"# first\nX25 2 MOD 8 WIN 2 SIZE 128 PVC 0 IN 0 TWO 8 OUT 9 JOIN\n"
+    yield Case("a channel that the second form of the header has not", ("--channel", "4095"), second, 0, ANY, no_channel % (4095, 9))
+    yield Case("the last channel of the second form", ("--channel", "9"), second, 0, ANY)
+    no_call = b"x25scan: --call %d chose no row: the report has %s\n"
+    yield Case("a call that is not there", ("--call", "7"), FOUND, 1, FOUND + closing, no_call % (7, b"0 calls"))
+    both = no_channel % (4095, 4) + no_call % (999999999, b"0 calls")
+    yield Case("neither a channel nor a call that is there", ("--annotate", "--channel", "4095", "--call", "999999999"), FOUND, 1, FOUND + closing, both)
+    yield Case("a call after the last one", ("--call", "2"), CALL, 0, ANY, no_call % (2, b"1 call"))
+    yield Case("the last call", ("--call", "1"), CALL, 0, ANY)
     yield Case("an annotated trace is a trace", ("--annotate",), FOUND + noted + closing, 1, ANY)
     told = "The row's number is 1, and that of the row before is 1: numbers rise."
     twice = FOUND + FOUND.splitlines(keepends=True)[-1]
@@ -106,7 +126,20 @@ def annotation_cases():
         yield Case(f"JSON of a trace {words}", words, FOUND, 64, b"", both)
     for words in (("--channel", "0"), ("--channel", "4096"), ("--call", "0"), ("--call", "x")):
         yield Case(f"a choice that is none {words}", words, FOUND, 64, b"", pattern(rb"error: invalid value.*"))
-    yield Case("a full device at an annotation", ("--annotate",), FOUND, 3, b"", b"x25scan: write failed\n", output="/dev/full")
+    yield Case("a full device at an annotation", ("--annotate",), FOUND, 3, b"", FULL, output="/dev/full")
+
+
+def joined_traces(program):
+    """Two parts of a recording are read by the command that the program says."""
+    with tempfile.TemporaryDirectory() as folder:
+        for name, text in (("a", FOUND), ("b", HEADER + b"2 T -\n")):
+            pathlib.Path(folder, name).write_bytes(text)
+        told = subprocess.run([program, "a", "b"], capture_output=True, cwd=folder, timeout=60).stderr.decode()
+        command = told.splitlines()[-1].replace("FILE..", "a b").replace("x25scan", program)
+        done = subprocess.run(["bash", "-c", command], capture_output=True, cwd=folder, timeout=60)
+    wanted = (1, b"F 1 T - 38\nF 2 T - 38\nP 0 -\nZ 2 2 0 0 0\n", b"")
+    got = (done.returncode, done.stdout, done.stderr)
+    return [] if got == wanted else [f"{command} has {got}"]
 
 
 def folder_as_input(program):
@@ -115,21 +148,32 @@ def folder_as_input(program):
     done = subprocess.run([program], stdin=folder, capture_output=True, timeout=60)
     os.close(folder)
     got = (done.returncode, done.stdout, done.stderr)
-    return [] if got == (3, b"", b"x25scan: read failed\n") else [f"a folder on standard input has {got}"]
+    wanted = (3, b"", b"x25scan: read failed\n  Is a directory (os error 21)\n")
+    return [] if got == wanted else [f"a folder on standard input has {got}"]
+
+
+def into_closed_pipe(program, words, handler):
+    """The status and the errors of a run whose output goes into a pipe that nobody reads."""
+    reader, writer = os.pipe()
+    os.close(reader)
+    done = subprocess.run(
+        [program, *words], input=FOUND, stdout=writer, stderr=subprocess.PIPE, preexec_fn=lambda: signal.signal(signal.SIGPIPE, handler), timeout=60
+    )
+    os.close(writer)
+    return done.returncode, done.stderr
 
 
 def closed_pipe(program):
-    """The report goes into a pipe that nobody reads."""
-    reader, writer = os.pipe()
-    os.close(reader)
-
-    def plain():
-        signal.signal(signal.SIGPIPE, signal.SIG_IGN)
-
-    done = subprocess.run([program], input=FOUND, stdout=writer, stderr=subprocess.PIPE, preexec_fn=plain, timeout=60)
-    os.close(writer)
-    got = (done.returncode, done.stderr)
-    return [] if got == (3, b"x25scan: write failed\n") else [f"a closed pipe has {got}"]
+    """Nothing is printed where the reader of standard output went away, whether or not the signal of it is ignored."""
+    said = []
+    ways = ((), ("--alone",), ("--follow",), ("--json",), ("--annotate",), ("--explain", "22"), ("--help",), ("--version",))
+    for words in ways:
+        ignored = into_closed_pipe(program, words, signal.SIG_IGN)
+        wanted = (0 if words in (("--help",), ("--version",)) else 3, b"")
+        said += [] if ignored == wanted else [f"a closed pipe at {words} has {ignored}, wanted {wanted}"]
+        killed = into_closed_pipe(program, words, signal.SIG_DFL)
+        said += [] if killed in ((-signal.SIGPIPE, b""), wanted) else [f"a closed pipe at {words} has {killed}"]
+    return said
 
 
 def on_terminal(program, words, pause):
@@ -163,11 +207,11 @@ def slow_terminal(program):
 
 def device_cases():
     """Devices that fail."""
-    failed = b"x25scan: write failed\n"
     for words in ((), ("--alone",), ("--follow",)):
-        yield Case(f"the report goes to a full device {words}", words, FOUND, 3, b"", failed, output="/dev/full")
-    for words in (("--help",), ("--version",), ("--explain",)):
-        yield Case(f"a full device at {words[0]}", words, b"", 3, b"", failed, output="/dev/full")
+        yield Case(f"the report goes to a full device {words}", words, FOUND, 3, b"", FULL, output="/dev/full")
+    for words in (("--help",), ("--version",)):
+        yield Case(f"a full device at {words[0]}", words, b"", 0, b"", b"", output="/dev/full")
+    yield Case("a full device at an explanation", ("--explain",), b"", 3, b"", FULL, output="/dev/full")
     yield Case("a folder stands on standard input", run=folder_as_input)
     yield Case("the report goes into a closed pipe", run=closed_pipe)
     yield Case("a terminal is read to its end", run=terminal)

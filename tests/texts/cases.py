@@ -8,8 +8,13 @@ LINE_LIMIT = 8500
 MISSING, HEADER_FORM, HEADER_RANGE, LINE_FORM, NUMBER, SIDE, HEX, LINE_LONG, TEXT_LARGE = range(21, 30)
 CARRIAGE_RETURN = "The line ends in a carriage return, and a line feed alone ends a line: tr -d '\\r' < FILE | x25scan reads the text."
 LONG_LINE = "The line has more than 8,500 bytes without its line feed, comments too."
-# More rows than the last bytes that a refusal is explained by.
+EMPTY = "The line is empty: sed '/^$/d' FILE | x25scan reads the text without empty lines."
+LAST_EMPTY = "The last line that was read is empty: sed '/^$/d' FILE | x25scan reads the text without empty lines."
+SECOND_HEADER = "A second header stands here, as in joined traces. Where the row numbers go on, awk '!/^X25 / || !n++' FILE.. | x25scan reads them as one trace."
+TOO_LARGE = "The text has more than 2^30 bytes: cut it after a restart confirmation, and begin each part with the header (/usr/share/doc/x25scan/GUIDE.md has the command)."
+# More rows, and more comments, than the last bytes that a refusal is explained by.
 MANY = b"".join(b"%d T 1000FB0000\n" % number for number in range(1, 20000))
+COMMENTS = b"# no row\n" * 20000
 
 
 @dataclass
@@ -32,8 +37,18 @@ ROWS = [
     (b"1 T -\n# a comment\n1 T -\n", 4, NUMBER, "The row's number is 1, and that of the row before is 1: numbers rise."),
     (b"9 T 1000FB0000\n# a comment\n7 N 1000FF\n", 4, NUMBER, "The row's number is 7, and that of the row before is 9: numbers rise."),
     (MANY + b"19999 T -\n1 N -\n", 20001, NUMBER, "The row's number is 19999, and that of the row before is 19999: numbers rise."),
-    (b"\n", 2, LINE_FORM, "The line is empty."),
-    (b"1 T 10\n\n2 T 10\n", 3, LINE_FORM, "The line is empty."),
+    (b"\n", 2, LINE_FORM, LAST_EMPTY),
+    (b"1 T 10\n\n", 3, LINE_FORM, LAST_EMPTY),
+    (b"1 T 10\n\n\n", 3, LINE_FORM, LAST_EMPTY),
+    (b"1 T 10\n\n2 T 10\n", 3, LINE_FORM, EMPTY),
+    (MANY + b"\n", 20001, LINE_FORM, LAST_EMPTY),
+    (MANY + b"\n20000 T 10\n", 20001, LINE_FORM, EMPTY),
+    (b"1 T 10\n" + HEADER + b"2 T 10\n", 3, LINE_FORM, SECOND_HEADER),
+    (HEADER, 2, LINE_FORM, SECOND_HEADER),
+    (MANY + HEADER + b"1 T 10\n", 20001, LINE_FORM, SECOND_HEADER),
+    (MANY + b"# the next day\n" + HEADER + MANY, 20002, LINE_FORM, SECOND_HEADER),
+    (MANY + b"20000 T\n" + HEADER + b"1 T 10\n", 20001, LINE_FORM, "The line has 2 words, and a row has three: its number, its side and its octets."),
+    (b"1 T 10\n" + COMMENTS + HEADER + b"1 T 10\n", 20003, LINE_FORM, SECOND_HEADER),
     (b"1 T\n", 2, LINE_FORM, "The line has 2 words, and a row has three: its number, its side and its octets."),
     (b"1 10\n", 2, LINE_FORM, "The line has 2 words, and a row has three: its number, its side and its octets."),
     (b"1 T  10\n", 2, LINE_FORM, "There are two spaces at column 4: single spaces part the words."),
@@ -66,7 +81,8 @@ HEADERS = [
     (b"# a\n# b\n", 3, MISSING, "The text has no line that is not a comment."),
     (b"#", 2, MISSING, "The text has no line that is not a comment."),
     (b"# no header\n", 2, MISSING, "The text has no line that is not a comment."),
-    (b"\n", 1, HEADER_FORM, None),
+    (b"\n", 1, HEADER_FORM, EMPTY),
+    (COMMENTS + HEADER + b"1 T\n", 20002, LINE_FORM, "The line has 2 words, and a row has three: its number, its side and its octets."),
     (b"X25 1 mod 8 WIN 2 SIZE 128 PVC 0 SVC 4", 1, HEADER_FORM, 'The header\'s words are in capitals: "mod" is written MOD.'),
     (b"X25 1 MOD 8 SIZE 128 PVC 0 SVC 4", 1, HEADER_FORM, 'In the header stands "SIZE" where WIN belongs.'),
     (b"X25 1 MOD 8 WIN 02 SIZE 128 PVC 0 SVC 4", 1, HEADER_FORM, 'Behind WIN stands "02": a number of 1 to 9 digits without a leading zero belongs there.'),
@@ -142,4 +158,5 @@ def texts_at_the_limit():
         comments = TEXT_LIMIT - len(HEADER) - left
         whole, rest = divmod(comments, LINE_LIMIT + 1)
         lines = 1 + whole + (1 if rest else 0)
-        yield Text(line, lines + 1 if kind else 0, kind, rows=0 if kind else 1, comments=comments)
+        said = TOO_LARGE if kind == TEXT_LARGE else None
+        yield Text(line, lines + 1 if kind else 0, kind, said, rows=0 if kind else 1, comments=comments)

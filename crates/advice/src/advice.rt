@@ -9,6 +9,10 @@ use explanations::table::{all, explain};
 use line_model::fault::Kind;
 use std::alloc::{AllocError, Global};
 
+/// What is told of a text that is too large.
+const TOO_LARGE: &str =
+    "The text has more than 2^30 bytes: cut it after a restart confirmation, and begin each part with the header (/usr/share/doc/x25scan/GUIDE.md has the command).";
+
 /// What the lines themselves tell, if they do.
 fn lines_advice(
     alloc: Global,
@@ -22,6 +26,7 @@ fn lines_advice(
         Kind::LineForm | Kind::Number | Kind::Side | Kind::Hex => {
             rows_advice(alloc, kind, text, whole)
         }
+        Kind::TextLarge => tell(alloc, TOO_LARGE),
         _ => Ok(None),
     }
 }

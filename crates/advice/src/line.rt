@@ -18,10 +18,27 @@ pub fn ends_in_return(line: &[u8]) -> bool {
 pub const RETURN: &str =
     "The line ends in a carriage return, and a line feed alone ends a line: tr -d '\\r' < FILE | x25scan reads the text.";
 
+/// What is told of an empty line.
+const EMPTY: &str =
+    "The line is empty: sed '/^$/d' FILE | x25scan reads the text without empty lines.";
+
+/// What is told of an empty line that no other follows.
+const LAST_EMPTY: &str =
+    "The last line that was read is empty: sed '/^$/d' FILE | x25scan reads the text without empty lines.";
+
+/// What is told of an empty line; these bytes were read after it.
+pub fn empty_advice(alloc: Global, after: &[u8]) -> Result<Option<String>, AllocError> {
+    if after.iter().all(|byte| *byte == b'\n') {
+        tell(alloc, LAST_EMPTY)
+    } else {
+        tell(alloc, EMPTY)
+    }
+}
+
 /// What is wrong with the bytes between the words of a line, if it is that.
 pub fn space_advice(alloc: Global, line: &[u8]) -> Result<Option<String>, AllocError> {
     if line.is_empty() {
-        return tell(alloc, "The line is empty.");
+        return tell(alloc, EMPTY);
     }
     if ends_in_return(line) {
         return tell(alloc, RETURN);

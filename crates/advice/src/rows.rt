@@ -1,6 +1,6 @@
 //! What is wrong with a row.
 
-use crate::line::{RETURN, ends_in_return, number_in, space_advice};
+use crate::line::{RETURN, empty_advice, ends_in_return, number_in, space_advice};
 use crate::quoted::quoted;
 use crate::told::{tell, tell_word, told};
 use line_model::fault::Kind;
@@ -32,7 +32,23 @@ fn row_words(line: &[u8]) -> Option<RowWords<'_>> {
     }
 }
 
-fn form_advice(alloc: Global, line: &[u8]) -> Result<Option<String>, AllocError> {
+/// What is told of a header among the rows.
+const SECOND_HEADER: &str =
+    "A second header stands here, as in joined traces. Where the row numbers go on, awk '!/^X25 / || !n++' FILE.. | x25scan reads them as one trace.";
+
+/// Whether a line is one of a header's, by its beginning.
+fn is_like_header(line: &[u8]) -> bool {
+    line.starts_with(b"X25 ")
+}
+
+/// What is wrong with the form of a row; these bytes were read after it.
+fn form_advice(alloc: Global, line: &[u8], after: &[u8]) -> Result<Option<String>, AllocError> {
+    if line.is_empty() {
+        return empty_advice(alloc, after);
+    }
+    if is_like_header(line) {
+        return tell(alloc, SECOND_HEADER);
+    }
     match space_advice(alloc, line) {
         Ok(None) => word_count_advice(alloc, line),
         told => told,
@@ -156,16 +172,21 @@ fn words_advice(
     }
 }
 
-/// What is wrong with a row by a rule, if it breaks that rule; the row before had this number, where it is known.
-fn row_advice(
-    alloc: Global,
-    kind: Kind,
-    line: &[u8],
+/// A row, and what was read on both sides of it.
+#[derive(Clone, Copy)]
+struct Place<'a> {
+    line: &'a [u8],
+    /// The number of the row before, where it is known.
     before: Option<u32>,
-) -> Result<Option<String>, AllocError> {
-    match row_words(line) {
-        Some(row) => words_advice(alloc, kind, row, before),
-        None if kind == Kind::LineForm => form_advice(alloc, line),
+    /// The bytes after it.
+    after: &'a [u8],
+}
+
+/// What is wrong with a row by a rule, if it breaks that rule.
+fn row_advice(alloc: Global, kind: Kind, place: Place<'_>) -> Result<Option<String>, AllocError> {
+    match row_words(place.line) {
+        Some(row) => words_advice(alloc, kind, row, place.before),
+        None if kind == Kind::LineForm => form_advice(alloc, place.line, place.after),
         None => Ok(None),
     }
 }
@@ -178,33 +199,74 @@ fn row_number(line: &[u8]) -> Option<u32> {
     }
 }
 
-/// Whether a line behind the beginning of a text may be its header.
-fn may_be_header(line: &[u8]) -> bool {
-    line.starts_with(b"X25 ")
+/// What was seen of some lines, up to one of them. Lines that don't begin with the text may have its header among them,
+/// before all rows.
+#[derive(Drop)]
+struct LinesSeen {
+    header_came: bool,
+    /// The next line is whole.
+    line_began: bool,
+    row_came: bool,
+    /// A line like a header came before all rows.
+    may_have_header: bool,
+}
+
+impl LinesSeen {
+    /// No line was seen. They begin with the text where `whole` is true, else in the midst of a line.
+    fn none(whole: bool) -> Self {
+        LinesSeen {
+            header_came: !whole,
+            line_began: whole,
+            row_came: whole,
+            may_have_header: false,
+        }
+    }
+
+    /// Whether the next line is a row.
+    fn see(&mut self, line: &[u8]) -> bool {
+        let may_be_header = self.line_began && !self.row_came && is_like_header(line);
+        let is_other = line.starts_with(b"#") || may_be_header;
+        let is_row = self.line_began && self.header_came && !is_other;
+        self.header_came = self.header_came || !is_other;
+        self.line_began = true;
+        self.row_came = self.row_came || is_row;
+        self.may_have_header = self.may_have_header || may_be_header;
+        is_row
+    }
 }
 
 /// What is wrong with the first row of some lines that breaks a rule, if one does. The lines begin with the text where
-/// `whole` is true, else in the midst of a line.
+/// `whole` is true, else in the midst of a line. A line like a header is a faulty row where a row came before it, or where
+/// no other line breaks the rule.
 pub fn rows_advice(
     alloc: Global,
     kind: Kind,
     text: &[u8],
     whole: bool,
 ) -> Result<Option<String>, AllocError> {
-    let mut header_came = !whole;
-    let mut line_began = whole;
+    let mut seen = LinesSeen::none(whole);
     let mut before = if whole { Some(0) } else { None };
-    for line in text.split(|byte| *byte == b'\n') {
-        let is_other = line.starts_with(b"#") || (!whole && may_be_header(line));
-        let is_row = line_began && header_came && !is_other;
-        header_came = header_came || !is_other;
-        line_began = true;
-        if is_row {
-            match row_advice(alloc, kind, line, before) {
+    let mut end: usize = 0;
+    // No line begins after the line feed at the end.
+    let lines = text.strip_suffix(b"\n").unwrap_or(text);
+    for line in lines.split(|byte| *byte == b'\n') {
+        end = end.saturating_add(line.len());
+        if seen.see(line) {
+            let after = text.get(end..).unwrap_or(b"");
+            let place = Place {
+                line,
+                before,
+                after,
+            };
+            match row_advice(alloc, kind, place) {
                 Ok(None) => before = row_number(line),
                 told => return told,
             }
         }
+        end = end.saturating_add(1);
+    }
+    if seen.may_have_header && kind == Kind::LineForm {
+        return tell(alloc, SECOND_HEADER);
     }
     Ok(None)
 }

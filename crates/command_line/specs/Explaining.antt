@@ -1,19 +1,28 @@
--- What the program answers to a question for the meaning of a word (profile).
-use Rattle.std.specs.Prelude.{◌≡◌, ℕ, ◌⊎◌, List, [], ◌∷◌, Option, Some, None, map, take}
+-- What the program answers to a question for the meaning of a word or of a line that it prints (profile).
+use Rattle.std.specs.Prelude.{◌≡◌, ℕ, ◌⊎◌, ◌==◌, List, [], ◌∷◌, ◌++◌, Option, Some, None, if◌then◌else◌, length, map, take}
 use Rattle.line_model.specs.basics.Device.{with_more}
 use Rattle.explanations.specs.declared.explanation.Explanation.{Explanation}
 use Rattle.explanations.specs.Table.{explanations_of, key, table_keys}
 use Rattle.explanations.specs.Texts.{explanations_text, headings_text}
+use Rattle.command_line.specs.Pasted.{pasted_rows, unprefixed}
 
 -- the text of some explanations, if there are any
 abbrev pub answer_by : List Explanation → Option (List ℕ)
 answer_by [] = None
 answer_by (e ∷ es) = Some (explanations_text (e ∷ es))
 
+-- what is found of a word of the table, and where that is nothing what is found of a line
+abbrev pub or_line : (word line : List Explanation) → List Explanation
+or_line word line = if length word == 0 then word ++ line else word
+
+-- the explanations of a text: a word of the table, or a line that the program prints
+abbrev pub asked_rows : (text : List ℕ) → (table : List Explanation) → List Explanation
+asked_rows text table = or_line (explanations_of text table) (pasted_rows text table)
+
 -- the answer by a table: the list of its words where no word is named, else all explanations of the word
 abbrev pub answer : (word : List ℕ) → (table : List Explanation) → Option (List ℕ)
 answer [] table = Some (headings_text table)
-answer (c ∷ word) table = answer_by (explanations_of (c ∷ word) table)
+answer (c ∷ word) table = answer_by (asked_rows (unprefixed (c ∷ word)) table)
 
 -- what is told of a word is the answer by a table that has all words
 pub record IsAnswer (word : List ℕ) (told : Option (List ℕ)) : Type 0 where

@@ -1,3 +1,4 @@
+pub mod Pasted
 pub mod Explaining
 pub mod Program
 pub mod Annotating

@@ -31,7 +31,7 @@ words_status DisplayHelp = 0
 words_status DisplayVersion = 0
 words_status _ = 64
 
--- the status of words with these kinds of error, or memory ran out or the sink failed
+-- the status of words with these kinds of error, or memory ran out; 0 does not say that the sink took the help
 abbrev pub IsWordsStatus : Kinds → ℕ → Type 0
 IsWordsStatus kinds status = (status ≡ 3) ⊎ ((kind : ErrorKind) × IsAmong kind kinds × (status ≡ words_status kind))
 

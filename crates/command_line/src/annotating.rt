@@ -5,16 +5,67 @@ ghost use Rattle.command_line.specs.Annotating.{IsAnnotateAnswer, IsAnnotateStat
 ghost use Rattle.command_line.specs.Program.{IsUnread, trace_of};
 
 use crate::annotated_scan::annotate;
-use crate::program::{USAGE, refuse_scan, refuse_trace, summary_status};
+use crate::program::{USAGE, summary_status};
+use crate::refusing::{refuse_scan, refuse_trace};
+use advice::channels::last_channel;
 use annotated_trace::rows::Rows;
 use command_options::options::Options;
 use line_model::device::Sink;
+use line_model::totals::Summary;
 use std::alloc::Global;
 use streams::input::Input;
+use streams::output::Output;
 use streams::writing::write_all;
 
+/// Prints how many calls the report has, where the rows of a further one were chosen.
+fn print_missing_call<E: Sink>(alloc: Global, errors: &mut E, call: u32, calls: u64) {
+    if u64::from(call) <= calls {
+        return;
+    }
+    let counted = if calls == 1 { "call" } else { "calls" };
+    if let Ok(text) = format!(in alloc;
+        "x25scan: --call {call} chose no row: the report has {calls} {counted}\n"
+    ) {
+        let _ = write_all(errors, text.as_bytes());
+    }
+}
+
+/// Prints which logical channels the header has, where the rows of a further one were chosen.
+fn print_missing_channel<E: Sink>(alloc: Global, errors: &mut E, channel: u16, begun: &[u8]) {
+    let Some(last) = last_channel(begun) else {
+        return;
+    };
+    if u32::from(channel) <= last {
+        return;
+    }
+    if let Ok(text) = format!(in alloc;
+        "x25scan: --channel {channel}: the header has logical channels 1 to {last}\n"
+    ) {
+        let _ = write_all(errors, text.as_bytes());
+    }
+}
+
+/// Prints that the trace has no channel or no call of the numbers by which rows were chosen.
+fn print_missing<S: Input, E: Sink>(
+    alloc: Global,
+    rows: Rows,
+    source: &S,
+    summary: &Summary,
+    errors: &mut E,
+) {
+    let Rows::Chosen { channel, call } = rows else {
+        return;
+    };
+    if let Some(channel) = channel {
+        print_missing_channel(alloc, errors, channel, source.begun());
+    }
+    if let Some(call) = call {
+        print_missing_call(alloc, errors, call, summary.calls);
+    }
+}
+
 /// Annotates the trace, and answers the exit status.
-fn run_annotate<S: Input, K: Sink, E: Sink>(
+fn run_annotate<S: Input, K: Output, E: Sink>(
     alloc: Global,
     rows: Rows,
     source: &mut S,
@@ -27,13 +78,16 @@ fn run_annotate<S: Input, K: Sink, E: Sink>(
     ensures asked { S.calls source.new ≤ S.calls source.old + (2 ^ 30 + 1) }
 {
     match annotate(alloc, rows, source, sink) {
-        Ok(summary) => summary_status(&summary),
-        Err(fault) => refuse_scan(alloc, source, errors, fault),
+        Ok(summary) => {
+            print_missing(alloc, rows, source, &summary, errors);
+            summary_status(&summary)
+        }
+        Err(fault) => refuse_scan(alloc, source, sink, errors, fault),
     }
 }
 
 /// Annotates the trace of a name, and answers the exit status.
-fn annotate_named<S: Input, K: Sink, E: Sink>(
+fn annotate_named<S: Input, K: Output, E: Sink>(
     alloc: Global,
     rows: Rows,
     name: &str,
@@ -54,7 +108,7 @@ fn annotate_named<S: Input, K: Sink, E: Sink>(
 }
 
 /// Annotates standard input, or the trace that is named, and answers the exit status.
-fn annotate_input<S: Input, K: Sink, E: Sink>(
+fn annotate_input<S: Input, K: Output, E: Sink>(
     alloc: Global,
     options: Options<'_>,
     rows: Rows,
@@ -88,7 +142,7 @@ fn refuse_json<E: Sink>(errors: &mut E) -> u8
 }
 
 /// Annotates standard input, or the trace that is named, and answers the exit status. JSON can't be asked for with it.
-pub(crate) fn annotate_trace<S: Input, K: Sink, E: Sink>(
+pub(crate) fn annotate_trace<S: Input, K: Output, E: Sink>(
     alloc: Global,
     options: Options<'_>,
     rows: Rows,

@@ -2,15 +2,19 @@
 
 ghost use Rattle.std.specs.Prelude.{◌≡◌, ℕ, ◌⊎◌, IfOk, map, option_map, string_bytes, take};
 ghost use Rattle.line_model.specs.basics.Device.{with_more};
-ghost use Rattle.command_line.specs.Explaining.{IsAnswer, IsAnswered, answer_by};
+ghost use Rattle.explanations.specs.Table.{rows};
+ghost use Rattle.command_line.specs.Explaining.{IsAnswer, IsAnswered, answer_by, asked_rows};
 
-use crate::program::{USAGE, refuse};
+use crate::pasted::{push_pasted, unprefixed};
+use crate::program::USAGE;
+use crate::refusing::{refuse, refuse_write};
 use explanations::explanation::Explanation;
-use explanations::table::{all, explain};
+use explanations::table::{all, push_explanations};
 use explanations::text::{explanations_text, headings_text};
 use line_model::device::Sink;
 use line_model::fault::Fault;
 use std::alloc::{AllocError, Global};
+use streams::output::Output;
 use streams::writing::write_all;
 
 /// The text of some explanations, if there are any.
@@ -24,7 +28,26 @@ fn answer_by(alloc: Global, found: &[Explanation]) -> Result<Option<String>, All
     Ok(Some(text))
 }
 
-/// The text that answers a question for a word: the list of all words where it is empty; none where no row has it.
+/// The explanations of a text: a word of the table, or a line that the program prints.
+fn explanations_in(
+    alloc: Global,
+    table: &[&'static [Explanation]],
+    text: &[u8],
+) -> Result<Vec<Explanation>, AllocError>
+    ensures { IfOk result (λ found. found.items ≡ asked_rows text.now (rows table.now)) }
+{
+    let mut found = Vec::new(alloc);
+    push_explanations(alloc, table, text, &mut found)?;
+    if found.as_slice().is_empty() {
+        push_pasted(alloc, table, text, &mut found)?;
+        Ok(found)
+    } else {
+        Ok(found)
+    }
+}
+
+/// The text that answers a question for a word: the list of all words where it is empty; none where it has no
+/// explanation.
 fn answer(alloc: Global, word: &str) -> Result<Option<String>, AllocError>
     ensures { IfOk result (λ told. IsAnswer word.now (option_map string_bytes told)) }
 {
@@ -33,12 +56,12 @@ fn answer(alloc: Global, word: &str) -> Result<Option<String>, AllocError>
         let text = headings_text(alloc, table.as_slice())?;
         return Ok(Some(text));
     }
-    let found = explain(alloc, table.as_slice(), word)?;
+    let found = explanations_in(alloc, table.as_slice(), unprefixed(word.as_bytes()))?;
     answer_by(alloc, found.as_slice())
 }
 
 /// Gives an answer to the sink, and answers the exit status.
-fn tell_answer<K: Sink, E: Sink>(alloc: Global, text: &str, sink: &mut K, errors: &mut E) -> u8
+fn tell_answer<K: Output, E: Sink>(alloc: Global, text: &str, sink: &mut K, errors: &mut E) -> u8
     ensures told { result ≡ 0 → K.taken sink.new ≡ with_more (K.taken sink.old) text.now }
     ensures part { result ≡ 3 → (n : ℕ) × (K.taken sink.new
         ≡ with_more (K.taken sink.old) (take n text.now)) }
@@ -46,7 +69,7 @@ fn tell_answer<K: Sink, E: Sink>(alloc: Global, text: &str, sink: &mut K, errors
 {
     match write_all(sink, text.as_bytes()) {
         Ok(()) => 0,
-        Err(fault) => refuse(alloc, errors, fault),
+        Err(fault) => refuse_write(alloc, sink, errors, fault),
     }
 }
 
@@ -64,7 +87,12 @@ fn refuse_word<E: Sink>(alloc: Global, word: &str, errors: &mut E) -> u8
 
 /// Tells what a word means, all words where it is empty. Answers the exit status (profile): 0 where it was told, 64
 /// where no explanation has the word, 3 where memory ran out or the sink failed.
-pub fn explain_word<K: Sink, E: Sink>(alloc: Global, word: &str, sink: &mut K, errors: &mut E) -> u8
+pub fn explain_word<K: Output, E: Sink>(
+    alloc: Global,
+    word: &str,
+    sink: &mut K,
+    errors: &mut E,
+) -> u8
     ensures answered { IsAnswered word.now (K.taken sink.old) (K.taken sink.new) result }
     ensures unwritten { result ≡ 64 → sink.new ≡ sink.old }
 {

@@ -3,7 +3,8 @@
 ghost use Rattle.std.specs.Prelude.{◌≡◌, ℕ, ◌<◌, ◌≤◌, ◌+◌, ◌^◌, List, Some};
 ghost use Rattle.command_line.specs.Program.{IsScannedAsJson};
 
-use crate::program::{OTHER_FAULT, refuse, scan};
+use crate::program::{OTHER_FAULT, scan};
+use crate::refusing::refuse_write;
 use command_options::options::Options;
 use json_lines::sink::{JsonSink, Lent, Origin, Returned};
 use line_model::device::Sink;
@@ -13,6 +14,7 @@ use std::sync::Wait;
 use std::thread::Threads;
 use std::time::Clock;
 use streams::input::Input;
+use streams::output::Output;
 
 /// A lent sink that comes back, and the exit status.
 #[derive(Drop)]
@@ -22,7 +24,7 @@ struct Told<'a, K> {
 }
 
 /// As `scan_json`, to the sink of an origin.
-fn scan_to<'a, S: Input, K: Sink, E: Sink, R: Threads + Wait + Clock + Sync, B: Origin>(
+fn scan_to<'a, S: Input, K: Output, E: Sink, R: Threads + Wait + Clock + Sync, B: Origin>(
     rt: &R,
     alloc: Global,
     options: Options<'_>,
@@ -53,8 +55,8 @@ fn scan_to<'a, S: Input, K: Sink, E: Sink, R: Threads + Wait + Clock + Sync, B: 
             status: scanned,
         },
         Err(fault) => Told {
+            status: refuse_write(alloc, sink, errors, fault),
             sink,
-            status: refuse(alloc, errors, fault),
         },
     }
 }
@@ -65,7 +67,7 @@ fn take_back<K>(_sink: &mut K)
 {}
 
 /// Scans the trace as the options ask, tells each line of the report as an object, and answers the exit status.
-pub(crate) fn scan_json<S: Input, K: Sink, E: Sink, R: Threads + Wait + Clock + Sync>(
+pub(crate) fn scan_json<S: Input, K: Output, E: Sink, R: Threads + Wait + Clock + Sync>(
     rt: &R,
     alloc: Global,
     options: Options<'_>,

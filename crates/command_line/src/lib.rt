@@ -6,4 +6,6 @@ pub mod annotated_scan;
 mod annotating;
 mod explaining;
 mod json;
+mod pasted;
 pub mod program;
+mod refusing;

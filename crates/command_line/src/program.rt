@@ -1,4 +1,4 @@
-//! The program: its words, its exit status, and what it tells of a fault.
+//! The program: its words and its exit status.
 
 ghost use Rattle.std.specs.Prelude.{◌≡◌, ◌≢◌, ℕ, ◌<◌, ◌≤◌, ◌+◌, ◌^◌, ◌⊎◌, IfSome, List, [], None, Some, false, map, option_map, true};
 ghost use Rattle.clap.specs.Words.{kind_of};
@@ -11,18 +11,19 @@ ghost use Rattle.command_line.specs.Program.{IsFollowStatus, IsStatus, IsUnread,
 use crate::annotating::annotate_trace;
 use crate::explaining::explain_word;
 use crate::json::scan_json;
-use advice::advice::advice;
+use crate::refusing::{refuse, refuse_scan, refuse_trace};
 use clap::Error;
 use clap::error::ErrorKind;
 use command_options::options::{Options, parse};
 use line_model::device::Sink;
-use line_model::fault::{Fault, Kind};
+use line_model::fault::Fault;
 use line_model::totals::Summary;
 use std::alloc::Global;
 use std::sync::Wait;
 use std::thread::Threads;
 use std::time::Clock;
-use streams::input::{Input, OpenFault};
+use streams::input::Input;
+use streams::output::Output;
 use streams::progress::Telling;
 use streams::writing::write_all;
 use trace_scan::following::follow;
@@ -39,17 +40,24 @@ pub const OTHER_FAULT: u8 = 3;
 /// How many pieces wait for the workers at the most.
 const WAITING: usize = 1024;
 
-/// Tells a fault, as far as it can be told.
-fn tell_fault<E: Sink>(alloc: Global, errors: &mut E, fault: Fault) {
-    if let Ok(text) = format!(in alloc; "x25scan: {fault}\n") {
-        let _ = write_all(errors, text.as_bytes());
-    }
+/// What is printed where the words name a second trace.
+const ONE_TRACE: &str =
+    "\nx25scan reads one trace. Parts of one recording, whose row numbers go on, are one trace:\n  awk '!/^X25 / || !n++' FILE.. | x25scan\n";
+
+/// Whether a message of wrong words says that they name a second trace.
+fn names_two_traces(message: &str) -> bool {
+    let message = message.as_bytes();
+    message.starts_with(b"error: unexpected argument '")
+        && !message.starts_with(b"error: unexpected argument '-")
 }
 
 /// Tells what is wrong with the words, as far as it can be told.
 fn tell_words<E: Sink>(alloc: Global, errors: &mut E, error: &Error) {
     if let Ok(text) = format!(in alloc; "{error}") {
         let _ = write_all(errors, text.as_bytes());
+        if names_two_traces(&text) {
+            let _ = write_all(errors, ONE_TRACE.as_bytes());
+        }
     }
 }
 
@@ -59,7 +67,7 @@ pub(crate) fn summary_status(summary: &Summary) -> u8
     if summary.findings == 0 { 0 } else { 1 }
 }
 
-fn fault_status(fault: Fault) -> u8
+pub(crate) fn fault_status(fault: Fault) -> u8
     ensures { result ≡ fault_status fault }
 {
     match fault {
@@ -68,45 +76,8 @@ fn fault_status(fault: Fault) -> u8
     }
 }
 
-/// Tells a fault, and answers the exit status.
-pub(crate) fn refuse<E: Sink>(alloc: Global, errors: &mut E, fault: Fault) -> u8
-    ensures { result ≡ fault_status fault }
-{
-    tell_fault(alloc, errors, fault);
-    fault_status(fault)
-}
-
-/// Tells in a second line what is wrong with a faulty line of the trace, as far as it can be told.
-fn tell_advice<S: Input, E: Sink>(alloc: Global, source: &S, errors: &mut E, kind: Kind) {
-    let heard = source.heard();
-    let Ok(text) = heard.text(alloc) else {
-        return;
-    };
-    if let Ok(told) = advice(alloc, kind, text.as_slice(), heard.is_whole()) {
-        if let Ok(line) = format!(in alloc; "  {told}\n") {
-            let _ = write_all(errors, line.as_bytes());
-        }
-    }
-}
-
-/// Tells why a scan gave up, and answers the exit status.
-pub(crate) fn refuse_scan<S: Input, E: Sink>(
-    alloc: Global,
-    source: &S,
-    errors: &mut E,
-    fault: Fault,
-) -> u8
-    ensures { result ≡ fault_status fault }
-{
-    let status = refuse(alloc, errors, fault);
-    if let Fault::Trace(_, kind) = fault {
-        tell_advice(alloc, source, errors, kind);
-    }
-    status
-}
-
 /// Scans the trace in one thread, and answers the exit status.
-fn run_alone<S: Input, K: Sink, E: Sink>(
+fn run_alone<S: Input, K: Output, E: Sink>(
     alloc: Global,
     source: &mut S,
     sink: &mut K,
@@ -120,12 +91,12 @@ fn run_alone<S: Input, K: Sink, E: Sink>(
 {
     match scan_alone(alloc, source, sink) {
         Ok(summary) => summary_status(&summary),
-        Err(fault) => refuse_scan(alloc, source, errors, fault),
+        Err(fault) => refuse_scan(alloc, source, sink, errors, fault),
     }
 }
 
 /// Follows the trace in one thread, and answers the exit status.
-fn run_follow<S: Input, K: Sink, E: Sink>(
+fn run_follow<S: Input, K: Output, E: Sink>(
     alloc: Global,
     source: &mut S,
     sink: &mut K,
@@ -139,12 +110,12 @@ fn run_follow<S: Input, K: Sink, E: Sink>(
 {
     match follow(alloc, source, sink) {
         Ok(summary) => summary_status(&summary),
-        Err(fault) => refuse_scan(alloc, source, errors, fault),
+        Err(fault) => refuse_scan(alloc, source, sink, errors, fault),
     }
 }
 
 /// Scans the trace with workers, and answers the exit status.
-fn run_with<S: Input, K: Sink, E: Sink, R: Threads + Wait + Clock + Sync>(
+fn run_with<S: Input, K: Output, E: Sink, R: Threads + Wait + Clock + Sync>(
     rt: &R,
     alloc: Global,
     workers: u8,
@@ -169,7 +140,7 @@ fn run_with<S: Input, K: Sink, E: Sink, R: Threads + Wait + Clock + Sync>(
         &OpenGate,
     ) {
         Ok(scan) => summary_status(&scan.summary),
-        Err(fault) => refuse_scan(alloc, source, errors, fault),
+        Err(fault) => refuse_scan(alloc, source, sink, errors, fault),
     }
 }
 
@@ -186,7 +157,7 @@ fn telling(options: &Options<'_>) -> Telling {
 }
 
 /// Scans the trace as the options ask, and answers the exit status.
-pub(crate) fn scan<S: Input, K: Sink, E: Sink, R: Threads + Wait + Clock + Sync>(
+pub(crate) fn scan<S: Input, K: Output, E: Sink, R: Threads + Wait + Clock + Sync>(
     rt: &R,
     alloc: Global,
     options: Options<'_>,
@@ -213,23 +184,8 @@ pub(crate) fn scan<S: Input, K: Sink, E: Sink, R: Threads + Wait + Clock + Sync>
     }
 }
 
-/// Tells that a trace could not be opened, as far as it can be told, and answers the exit status.
-pub(crate) fn refuse_trace<E: Sink>(
-    alloc: Global,
-    errors: &mut E,
-    name: &str,
-    fault: OpenFault,
-) -> u8
-    ensures { result ≡ 3 }
-{
-    if let Ok(text) = format!(in alloc; "x25scan: cannot open {name}: {fault}\n") {
-        let _ = write_all(errors, text.as_bytes());
-    }
-    OTHER_FAULT
-}
-
 /// Scans the trace as the options ask, tells its report in the form that they ask, and answers the exit status.
-fn tell<S: Input, K: Sink, E: Sink, R: Threads + Wait + Clock + Sync>(
+fn tell<S: Input, K: Output, E: Sink, R: Threads + Wait + Clock + Sync>(
     rt: &R,
     alloc: Global,
     options: Options<'_>,
@@ -250,7 +206,7 @@ fn tell<S: Input, K: Sink, E: Sink, R: Threads + Wait + Clock + Sync>(
 }
 
 /// Scans the trace of a name as the options ask, and answers the exit status.
-fn tell_named<S: Input, K: Sink, E: Sink, R: Threads + Wait + Clock + Sync>(
+fn tell_named<S: Input, K: Output, E: Sink, R: Threads + Wait + Clock + Sync>(
     rt: &R,
     alloc: Global,
     options: Options<'_>,
@@ -273,7 +229,7 @@ fn tell_named<S: Input, K: Sink, E: Sink, R: Threads + Wait + Clock + Sync>(
 }
 
 /// Scans standard input, or the trace that is named, as the options ask, and answers the exit status.
-fn tell_trace<S: Input, K: Sink, E: Sink, R: Threads + Wait + Clock + Sync>(
+fn tell_trace<S: Input, K: Output, E: Sink, R: Threads + Wait + Clock + Sync>(
     rt: &R,
     alloc: Global,
     options: Options<'_>,
@@ -296,7 +252,7 @@ fn tell_trace<S: Input, K: Sink, E: Sink, R: Threads + Wait + Clock + Sync>(
 }
 
 /// Explains a word, or scans the trace, as the options ask, and answers the exit status.
-fn run<S: Input, K: Sink, E: Sink, R: Threads + Wait + Clock + Sync>(
+fn run<S: Input, K: Output, E: Sink, R: Threads + Wait + Clock + Sync>(
     rt: &R,
     alloc: Global,
     options: Options<'_>,
@@ -333,30 +289,28 @@ fn run<S: Input, K: Sink, E: Sink, R: Threads + Wait + Clock + Sync>(
     }
 }
 
-/// Gives the sink what was asked for, help or the version, and answers the exit status.
+/// Writes help or the version, which was asked for, and returns the exit status. That the sink does not take it is no fault
+/// of the words.
 fn tell_asked<K: Sink, E: Sink>(alloc: Global, error: &Error, sink: &mut K, errors: &mut E) -> u8
     ensures { (result ≡ 0) ⊎ (result ≡ 3) }
 {
     match format!(in alloc; "{error}") {
-        Ok(text) => match write_all(sink, text.as_bytes()) {
-            Ok(()) => 0,
-            Err(fault) => refuse(alloc, errors, fault),
-        },
+        Ok(text) => {
+            let _ = write_all(sink, text.as_bytes());
+            0
+        }
         Err(_) => refuse(alloc, errors, Fault::Memory),
     }
 }
 
 /// Help and the version go to the sink, and usage to the errors.
-fn refuse_words<K: Sink, E: Sink>(alloc: Global, error: Error, sink: &mut K, errors: &mut E) -> u8
+fn refuse_words<K: Output, E: Sink>(alloc: Global, error: Error, sink: &mut K, errors: &mut E) -> u8
     ensures status { (result ≡ 3) ⊎ (result ≡ words_status (kind_of error)) }
     ensures unwritten { words_status (kind_of error) ≢ 0 → sink.new ≡ sink.old }
     ensures usage { result ≡ 64 → sink.new ≡ sink.old }
 {
     match error.kind() {
-        ErrorKind::OutOfMemory => {
-            tell_fault(alloc, errors, Fault::Memory);
-            OTHER_FAULT
-        }
+        ErrorKind::OutOfMemory => refuse(alloc, errors, Fault::Memory),
         ErrorKind::DisplayHelp | ErrorKind::DisplayVersion => {
             tell_asked(alloc, &error, sink, errors)
         }
@@ -367,10 +321,10 @@ fn refuse_words<K: Sink, E: Sink>(alloc: Global, error: Error, sink: &mut K, err
     }
 }
 
-/// The program over its words, of which the first is its name. Answers the exit status (profile): 0 without findings
-/// or where help, the version or an explanation was asked for, 1 with findings, 2 where the trace was refused, 3 at
-/// another fault, 64 for wrong words and for a word that no explanation has.
-pub fn program<S: Input, K: Sink, E: Sink, R: Threads + Wait + Clock + Sync>(
+/// The program over its words, of which the first is its name. Answers the exit status (profile): 0 without findings, or
+/// where an explanation was printed, or help or the version was asked for, 1 with findings, 2 where the trace was refused,
+/// 3 at another fault, 64 for wrong words and for a word that no explanation has.
+pub fn program<S: Input, K: Output, E: Sink, R: Threads + Wait + Clock + Sync>(
     rt: &R,
     alloc: Global,
     words: &[&str],
@@ -397,7 +351,7 @@ pub fn program<S: Input, K: Sink, E: Sink, R: Threads + Wait + Clock + Sync>(
         × IsAnnotateAnswer (as_json asked) rows source.old source.new sink.old sink.new trace
         (S.left source.new) (K.taken sink.old) (K.taken sink.new)
         (K.failures sink.new ≡ K.failures sink.old) result) }
-    // Where they ask for the explanation of a word the source is not asked, and the table answers.
+    // Where they ask for the explanation of a word or a line the source is not asked, and the table answers.
     ensures explained { let asked = map (λ word. word.now) words.now in
         (word : List ℕ) → words_fault asked ≡ [] → asked_word asked ≡ Some word
         → IsUnread source.old source.new sink.old sink.new result

@@ -18,6 +18,7 @@ Examples:
   x25scan --annotate --call 7 day.trace print the trace, with comments on the rows of call 7
   x25trace day.pcap | x25scan           read a capture
   x25scan --explain 22                  explain a word of the report or of a refusal
+  x25scan --explain 'F 5 T d1 1'        explain each word of a line of the report
 
 Exit status:
   0   no findings; or help, the version or an explanation was asked for

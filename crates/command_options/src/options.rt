@@ -68,7 +68,7 @@ fn explain<'a>(alloc: Global) -> Arg<'a>
     Arg::new(alloc, "explain")
         .long("explain")
         .value_name("WORD")
-        .help("Explain a word of the report or of a refusal, or list all words, and scan nothing")
+        .help("Explain a word or a line that is printed, or list all words, and scan nothing")
         .action(ArgAction::Set)
         .num_args(0..=1)
         .default_missing_value("")

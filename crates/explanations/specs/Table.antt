@@ -46,6 +46,15 @@ field_keys =
     ++ all_of topic.TheVariants.Setting (codes "asked" ∷ codes "said" ∷ codes "refused" ∷ [])
     ++ all_of topic.TheVariants.Absent (dash ∷ [])
 
+-- the fields of the report's lines, in the order in which they come first
+abbrev pub report_field_keys : List Key
+report_field_keys = all_of topic.TheVariants.Field
+    (codes "packet" ∷ codes "side" ∷ codes "state" ∷ codes "code"
+    ∷ codes "call" ∷ codes "epoch" ∷ codes "channel" ∷ codes "direction" ∷ codes "called" ∷ codes "calling"
+    ∷ codes "opened" ∷ codes "up" ∷ codes "ended" ∷ codes "how" ∷ codes "data_t" ∷ codes "octets_t" ∷ codes "data_n" ∷ codes "octets_n"
+    ∷ codes "segments" ∷ codes "parameter" ∷ codes "word" ∷ codes "value" ∷ codes "address" ∷ codes "calls" ∷ codes "count"
+    ∷ codes "packets" ∷ codes "findings" ∷ codes "octets" ∷ [])
+
 -- the states
 abbrev pub state_keys : List Key
 state_keys = all_of topic.TheVariants.State
@@ -87,6 +96,12 @@ abbrev pub kind_keys : List Key
 kind_keys = all_of topic.TheVariants.Kind
     (map (λ k. decimal (kind_number k)) (HeaderMissing ∷ HeaderForm ∷ HeaderRange ∷ LineForm ∷ Number ∷ Side ∷ Hex ∷ LineLong ∷ TextLarge ∷ []))
 
+-- the words of a header
+abbrev pub header_word_keys : List Key
+header_word_keys = all_of topic.TheVariants.Header
+    (codes "X25" ∷ codes "MOD" ∷ codes "WIN" ∷ codes "SIZE" ∷ codes "PVC" ∷ codes "SVC" ∷ codes "IN" ∷ codes "TWO" ∷ codes "OUT"
+    ∷ codes "JOIN" ∷ [])
+
 -- a word of the text of each fault
 abbrev pub fault_word : Fault → List ℕ
 fault_word Memory = codes "memory"
@@ -115,8 +130,8 @@ parameter_keys = all_of topic.TheVariants.Parameter (map decimal (range_with_len
 -- all words that are explained, in the order of the table; a word may stand more than once
 abbrev pub table_keys : List Key
 table_keys =
-    field_keys ++ state_keys ++ flow_code_keys ++ packet_code_keys ++ message_keys ++ kind_keys ++ refusal_keys ++ status_keys
-    ++ parameter_keys
+    field_keys ++ report_field_keys ++ state_keys ++ flow_code_keys ++ packet_code_keys ++ message_keys ++ header_word_keys
+    ++ kind_keys ++ refusal_keys ++ status_keys ++ parameter_keys
 
 -- the rows of the table, section after section
 abbrev pub rows : List (Bor (List Explanation)) → List Explanation
@@ -137,10 +152,18 @@ topic_name topic.TheVariants.Kind = codes "kind"
 topic_name topic.TheVariants.Refusal = codes "refusal"
 topic_name topic.TheVariants.Status = codes "status"
 topic_name topic.TheVariants.Parameter = codes "parameter"
+topic_name topic.TheVariants.Field = codes "field"
+topic_name topic.TheVariants.Header = codes "header"
 
--- whether a row explains a word: its own, the name of its topic, or both with a space between them
+-- a word of a topic, as it is asked for with its topic
+abbrev pub of_topic : (topic word : List ℕ) → List ℕ
+of_topic topic word = topic ++ (codes " " ++ word)
+
+-- whether a row explains a word: its own, its name, the name of its topic, or its own behind that with a space between them
 abbrev pub is_of : List ℕ → Explanation → Bool
-is_of word e = bytes_eq e.word.now word || (bytes_eq (topic_name e.topic) word || bytes_eq (topic_name e.topic ++ (codes " " ++ e.word.now)) word)
+is_of word e =
+    bytes_eq e.word.now word
+    || (bytes_eq e.name.now word || (bytes_eq (topic_name e.topic) word || bytes_eq (of_topic (topic_name e.topic) e.word.now) word))
 
 -- the rows that explain a word, in the order of the table
 abbrev pub explanations_of : List ℕ → List Explanation → List Explanation

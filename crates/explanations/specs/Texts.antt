@@ -2,7 +2,7 @@
 use Rattle.std.specs.Prelude.{ℕ, List, [], ◌∷◌, ◌++◌, flat_map, codes}
 use Rattle.explanations.specs.declared.explanation.Explanation.{Explanation}
 use Rattle.explanations.specs.declared.explanation.Topic.{Topic}
-use Rattle.explanations.specs.declared.explanation.Topic.TheVariants.{Line, Side, Direction, Ending, Setting, Absent, State, Code, Message, Kind, Refusal, Status, Parameter}
+use Rattle.explanations.specs.declared.explanation.Topic.TheVariants.{Line, Side, Direction, Ending, Setting, Absent, State, Code, Message, Kind, Refusal, Status, Parameter, Field, Header}
 
 -- what is told of a word of a topic
 abbrev pub topic_word : Topic → List ℕ
@@ -19,6 +19,18 @@ topic_word Kind = codes "kind of faulty line"
 topic_word Refusal = codes "refusal"
 topic_word Status = codes "exit status"
 topic_word Parameter = codes "PAD parameter"
+topic_word Field = codes "field of the report"
+topic_word Header = codes "word of the header"
+
+-- the installed document that has the words of a topic in their place
+abbrev pub topic_document : Topic → List ℕ
+topic_document State = codes "/usr/share/doc/x25scan/RULES.md"
+topic_document Code = codes "/usr/share/doc/x25scan/RULES.md"
+topic_document Message = codes "/usr/share/doc/x25scan/RULES.md"
+topic_document Parameter = codes "/usr/share/doc/x25scan/RULES.md"
+topic_document Kind = codes "/usr/share/doc/x25scan/TRACE.md"
+topic_document Header = codes "/usr/share/doc/x25scan/TRACE.md"
+topic_document _ = codes "/usr/share/doc/x25scan/REPORT.md"
 
 -- parts of a text, one behind the other
 abbrev pub joined : List (List ℕ) → List ℕ
@@ -30,10 +42,10 @@ joined (part ∷ next ∷ parts) = part ++ joined (next ∷ parts)
 abbrev pub heading : Explanation → List ℕ
 heading e = joined (e.word.now ∷ codes " (" ∷ topic_word e.topic ∷ codes "): " ∷ e.name.now ∷ codes "\n" ∷ [])
 
--- the end of an example's line, which names the trace where there is one
+-- the end of an example's line, which names the installed trace where there is one
 abbrev pub place : (trace : List ℕ) → List ℕ
 place [] = codes "\n"
-place (c ∷ cs) = joined (codes " in " ∷ (c ∷ cs) ∷ codes "\n" ∷ [])
+place (c ∷ cs) = joined (codes " in /usr/share/doc/x25scan/" ∷ (c ∷ cs) ∷ codes "\n" ∷ [])
 
 -- the lines of an explanation
 abbrev pub explanation_text : Explanation → List ℕ
@@ -42,7 +54,7 @@ explanation_text e = joined
     ∷ codes "  " ∷ e.meaning.now
     ∷ codes "\n  When: " ∷ e.when.now
     ∷ codes "\n  Clause: " ∷ e.clause.now
-    ∷ codes "\n  Definition: " ∷ e.definition.now
+    ∷ codes "\n  See: " ∷ topic_document e.topic
     ∷ codes "\n  Example: " ∷ e.example.now ∷ place e.trace.now ∷ [])
 
 -- the text of explanations, one behind the other

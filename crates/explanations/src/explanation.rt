@@ -29,12 +29,16 @@ pub enum Topic {
     Status,
     /// A parameter of a PAD.
     Parameter,
+    /// A field of the report's lines.
+    Field,
+    /// A word of a trace's header.
+    Header,
 }
 
 impl Topic {
     ghost use Rattle.std.specs.Prelude.{◌≡◌};
     ghost use Rattle.explanations.specs.Table.{topic_name};
-    ghost use Rattle.explanations.specs.Texts.{topic_word};
+    ghost use Rattle.explanations.specs.Texts.{topic_document, topic_word};
 
     /// The name of the topic, by which all its words are asked for (profile).
     pub fn name(self) -> &'static str
@@ -54,6 +58,8 @@ impl Topic {
             Topic::Refusal => "refusal",
             Topic::Status => "status",
             Topic::Parameter => "parameter",
+            Topic::Field => "field",
+            Topic::Header => "header",
         }
     }
 
@@ -75,6 +81,20 @@ impl Topic {
             Topic::Refusal => "refusal",
             Topic::Status => "exit status",
             Topic::Parameter => "PAD parameter",
+            Topic::Field => "field of the report",
+            Topic::Header => "word of the header",
+        }
+    }
+
+    /// The installed document that has the words of this topic in their place.
+    pub(crate) fn document(self) -> &'static str
+        ensures { result.now ≡ topic_document self }
+    {
+        match self {
+            Topic::State | Topic::Code | Topic::Message | Topic::Parameter =>
+                "/usr/share/doc/x25scan/RULES.md",
+            Topic::Kind | Topic::Header => "/usr/share/doc/x25scan/TRACE.md",
+            _ => "/usr/share/doc/x25scan/REPORT.md",
         }
     }
 }
@@ -94,10 +114,11 @@ pub struct Explanation {
     pub when: &'static str,
     /// The clause that it rests on, or profile.
     pub clause: &'static str,
-    /// The file of the repository that decides it.
+    /// The file of the repository that decides it, which the documents of the repository link to.
     pub definition: &'static str,
     /// What is printed where it occurs.
     pub example: &'static str,
-    /// The trace of the repository that prints it; empty where no small trace does.
+    /// The trace that prints it, by its place in the repository and below the installed documents; empty where no small
+    /// trace does.
     pub trace: &'static str,
 }

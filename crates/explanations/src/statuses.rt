@@ -44,7 +44,7 @@ const STATUSES: [Explanation; 5] = [
         word: "3",
         name: "another fault",
         meaning: "Memory, a thread, the opening, the reading or the writing failed.",
-        when: "At any time; standard error says which.",
+        when: "At any time; standard error says which, but for a reader of standard output that went away.",
         clause: "profile",
         definition: "crates/command_line/specs/Program.antt",
         example: "x25scan < t; echo $? prints 3",

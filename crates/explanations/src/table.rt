@@ -1,34 +1,38 @@
 //! The table of all words, and the explanations of one.
 
 ghost use Rattle.std.specs.Prelude.{◌≡◌, ◌++◌, IfOk, OnOk, map};
-ghost use Rattle.explanations.specs.Table.{explanations_of, is_of, key, rows, table_keys};
+ghost use Rattle.explanations.specs.Table.{explanations_of, is_of, key, of_topic, rows, table_keys};
 
 use crate::explanation::Explanation;
 use crate::fields::fields;
 use crate::flow_codes::flow_codes;
+use crate::header_words::header_words;
 use crate::kinds::kinds;
 use crate::messages::messages;
 use crate::packet_codes::packet_codes;
 use crate::parameters::parameters;
 use crate::refusals::refusals;
+use crate::report_fields::report_fields;
 use crate::states::states;
 use crate::statuses::statuses;
 use std::alloc::{AllocError, Global};
 
 /// How many sections the table has.
-pub const SECTIONS: usize = 9;
+pub const SECTIONS: usize = 11;
 
-/// The table: its sections, each the words of one part of what the program prints. It explains all words of the
-/// report and of the refusals, and no other.
+/// The table: its sections, each the words of one part of what the program prints or reads. It explains all words of the
+/// report, of a header and of the refusals, and no other.
 pub fn all() -> [&'static [Explanation]; SECTIONS]
     ensures { map key (rows result) ≡ table_keys }
 {
     [
         fields(),
+        report_fields(),
         states(),
         flow_codes(),
         packet_codes(),
         messages(),
+        header_words(),
         kinds(),
         refusals(),
         statuses(),
@@ -36,21 +40,26 @@ pub fn all() -> [&'static [Explanation]; SECTIONS]
     ]
 }
 
-/// Whether a row explains a word: it is the row's own, the name of its topic, or both with a space between them, as
-/// `22`, `kind` and `kind 22`.
-fn explains(alloc: Global, explanation: &Explanation, word: &str) -> Result<bool, AllocError>
+/// Whether a row explains a word: it is the row's own, its name, the name of its topic, or that and the row's own with a
+/// space between them, as `22`, `HeaderForm`, `kind` and `kind 22`.
+fn explains(alloc: Global, explanation: &Explanation, word: &[u8]) -> Result<bool, AllocError>
     ensures { IfOk result (λ answer. answer ≡ is_of word.now explanation.now) }
 {
     let topic = explanation.topic.name();
     let both = format!(in alloc; "{} {}", topic, explanation.word)?;
-    Ok(explanation.word == word || topic == word || both.as_str() == word)
+    Ok(
+        explanation.word.as_bytes() == word
+            || explanation.name.as_bytes() == word
+            || topic.as_bytes() == word
+            || both.as_bytes() == word,
+    )
 }
 
 /// Appends the explanations of a word among those of a section.
-fn push_explanations(
+fn push_explanations_in(
     alloc: Global,
     section: &'static [Explanation],
-    word: &str,
+    word: &[u8],
     found: &mut Vec<Explanation>,
 ) -> Result<(), AllocError>
     ensures { OnOk result (found.new.items ≡ found.old.items
@@ -64,6 +73,40 @@ fn push_explanations(
     Ok(())
 }
 
+/// Appends the explanations of a word among those of some sections, in their order.
+pub fn push_explanations(
+    alloc: Global,
+    sections: &[&'static [Explanation]],
+    word: &[u8],
+    found: &mut Vec<Explanation>,
+) -> Result<(), AllocError>
+    ensures { OnOk result (found.new.items ≡ found.old.items
+        ++ explanations_of word.now (rows sections.now)) }
+{
+    for section in sections {
+        push_explanations_in(alloc, section, word, found)?;
+    }
+    Ok(())
+}
+
+/// Appends the explanations of a word of a topic, which is named.
+pub fn push_explanations_of_topic(
+    alloc: Global,
+    sections: &[&'static [Explanation]],
+    topic: &str,
+    word: &[u8],
+    found: &mut Vec<Explanation>,
+) -> Result<(), AllocError>
+    ensures { OnOk result (found.new.items ≡ found.old.items
+        ++ explanations_of (of_topic topic.now word.now) (rows sections.now)) }
+{
+    let mut both = Vec::new(alloc);
+    both.extend_from_slice(topic.as_bytes())?;
+    both.extend_from_slice(b" ")?;
+    both.extend_from_slice(word)?;
+    push_explanations(alloc, sections, both.as_slice(), found)
+}
+
 /// The explanations of a word among those of some sections, in their order; none where no row has the word.
 pub fn explain(
     alloc: Global,
@@ -73,8 +116,6 @@ pub fn explain(
     ensures { IfOk result (λ found. found.items ≡ explanations_of word.now (rows sections.now)) }
 {
     let mut found = Vec::new(alloc);
-    for section in sections {
-        push_explanations(alloc, section, word, &mut found)?;
-    }
+    push_explanations(alloc, sections, word.as_bytes(), &mut found)?;
     Ok(found)
 }

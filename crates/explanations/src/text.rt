@@ -22,7 +22,7 @@ fn place(alloc: Global, trace: &str) -> Result<String, AllocError>
     if trace.is_empty() {
         return String::from_str(alloc, "\n");
     }
-    format!(in alloc; " in {trace}\n")
+    format!(in alloc; " in /usr/share/doc/x25scan/{trace}\n")
 }
 
 /// The lines of an explanation.
@@ -31,13 +31,10 @@ fn explanation_text(alloc: Global, explanation: &Explanation) -> Result<String, 
 {
     let heading = heading(alloc, explanation)?;
     let place = place(alloc, explanation.trace)?;
+    let see = explanation.topic.document();
     format!(in alloc;
-        "{heading}  {}\n  When: {}\n  Clause: {}\n  Definition: {}\n  Example: {}{place}",
-        explanation.meaning,
-        explanation.when,
-        explanation.clause,
-        explanation.definition,
-        explanation.example
+        "{heading}  {}\n  When: {}\n  Clause: {}\n  See: {see}\n  Example: {}{place}",
+        explanation.meaning, explanation.when, explanation.clause, explanation.example
     )
 }
 

@@ -9,4 +9,4 @@ mod lines;
 mod objects;
 pub mod sink;
 pub mod text;
-mod words;
+pub mod words;

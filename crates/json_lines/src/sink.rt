@@ -8,7 +8,9 @@ ghost use Rattle.json_lines.specs.Standing.{Stands};
 use crate::lines::JsonLines;
 use line_model::device::Sink;
 use line_model::fault::Fault;
+use std::io;
 use std::marker::{Brand, PhantomData};
+use streams::output::Output;
 
 /// Which sink is written to, and what it had taken and how often it had failed before. Contracts alone see it, and each
 /// call of a program picks it.
@@ -112,5 +114,11 @@ impl<K: Sink, B: Origin> Sink for JsonSink<'_, K, B> {
             Ok(()) => Ok(bytes.len()),
             Err(()) => Err(()),
         }
+    }
+}
+
+impl<K: Output, B: Origin> Output for JsonSink<'_, K, B> {
+    fn failure(&self) -> Option<io::Error> {
+        self.sink.failure()
     }
 }

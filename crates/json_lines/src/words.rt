@@ -38,7 +38,7 @@ impl<'a> Words<'a> {
     }
 
     /// The next word, which may be empty, if one is left.
-    fn next(&mut self) -> Option<&'a [u8]>
+    pub fn next(&mut self) -> Option<&'a [u8]>
         ensures { MatchOption result ((self.old ≡ [])
             × (self.new ≡ [])) (λ word. self.old ≡ word.now ∷ self.new) }
     {

@@ -5,6 +5,7 @@ ghost use Rattle.std.specs.Prelude.{◌≡◌, ℕ, List, Option, OnOk, OnErr};
 use crate::last_bytes::LastBytes;
 use crate::progress::Telling;
 use line_model::device::Source;
+use std::io;
 use thiserror::Error;
 
 /// Why a trace could not be opened by its name (profile).
@@ -24,17 +25,35 @@ pub enum OpenFault {
     Refused,
 }
 
+/// A trace that could not be opened.
+#[derive(Clone, Copy)]
+pub struct OpenRefusal {
+    /// Why.
+    pub fault: OpenFault,
+    /// What the system says.
+    pub reason: io::Error,
+}
+
 /// A source that begins as standard input, and turns to the trace that is opened by its name.
 pub trait Input: Source {
     /// The bytes of the trace of a name, where it tells them.
     ghost named: { Self → List ℕ → Option (List ℕ) };
 
     /// Turns to the trace of this name, or stays as it was.
-    fn open(&mut self, name: &str) -> Result<(), OpenFault>
+    fn open(&mut self, name: &str) -> Result<(), OpenRefusal>
         ensures opened { OnOk result (Self.left self.new ≡ named self.old name.now) }
         ensures calls { Self.calls self.new ≡ Self.calls self.old }
         ensures failures { Self.failures self.new ≡ Self.failures self.old }
         ensures refused { OnErr result (self.new ≡ self.old) };
+
+    /// The name of the trace that was opened; none where it is standard input, or where memory for the name was refused.
+    fn name(&self) -> Option<&str>;
+
+    /// What the system said of the last read that failed; none where it said nothing.
+    fn failure(&self) -> Option<io::Error>;
+
+    /// The first bytes that it gave, or fewer where memory was refused.
+    fn begun(&self) -> &[u8];
 
     /// The last bytes that it gave.
     fn heard(&self) -> &LastBytes;

@@ -2,8 +2,9 @@
 
 ghost use Rattle.std.specs.Prelude.{◌≡◌, ◌≤◌, IfOk, length};
 
-use crate::input::{Input, OpenFault};
+use crate::input::{Input, OpenFault, OpenRefusal};
 use crate::last_bytes::LastBytes;
+use crate::output::Output;
 use crate::progress::{Progress, Telling};
 use line_model::count::Count;
 use line_model::device::{Sink, Source};
@@ -15,6 +16,9 @@ use std::sync::ledger::Ledger;
 use std::time::Clock;
 use std::{fs, io};
 
+/// How many of the first bytes are kept at least: the header, where few comments come before it.
+const BEGUN: usize = 1 << 14;
+
 /// Standard input, or the file that was opened in its place, as a source that does not tell its bytes. Each read is one
 /// of the reader's, unbuffered.
 #[derive(Drop)]
@@ -24,8 +28,13 @@ pub struct FileInput<'a, R: Files + Clock, I: Read + Drop, W: Write + Drop, L: L
     // That standard input is a terminal is still to be told.
     is_terminal: bool,
     file: Option<R::File>,
+    // The name of the file; empty where memory for it was refused.
+    name: String,
+    begun: Vec<u8>,
     heard: LastBytes,
     progress: Progress<W>,
+    // What the system said of the last read that failed.
+    failure: Option<io::Error>,
     calls: Count<L>,
     failures: Count<M>,
 }
@@ -57,8 +66,11 @@ impl<'a, R: Files + Clock, I: Read + Drop, W: Write + Drop, L: Ledger, M: Ledger
             standard,
             is_terminal,
             file: None,
+            name: String::new(alloc),
+            begun: Vec::new(alloc),
             heard: LastBytes::new(alloc),
             progress,
+            failure: None,
             calls,
             failures,
         }
@@ -75,6 +87,18 @@ impl<'a, R: Files + Clock, I: Read + Drop, W: Write + Drop, L: Ledger, M: Ledger
             self.progress.tell_terminal();
         }
         self.standard.read(buffer)
+    }
+
+    /// Keeps bytes that were read.
+    fn keep(&mut self, bytes: &[u8])
+        ensures calls { self.new.calls ≡ self.old.calls }
+        ensures failures { self.new.failures ≡ self.old.failures }
+    {
+        if self.begun.len() < BEGUN {
+            let _ = self.begun.extend_from_slice(bytes);
+        }
+        self.heard.keep(bytes);
+        self.progress.read(self.system, bytes);
     }
 
     /// Reads from the file that was opened, else from standard input.
@@ -104,11 +128,11 @@ impl<R: Files + Clock, I: Read + Drop, W: Write + Drop, L: Ledger, M: Ledger> So
         self.calls.add_one();
         match self.read_some(buffer) {
             Ok(n) => {
-                self.heard.keep(&buffer[..n]);
-                self.progress.read(self.system, &buffer[..n]);
+                self.keep(&buffer[..n]);
                 Ok(n)
             }
-            Err(_) => {
+            Err(error) => {
+                self.failure = Some(error);
                 self.failures.add_one();
                 Err(())
             }
@@ -116,21 +140,27 @@ impl<R: Files + Clock, I: Read + Drop, W: Write + Drop, L: Ledger, M: Ledger> So
     }
 }
 
-/// What is told of an error of the system at opening.
-fn open_fault(error: &io::Error) -> OpenFault {
-    match error.kind() {
+/// The number by which the system says that a directory is no file.
+const IS_A_DIRECTORY: i32 = 21;
+
+/// Why a file could not be opened, by the system's error.
+fn open_refusal(reason: io::Error) -> OpenRefusal {
+    let fault = match reason.kind() {
         ErrorKind::NotFound | ErrorKind::NotADirectory => OpenFault::Missing,
         ErrorKind::PermissionDenied => OpenFault::Denied,
         ErrorKind::IsADirectory => OpenFault::Directory,
         _ => OpenFault::Refused,
-    }
+    };
+    OpenRefusal { fault, reason }
 }
 
 /// Opens a file for reading, which is no directory.
-fn open_file<R: Files>(files: &R, name: &str) -> Result<R::File, OpenFault> {
-    let file = fs::open(files, name).map_err(|error| open_fault(&error))?;
+fn open_file<R: Files>(files: &R, name: &str) -> Result<R::File, OpenRefusal> {
+    let file = fs::open(files, name).map_err(|error| open_refusal(error))?;
     match file.metadata() {
-        Ok(told) if told.is_dir() => Err(OpenFault::Directory),
+        Ok(told) if told.is_dir() => {
+            Err(open_refusal(io::Error::from_raw_os_error(IS_A_DIRECTORY)))
+        }
         _ => Ok(file),
     }
 }
@@ -141,10 +171,28 @@ impl<R: Files + Clock, I: Read + Drop, W: Write + Drop, L: Ledger, M: Ledger> In
 
     ghost named = { λ s name. None };
 
-    fn open(&mut self, name: &str) -> Result<(), OpenFault> {
+    fn open(&mut self, name: &str) -> Result<(), OpenRefusal> {
         let file = open_file(self.system, name)?;
         self.file = Some(file);
+        self.name.clear();
+        let _ = self.name.push_str(name);
         Ok(())
+    }
+
+    fn name(&self) -> Option<&str> {
+        if self.name.is_empty() {
+            None
+        } else {
+            Some(self.name.as_str())
+        }
+    }
+
+    fn failure(&self) -> Option<io::Error> {
+        self.failure
+    }
+
+    fn begun(&self) -> &[u8] {
+        self.begun.as_slice()
     }
 
     fn heard(&self) -> &LastBytes {
@@ -160,6 +208,8 @@ impl<R: Files + Clock, I: Read + Drop, W: Write + Drop, L: Ledger, M: Ledger> In
 #[derive(Drop)]
 pub struct WriteSink<W: Write + Drop, L: Ledger> {
     writer: W,
+    // What the system said of the last write that failed.
+    failure: Option<io::Error>,
     failures: Count<L>,
 }
 
@@ -168,7 +218,11 @@ impl<W: Write + Drop, L: Ledger> WriteSink<W, L> {
     pub fn new(writer: W, failures: Count<L>) -> Self
         ensures { ⟦<WriteSink<W, L> as Sink>⟧.failures result ≡ failures }
     {
-        WriteSink { writer, failures }
+        WriteSink {
+            writer,
+            failure: None,
+            failures,
+        }
     }
 }
 
@@ -180,12 +234,20 @@ impl<W: Write + Drop, L: Ledger> Sink for WriteSink<W, L> {
     ghost failures = { λ s. s.failures };
 
     fn write(&mut self, bytes: &[u8]) -> Result<usize, ()> {
-        match self.writer.write(bytes) {
+        let written = self.writer.write(bytes);
+        match written {
             Ok(n) if n > 0 || bytes.is_empty() => Ok(n),
             _ => {
+                self.failure = written.err();
                 self.failures.add_one();
                 Err(())
             }
         }
+    }
+}
+
+impl<W: Write + Drop, L: Ledger> Output for WriteSink<W, L> {
+    fn failure(&self) -> Option<io::Error> {
+        self.failure
     }
 }

@@ -93,7 +93,7 @@ fn main(rt: HostRuntime) -> ExitCode {
         Ok(status) => status,
         Err(status) => {
             let text = if status == USAGE {
-                "arguments are no text"
+                "arguments are no text\n  A word of the command line is not UTF-8. A file of such a name can be read as standard input: x25scan < FILE"
             } else {
                 "out of memory"
             };

@@ -4,15 +4,18 @@ ghost use Rattle.std.specs.Prelude.{◌≡◌, ◌<◌};
 
 use command_line::program::program;
 use line_model::count::Count;
-use line_model::device::Source;
+use line_model::device::{Sink, Source};
 use std::alloc::Global;
+use std::io;
+use std::io::ErrorKind;
 use std::marker::Brand;
 use std::sync::Wait;
 use std::sync::ledger::{Blank, Ledger};
 use std::thread::Threads;
 use std::time::Clock;
-use streams::input::{Input, OpenFault};
+use streams::input::{Input, OpenFault, OpenRefusal};
 use streams::last_bytes::LastBytes;
+use streams::output::Output;
 use streams::progress::Telling;
 use test_devices::{CutSink, CutSource, Cuts};
 
@@ -60,12 +63,27 @@ impl<C: Ledger, F: Ledger> Input for CutInput<'_, C, F> {
 
     ghost named = { λ s name. Some s.file.text.now };
 
-    fn open(&mut self, name: &str) -> Result<(), OpenFault> {
+    fn open(&mut self, name: &str) -> Result<(), OpenRefusal> {
         if name != self.file.name {
-            return Err(OpenFault::Missing);
+            return Err(OpenRefusal {
+                fault: OpenFault::Missing,
+                reason: io::Error::from(ErrorKind::NotFound),
+            });
         }
         self.source.rest = self.file.text;
         Ok(())
+    }
+
+    fn name(&self) -> Option<&str> {
+        None
+    }
+
+    fn failure(&self) -> Option<io::Error> {
+        None
+    }
+
+    fn begun(&self) -> &[u8] {
+        b""
     }
 
     fn heard(&self) -> &LastBytes {
@@ -73,6 +91,30 @@ impl<C: Ledger, F: Ledger> Input for CutInput<'_, C, F> {
     }
 
     fn tell_progress(&mut self, _telling: Telling) {}
+}
+
+/// A sink that cuts and fails, and does not say why.
+#[derive(Drop)]
+struct CutOutput<F: Ledger> {
+    sink: CutSink<F>,
+}
+
+impl<F: Ledger> Sink for CutOutput<F> {
+    ghost use Rattle.std.specs.Prelude.{Some};
+
+    ghost taken = { λ s. Some s.sink.taken.items };
+
+    ghost failures = { λ s. s.sink.failures };
+
+    fn write(&mut self, bytes: &[u8]) -> Result<usize, ()> {
+        self.sink.write(bytes)
+    }
+}
+
+impl<F: Ledger> Output for CutOutput<F> {
+    fn failure(&self) -> Option<io::Error> {
+        None
+    }
 }
 
 fn run_on<C: Ledger, F: Ledger, K: Ledger, E: Ledger, R: Threads + Wait + Clock + Sync>(
@@ -111,11 +153,13 @@ fn run_on<C: Ledger, F: Ledger, K: Ledger, E: Ledger, R: Threads + Wait + Clock 
         file,
         heard: LastBytes::new(alloc),
     };
-    let mut sink = CutSink {
-        taken: Vec::new(alloc),
-        step: cuts.write_step,
-        good_calls: cuts.good_writes,
-        failures: Count::<K>::open(write_failures),
+    let mut sink = CutOutput {
+        sink: CutSink {
+            taken: Vec::new(alloc),
+            step: cuts.write_step,
+            good_calls: cuts.good_writes,
+            failures: Count::<K>::open(write_failures),
+        },
     };
     let mut errors = CutSink {
         taken: Vec::new(alloc),
@@ -126,7 +170,7 @@ fn run_on<C: Ledger, F: Ledger, K: Ledger, E: Ledger, R: Threads + Wait + Clock 
     let status = program(rt, alloc, words, &mut source, &mut sink, &mut errors);
     Ran {
         status,
-        taken: sink.taken,
+        taken: sink.sink.taken,
         told: errors.taken,
     }
 }

@@ -51,5 +51,5 @@ returns-in-Err-2-clause-told g c text told =
       plain = c.scan-scanned.result;
       scanned = scanned_afresh c.args.options.follow text _ _ _ _ failures c.scan-scanned.result c.new-json.ensures.taken c.new-json.ensures.failures
           (λ plain. c.scan-scanned.ensures.status plain text told) (λ follow. c.scan-scanned.ensures.followed follow text told);
-      objects = inr (c.refuse.ensures ∙ ap fault_status failed.0, (λ well. omega (arith, failed.1, well)), record { front = part.0; rest = part.1; whole = part.2; taken = part.3 });
+      objects = inr (c.refuse_write.ensures ∙ ap fault_status failed.0, (λ well. omega (arith, failed.1, well)), record { front = part.0; rest = part.1; whole = part.2; taken = part.3 });
     }

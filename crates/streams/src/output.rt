@@ -1,0 +1,10 @@
+//! Where the program writes what it prints.
+
+use line_model::device::Sink;
+use std::io;
+
+/// A sink that says why it failed.
+pub trait Output: Sink {
+    /// What the system said of the last write that failed; none where it said nothing.
+    fn failure(&self) -> Option<io::Error>;
+}
