@@ -9,7 +9,7 @@ loop-field-init c = refl
 pub loop-field-preserved : goal.loop-field-preserved
 loop-field-preserved c =
     fields_turn c.args.fields.now c.loop-field.field-index _ c.loop-field.words c.next.new.self c.in-Some.word.now (rows c.args.table.now) c.loop-field.found.items _ _
-    c.loop-field-test.true c.in-Some.ensures c.in_ok-push_word.ensures c.loop-field.invariant
+    c.loop-field-test.true c.in-Some.ensures c.in_ok-push_word-in-Some.ensures c.loop-field.invariant
 
 pub returns-in-None : goal.returns-in-None
 returns-in-None c =
