@@ -252,15 +252,3 @@ fn rows_of_a_text_that_is_cut_anywhere_come_with_their_octets_and_packets(
     }
     Ok(())
 }
-
-/// The text of 5000 calls: each row is on the channel behind that of the row before, and channel 1 comes behind 199.
-fn calls(alloc: Global) -> Result<Vec<u8>, Fail> {
-    let mut text = Vec::new(alloc);
-    text.extend_from_slice(b"X25 1 MOD 8 WIN 2 SIZE 128 PVC 0 SVC 200\n".as_slice())?;
-    for number in 1..=5000u32 {
-        let channel = number % 199 + 1;
-        let line = format!(in alloc; "{number} T 10{channel:02X}0B0000\n")?;
-        text.extend_from_slice(line.as_bytes())?;
-    }
-    Ok(text)
-}

@@ -1,6 +1,7 @@
 //! The queue in one thread, step by step, and between many threads.
 
-ghost use Rattle.std.specs.Prelude.{◌≡◌, ◌+◌, ◌<◌, ◌≤◌, [], false};
+ghost use Rattle.std.specs.Prelude.{◌≡◌, ℕ, ◌+◌, ◌<◌, ◌≤◌, [], false, IfSome};
+ghost use Rattle.line_model.specs.work.Book.{once_below, times};
 ghost use Rattle.piece_queue.specs.Rule.{worker};
 
 use crate::pieces::{PIECES, piece};
@@ -68,6 +69,7 @@ fn feed_one<R: Wait>(rt: &R, alloc: Global, work: &Work<Brand>, feeder: &mut Fee
     ensures queue { feeder.new.queue ≡ work.now.queue }
     ensures fed { feeder.new.record_of.fed ≡ id + 1 }
     ensures open { feeder.new.record_of.ends ≡ 0 }
+    ensures pending { feeder.new.record_of.pending ≡ feeder.old.record_of.pending }
 {
     let mut next = piece(alloc, id);
     for _ in rt.forever() {
@@ -95,6 +97,9 @@ fn feed_all<R: Wait>(rt: &R, alloc: Global, work: &Work<Brand>, feeder: &mut Fee
 /// Feeds an end for each worker.
 fn feed_ends<R: Wait>(rt: &R, work: &Work<Brand>, feeder: &mut FeederPass, workers: u32)
     requires { feeder.old.queue ≡ work.now.queue }
+    ensures queue { feeder.new.queue ≡ work.now.queue }
+    ensures fed { feeder.new.record_of.fed ≡ feeder.old.record_of.fed }
+    ensures pending { feeder.new.record_of.pending ≡ feeder.old.record_of.pending }
 {
     let mut left = workers;
     for _ in rt.forever() {
@@ -106,6 +111,7 @@ fn feed_ends<R: Wait>(rt: &R, work: &Work<Brand>, feeder: &mut FeederPass, worke
             Err(()) => thread::yield_now(),
         }
     }
+    unreachable!()
 }
 
 /// Starts workers; says how many threads were made.
@@ -164,16 +170,44 @@ fn run<R: Threads + Wait + Sync>(
     Ok(taken.into_inner())
 }
 
+/// Takes the ends of both workers and joins them, if both ends come. The feeder's record has pieces 0 and 1 then, each
+/// once, and no other.
+fn join_both<R: Wait>(
+    rt: &R,
+    work: &Work<Brand>,
+    mut feeder: FeederPass,
+    mut one: WorkerPass,
+    mut other: WorkerPass,
+) -> Option<FeederPass>
+    requires feeder { (feeder.queue ≡ work.now.queue) × (feeder.record_of.fed ≡ 2)
+        × (feeder.record_of.pending ≡ 2) }
+    requires one { (one.queue ≡ work.now.queue) × (one.record_of.finished ≡ false) }
+    requires other { (other.queue ≡ work.now.queue) × (other.record_of.finished ≡ false) }
+    ensures each_once { IfSome result (λ joined. (x : ℕ)
+        → times x joined.record_of.taken ≡ once_below x 2) }
+{
+    let Taken::Finish = work.take(rt, &mut one) else {
+        return None;
+    };
+    let Taken::Finish = work.take(rt, &mut other) else {
+        return None;
+    };
+    work.join(&mut feeder, one);
+    work.join(&mut feeder, other);
+    Some(feeder)
+}
+
 #[test]
 fn the_end_of_each_worker_comes_behind_the_pieces(rt: HostRuntime) -> Result<(), Fail> {
     let (work, mut feeder) = Work::<Brand>::new(rt.alloc(), 4)?;
     let mut one = work.split(&mut feeder);
     let mut other = work.split(&mut feeder);
     feed_one(&rt, rt.alloc(), &work, &mut feeder, 0);
+    feed_one(&rt, rt.alloc(), &work, &mut feeder, 1);
     feed_ends(&rt, &work, &mut feeder, 2);
     assert!(rt; matches!(work.take(&rt, &mut one), Taken::Got(_)));
-    assert!(rt; matches!(work.take(&rt, &mut one), Taken::Finish));
-    assert!(rt; matches!(work.take(&rt, &mut other), Taken::Finish));
+    assert!(rt; matches!(work.take(&rt, &mut other), Taken::Got(_)));
+    assert!(rt; join_both(&rt, &work, feeder, one, other).is_some());
     Ok(())
 }
 

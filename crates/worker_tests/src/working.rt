@@ -2,7 +2,7 @@
 
 mod looking;
 
-ghost use Rattle.std.specs.Prelude.{◌≡◌, ◌<◌, ◌≤◌, None, length};
+ghost use Rattle.std.specs.Prelude.{◌≡◌, None, length};
 ghost use Rattle.workers.specs.Workers.{ArePlanned};
 
 use crate::pieces::{PIECES, piece};
@@ -15,7 +15,7 @@ use std::sync::Wait;
 use std::test::Fail;
 use std::thread::Threads;
 use std::time::Clock;
-use workers::{Feed, Gate, Gathered, Worked, feed_piece, feed_pieces, work_through};
+use workers::{Feed, Gate, Worked, feed_piece, feed_pieces, work_through};
 
 /// Runs pieces without rows, and wants memory for all others.
 struct EmptyPieces;
@@ -123,44 +123,6 @@ impl Feed<Brand, Global> for Batch {
             alloc,
             pieces: Vec::new(alloc),
         }
-    }
-}
-
-/// How many posts, shares and reports there are of a list.
-fn numbers(gathered: &Gathered) -> (u64, usize, usize) {
-    (
-        gathered.totals.posts,
-        gathered.shares.len(),
-        gathered.reports.len(),
-    )
-}
-
-/// How many posts, shares and reports twelve pieces have by so many workers.
-fn by_workers<R: Threads + Wait + Clock + Sync>(
-    rt: &R,
-    alloc: Global,
-    workers: usize,
-    capacity: usize,
-) -> Option<(u64, usize, usize)>
-    requires some { (0 < workers) × (0 < capacity) }
-    requires few { (workers ≤ 64) × (capacity ≤ 4096) }
-{
-    match work_through(rt, alloc, workers, capacity, &EmptyPieces, twelve(alloc)) {
-        Ok(
-            Worked {
-                gathered: Ok(gathered),
-                ..
-            },
-        ) => Some(numbers(&gathered)),
-        _ => None,
-    }
-}
-
-#[test]
-fn each_piece_is_posted_once_by_any_number_of_workers(rt: HostRuntime) {
-    for (workers, capacity) in [(1, 1), (1, 64), (2, 1), (2, 64), (64, 1), (64, 64)] {
-        let numbers = by_workers(&rt, rt.alloc(), workers, capacity);
-        assert!(rt; numbers == Some((12, workers, 12)));
     }
 }
 
