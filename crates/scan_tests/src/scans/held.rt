@@ -3,7 +3,7 @@
 ghost use Rattle.std.specs.Prelude.{◌≡◌, ◌<◌};
 
 use crate::scans::crews::{Work, agree, findings};
-use crate::scans::runs::{Scanned, Way, scan_from, scan_through};
+use crate::scans::runs::{NONE, Scanned, Way, scan_from, scan_through};
 use crate::scans::worked::{Table, trace};
 use line_model::count::Count;
 use line_model::device::Source;
@@ -124,7 +124,8 @@ fn check_three_epochs(rt: &impl Abort, scanned: &Scanned, record: &Record, work:
     );
 }
 
-/// Holds as many pieces as there are workers until all of them were entered, so that each worker runs one of them.
+/// Holds as many pieces as there are workers, or all twelve, until all of them were entered, so that each of them has a
+/// worker of its own.
 fn check_crew<R: Threads + Wait + Clock + Sync + Abort>(
     rt: &R,
     alloc: Global,
@@ -158,10 +159,23 @@ fn check_side_by_side<R: Threads + Wait + Clock + Sync + Abort>(
     check_crew(rt, alloc, 1, &work);
 }
 
+/// Has each of twelve workers run a piece, side by side, and 52 none.
+fn check_all_at_once<R: Threads + Wait + Clock + Sync + Abort>(rt: &R, alloc: Global) {
+    let work = Work {
+        workers: 64,
+        totals: findings(12),
+        shares: &[(12, findings(1)), (52, NONE)],
+    };
+    check_crew(rt, alloc, 64, &work);
+    check_crew(rt, alloc, 1, &work);
+}
+
 #[test]
-fn two_and_four_workers_run_pieces_side_by_side(rt: HostRuntime) {
+fn twelve_pieces_are_run_side_by_side_by_1_2_4_and_64_workers(rt: HostRuntime) {
+    check_side_by_side(&rt, rt.alloc(), 1, 12);
     check_side_by_side(&rt, rt.alloc(), 2, 6);
     check_side_by_side(&rt, rt.alloc(), 4, 3);
+    check_all_at_once(&rt, rt.alloc());
 }
 
 /// How many bytes the first line has, with its LF.
