@@ -125,7 +125,9 @@ fn is_of(alloc: Global, row: &Explanation, number: u8, name: &str) -> Result<boo
 
 #[test]
 fn diagnostic_codes_have_the_names_of_their_constants(rt: HostRuntime) -> Result<(), Fail> {
-    let codes = explain(rt.alloc(), all().as_slice(), "code")?;
+    let rows = explain(rt.alloc(), all().as_slice(), "code")?;
+    // The first row is that of the field that has the codes.
+    let codes = rows.as_slice().get(1..).unwrap_or(&[]);
     assert!(rt; codes.len() == NAMES.len());
     for (row, (number, name)) in codes.iter().zip(NAMES.iter()) {
         let is_of = is_of(rt.alloc(), row, *number, name)?;
