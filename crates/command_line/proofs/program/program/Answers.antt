@@ -22,13 +22,13 @@ AsksFor words asked = MatchOption asked (annotates words ≡ false) (λ rows. (a
 
 none_asked : (words : List (List ℕ)) (asked : Option Rows) → AsksFor words asked → annotates words ≡ false → asked ≡ None
 unfolding AsksFor
-none_asked words None h no = refl
-none_asked words (Some rows) h no = absurd (true≢false (sym h.0 ∙ no))
+none_asked words None h unasked = refl
+none_asked words (Some rows) h unasked = absurd (true≢false (sym h.0 ∙ unasked))
 
 rows_asked : (words : List (List ℕ)) (asked : Option Rows) (P : Rows → Type 0) → AsksFor words asked → annotates words ≡ true → IfSome asked P → (rows : Rows) × AreAskedRows words rows × P rows
 unfolding AsksFor
-rows_asked words None P h yes p = absurd (true≢false (sym yes ∙ h))
-rows_asked words (Some rows) P h yes p = (rows, h.1, p)
+rows_asked words None P h asked p = absurd (true≢false (sym asked ∙ h))
+rows_asked words (Some rows) P h asked p = (rows, h.1, p)
 
 pub returns-in-Ok-clause-told : goal.returns-in-Ok-clause-told
 unfolding Tells AsksFor
