@@ -166,13 +166,11 @@ def into_closed_pipe(program, words, handler):
 def closed_pipe(program):
     """Nothing is printed where the reader of standard output went away, whether or not the signal of it is ignored."""
     said = []
-    ways = ((), ("--alone",), ("--follow",), ("--json",), ("--annotate",), ("--explain", "22"), ("--help",), ("--version",))
-    for words in ways:
-        ignored = into_closed_pipe(program, words, signal.SIG_IGN)
+    for words in ((), ("--alone",), ("--follow",), ("--json",), ("--annotate",), ("--explain", "22"), ("--help",), ("--version",)):
         wanted = (0 if words in (("--help",), ("--version",)) else 3, b"")
-        said += [] if ignored == wanted else [f"a closed pipe at {words} has {ignored}, wanted {wanted}"]
-        killed = into_closed_pipe(program, words, signal.SIG_DFL)
-        said += [] if killed in ((-signal.SIGPIPE, b""), wanted) else [f"a closed pipe at {words} has {killed}"]
+        for handler in (signal.SIG_IGN, signal.SIG_DFL):
+            got = into_closed_pipe(program, words, handler)
+            said += [] if got == wanted else [f"a closed pipe at {words} has {got}, wanted {wanted}"]
     return said
 
 
