@@ -93,7 +93,7 @@ TWENTY_SIX = b"""26 (diagnostic code): Packet type invalid for state p7
   Example: F 3 N p7 26 in /usr/share/doc/x25scan/tests/traces/worked/dce-faults.trace
 26 (kind of faulty line): Side
   The side is neither T nor N.
-  When: On a row, behind 28, 24 and 25. The trace is refused with status 2 and nothing is reported; with --follow what was found before stands.
+  When: On a row, after 28, 24 and 25. The trace is refused with status 2 and nothing is reported; with --follow what was found before stands.
   Clause: profile
   See: /usr/share/doc/x25scan/TRACE.md
   Example: x25scan: line 2: kind 26 in /usr/share/doc/x25scan/tests/traces/worked/refused-side.trace

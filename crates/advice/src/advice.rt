@@ -42,7 +42,7 @@ fn meaning(alloc: Global, kind: Kind) -> Result<String, AllocError> {
 }
 
 /// What is wrong with a trace that was refused by a rule, in a sentence: by the lines themselves where they tell more,
-/// else the meaning of the rule. The lines are the last that were read, with the faulty one and none behind it that is
+/// else the meaning of the rule. The lines are the last that were read, with the faulty one and none after it that is
 /// judged; they begin with the text where `whole` is true, else in the midst of a line.
 pub fn advice(alloc: Global, kind: Kind, text: &[u8], whole: bool) -> Result<String, AllocError> {
     if whole {

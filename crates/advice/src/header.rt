@@ -56,8 +56,8 @@ fn other_name_advice(alloc: Global, word: &[u8], name: &str) -> Result<Option<St
     })
 }
 
-/// The number behind a name, or what is wrong there.
-fn number_behind(
+/// The number after a name, or what is wrong there.
+fn number_after(
     alloc: Global,
     word: Option<&[u8]>,
     name: &str,
@@ -79,11 +79,11 @@ fn refused(told: Result<String, AllocError>) -> Result<Result<u32, String>, Allo
     }
 }
 
-/// What is wrong with a word behind a name that is no number.
+/// What is wrong with a word after a name that is no number.
 fn no_number_advice(alloc: Global, word: &[u8], name: &str) -> Result<String, AllocError> {
     let word = quoted(alloc, word)?;
     format!(in alloc;
-        "Behind {name} stands {word}: a number of 1 to 9 digits without a leading zero belongs there."
+        "{word} stands after {name}, where a number of 1 to 9 digits without a leading zero belongs."
     )
 }
 
@@ -95,7 +95,7 @@ fn next_number(
 ) -> Result<Result<u32, String>, AllocError> {
     match name_advice(alloc, words.next(), name)? {
         Some(told) => Ok(Err(told)),
-        None => number_behind(alloc, words.next(), name),
+        None => number_after(alloc, words.next(), name),
     }
 }
 
@@ -116,7 +116,7 @@ fn next_numbers(
     Ok(Ok(numbers))
 }
 
-/// What is wrong behind the last number, if something is.
+/// What is wrong after the last number, if something is.
 fn end_advice(
     alloc: Global,
     words: &mut WordsLeft<'_>,
@@ -125,34 +125,34 @@ fn end_advice(
     match words.next() {
         None => Ok(None),
         Some(word) if may_join => join_advice(alloc, word, words),
-        Some(word) => tell_word(alloc, "Behind the header's last number stands ", word, "."),
+        Some(word) => tell_word(alloc, "", word, " stands after the header's last number."),
     }
 }
 
-/// What is wrong with a word where JOIN may stand and with those behind it, if something is.
+/// What is wrong with a word where JOIN may stand and with those after it, if something is.
 fn join_advice(
     alloc: Global,
     word: &[u8],
     words: &mut WordsLeft<'_>,
 ) -> Result<Option<String>, AllocError> {
     match name_advice(alloc, Some(word), "JOIN") {
-        Ok(None) => end_advice_behind(alloc, words),
+        Ok(None) => end_advice_after(alloc, words),
         told => told,
     }
 }
 
-/// What is wrong behind JOIN, if something is.
-fn end_advice_behind(
+/// What is wrong after JOIN, if something is.
+fn end_advice_after(
     alloc: Global,
     words: &mut WordsLeft<'_>,
 ) -> Result<Option<String>, AllocError> {
     match words.next() {
         None => Ok(None),
-        Some(word) => tell_word(alloc, "Behind the header's JOIN stands ", word, "."),
+        Some(word) => tell_word(alloc, "", word, " stands after the header's JOIN."),
     }
 }
 
-/// What is wrong with a header of one of the forms, behind its number, if something is.
+/// What is wrong with a header of one of the forms, after its number, if something is.
 fn numbers_advice(
     alloc: Global,
     words: &mut WordsLeft<'_>,
@@ -177,12 +177,12 @@ fn words_advice(alloc: Global, line: &[u8]) -> Result<Option<String>, AllocError
     }
 }
 
-/// What is wrong with the words of a header behind its name, if something is.
+/// What is wrong with the words of a header after its name, if something is.
 fn form_advice(alloc: Global, words: &mut WordsLeft<'_>) -> Result<Option<String>, AllocError> {
     match words.next() {
         Some([b'1']) => numbers_advice(alloc, words, FIRST_FORM.as_slice(), false),
         Some([b'2']) => numbers_advice(alloc, words, SECOND_FORM.as_slice(), true),
-        _ => tell(alloc, "Behind X25 belongs 1 or 2, the form of the header."),
+        _ => tell(alloc, "After X25 comes the form of the header: 1 or 2."),
     }
 }
 

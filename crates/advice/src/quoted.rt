@@ -14,7 +14,7 @@ fn push_byte(text: &mut String, byte: u8) -> Result<(), AllocError> {
     }
 }
 
-/// Appends a word and the quote behind it.
+/// Appends a word and the quote after it.
 fn push_word(text: &mut String, word: &[u8]) -> Result<(), AllocError> {
     for byte in word.iter().take(QUOTED) {
         push_byte(text, *byte)?;

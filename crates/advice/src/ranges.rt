@@ -34,7 +34,7 @@ impl Numbers {
         }
     }
 
-    /// The number behind a name of the header.
+    /// The number after a name of the header.
     pub fn put(&mut self, name: &str, number: u32) {
         match name {
             "MOD" => self.modulus = number,

@@ -64,7 +64,7 @@ fn word_count_advice(alloc: Global, line: &[u8]) -> Result<Option<String>, Alloc
     ))
 }
 
-/// What is wrong with a number behind that of the row before, if it is wrong.
+/// What is wrong with a number after that of the row before, if it is wrong.
 fn number_advice(
     alloc: Global,
     word: &[u8],
@@ -110,7 +110,7 @@ fn side_advice(alloc: Global, word: &[u8]) -> Result<Option<String>, AllocError>
     }
 }
 
-/// What is wrong with octets that begin behind so many bytes of their line, if they are wrong.
+/// What is wrong with octets that begin after so many bytes of their line, if they are wrong.
 fn octets_advice(alloc: Global, word: &[u8], front: usize) -> Result<Option<String>, AllocError> {
     if word == b"-".as_slice() {
         return Ok(None);

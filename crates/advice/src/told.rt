@@ -21,8 +21,8 @@ pub fn tell_word(
     alloc: Global,
     before: &str,
     word: &[u8],
-    behind: &str,
+    after: &str,
 ) -> Result<Option<String>, AllocError> {
     let word = quoted(alloc, word)?;
-    told(format!(in alloc; "{before}{word}{behind}"))
+    told(format!(in alloc; "{before}{word}{after}"))
 }

@@ -163,7 +163,7 @@ of_topic topic word = topic ++ (codes " " ++ word)
 abbrev pub has_word : List ℕ → Explanation → Bool
 has_word word e = bytes_eq e.word.now word
 
--- whether a row explains a word: its own, its name, the name of its topic, or its own behind that with a space between them
+-- whether a row explains a word: its own, its name, the name of its topic, or its own after that with a space between them
 abbrev pub is_of : List ℕ → Explanation → Bool
 is_of word e =
     bytes_eq e.word.now word

@@ -32,7 +32,7 @@ topic_document Kind = codes "/usr/share/doc/x25scan/TRACE.md"
 topic_document Header = codes "/usr/share/doc/x25scan/TRACE.md"
 topic_document _ = codes "/usr/share/doc/x25scan/REPORT.md"
 
--- parts of a text, one behind the other
+-- parts of a text, one after the other
 abbrev pub joined : List (List ℕ) → List ℕ
 joined [] = []
 joined (part ∷ []) = part
@@ -57,7 +57,7 @@ explanation_text e = joined
     ∷ codes "\n  See: " ∷ topic_document e.topic
     ∷ codes "\n  Example: " ∷ e.example.now ∷ place e.trace.now ∷ [])
 
--- the text of explanations, one behind the other
+-- the text of explanations, one after the other
 abbrev pub explanations_text : List Explanation → List ℕ
 explanations_text es = flat_map explanation_text es
 

@@ -63,7 +63,7 @@ impl Topic {
         }
     }
 
-    /// What is told of a word of this topic (profile).
+    /// What is printed of a word of this topic (profile).
     pub fn word(self) -> &'static str
         ensures { result.now ≡ topic_word self }
     {
@@ -110,7 +110,7 @@ pub struct Explanation {
     pub name: &'static str,
     /// What it means.
     pub meaning: &'static str,
-    /// When it is told, and what follows.
+    /// When it is printed, and what follows.
     pub when: &'static str,
     /// The clause that it rests on, or profile.
     pub clause: &'static str,

@@ -21,7 +21,7 @@ const REFUSALS: [Explanation; 11] = [
         topic: Topic::Refusal,
         word: "kind",
         name: "line L: kind K",
-        meaning: "The trace is refused at line L, counted from 1 with comments, by rule K. A second line tells what is wrong there.",
+        meaning: "The trace is refused at line L, counted from 1 with comments, by rule K. A second line says what is wrong there.",
         when: "With status 2, by the first faulty line; 21 to 29 are the rules.",
         clause: "profile",
         definition: "crates/line_model/specs/basics/Faults.antt",

@@ -38,7 +38,7 @@ fn explanation_text(alloc: Global, explanation: &Explanation) -> Result<String, 
     )
 }
 
-/// The text of explanations, one behind the other.
+/// The text of explanations, one after the other.
 pub fn explanations_text(alloc: Global, found: &[Explanation]) -> Result<String, AllocError>
     ensures { IfOk result (λ text. string_bytes text ≡ explanations_text found.now) }
 {
