@@ -3,19 +3,19 @@ use Rattle.std.specs.Prelude.{All}
 use Rattle.line_model.specs.basics.Records.{Piece}
 use Rattle.piece_queue.specs.declared.rule.Notes.{Notes}
 use Rattle.piece_queue.specs.Known.{IsFed}
-use Rattle.piece_queue.proofs.Noted.{noted_hears, noted_hearing}
-use Rattle.piece_queue.proofs.work.Work.hear.Goals as goal
+use Rattle.piece_queue.proofs.Noted.{noted_learns, noted_confirms}
+use Rattle.piece_queue.proofs.work.Work.confirm.Goals as goal
 
 pub absorb-requires-clause-rule : goal.absorb-requires-clause-rule
-absorb-requires-clause-rule g c = noted_hears g.P.Plan.pieces _ _ _ _ c.witness.invariant.1
+absorb-requires-clause-rule g c = noted_learns g.P.Plan.pieces _ _ _ _ c.witness.invariant.1
 
 pub learn_as-requires-clause-rule : goal.learn_as-requires-clause-rule
-learn_as-requires-clause-rule g c = noted_hearing g.P.Plan.pieces _ _ (ap (λ v. v.record_of.feeds) c.absorb.ensures.rule ∙ c.pass.invariant.1)
+learn_as-requires-clause-rule g c = noted_confirms g.P.Plan.pieces _ _ (ap (λ v. v.record_of.feeds) c.absorb.ensures.rule ∙ c.pass.invariant.1)
 
 pub returns-clause-fed : goal.returns-clause-fed
 returns-clause-fed g c =
-    let heard = c.absorb.ensures.rule in
-    let known = subst (λ (v : Notes). All (IsFed v.fed) v.known) heard c.learn_as.ensures.rule.1.0 in
+    let learned = c.absorb.ensures.rule in
+    let known = subst (λ (v : Notes). All (IsFed v.fed) v.known) learned c.learn_as.ensures.rule.1.0 in
     let none = c.pass.invariant.2 in
     let own = subst (λ l. All (IsFed c.pass.inside.pass.me.0.client.fed) (l ++ c.witness.inside.pass.me.0.client.known)) none known in
     subst (λ (l : List Piece × List Piece). All (IsFed l.0) l.1) (λ i. (ap (λ v. v.pieces) c.pass.view_is i, ap (λ v. v.pieces) c.witness.view_is i)) own
