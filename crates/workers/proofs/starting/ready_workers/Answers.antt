@@ -1,7 +1,7 @@
 use Rattle.std.proofs.Common.{◌+◌, ◌∙◌, ap, arith, rules, subst, sym}
 use Rattle.std.specs.Prelude.{All}
 use Rattle.std.proofs.lemmas.Result.{IfOk-from_err}
-use Rattle.workers.proofs.starting.crew_for.Goals as goal
+use Rattle.workers.proofs.starting.ready_workers.Goals as goal
 use Rattle.line_model.proofs.Schedules.{All-more}
 use Rattle.workers.specs.Workers.{IsWorkerStart}
 
@@ -25,7 +25,7 @@ loop-worker-preserved g c =
       queue = c.split.ensures.queue.0 ∙ i.queue;
       pass = search rules;
       pieces = c.split.ensures.pieces.0 ∙ i.pieces;
-      worker_starts = All-more (IsWorkerStart (λ s. s.posts) c.args.work.now.queue) _ _ _ c.push_reserved.ensures.items
-          (subst (All (IsWorkerStart (λ s. s.posts) c.args.work.now.queue)) (sym c.in_ok-reserve.ensures.items) i.worker_starts)
+      starts = All-more (IsWorkerStart (λ s. s.posts) c.args.work.now.queue) _ _ _ c.push_reserved.ensures.items
+          (subst (All (IsWorkerStart (λ s. s.posts) c.args.work.now.queue)) (sym c.in_ok-reserve.ensures.items) i.starts)
           (record { queue = c.split.ensures.queue.1 ∙ i.queue; fresh = c.split.ensures.empty; share = search rules });
     }
