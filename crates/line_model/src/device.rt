@@ -75,7 +75,7 @@ impl Source for SliceSource<'_> {
 
     ghost before = { λ s. Some s.before.bytes };
 
-    ghost calls = { λ s. s.calls.times };
+    ghost calls = { λ s. s.calls };
 
     ghost failures = { λ s. 0 };
 
@@ -120,7 +120,7 @@ impl<A: Allocator> VecSink<A> {
 impl<A: Allocator> Sink for VecSink<A> {
     ghost taken = { λ s. Some s.bytes.items };
 
-    ghost failures = { λ s. s.failures.times };
+    ghost failures = { λ s. s.failures };
 
     fn write(&mut self, bytes: &[u8]) -> Result<usize, ()> {
         match self.bytes.extend_from_slice(bytes) {

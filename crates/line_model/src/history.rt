@@ -6,39 +6,6 @@ ghost use Rattle.std.specs.Borrow.{ftrue};
 
 use std::marker::Model;
 
-/// How often something happened. It has no bound.
-#[derive(Drop)]
-pub struct Count {
-    pub ghost times: { ℕ },
-}
-
-impl Model for Count {
-    ghost also_owns = { λ _. ftrue };
-}
-
-impl Count {
-    /// It did not happen yet.
-    pub fn new() -> Count
-        ensures { result.times ≡ 0 }
-    {
-        Count {}
-    }
-
-    /// The count before, and once more.
-    fn next(_before: &Count) -> Count
-        ensures { result.times ≡ _before.now.times + 1 }
-    {
-        Count {}
-    }
-
-    /// It happened once more.
-    pub fn add_one(&mut self)
-        ensures { self.new.times ≡ self.old.times + 1 }
-    {
-        *self = Count::next(self);
-    }
-}
-
 /// Bytes that there were.
 #[derive(Drop)]
 pub struct History {
@@ -54,7 +21,7 @@ impl History {
     pub fn new() -> History
         ensures { result.bytes ≡ [] }
     {
-        History {}
+        History::of(b"")
     }
 
     /// These bytes.
@@ -69,5 +36,38 @@ impl History {
         ensures { result.bytes ≡ _before.now.bytes ++ _byte.now ∷ [] }
     {
         History {}
+    }
+}
+
+/// How often something happened. It has no bound. Contracts see the number.
+#[derive(Drop)]
+pub struct Count {
+    // A byte for each time.
+    times: History,
+}
+
+impl Model for Count {
+    ghost use Rattle.std.specs.Prelude.{ℕ, length};
+
+    ghost Value = { ℕ };
+
+    ghost view = { λ c. length c.times.bytes };
+}
+
+impl Count {
+    /// It did not happen yet.
+    pub fn new() -> Count
+        ensures { result ≡ 0 }
+    {
+        Count {
+            times: History::new(),
+        }
+    }
+
+    /// It happened once more.
+    pub fn add_one(&mut self)
+        ensures { self.new ≡ self.old + 1 }
+    {
+        self.times = History::with(&self.times, &0);
     }
 }

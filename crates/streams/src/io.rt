@@ -69,8 +69,8 @@ impl<'a, R: Files + Clock, I: Read + Drop, W: Write + Drop> FileInput<'a, R, I, 
     /// Reads from standard input, which is told once where it is a terminal.
     fn read_standard(&mut self, buffer: &mut [u8]) -> io::Result<usize>
         ensures fits { IfOk result (λ n. n ≤ length buffer.old) }
-        ensures calls { self.new.calls.times ≡ self.old.calls.times }
-        ensures failures { self.new.failures.times ≡ self.old.failures.times }
+        ensures calls { self.new.calls ≡ self.old.calls }
+        ensures failures { self.new.failures ≡ self.old.failures }
     {
         if self.is_terminal {
             self.is_terminal = false;
@@ -81,8 +81,8 @@ impl<'a, R: Files + Clock, I: Read + Drop, W: Write + Drop> FileInput<'a, R, I, 
 
     /// Keeps bytes that were read.
     fn keep(&mut self, bytes: &[u8])
-        ensures calls { self.new.calls.times ≡ self.old.calls.times }
-        ensures failures { self.new.failures.times ≡ self.old.failures.times }
+        ensures calls { self.new.calls ≡ self.old.calls }
+        ensures failures { self.new.failures ≡ self.old.failures }
     {
         if self.begun.len() < BEGUN {
             let _ = self.begun.extend_from_slice(bytes);
@@ -94,8 +94,8 @@ impl<'a, R: Files + Clock, I: Read + Drop, W: Write + Drop> FileInput<'a, R, I, 
     /// Reads from the file that was opened, else from standard input.
     fn read_some(&mut self, buffer: &mut [u8]) -> io::Result<usize>
         ensures fits { IfOk result (λ n. n ≤ length buffer.old) }
-        ensures calls { self.new.calls.times ≡ self.old.calls.times }
-        ensures failures { self.new.failures.times ≡ self.old.failures.times }
+        ensures calls { self.new.calls ≡ self.old.calls }
+        ensures failures { self.new.failures ≡ self.old.failures }
     {
         match &mut self.file {
             Some(file) => file.read(buffer),
@@ -111,9 +111,9 @@ impl<R: Files + Clock, I: Read + Drop, W: Write + Drop> Source for FileInput<'_,
 
     ghost before = { λ s. None };
 
-    ghost calls = { λ s. s.calls.times };
+    ghost calls = { λ s. s.calls };
 
-    ghost failures = { λ s. s.failures.times };
+    ghost failures = { λ s. s.failures };
 
     fn read(&mut self, buffer: &mut [u8]) -> Result<usize, ()> {
         self.calls.add_one();
@@ -221,7 +221,7 @@ impl<W: Write + Drop> Sink for WriteSink<W> {
 
     ghost taken = { λ s. None };
 
-    ghost failures = { λ s. s.failures.times };
+    ghost failures = { λ s. s.failures };
 
     fn write(&mut self, bytes: &[u8]) -> Result<usize, ()> {
         let written = self.writer.write(bytes);

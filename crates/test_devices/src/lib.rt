@@ -45,9 +45,9 @@ impl Source for CutSource<'_> {
 
     ghost before = { λ s. Some s.before.bytes };
 
-    ghost calls = { λ s. s.calls.times };
+    ghost calls = { λ s. s.calls };
 
-    ghost failures = { λ s. s.failures.times };
+    ghost failures = { λ s. s.failures };
 
     fn read(&mut self, buffer: &mut [u8]) -> Result<usize, ()> {
         self.before = History::of(self.rest);
@@ -95,7 +95,7 @@ impl Sink for CutSink {
 
     ghost taken = { λ s. Some s.taken.items };
 
-    ghost failures = { λ s. s.failures.times };
+    ghost failures = { λ s. s.failures };
 
     fn write(&mut self, bytes: &[u8]) -> Result<usize, ()> {
         let n = bytes.len().min(self.step.max(1));
