@@ -1,5 +1,5 @@
 //! The four ledgers of a book.
-use crate::MOST_SHARES;
+use crate::book::MOST_SHARES;
 use std::marker::{Brand, Model, PhantomData};
 use std::sync::ledger::{Blank, Ledger};
 

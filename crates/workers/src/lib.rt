@@ -16,7 +16,7 @@ mod worker;
 pub use feeding::{Feed, feed_piece, feed_pieces};
 pub use gate::Gate;
 pub use gathering::{Gathered, gather};
-pub use handler::{Handler, Posted};
+pub use handler::Handler;
 pub use run::{RunOutcome, run_scoped};
 pub use starting::{ReadyWorkers, ready_workers};
 pub use whole::{Crew, Worked, work_through};

@@ -4,9 +4,10 @@ ghost use Rattle.std.specs.Prelude.{◌≡◌, ◌<◌, ◌⊎◌, IfOk, IfErr};
 ghost use Rattle.workers.specs.Runs.{IsRunOutcome};
 
 use crate::feeding::{Feed, feed_ends};
-use crate::handler::{Handler, Posted};
+use crate::handler::Handler;
 use crate::joining::join_all;
 use crate::starting::{ReadyWorkers, Started, start_all};
+use findings_book::{Ledgers, Share};
 use line_model::fault::Fault;
 use line_model::piece::Plan;
 use piece_queue::FeederPass;
@@ -31,9 +32,9 @@ fn run<
     's,
     'e: 's,
     P: Plan + Send + Sync,
-    H: Posted + Send + Drop + 's,
+    L: Ledgers + Send + Sync + 's,
     A: Allocator + Copy + Send + Sync,
-    W: Handler<P, A, H> + Sync,
+    W: Handler<P, A, L> + Sync,
     R: Threads + Wait + Clock + Sync,
     T: Feed<P, A>,
 >(
@@ -41,13 +42,13 @@ fn run<
     rt: &'s R,
     alloc: A,
     handler: &'s W,
-    ready: ReadyWorkers<'s, P, H, A>,
+    ready: ReadyWorkers<'s, P, L, A>,
     task: T,
-) -> Result<RunOutcome<T, H, A>, (T, Fault)>
+) -> Result<RunOutcome<T, Share<L>, A>, (T, Fault)>
     requires handler { W.handles handler.now ready.queue }
     requires some { 0 < ready.count }
     requires able { T.can_feed task }
-    ensures ran { IfOk result (IsRunOutcome H.posts (T.feed_gives task) ready.entry.count ready.entry.queue) }
+    ensures ran { IfOk result (IsRunOutcome (T.feed_gives task) ready.entry.count ready.entry.queue) }
     ensures refused { IfErr result (λ e. T.unfed task e.0
         × ((e.1 ≡ Fault.Memory) ⊎ (e.1 ≡ Fault.Start))) }
 {
@@ -80,31 +81,31 @@ fn run<
 /// Runs the workers and the task in a scope of threads.
 pub fn run_scoped<
     P: Plan + Send + Sync,
-    H: Posted + Send + Drop,
+    L: Ledgers + Send + Sync,
     A: Allocator + Copy + Send + Sync,
-    W: Handler<P, A, H> + Sync,
+    W: Handler<P, A, L> + Sync,
     R: Threads + Wait + Clock + Sync,
     T: Feed<P, A> + Drop,
 >(
     rt: &R,
     alloc: A,
     handler: &W,
-    ready: ReadyWorkers<'_, P, H, A>,
+    ready: ReadyWorkers<'_, P, L, A>,
     task: T,
-) -> Result<RunOutcome<T, H, A>, (T, Fault)>
+) -> Result<RunOutcome<T, Share<L>, A>, (T, Fault)>
     requires handler { W.handles handler.now ready.queue }
     requires some { 0 < ready.count }
     requires able { T.can_feed task }
-    ensures ran { IfOk result (IsRunOutcome H.posts (T.feed_gives task) ready.entry.count ready.entry.queue) }
+    ensures ran { IfOk result (IsRunOutcome (T.feed_gives task) ready.entry.count ready.entry.queue) }
     ensures refused { IfErr result (λ e. T.unfed task e.0
         × ((e.1 ≡ Fault.Memory) ⊎ (e.1 ≡ Fault.Start))) }
 {
     thread::scope(
         thread::scope_env(),
         rt,
-        move |scope| -> Result<RunOutcome<T, H, A>, (T, Fault)>
+        move |scope| -> Result<RunOutcome<T, Share<L>, A>, (T, Fault)>
             requires { (0 < ready.count) × T.can_feed task × W.handles handler.now ready.queue }
-            ensures { IfOk result (IsRunOutcome H.posts (T.feed_gives task) ready.entry.count ready.entry.queue)
+            ensures { IfOk result (IsRunOutcome (T.feed_gives task) ready.entry.count ready.entry.queue)
                 × IfErr result (λ e. T.unfed task e.0
                 × ((e.1 ≡ Fault.Memory) ⊎ (e.1 ≡ Fault.Start))) }
         { run(scope, rt, alloc, handler, ready, task) },

@@ -4,7 +4,7 @@ ghost use Rattle.std.specs.Prelude.{◌≡◌, ◌≤◌, [], false, All, IsTrue
 ghost use Rattle.piece_queue.specs.Rule.{feeder, worker};
 ghost use Rattle.workers.specs.Workers.{IsWorkerOutcome, IsWorkerStart};
 
-use crate::handler::{Handler, Posted};
+use crate::handler::Handler;
 use crate::worker::{Finishes, WorkerOutcome, work_on};
 use findings_book::{Book, Ledgers, Share, Witness};
 use line_model::fault::Fault;
@@ -24,18 +24,18 @@ pub struct WorkerStart<H, A: Allocator = Global> {
 }
 
 /// A worker that runs.
-pub type Running<'w, P, H, A> = PromisedHandle<WorkerOutcome<H, A>, Finishes<'w, P, A>>;
+pub type Running<'w, P, L, A> = PromisedHandle<WorkerOutcome<Share<L>, A>, Finishes<'w, P, A>>;
 
 /// Workers that are ready to start at a queue, and the pass of its feeder. Contracts see which queue it is, and how many
 /// workers they are.
 #[derive(Drop)]
-pub struct ReadyWorkers<'w, P: Plan, H: Posted, A: Allocator = Global> {
+pub struct ReadyWorkers<'w, P: Plan, L: Ledgers, A: Allocator = Global> {
     pub(crate) work: &'w Work<P, A>,
     pub(crate) pass: FeederPass<A>,
-    pub(crate) starts: Vec<WorkerStart<H, A>, A>,
+    pub(crate) starts: Vec<WorkerStart<Share<L>, A>, A>,
 }
 
-impl<'w, P: Plan, H: Posted, A: Allocator> Model for ReadyWorkers<'w, P, H, A> {
+impl<'w, P: Plan, L: Ledgers, A: Allocator> Model for ReadyWorkers<'w, P, L, A> {
     ghost use Rattle.std.specs.Prelude.{◌≡◌, [], All, vec_len};
     ghost use Rattle.piece_queue.specs.Rule.{feeder};
     ghost use Rattle.workers.specs.Workers.{IsWorkerStart};
@@ -45,7 +45,7 @@ impl<'w, P: Plan, H: Posted, A: Allocator> Model for ReadyWorkers<'w, P, H, A> {
 
     ghost view = { λ c. record { queue = c.work.now.queue; count = vec_len c.starts } };
 
-    ghost invariant = { λ c. (c.pass.queue ≡ c.work.now.queue) × (c.pass.record_of ≡ feeder 0 0 (vec_len c.starts) 0 []) × (c.pass.pieces ≡ []) × All (IsWorkerStart H.posts c.work.now.queue) c.starts.items };
+    ghost invariant = { λ c. (c.pass.queue ≡ c.work.now.queue) × (c.pass.record_of ≡ feeder 0 0 (vec_len c.starts) 0 []) × (c.pass.pieces ≡ []) × All (IsWorkerStart c.work.now.queue) c.starts.items };
 }
 
 /// So many workers, each with a pass of the queue and a share of the book; or want of memory.
@@ -55,7 +55,7 @@ pub fn ready_workers<'w, P: Plan, L: Ledgers, A: Allocator + Copy, N: Witness>(
     book: &mut Book<P, L, A, N>,
     pass: FeederPass<A>,
     workers: usize,
-) -> Result<ReadyWorkers<'w, P, Share<L>, A>, Fault>
+) -> Result<ReadyWorkers<'w, P, L, A>, Fault>
     requires queue { pass.queue ≡ work.now.queue }
     requires fresh { (pass.record_of ≡ feeder 0 0 0 0 []) × (pass.pieces ≡ []) }
     requires few { workers ≤ 64 }
@@ -79,11 +79,11 @@ pub fn ready_workers<'w, P: Plan, L: Ledgers, A: Allocator + Copy, N: Witness>(
 
 /// The queue and its feeder's pass, the workers that run, room for their shares, and whether each worker has its thread.
 #[derive(Drop)]
-pub struct Started<'s, P: Plan, H: Posted, A: Allocator> {
+pub struct Started<'s, P: Plan, L: Ledgers, A: Allocator> {
     pub work: &'s Work<P, A>,
     pub pass: FeederPass<A>,
-    pub running: Vec<Running<'s, P, H, A>, A>,
-    pub shares: Vec<H, A>,
+    pub running: Vec<Running<'s, P, L, A>, A>,
+    pub shares: Vec<Share<L>, A>,
     pub all: bool,
 }
 
@@ -92,17 +92,17 @@ pub fn start_all<
     's,
     'e: 's,
     P: Plan + Send + Sync,
-    H: Posted + Send + Drop + 's,
+    L: Ledgers + Send + Sync + 's,
     A: Allocator + Copy + Send + Sync,
-    W: Handler<P, A, H> + Sync,
+    W: Handler<P, A, L> + Sync,
     R: Wait + Clock + Sync,
 >(
     scope: &'s Scope<'s, &'e ()>,
     rt: &'s R,
     alloc: A,
     handler: &'s W,
-    ready: ReadyWorkers<'s, P, H, A>,
-) -> Option<Started<'s, P, H, A>>
+    ready: ReadyWorkers<'s, P, L, A>,
+) -> Option<Started<'s, P, L, A>>
     requires handler { W.handles handler.now ready.queue }
     ensures queue { IfSome result (λ s. s.work.now.queue ≡ ready.entry.queue) }
     ensures pass { IfSome result (λ s. (s.pass.queue ≡ s.work.now.queue)
@@ -129,10 +129,10 @@ pub fn start_all<
         let WorkerStart { pass, share } = start;
         let started = scope.spawn_with(
             Finishes { work },
-            move || -> WorkerOutcome<H, A>
+            move || -> WorkerOutcome<Share<L>, A>
                 requires { (pass.queue ≡ work.now.queue) × (pass.record_of ≡ worker [] false 0)
-                    × (H.posts share ≡ 0) × W.handles handler.now work.now.queue }
-                ensures { IsWorkerOutcome H.posts work.entry.now.queue result }
+                    × (share.posts ≡ 0) × W.handles handler.now work.now.queue }
+                ensures { IsWorkerOutcome work.entry.now.queue result }
             { work_on(rt, alloc, work, handler, pass, share) },
         );
         match started.ok() {

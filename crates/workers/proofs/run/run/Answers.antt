@@ -14,7 +14,7 @@ returns-clause-ran g c =
     let pieces = c.join_all-joined.ensures.pieces ∙ c.feed_ends-2.ensures.pieces in record {
       queue = joined.queue ∙ c.in-Some.ensures.queue;
       became = subst (λ l. g.T.Feed.feed_gives c.args.task l c.feed-task.result) (sym pieces) c.feed-task.ensures.gives;
-      fault = ended _ _ _ _ c.join_all-joined.result.pass.record_of.fed v c.join_all-joined.result joined pending some (sym joined.fed) same;
+      fault = ended _ _ _ c.join_all-joined.result.pass.record_of.fed v c.join_all-joined.result joined pending some (sym joined.fed) same;
     }
 
 pub returns-then-not-all-clause-refused : goal.returns-then-not-all-clause-refused

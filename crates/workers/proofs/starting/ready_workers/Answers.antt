@@ -25,7 +25,7 @@ loop-worker-preserved g c =
       queue = c.split.ensures.queue.0 ∙ i.queue;
       pass = search rules;
       pieces = c.split.ensures.pieces.0 ∙ i.pieces;
-      starts = All-more (IsWorkerStart (λ s. s.posts) c.args.work.now.queue) _ _ _ c.push_reserved.ensures.items
-          (subst (All (IsWorkerStart (λ s. s.posts) c.args.work.now.queue)) (sym c.in_ok-reserve.ensures.items) i.starts)
+      starts = All-more (IsWorkerStart c.args.work.now.queue) _ _ _ c.push_reserved.ensures.items
+          (subst (All (IsWorkerStart c.args.work.now.queue)) (sym c.in_ok-reserve.ensures.items) i.starts)
           (record { queue = c.split.ensures.queue.1 ∙ i.queue; fresh = c.split.ensures.empty; share = search rules });
     }

@@ -10,5 +10,5 @@ invariant-loop-worker g l = record {
   queue : l.pass.queue ≡ l.work.queue;
   pass : l.pass.record_of ≡ feeder 0 0 l._worker 0 [];
   pieces : l.pass.pieces ≡ [];
-  starts : All (IsWorkerStart (λ s. s.posts) l.work.queue) l.starts.items;
+  starts : All (IsWorkerStart l.work.queue) l.starts.items;
 }

@@ -9,7 +9,7 @@ use Rattle.line_model.proofs.Schedules.{All-more}
 pub loop-start-preserved : goal.loop-start-preserved
 loop-start-preserved g c =
     let i = c.loop-start.invariant in record {
-      starts = All-rest (IsWorkerStart g.H.Posted.posts c.ready.inside.work.now.queue) _ _ _ c.in-Some.ensures.steps.0 i.starts;
+      starts = All-rest (IsWorkerStart c.ready.inside.work.now.queue) _ _ _ c.in-Some.ensures.steps.0 i.starts;
       count = omega (arith, i.count, c.push_reserved.ensures.len, c.in-Some.ensures.steps.1);
       room = omega (arith, i.room, c.push_reserved.ensures.capacity);
       promised = All-more (λ h. h.promise.work.now.queue ≡ c.ready.inside.work.now.queue) _ _ _ c.push_reserved.ensures.items i.promised search rules;
@@ -18,7 +18,7 @@ loop-start-preserved g c =
 pub loop-start-init : goal.loop-start-init
 loop-start-init g c =
     let given = c.into_iter-start-iterator.ensures.into_iter_gives in record {
-      starts = subst (All (IsWorkerStart g.H.Posted.posts c.ready.inside.work.now.queue)) (sym given.0) c.ready.invariant.3;
+      starts = subst (All (IsWorkerStart c.ready.inside.work.now.queue)) (sym given.0) c.ready.invariant.3;
       count = omega (arith, given.1, c.in-Ok.ensures.len, c.len-count.ensures);
       room = omega (arith, c.in-Ok.ensures.capacity);
       promised = λ k d lt. absurd (omega (arith, lt, c.in-Ok.ensures.len));

@@ -5,7 +5,7 @@ use Rattle.line_model.specs.declared.fault.Fault.TheVariants.{Memory}
 use Rattle.line_model.specs.work.Book.{IsValue}
 use Rattle.workers.specs.Vouching.{IsValueOfOne}
 use Rattle.line_model.proofs.Posts.{value_is}
-use Rattle.workers.proofs.handler.PostingHandlerShare.handle.Goals as goal
+use Rattle.workers.proofs.handler.PostingHandler.handle.Goals as goal
 
 pub loop-init : goal.loop-init
 loop-init g c = record {
