@@ -21,7 +21,7 @@ use std::marker::Brand;
 use std::sync::Wait;
 use std::thread::Threads;
 use std::time::Clock;
-use workers::{Gate, Gathered, Worked, work_through};
+use workers::{Crew, Gate, Gathered, Worked, work_through};
 
 /// What the reading thread read, and what the workers made of its pieces.
 #[derive(Drop)]
@@ -87,9 +87,12 @@ fn work_on_trace<
         alloc,
         outcome: None,
     };
-    match work_through::<P, A, G, R, Reading<A, S, R>>(
-        rt, alloc, workers, capacity, gate, reading,
-    ) {
+    let crew = Crew {
+        workers,
+        capacity,
+        gate,
+    };
+    match work_through::<P, A, G, R, Reading<A, S, R>>(rt, alloc, crew, reading) {
         Ok(worked) => {
             let Worked { task, gathered } = worked;
             let Reading {

@@ -3,6 +3,7 @@ use Rattle.std.proofs.Common.{◌≡◌, ℕ, ◌<◌, length, Option, Some, Non
 use Rattle.std.specs.Prelude.{MatchOption, sum_by, vec_len}
 use Rattle.line_model.proofs.Counting.{length-once}
 use Rattle.line_model.specs.declared.fault.Fault.TheVariants.{Memory}
+use Rattle.line_model.specs.declared.totals.Totals.{Totals}
 use Rattle.piece_queue.specs.Passes.{QueueId}
 use Rattle.piece_queue.specs.declared.rule.Record.{Record}
 use Rattle.workers.specs.declared.joining.Joined.{Joined}
@@ -12,9 +13,9 @@ match_map : {E : Type 0} (f : Option E) (p q : Type 0) (m : E → Type 0) → (p
 match_map None p q m to h = to h
 match_map (Some e) p q m to h = h
 
-pub ended : {H A : Type 0} (posts : H → ℕ) (id : QueueId) (count k n : ℕ) (v : Record) (j : Joined H A) → IsJoined posts id count v j → v.pending ≡ count → 0 < count → v.fed ≡ n → count ≡ k
-    → MatchOption j.fault ((vec_len j.shares ≡ k) × (sum_by posts j.shares.items ≡ n)) (λ f. f ≡ Memory)
-ended posts id count k n v j h pending some fed same =
+pub ended : {A : Type 0} (id : QueueId) (count k n : ℕ) (v : Record) (j : Joined Totals A) → IsJoined id count v j → v.pending ≡ count → 0 < count → v.fed ≡ n → count ≡ k
+    → MatchOption j.fault ((vec_len j.shares ≡ k) × (sum_by (λ (s : Totals). s.posts) j.shares.items ≡ n)) (λ f. f ≡ Memory)
+ended id count k n v j h pending some fed same =
     let all = h.all some (omega (arith, h.pending, pending)) (subst (λ k. 0 < k) (sym h.done) some) in
     let taken : length j.pass.record_of.taken ≡ n = length-once j.pass.record_of.taken j.pass.record_of.fed all ∙ (h.fed ∙ fed) in
     match_map j.fault _ _ _ (λ all_posts. (h.shares ∙ same, all_posts ∙ taken)) h.fault

@@ -6,20 +6,21 @@ use Rattle.piece_queue.specs.declared.rule.Record.{Record}
 use Rattle.line_model.specs.basics.Records.{Piece}
 use Rattle.line_model.specs.work.Book.{KnownPlan, IsPlanned}
 use Rattle.line_model.specs.declared.fault.Fault.TheVariants.{Memory}
+use Rattle.line_model.specs.declared.totals.Totals.{Totals}
 use Rattle.workers.specs.declared.worker.WorkerOutcome.{WorkerOutcome}
 use Rattle.workers.specs.declared.starting.WorkerStart.{WorkerStart}
 
 -- a new pass of this queue, and a share of nothing
-pub record IsWorkerStart {H A : Type 0} (posts : H → ℕ) (id : QueueId) (s : WorkerStart H A) : Type 0 where
+pub record IsWorkerStart {A : Type 0} (id : QueueId) (s : WorkerStart Totals A) : Type 0 where
   pub queue : s.pass.queue ≡ id
   pub fresh : s.pass.record_of ≡ worker [] false 0
-  pub share : posts s.share ≡ 0
+  pub share : s.share.posts ≡ 0
 
 -- its pass, of this queue, has its end. Without a fault each piece that it took was posted; else memory ran out
-pub record IsWorkerOutcome {H A : Type 0} (posts : H → ℕ) (id : QueueId) (d : WorkerOutcome H A) : Type 0 where
+pub record IsWorkerOutcome {A : Type 0} (id : QueueId) (d : WorkerOutcome Totals A) : Type 0 where
   pub queue : d.pass.queue ≡ id
   pub finished : d.pass.record_of.finished ≡ true
-  pub fault : MatchOption d.fault (posts d.share ≡ length d.pass.record_of.taken) (λ f. f ≡ Memory)
+  pub fault : MatchOption d.fault (d.share.posts ≡ length d.pass.record_of.taken) (λ f. f ≡ Memory)
 
 -- more pieces may have been fed, and no end; nothing was split or joined
 pub record HasFed (v w : Record) : Type 0 where

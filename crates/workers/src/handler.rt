@@ -1,6 +1,6 @@
 //! What a worker does with a piece.
 
-ghost use Rattle.std.specs.Prelude.{◌≡◌, ◌+◌, ℕ, OnOk, IfErr};
+ghost use Rattle.std.specs.Prelude.{◌≡◌, ◌+◌, OnOk, IfErr};
 ghost use Rattle.line_model.specs.work.Book.{IsPlanned};
 ghost use Rattle.workers.specs.Vouching.{HasPiece};
 
@@ -14,18 +14,8 @@ use std::alloc::{Allocator, Global};
 use std::marker::PhantomData;
 use std::sync::Wait;
 
-/// What one worker has posted.
-pub trait Posted {
-    /// How many reports.
-    ghost posts: { Self → ℕ };
-}
-
-impl<L: Ledgers> Posted for Share<L> {
-    ghost posts = { λ share. share.posts };
-}
-
 /// Handles the pieces of all workers, each with a share of its own.
-pub trait Handler<P: Plan, A: Allocator, H: Posted> {
+pub trait Handler<P: Plan, A: Allocator, L: Ledgers> {
     ghost use Rattle.piece_queue.specs.Passes.{QueueId};
 
     /// It handles pieces of this queue.
@@ -38,17 +28,17 @@ pub trait Handler<P: Plan, A: Allocator, H: Posted> {
         alloc: A,
         piece: &Piece<A>,
         pass: &mut WorkerPass<A>,
-        share: &mut H,
+        share: &mut Share<L>,
     ) -> Result<(), Fault>
         requires planned { IsPlanned P.pieces piece.now.id piece.now }
         requires queue { handles self.now pass.old.queue }
         requires taken { HasPiece pass.old.pieces piece.now }
         ensures same { pass.new ≡ pass.old }
-        ensures posted { OnOk result (H.posts share.new ≡ H.posts share.old + 1) }
+        ensures posted { OnOk result (share.new.posts ≡ share.old.posts + 1) }
         ensures refused { IfErr result (λ fault. fault ≡ Fault.Memory) };
 }
 
-/// Runs pieces by a gate, and posts their reports at the locked_posts of a book, each with a witness of its piece.
+/// Runs pieces by a gate, and posts their reports to a book, each with a witness of its piece.
 #[derive(Drop)]
 pub struct Posting<'a, 'w, P: Plan, L: Ledgers + QueueName, A: Allocator, G> {
     pub work: &'w Work<P, A>,
@@ -56,7 +46,7 @@ pub struct Posting<'a, 'w, P: Plan, L: Ledgers + QueueName, A: Allocator, G> {
     pub gate: &'a G,
 }
 
-impl<'a, 'w, P: Plan, L: Ledgers + QueueName, A: Allocator + Copy, G: Gate> Handler<P, A, Share<L>>
+impl<'a, 'w, P: Plan, L: Ledgers + QueueName, A: Allocator + Copy, G: Gate> Handler<P, A, L>
     for Posting<'a, 'w, P, L, A, G> {
     ghost use Rattle.std.specs.Prelude.{◌≡◌};
 
@@ -75,7 +65,7 @@ impl<'a, 'w, P: Plan, L: Ledgers + QueueName, A: Allocator + Copy, G: Gate> Hand
             // A report that is answered as posted twice is posted again.
             let witness = PieceWitness {
                 work: self.work,
-                witness: self.work.testify(pass),
+                witness: self.work.witness_of(pass),
                 name: PhantomData,
             };
             match self.locked_posts.post(rt, report, share, witness) {

@@ -3,8 +3,8 @@
 ghost use Rattle.std.specs.Prelude.{◌≡◌, ◌≤◌, All, length, vec_len, vec_capacity};
 ghost use Rattle.workers.specs.Runs.{IsJoined};
 
-use crate::handler::Posted;
 use crate::starting::Running;
+use findings_book::{Ledgers, Share};
 use line_model::fault::Fault;
 use line_model::piece::Plan;
 use piece_queue::{FeederPass, Work};
@@ -20,19 +20,19 @@ pub struct Joined<H, A: Allocator = Global> {
 }
 
 /// Joins the threads and their passes.
-pub fn join_all<'w, P: Plan, H: Posted + Drop, A: Allocator, R: Threads>(
+pub fn join_all<'w, P: Plan, L: Ledgers, A: Allocator, R: Threads>(
     rt: &R,
     work: &Work<P, A>,
     mut pass: FeederPass<A>,
-    running: Vec<Running<'w, P, H, A>, A>,
-    mut shares: Vec<H, A>,
-) -> Joined<H, A>
+    running: Vec<Running<'w, P, L, A>, A>,
+    mut shares: Vec<Share<L>, A>,
+) -> Joined<Share<L>, A>
     requires queue { pass.queue ≡ work.now.queue }
     requires promised { All (λ h. h.promise.work.now.queue ≡ work.now.queue) running.items }
     requires fresh { (pass.record_of.done ≡ 0) × (length pass.record_of.taken ≡ 0) }
     requires room { (vec_len shares ≡ 0) × (vec_len running ≤ vec_capacity shares) }
     ensures pieces { result.pass.pieces ≡ pass.pieces }
-    ensures joined { IsJoined H.posts work.now.queue (vec_len running.entry) pass.record_of result }
+    ensures joined { IsJoined work.now.queue (vec_len running.entry) pass.record_of result }
 {
     let mut fault = None;
     for one in running {

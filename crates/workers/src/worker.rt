@@ -6,8 +6,9 @@ ghost use Rattle.piece_queue.specs.Rule.{worker};
 ghost use Rattle.workers.specs.Vouching.{HasPiece};
 ghost use Rattle.workers.specs.Workers.{IsWorkerOutcome};
 
-use crate::handler::{Handler, Posted};
+use crate::handler::Handler;
 use crate::waiting::Backoff;
+use findings_book::{Ledgers, Share};
 use line_model::fault::Fault;
 use line_model::piece::{Piece, Plan};
 use piece_queue::{Taken, Work, WorkerPass};
@@ -30,18 +31,19 @@ pub struct Finishes<'a, P: Plan, A: Allocator> {
     pub work: &'a Work<P, A>,
 }
 
-impl<'a, P: Plan, H: Posted, A: Allocator> Promise<WorkerOutcome<H, A>> for Finishes<'a, P, A> {
-    ghost kept_by = { λ p r. IsWorkerOutcome H.posts p.work.now.queue r };
+impl<'a, P: Plan, L: Ledgers, A: Allocator> Promise<WorkerOutcome<Share<L>, A>>
+    for Finishes<'a, P, A> {
+    ghost kept_by = { λ p r. IsWorkerOutcome p.work.now.queue r };
 }
 
 /// Handles a piece, unless memory ran out before.
-fn handle_unless<P: Plan, H: Posted + Drop, A: Allocator + Copy, W: Handler<P, A, H>, R: Wait>(
+fn handle_unless<P: Plan, L: Ledgers, A: Allocator + Copy, W: Handler<P, A, L>, R: Wait>(
     rt: &R,
     alloc: A,
     handler: &W,
     piece: &Piece<A>,
     pass: &mut WorkerPass<A>,
-    share: &mut H,
+    share: &mut Share<L>,
     fault: Option<Fault>,
 ) -> Option<Fault>
     requires planned { IsPlanned P.pieces piece.now.id piece.now }
@@ -49,7 +51,7 @@ fn handle_unless<P: Plan, H: Posted + Drop, A: Allocator + Copy, W: Handler<P, A
     requires taken { HasPiece pass.old.pieces piece.now }
     requires memory { IfSome fault (λ f. f ≡ Fault.Memory) }
     ensures same { pass.new ≡ pass.old }
-    ensures posted { IfNone result ((fault ≡ None) × (H.posts share.new ≡ H.posts share.old + 1)) }
+    ensures posted { IfNone result ((fault ≡ None) × (share.new.posts ≡ share.old.posts + 1)) }
     ensures memory { IfSome result (λ f. f ≡ Fault.Memory) }
 {
     match fault {
@@ -60,24 +62,18 @@ fn handle_unless<P: Plan, H: Posted + Drop, A: Allocator + Copy, W: Handler<P, A
 
 /// Takes pieces, runs them and posts their reports, until the end of this worker comes. Where memory ran out it keeps
 /// that fault, and drops the pieces that it takes from then on.
-pub fn work_on<
-    P: Plan,
-    H: Posted + Drop,
-    A: Allocator + Copy,
-    W: Handler<P, A, H>,
-    R: Wait + Clock,
->(
+pub fn work_on<P: Plan, L: Ledgers, A: Allocator + Copy, W: Handler<P, A, L>, R: Wait + Clock>(
     rt: &R,
     alloc: A,
     work: &Work<P, A>,
     handler: &W,
     mut pass: WorkerPass<A>,
-    mut share: H,
-) -> WorkerOutcome<H, A>
+    mut share: Share<L>,
+) -> WorkerOutcome<Share<L>, A>
     requires pass { (pass.queue ≡ work.now.queue) × (pass.record_of ≡ worker [] false 0) }
     requires handler { W.handles handler.now work.now.queue }
-    requires share { H.posts share ≡ 0 }
-    ensures done { IsWorkerOutcome H.posts work.now.queue result }
+    requires share { share.posts ≡ 0 }
+    ensures done { IsWorkerOutcome work.now.queue result }
 {
     let mut fault = None;
     let mut backoff = Backoff::new();
@@ -89,7 +85,7 @@ pub fn work_on<
                 work.give_back(rt, piece);
             }
             Taken::Finish => return WorkerOutcome { pass, share, fault },
-            Taken::Empty => backoff.take(rt),
+            Taken::Empty => backoff.wait(rt),
         }
     }
     unreachable!()

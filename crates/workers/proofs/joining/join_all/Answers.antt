@@ -5,6 +5,7 @@ use Rattle.std.proofs.lemmas.List.Sums.{sum_by_push}
 use Rattle.std.proofs.Common.{length-append}
 use Rattle.workers.proofs.Lists.{All-rest, sum-of-none}
 use Rattle.workers.proofs.Faults.{fault_then, fault_kept}
+use Rattle.line_model.specs.declared.totals.Totals.{Totals}
 use Rattle.workers.proofs.joining.join_all.Goals as goal
 
 pub loop-one-preserved-then-is_none : goal.loop-one-preserved-then-is_none
@@ -20,7 +21,7 @@ loop-one-preserved-then-is_none g c =
       done = ap (λ v. v.done) rec ∙ (ap (λ b. if b then c.loop-one.pass.record_of.done + 1 else c.loop-one.pass.record_of.done) c.join-done.ensures.finished ∙ omega (arith, i.done, c.push_reserved.ensures.len));
       fed = ap (λ v. v.fed) rec ∙ i.fed;
       fault = fault_then c.join-done.result.fault c.loop-one.fault _ _ _ _ c.if-is_none.ensures i.fault
-          (λ old new. ap (sum_by g.H.Posted.posts) c.push_reserved.ensures.items ∙ (sum_by_push g.H.Posted.posts c.loop-one.shares.items c.join-done.result.share ∙ omega (arith, old, new, length-append c.loop-one.pass.record_of.taken c.join-done.result.pass.record_of.taken, ap (λ v. length v.taken) rec)))
+          (λ old new. ap (sum_by (λ (s : Totals). s.posts)) c.push_reserved.ensures.items ∙ (sum_by_push (λ (s : Totals). s.posts) c.loop-one.shares.items c.join-done.result.share ∙ omega (arith, old, new, length-append c.loop-one.pass.record_of.taken c.join-done.result.pass.record_of.taken, ap (λ v. length v.taken) rec)))
           c.join-done.ensures.fault;
       all = λ _. c.join.ensures.all;
     }
@@ -53,7 +54,7 @@ loop-one-init g c =
       pending = omega (arith, c.requires.room.0);
       done = c.requires.fresh.0 ∙ sym c.requires.room.0;
       fed = refl;
-      fault = sum-of-none g.H.Posted.posts c.args.shares.items none ∙ sym c.requires.fresh.1;
+      fault = sum-of-none (λ (s : Totals). s.posts) c.args.shares.items none ∙ sym c.requires.fresh.1;
       all = λ some. absurd (omega (arith, some, c.requires.room.0));
     }
 

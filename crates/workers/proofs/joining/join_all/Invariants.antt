@@ -2,6 +2,7 @@ use Rattle.std.specs.Prelude.{◌≡◌, ◌+◌, ◌-◌, ◌≤◌, ◌<◌, l
 use Rattle.std.specs.Vec.Iter.{into_iter_items, into_iter_len}
 use Rattle.line_model.specs.declared.fault.Fault.TheVariants.{Memory}
 use Rattle.piece_queue.specs.Rule.{IsAccounted}
+use Rattle.line_model.specs.declared.totals.Totals.{Totals}
 use Rattle.workers.proofs.joining.join_all.Given as goal
 
 abbrev pub invariant-loop-one : goal.invariant-loop-one
@@ -14,6 +15,6 @@ invariant-loop-one g l = record {
   pending : l.pass.record_of.pending ≡ l.initial.pass.record_of.pending - vec_len l.shares;
   done : l.pass.record_of.done ≡ vec_len l.shares;
   fed : l.pass.record_of.fed ≡ l.initial.pass.record_of.fed;
-  fault : MatchOption l.fault (sum_by g.H.Posted.posts l.shares.items ≡ length l.pass.record_of.taken) (λ f. f ≡ Memory);
+  fault : MatchOption l.fault (sum_by (λ (s : Totals). s.posts) l.shares.items ≡ length l.pass.record_of.taken) (λ f. f ≡ Memory);
   all : 0 < vec_len l.shares → IsAccounted l.pass.record_of;
 }
