@@ -3,7 +3,6 @@
 
 mod chunk;
 pub mod fields;
-mod history;
 pub mod laws;
 mod lines;
 mod objects;

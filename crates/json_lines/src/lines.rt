@@ -4,9 +4,9 @@ ghost use Rattle.std.specs.Prelude.{◌≡◌, ℕ, ◌+◌, List, [], ◌∷◌
 ghost use Rattle.json_lines.specs.Standing.{Goes, Stands};
 
 use crate::chunk::Chunk;
-use crate::history::History;
 use arrayvec::ArrayVec;
 use line_model::device::Sink;
+use line_model::history::History;
 
 /// The line that has not ended, and the objects that are on their way to a sink.
 #[derive(Drop)]

@@ -4,14 +4,16 @@ ghost use Rattle.std.specs.Prelude.{◌≡◌, ℕ, List, Option, Some, IfOk, If
 ghost use Rattle.std.specs.Result.{is_err};
 ghost use Rattle.line_model.specs.basics.Device.{Gives, with_more};
 
-use crate::count::Count;
+use crate::history::{Count, History};
 use std::alloc::Allocator;
-use std::sync::ledger::Ledger;
 
 /// Where a trace comes from, in pieces of any size.
 pub trait Source {
     /// The bytes that it will give up to its end, where it tells them.
     ghost left: { Self → Option (List ℕ) };
+
+    /// The bytes that were left before its last call, where it tells them.
+    ghost before: { Self → Option (List ℕ) };
 
     /// How often it was asked.
     ghost calls: { Self → ℕ };
@@ -24,6 +26,7 @@ pub trait Source {
         ensures fits { IfOk result (λ n. n ≤ length buffer.old) }
         ensures given { IfOk result (λ n. Gives (left self.old) (left self.new) (take n buffer.new) (length buffer.old)) }
         ensures failed { OnErr result (left self.new ≡ left self.old) }
+        ensures before { before self.new ≡ left self.old }
         ensures calls { calls self.new ≡ calls self.old + 1 }
         ensures failures { failures self.new ≡ (if is_err result then failures self.old + 1 else failures self.old) };
 }
@@ -47,64 +50,77 @@ pub trait Sink {
 
 /// The bytes of a slice, as a source.
 #[derive(Drop)]
-pub struct SliceSource<'a, L: Ledger> {
+pub struct SliceSource<'a> {
     rest: &'a [u8],
-    calls: Count<L>,
+    before: History,
+    calls: Count,
 }
 
-impl<'a, L: Ledger> SliceSource<'a, L> {
+impl<'a> SliceSource<'a> {
     /// A source of these bytes.
-    pub fn new(bytes: &'a [u8], calls: Count<L>) -> Self
-        ensures left { ⟦<SliceSource<'a, L> as Source>⟧.left result ≡ Some bytes.entry.now }
+    pub fn new(bytes: &'a [u8]) -> Self
+        ensures left { ⟦<SliceSource<'a> as Source>⟧.left result ≡ Some bytes.entry.now }
+        ensures calls { ⟦<SliceSource<'a> as Source>⟧.calls result ≡ 0 }
     {
-        SliceSource { rest: bytes, calls }
+        SliceSource {
+            rest: bytes,
+            before: History::of(bytes),
+            calls: Count::new(),
+        }
     }
 }
 
-impl<L: Ledger> Source for SliceSource<'_, L> {
+impl Source for SliceSource<'_> {
     ghost left = { λ s. Some s.rest.now };
 
-    ghost calls = { λ s. s.calls };
+    ghost before = { λ s. Some s.before.bytes };
+
+    ghost calls = { λ s. s.calls.times };
 
     ghost failures = { λ s. 0 };
 
     fn read(&mut self, buffer: &mut [u8]) -> Result<usize, ()> {
+        self.before = History::of(self.rest);
+        self.calls.add_one();
         let n = self.rest.len().min(buffer.len());
         let (front, back) = self.rest.split_at(n);
         buffer[..n].copy_from_slice(front);
         self.rest = back;
-        self.calls.add_one();
         Ok(n)
     }
 }
 
 /// Bytes in memory, as a sink. It fails where its list cannot grow.
 #[derive(Drop)]
-pub struct VecSink<A: Allocator, L: Ledger> {
+pub struct VecSink<A: Allocator> {
     bytes: Vec<u8, A>,
-    failures: Count<L>,
+    failures: Count,
 }
 
-impl<A: Allocator, L: Ledger> VecSink<A, L> {
-    /// A sink that goes on behind these bytes.
-    pub fn new(bytes: Vec<u8, A>, failures: Count<L>) -> Self
-        ensures taken { ⟦<VecSink<A, L> as Sink>⟧.taken result ≡ Some bytes.items }
+impl<A: Allocator> VecSink<A> {
+    /// A sink that goes on after these bytes.
+    pub fn new(bytes: Vec<u8, A>) -> Self
+        ensures taken { ⟦<VecSink<A> as Sink>⟧.taken result ≡ Some bytes.items }
+        ensures failures { ⟦<VecSink<A> as Sink>⟧.failures result ≡ 0 }
     {
-        VecSink { bytes, failures }
+        VecSink {
+            bytes,
+            failures: Count::new(),
+        }
     }
 
     /// The bytes that it holds.
     pub fn as_slice(&self) -> &[u8]
-        ensures { ⟦<VecSink<A, L> as Sink>⟧.taken self.now ≡ Some result.now }
+        ensures { ⟦<VecSink<A> as Sink>⟧.taken self.now ≡ Some result.now }
     {
         self.bytes.as_slice()
     }
 }
 
-impl<A: Allocator, L: Ledger> Sink for VecSink<A, L> {
+impl<A: Allocator> Sink for VecSink<A> {
     ghost taken = { λ s. Some s.bytes.items };
 
-    ghost failures = { λ s. s.failures };
+    ghost failures = { λ s. s.failures.times };
 
     fn write(&mut self, bytes: &[u8]) -> Result<usize, ()> {
         match self.bytes.extend_from_slice(bytes) {

@@ -3,12 +3,12 @@
 
 pub mod address;
 pub mod call;
-pub mod count;
 pub mod device;
 pub mod diagnostic;
 pub mod event;
 pub mod fault;
 pub mod finding;
+pub mod history;
 pub mod interface;
 pub mod items;
 pub mod laws;

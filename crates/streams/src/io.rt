@@ -6,13 +6,12 @@ use crate::input::{Input, OpenFault, OpenRefusal};
 use crate::last_bytes::LastBytes;
 use crate::output::Output;
 use crate::progress::{Progress, Telling};
-use line_model::count::Count;
 use line_model::device::{Sink, Source};
+use line_model::history::Count;
 use std::alloc::Global;
 use std::fs::OpenFile;
 use std::io::{ErrorKind, Read, Write};
 use std::rt::Files;
-use std::sync::ledger::Ledger;
 use std::time::Clock;
 use std::{fs, io};
 
@@ -22,7 +21,7 @@ const BEGUN: usize = 1 << 14;
 /// Standard input, or the file that was opened in its place, as a source that does not tell its bytes. Each read is one
 /// of the reader's, unbuffered.
 #[derive(Drop)]
-pub struct FileInput<'a, R: Files + Clock, I: Read + Drop, W: Write + Drop, L: Ledger, M: Ledger> {
+pub struct FileInput<'a, R: Files + Clock, I: Read + Drop, W: Write + Drop> {
     system: &'a R,
     standard: I,
     // That standard input is a terminal is still to be told.
@@ -35,31 +34,22 @@ pub struct FileInput<'a, R: Files + Clock, I: Read + Drop, W: Write + Drop, L: L
     progress: Progress<W>,
     // What the system said of the last read that failed.
     failure: Option<io::Error>,
-    calls: Count<L>,
-    failures: Count<M>,
+    calls: Count,
+    failures: Count,
 }
 
-impl<'a, R: Files + Clock, I: Read + Drop, W: Write + Drop, L: Ledger, M: Ledger> FileInput<
-    'a,
-    R,
-    I,
-    W,
-    L,
-    M,
-> {
-    /// Standard input, with its counts of calls and failures, the system that has the files and the clock, and the
-    /// progress that is told. Where standard input is a terminal that is told once, before it is read.
+impl<'a, R: Files + Clock, I: Read + Drop, W: Write + Drop> FileInput<'a, R, I, W> {
+    /// Standard input, the system that has the files and the clock, and the progress that is told. Where standard input
+    /// is a terminal that is told once, before it is read.
     pub fn new(
         alloc: Global,
         system: &'a R,
         standard: I,
         is_terminal: bool,
         progress: Progress<W>,
-        calls: Count<L>,
-        failures: Count<M>,
     ) -> Self
-        ensures calls { ⟦<FileInput<'a, R, I, W, L, M> as Source>⟧.calls result ≡ calls }
-        ensures failures { ⟦<FileInput<'a, R, I, W, L, M> as Source>⟧.failures result ≡ failures }
+        ensures calls { ⟦<FileInput<'a, R, I, W> as Source>⟧.calls result ≡ 0 }
+        ensures failures { ⟦<FileInput<'a, R, I, W> as Source>⟧.failures result ≡ 0 }
     {
         FileInput {
             system,
@@ -71,16 +61,16 @@ impl<'a, R: Files + Clock, I: Read + Drop, W: Write + Drop, L: Ledger, M: Ledger
             heard: LastBytes::new(alloc),
             progress,
             failure: None,
-            calls,
-            failures,
+            calls: Count::new(),
+            failures: Count::new(),
         }
     }
 
     /// Reads from standard input, which is told once where it is a terminal.
     fn read_standard(&mut self, buffer: &mut [u8]) -> io::Result<usize>
         ensures fits { IfOk result (λ n. n ≤ length buffer.old) }
-        ensures calls { self.new.calls ≡ self.old.calls }
-        ensures failures { self.new.failures ≡ self.old.failures }
+        ensures calls { self.new.calls.times ≡ self.old.calls.times }
+        ensures failures { self.new.failures.times ≡ self.old.failures.times }
     {
         if self.is_terminal {
             self.is_terminal = false;
@@ -91,8 +81,8 @@ impl<'a, R: Files + Clock, I: Read + Drop, W: Write + Drop, L: Ledger, M: Ledger
 
     /// Keeps bytes that were read.
     fn keep(&mut self, bytes: &[u8])
-        ensures calls { self.new.calls ≡ self.old.calls }
-        ensures failures { self.new.failures ≡ self.old.failures }
+        ensures calls { self.new.calls.times ≡ self.old.calls.times }
+        ensures failures { self.new.failures.times ≡ self.old.failures.times }
     {
         if self.begun.len() < BEGUN {
             let _ = self.begun.extend_from_slice(bytes);
@@ -104,8 +94,8 @@ impl<'a, R: Files + Clock, I: Read + Drop, W: Write + Drop, L: Ledger, M: Ledger
     /// Reads from the file that was opened, else from standard input.
     fn read_some(&mut self, buffer: &mut [u8]) -> io::Result<usize>
         ensures fits { IfOk result (λ n. n ≤ length buffer.old) }
-        ensures calls { self.new.calls ≡ self.old.calls }
-        ensures failures { self.new.failures ≡ self.old.failures }
+        ensures calls { self.new.calls.times ≡ self.old.calls.times }
+        ensures failures { self.new.failures.times ≡ self.old.failures.times }
     {
         match &mut self.file {
             Some(file) => file.read(buffer),
@@ -114,15 +104,16 @@ impl<'a, R: Files + Clock, I: Read + Drop, W: Write + Drop, L: Ledger, M: Ledger
     }
 }
 
-impl<R: Files + Clock, I: Read + Drop, W: Write + Drop, L: Ledger, M: Ledger> Source
-    for FileInput<'_, R, I, W, L, M> {
+impl<R: Files + Clock, I: Read + Drop, W: Write + Drop> Source for FileInput<'_, R, I, W> {
     ghost use Rattle.std.specs.Prelude.{None};
 
     ghost left = { λ s. None };
 
-    ghost calls = { λ s. s.calls };
+    ghost before = { λ s. None };
 
-    ghost failures = { λ s. s.failures };
+    ghost calls = { λ s. s.calls.times };
+
+    ghost failures = { λ s. s.failures.times };
 
     fn read(&mut self, buffer: &mut [u8]) -> Result<usize, ()> {
         self.calls.add_one();
@@ -165,8 +156,7 @@ fn open_file<R: Files>(files: &R, name: &str) -> Result<R::File, OpenRefusal> {
     }
 }
 
-impl<R: Files + Clock, I: Read + Drop, W: Write + Drop, L: Ledger, M: Ledger> Input
-    for FileInput<'_, R, I, W, L, M> {
+impl<R: Files + Clock, I: Read + Drop, W: Write + Drop> Input for FileInput<'_, R, I, W> {
     ghost use Rattle.std.specs.Prelude.{None};
 
     ghost named = { λ s name. None };
@@ -206,32 +196,32 @@ impl<R: Files + Clock, I: Read + Drop, W: Write + Drop, L: Ledger, M: Ledger> In
 
 /// A writer of the system as a sink, which does not tell its bytes. Each write is one of the writer's, unbuffered, so nothing is left to flush.
 #[derive(Drop)]
-pub struct WriteSink<W: Write + Drop, L: Ledger> {
+pub struct WriteSink<W: Write + Drop> {
     writer: W,
     // What the system said of the last write that failed.
     failure: Option<io::Error>,
-    failures: Count<L>,
+    failures: Count,
 }
 
-impl<W: Write + Drop, L: Ledger> WriteSink<W, L> {
-    /// A sink over a writer, with its count of failures.
-    pub fn new(writer: W, failures: Count<L>) -> Self
-        ensures { ⟦<WriteSink<W, L> as Sink>⟧.failures result ≡ failures }
+impl<W: Write + Drop> WriteSink<W> {
+    /// A sink over a writer.
+    pub fn new(writer: W) -> Self
+        ensures { ⟦<WriteSink<W> as Sink>⟧.failures result ≡ 0 }
     {
         WriteSink {
             writer,
             failure: None,
-            failures,
+            failures: Count::new(),
         }
     }
 }
 
-impl<W: Write + Drop, L: Ledger> Sink for WriteSink<W, L> {
+impl<W: Write + Drop> Sink for WriteSink<W> {
     ghost use Rattle.std.specs.Prelude.{None};
 
     ghost taken = { λ s. None };
 
-    ghost failures = { λ s. s.failures };
+    ghost failures = { λ s. s.failures.times };
 
     fn write(&mut self, bytes: &[u8]) -> Result<usize, ()> {
         let written = self.writer.write(bytes);
@@ -246,7 +236,7 @@ impl<W: Write + Drop, L: Ledger> Sink for WriteSink<W, L> {
     }
 }
 
-impl<W: Write + Drop, L: Ledger> Output for WriteSink<W, L> {
+impl<W: Write + Drop> Output for WriteSink<W> {
     fn failure(&self) -> Option<io::Error> {
         self.failure
     }

@@ -1,33 +1,56 @@
 //! A source and a sink for tests, which cut what they give and take, and fail; and an allocator that refuses.
 #![tactic(auto)]
 
+ghost use Rattle.std.specs.Prelude.{◌≡◌, [], Some};
+
 pub mod scarce;
 
-use line_model::count::Count;
 use line_model::device::{Sink, Source};
+use line_model::history::{Count, History};
 use std::alloc::Global;
-use std::sync::ledger::Ledger;
 
 /// Gives the bytes of a slice, at most `step` a call, and fails once `good` of them were given.
 #[derive(Drop)]
-pub struct CutSource<'a, C: Ledger, F: Ledger> {
+pub struct CutSource<'a> {
     pub rest: &'a [u8],
     pub step: usize,
     pub good: usize,
-    pub calls: Count<C>,
-    pub failures: Count<F>,
+    pub before: History,
+    pub calls: Count,
+    pub failures: Count,
 }
 
-impl<C: Ledger, F: Ledger> Source for CutSource<'_, C, F> {
+impl<'a> CutSource<'a> {
+    /// A source of these bytes, which cuts and fails so.
+    pub fn new(bytes: &'a [u8], cuts: Cuts) -> Self
+        ensures left { ⟦<CutSource<'a> as Source>⟧.left result ≡ Some bytes.entry.now }
+        ensures calls { ⟦<CutSource<'a> as Source>⟧.calls result ≡ 0 }
+        ensures failures { ⟦<CutSource<'a> as Source>⟧.failures result ≡ 0 }
+    {
+        CutSource {
+            rest: bytes,
+            step: cuts.read_step,
+            good: cuts.good_bytes,
+            before: History::of(bytes),
+            calls: Count::new(),
+            failures: Count::new(),
+        }
+    }
+}
+
+impl Source for CutSource<'_> {
     ghost use Rattle.std.specs.Prelude.{Some};
 
     ghost left = { λ s. Some s.rest.now };
 
-    ghost calls = { λ s. s.calls };
+    ghost before = { λ s. Some s.before.bytes };
 
-    ghost failures = { λ s. s.failures };
+    ghost calls = { λ s. s.calls.times };
+
+    ghost failures = { λ s. s.failures.times };
 
     fn read(&mut self, buffer: &mut [u8]) -> Result<usize, ()> {
+        self.before = History::of(self.rest);
         self.calls.add_one();
         if self.good == 0 {
             self.failures.add_one();
@@ -45,19 +68,34 @@ impl<C: Ledger, F: Ledger> Source for CutSource<'_, C, F> {
 
 /// Takes bytes into memory, at most `step` a call, and fails at the call after so many good ones.
 #[derive(Drop)]
-pub struct CutSink<F: Ledger> {
+pub struct CutSink {
     pub taken: Vec<u8, Global>,
     pub step: usize,
     pub good_calls: usize,
-    pub failures: Count<F>,
+    pub failures: Count,
 }
 
-impl<F: Ledger> Sink for CutSink<F> {
+impl CutSink {
+    /// A sink that took nothing yet, which cuts and fails so.
+    pub fn new(alloc: Global, cuts: Cuts) -> Self
+        ensures taken { ⟦<CutSink as Sink>⟧.taken result ≡ Some [] }
+        ensures failures { ⟦<CutSink as Sink>⟧.failures result ≡ 0 }
+    {
+        CutSink {
+            taken: Vec::new(alloc),
+            step: cuts.write_step,
+            good_calls: cuts.good_writes,
+            failures: Count::new(),
+        }
+    }
+}
+
+impl Sink for CutSink {
     ghost use Rattle.std.specs.Prelude.{Some};
 
     ghost taken = { λ s. Some s.taken.items };
 
-    ghost failures = { λ s. s.failures };
+    ghost failures = { λ s. s.failures.times };
 
     fn write(&mut self, bytes: &[u8]) -> Result<usize, ()> {
         let n = bytes.len().min(self.step.max(1));
@@ -88,6 +126,11 @@ pub struct Cuts {
 }
 
 impl Cuts {
+    /// Devices that give and take all at once, and do not fail.
+    pub fn none() -> Self {
+        Cuts::of_steps(usize::MAX, usize::MAX)
+    }
+
     /// Devices that do not fail.
     pub fn of_steps(read_step: usize, write_step: usize) -> Self {
         Cuts {

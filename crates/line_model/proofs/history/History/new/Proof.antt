@@ -20,11 +20,11 @@ use denote.Triple.Entry.{on_entry, alive}
 use denote.Triple.Spec.{Meets, triple_of}
 use denote.Triple.Table.{entered}
 use denote.Triple.Walked.{says, Stays, walk_of, Walks, ends_at, walked, walk_Meets}
-use Rattle.json_lines.specs.contracts.history.History.new.Key.{name as key}
-use Rattle.json_lines.specs.contracts.history.History.new as f
-use Rattle.json_lines.proofs.history.History.new.Statement as stated
-use Rattle.json_lines.proofs.history.History.new.Code as code
-use Rattle.json_lines.specs.contracts.history.History as made
+use Rattle.line_model.specs.contracts.history.History.new.Key.{name as key}
+use Rattle.line_model.specs.contracts.history.History.new as f
+use Rattle.line_model.proofs.history.History.new.Statement as stated
+use Rattle.line_model.proofs.history.History.new.Code as code
+use Rattle.line_model.specs.contracts.history.History as made
 
 abbrev stayed : Stays (f.ended).signature.params (f.ended).kept
 stayed = tt
