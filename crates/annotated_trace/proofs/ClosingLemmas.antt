@@ -13,7 +13,7 @@ use Rattle.line_model.specs.basics.Device.{with_more}
 use Rattle.line_model.specs.text.Text.{Line, begun_line, ended_lines, is_lf}
 use Rattle.line_model.specs.traces.Traces.{text}
 use Rattle.line_model.proofs.TextLemmas.{begun-lf, begun-more, ended-lf, ended-more}
-use Rattle.report_merge.specs.declared.chunk.Chunk.{Chunk}
+use Rattle.line_model.specs.declared.write_buffer.WriteBuffer.{WriteBuffer}
 use Rattle.annotated_trace.specs.Annotation.{IsOneLine}
 use Rattle.annotated_trace.specs.Marking.{HasClosing, HasFirstOfClosing}
 use Rattle.annotated_trace.specs.Pages.{HasNoted, HasNotes}
@@ -231,21 +231,21 @@ first_taken (Some b) (Some bytes) t =
 
 -- ---- what a page says of its sink
 
-pub closing_said : {T E : Type 0} (r : Result T E) (start now : Option (List ℕ) × ℕ) (chunk : Chunk) (said : ℕ) (after : Option (List ℕ)) → ∥ HasNotes start now chunk said ∥₁
-    → ((notes : Remarks) → HasNoted start now chunk said notes → OnOk r (after ≡ with_more start.0 (text (notes_of notes)))) → OnOk r (HasClosing start.0 after)
-closing_said (Ok x) start now chunk said after t ok =
+pub closing_said : {T E : Type 0} (r : Result T E) (start now : Option (List ℕ) × ℕ) (buffer : WriteBuffer) (said : ℕ) (after : Option (List ℕ)) → ∥ HasNotes start now buffer said ∥₁
+    → ((notes : Remarks) → HasNoted start now buffer said notes → OnOk r (after ≡ with_more start.0 (text (notes_of notes)))) → OnOk r (HasClosing start.0 after)
+closing_said (Ok x) start now buffer said after t ok =
     closing_taken start.0 after (∥∥₁_map t (λ h. record { lines = notes_of h.notes; notes = all_notes h.notes h.noted.lines h.noted.words; taken = ok h.notes h.noted }))
-closing_said (Err e) start now chunk said after t ok = tt
+closing_said (Err e) start now buffer said after t ok = tt
 
-pub first_said : {T E : Type 0} (r : Result T E) (start now : Option (List ℕ) × ℕ) (chunk : Chunk) (said : ℕ) (after : Option (List ℕ)) → ∥ HasNotes start now chunk said ∥₁
-    → ((notes : Remarks) → HasNoted start now chunk said notes → OnErr r ((front : List ℕ) × (rest : List ℕ) × (text (notes_of notes) ≡ front ++ rest) × (after ≡ with_more start.0 front))) → OnErr r (HasFirstOfClosing start.0 after)
-first_said (Ok x) start now chunk said after t part = tt
-first_said (Err e) start now chunk said after t part = first_taken start.0 after (∥∥₁_map t (λ h. first_of h (part h.notes h.noted)))
+pub first_said : {T E : Type 0} (r : Result T E) (start now : Option (List ℕ) × ℕ) (buffer : WriteBuffer) (said : ℕ) (after : Option (List ℕ)) → ∥ HasNotes start now buffer said ∥₁
+    → ((notes : Remarks) → HasNoted start now buffer said notes → OnErr r ((front : List ℕ) × (rest : List ℕ) × (text (notes_of notes) ≡ front ++ rest) × (after ≡ with_more start.0 front))) → OnErr r (HasFirstOfClosing start.0 after)
+first_said (Ok x) start now buffer said after t part = tt
+first_said (Err e) start now buffer said after t part = first_taken start.0 after (∥∥₁_map t (λ h. first_of h (part h.notes h.noted)))
   where
-    first_of : (h : HasNotes start now chunk said) → (front : List ℕ) × (rest : List ℕ) × (text (notes_of h.notes) ≡ front ++ rest) × (after ≡ with_more start.0 front) → TookFirst start.0 after
+    first_of : (h : HasNotes start now buffer said) → (front : List ℕ) × (rest : List ℕ) × (text (notes_of h.notes) ≡ front ++ rest) × (after ≡ with_more start.0 front) → TookFirst start.0 after
     first_of h p = record { lines = notes_of h.notes; front = p.0; left = p.1; notes = all_notes h.notes h.noted.lines h.noted.words; whole = p.2; taken = p.3 }
 
-pub failed_said : {T E : Type 0} (r : Result T E) (start now : Option (List ℕ) × ℕ) (chunk : Chunk) (said before after : ℕ) → ∥ HasNotes start now chunk said ∥₁
-    → ((notes : Remarks) → HasNoted start now chunk said notes → OnErr r (before < after)) → OnErr r (before < after)
-failed_said (Ok x) start now chunk said before after t cause = tt
-failed_said (Err e) start now chunk said before after t cause = ∥∥₁_elim t (hlevel props) (λ h. cause h.notes h.noted)
+pub failed_said : {T E : Type 0} (r : Result T E) (start now : Option (List ℕ) × ℕ) (buffer : WriteBuffer) (said before after : ℕ) → ∥ HasNotes start now buffer said ∥₁
+    → ((notes : Remarks) → HasNoted start now buffer said notes → OnErr r (before < after)) → OnErr r (before < after)
+failed_said (Ok x) start now buffer said before after t cause = tt
+failed_said (Err e) start now buffer said before after t cause = ∥∥₁_elim t (hlevel props) (λ h. cause h.notes h.noted)

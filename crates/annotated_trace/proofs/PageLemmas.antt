@@ -5,8 +5,8 @@ use Rattle.std.proofs.lemmas.Bool.Decides.{nat_tests}
 use Rattle.std.proofs.lemmas.List.{length-map, length-take, map-append, take_all}
 use Rattle.hex.specs.Hex.{encode_upper, encode_with, upper_digits}
 use Rattle.line_model.specs.traces.Traces.{text}
-use Rattle.report_merge.specs.Written.{Puts, Writes}
-use Rattle.report_merge.specs.declared.chunk.Chunk.{Chunk}
+use Rattle.line_model.specs.basics.Written.{Puts, Writes}
+use Rattle.line_model.specs.declared.write_buffer.WriteBuffer.{WriteBuffer}
 use Rattle.annotated_trace.specs.Pages.{HasNoted}
 use Rattle.annotated_trace.specs.Wording.{IsWords, Remarks, begun_note, ended_notes, feed_of, hash_of, note_line, note_or_none, notes_of, plain, plain_byte, with_words}
 use Rattle.annotated_trace.proofs.LinesOfText.{text_append}
@@ -19,8 +19,8 @@ plain_more text done front = simp append_assoc
 
 -- ---- nothing was said
 
-pub nothing_noted : (start taken : Option (List ℕ) × ℕ) (chunk : Chunk) → Writes start taken chunk [] → HasNoted start taken chunk 0 (record { lines = []; line = [] })
-nothing_noted start taken chunk w = record { lines = tt; words = record { one = refl; short = omega arith }; said_is = refl; writes = w }
+pub nothing_noted : (start taken : Option (List ℕ) × ℕ) (buffer : WriteBuffer) → Writes start taken buffer [] → HasNoted start taken buffer 0 (record { lines = []; line = [] })
+nothing_noted start taken buffer w = record { lines = tt; words = record { one = refl; short = omega arith }; said_is = refl; writes = w }
 
 -- ---- words behind others
 
@@ -43,7 +43,7 @@ ended_is : (line : List ℕ) → begun_note line ++ feed_of (length line) ≡ te
 ended_is [] = refl
 ended_is (b ∷ line) = ap (λ v. note_line (b ∷ line) ++ cond v [] (10 ∷ [])) (some_said b line)
 
-pub words_noted : (start t0 t1 t2 : Option (List ℕ) × ℕ) (c0 c1 c2 : Chunk) (said k : ℕ) (notes : Remarks) (words : List ℕ) → HasNoted start t0 c0 said notes → k ≡ min (8000 - said) (length words) → 0 < length (take k words)
+pub words_noted : (start t0 t1 t2 : Option (List ℕ) × ℕ) (c0 c1 c2 : WriteBuffer) (said k : ℕ) (notes : Remarks) (words : List ℕ) → HasNoted start t0 c0 said notes → k ≡ min (8000 - said) (length words) → 0 < length (take k words)
     → Puts t0 t1 c0 c1 (hash_of said) → Puts t1 t2 c1 c2 (plain (take k words)) → HasNoted start t2 c2 (said + length (take k words)) (record { lines = notes.lines; line = with_words notes.line words })
 words_noted start t0 t1 t2 c0 c1 c2 said k notes words h ek some hash put =
     let line = notes.line in
@@ -66,19 +66,19 @@ words_noted start t0 t1 t2 c0 c1 c2 said k notes words h ek some hash put =
     regroup a b c d = simp append_assoc
 
 -- there was no room for them, or there were none
-pub none_noted : (start taken : Option (List ℕ) × ℕ) (chunk : Chunk) (said k : ℕ) (notes : Remarks) (words : List ℕ) → HasNoted start taken chunk said notes → k ≡ min (8000 - said) (length words) → length (take k words) ≡ 0
-    → HasNoted start taken chunk said (record { lines = notes.lines; line = with_words notes.line words })
-none_noted start taken chunk said k notes words h ek none =
+pub none_noted : (start taken : Option (List ℕ) × ℕ) (buffer : WriteBuffer) (said k : ℕ) (notes : Remarks) (words : List ℕ) → HasNoted start taken buffer said notes → k ≡ min (8000 - said) (length words) → length (take k words) ≡ 0
+    → HasNoted start taken buffer said (record { lines = notes.lines; line = with_words notes.line words })
+none_noted start taken buffer said k notes words h ek none =
     let all : notes.line ≡ with_words notes.line words =
     sym (append-nil notes.line) ∙ ap (λ xs. notes.line ++ plain xs) (sym (none_of (take k words) none)) ∙ added_all notes.line words (notes.line ++ plain (take k words)) said k h.words h.said_is ek refl in
-    subst (λ xs. HasNoted start taken chunk said (record { lines = notes.lines; line = xs })) all h
+    subst (λ xs. HasNoted start taken buffer said (record { lines = notes.lines; line = xs })) all h
   where
     none_of : (xs : List ℕ) → length xs ≡ 0 → xs ≡ []
     none_of [] e = refl
     none_of (x ∷ xs) e = absurd (omega (arith, e))
 
 -- the last line ends
-pub next_noted : (start t0 t1 t2 : Option (List ℕ) × ℕ) (c0 c1 c2 : Chunk) (said : ℕ) (notes : Remarks) → HasNoted start t0 c0 said notes → Puts t0 t1 c0 c1 (hash_of said) → Puts t1 t2 c1 c2 (10 ∷ []) → HasNoted start t2 c2 0 (ended_notes notes)
+pub next_noted : (start t0 t1 t2 : Option (List ℕ) × ℕ) (c0 c1 c2 : WriteBuffer) (said : ℕ) (notes : Remarks) → HasNoted start t0 c0 said notes → Puts t0 t1 c0 c1 (hash_of said) → Puts t1 t2 c1 c2 (10 ∷ []) → HasNoted start t2 c2 0 (ended_notes notes)
 next_noted start t0 t1 t2 c0 c1 c2 said notes h hash feed =
     let line = notes.line in
     let written : ((text notes.lines ++ begun_note line) ++ hash_of said) ++ 10 ∷ [] ≡ text (notes.lines ++ note_line line ∷ []) ++ [] =
@@ -95,7 +95,7 @@ next_noted start t0 t1 t2 c0 c1 c2 said notes h hash feed =
     regroup a b c d = simp append_assoc
 
 -- all that was said is on its way
-pub all_noted : (start t0 t1 : Option (List ℕ) × ℕ) (c0 c1 : Chunk) (said : ℕ) (notes : Remarks) → HasNoted start t0 c0 said notes → Puts t0 t1 c0 c1 (feed_of said) → Writes start t1 c1 (text (notes_of notes))
+pub all_noted : (start t0 t1 : Option (List ℕ) × ℕ) (c0 c1 : WriteBuffer) (said : ℕ) (notes : Remarks) → HasNoted start t0 c0 said notes → Puts t0 t1 c0 c1 (feed_of said) → Writes start t1 c1 (text (notes_of notes))
 all_noted start t0 t1 c0 c1 said notes h feed =
     let line = notes.line in
     let written : (text notes.lines ++ begun_note line) ++ feed_of said ≡ text (notes.lines ++ note_or_none line) =
@@ -127,12 +127,12 @@ unfolding encode_with
 no_octets line h = sym (ap (take 8000) (append-nil line) ∙ take_all 8000 line h.short)
 
 -- no octets, and one more
-pub none_told : (start taken : Option (List ℕ) × ℕ) (chunk : Chunk) (said : ℕ) (notes : Remarks) → HasNoted start taken chunk said notes → HasNoted start taken chunk said (record { lines = notes.lines; line = with_words notes.line (encode_upper []) })
-none_told start taken chunk said notes h = subst (λ xs. HasNoted start taken chunk said (record { lines = notes.lines; line = xs })) (no_octets notes.line h.words) h
+pub none_told : (start taken : Option (List ℕ) × ℕ) (buffer : WriteBuffer) (said : ℕ) (notes : Remarks) → HasNoted start taken buffer said notes → HasNoted start taken buffer said (record { lines = notes.lines; line = with_words notes.line (encode_upper []) })
+none_told start taken buffer said notes h = subst (λ xs. HasNoted start taken buffer said (record { lines = notes.lines; line = xs })) (no_octets notes.line h.words) h
 
-pub one_told : (start taken : Option (List ℕ) × ℕ) (chunk : Chunk) (said : ℕ) (notes : Remarks) (first all : List ℕ) (octet : ℕ) → all ≡ first ++ octet ∷ []
-    → HasNoted start taken chunk said (record { lines = notes.lines; line = with_words (with_words notes.line (encode_upper first)) (encode_upper (octet ∷ [])) })
-    → HasNoted start taken chunk said (record { lines = notes.lines; line = with_words notes.line (encode_upper all) })
-one_told start taken chunk said notes first all octet e h =
-    subst (λ xs. HasNoted start taken chunk said (record { lines = notes.lines; line = xs }))
+pub one_told : (start taken : Option (List ℕ) × ℕ) (buffer : WriteBuffer) (said : ℕ) (notes : Remarks) (first all : List ℕ) (octet : ℕ) → all ≡ first ++ octet ∷ []
+    → HasNoted start taken buffer said (record { lines = notes.lines; line = with_words (with_words notes.line (encode_upper first)) (encode_upper (octet ∷ [])) })
+    → HasNoted start taken buffer said (record { lines = notes.lines; line = with_words notes.line (encode_upper all) })
+one_told start taken buffer said notes first all octet e h =
+    subst (λ xs. HasNoted start taken buffer said (record { lines = notes.lines; line = xs }))
     (words_twice notes.line (encode_upper first) (encode_upper (octet ∷ [])) ∙ ap (with_words notes.line) (sym (encode_append first (octet ∷ [])) ∙ ap encode_upper (sym e))) h

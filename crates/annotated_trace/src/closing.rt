@@ -6,9 +6,10 @@ ghost use Rattle.annotated_trace.specs.Marking.{HasClosing, HasFirstOfClosing, S
 
 use crate::describer::Describer;
 use crate::holding::send_held;
-use crate::page::{ClosingPage, Lent, Origin, Returned};
+use crate::page::ClosingPage;
 use line_model::device::Sink;
 use line_model::fault::Fault;
+use line_model::lending::{Borrowed, Lent, Origin, Returned, take_back};
 use line_model::report::Report;
 use line_model::totals::Summary;
 use std::alloc::Allocator;
@@ -29,15 +30,11 @@ fn write_to<'a, A: Allocator, W: Watcher<A>, D: Describer<A, W>, K: Sink, B: Ori
     ensures cause { OnErr result.answer (B.before.1 < K.failures result.sink.now) }
     ensures write { IfErr result.answer (λ fault. fault ≡ Fault.Write) }
 {
-    let mut page = ClosingPage::<K, B>::new(to);
+    let mut page = ClosingPage::new(Borrowed::<K, B>::new(to));
     describer.close(report, &mut page);
-    page.finish()
+    let (sink, answer) = page.finish();
+    sink.give_back(answer)
 }
-
-/// The sink that comes back is the one that was lent.
-fn take_back<K>(_sink: &mut K)
-    ensures { _sink.new ≡ _sink.old }
-{}
 
 /// Gives a sink the comments behind the last line of a text. It takes no memory. Where the sink fails it took a first part
 /// of them.
@@ -72,12 +69,7 @@ pub fn send_closing<A: Allocator, W: Watcher<A>, D: Describer<A, W>, K: Sink>(
     ensures cause { OnErr result (K.failures sink.old < K.failures sink.new) }
     ensures write { IfErr result (λ fault. fault ≡ Fault.Write) }
 {
-    match send_held(held, sink) {
-        Ok(()) => {}
-        Err(fault) => return Err(fault),
-    }
-    match write_closing(report, describer, sink) {
-        Ok(()) => Ok(report.summary),
-        Err(fault) => Err(fault),
-    }
+    send_held(held, sink)?;
+    write_closing(report, describer, sink)?;
+    Ok(report.summary)
 }

@@ -1,10 +1,10 @@
 //! What is said of the rows of a trace.
 
 use crate::notes::{Notes, Words};
-use crate::page::{ClosingPage, Origin};
+use crate::page::ClosingPage;
 use crate::rows::Rows;
-use line_model::device::Sink;
 use line_model::finding::Finding;
+use line_model::lending::LentSink;
 use line_model::report::Report;
 use std::alloc::{AllocError, Allocator};
 use trace_text::watcher::Watcher;
@@ -59,5 +59,5 @@ pub trait Describer<A: Allocator, W: Watcher<A>>: Drop {
 
     /// Says what stands behind the last line of a text that has ended: its report in words. A sink takes them as they are
     /// said, so there is nothing that it could refuse for.
-    fn close<K: Sink, B: Origin>(&mut self, report: &Report<A>, page: &mut ClosingPage<'_, K, B>);
+    fn close<S: LentSink>(&mut self, report: &Report<A>, page: &mut ClosingPage<S>);
 }

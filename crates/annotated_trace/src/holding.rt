@@ -5,7 +5,7 @@ ghost use Rattle.line_model.specs.basics.Device.{with_more};
 
 use line_model::device::Sink;
 use line_model::fault::Fault;
-use report_merge::chunk::send;
+use line_model::write_buffer::write_all;
 use std::alloc::Allocator;
 
 /// The bytes of which no more are held while a chunk is read.
@@ -22,13 +22,9 @@ pub fn send_held<A: Allocator, K: Sink>(held: &mut Vec<u8, A>, sink: &mut K) -> 
     ensures cause { OnErr result (K.failures sink.old < K.failures sink.new) }
     ensures write { IfErr result (λ fault. fault ≡ Fault.Write) }
 {
-    match send(sink, held.as_slice()) {
-        Ok(()) => {
-            held.clear();
-            Ok(())
-        }
-        Err(()) => Err(Fault::Write),
-    }
+    write_all(sink, held.as_slice())?;
+    held.clear();
+    Ok(())
 }
 
 /// Gives a sink what is held, if it is much; less than 2^18 bytes stay held.

@@ -2,7 +2,7 @@
 
 ghost use Rattle.std.specs.Prelude.{◌≡◌, ℕ, ◌++◌, ◌∷◌, [], List, Option, if◌then◌else◌};
 ghost use Rattle.hex.specs.Hex.{encode_upper};
-ghost use Rattle.report_merge.specs.Written.{Puts};
+ghost use Rattle.line_model.specs.basics.Written.{HasFront, PutsTo};
 ghost use Rattle.annotated_trace.specs.Pages.{HasNoted, HasNotes};
 ghost use Rattle.annotated_trace.specs.Wording.{feed_of, hash_of, plain};
 
@@ -10,41 +10,9 @@ use crate::notes::WORDS_LIMIT;
 use itoa::Buffer;
 use line_model::device::Sink;
 use line_model::fault::Fault;
-use report_merge::chunk::Chunk;
-use std::marker::{Brand, PhantomData};
+use line_model::lending::LentSink;
+use line_model::write_buffer::WriteBuffer;
 use trace_text::cuts::split_at_byte;
-
-/// Which sink a page is written to, and what it had taken and how often it had failed before. Contracts alone see it, and
-/// each call picks it.
-pub trait Origin {
-    ghost use Rattle.std.specs.Prelude.{ℕ, List, Option};
-
-    ghost name: { ℕ };
-
-    ghost before: { Option (List ℕ) × ℕ };
-}
-
-impl Origin for Brand {
-    ghost use Rattle.std.specs.Prelude.{None};
-
-    ghost name = { 0 };
-
-    ghost before = { (None, 0) };
-}
-
-/// A sink that is lent.
-#[derive(Drop)]
-pub(crate) struct Lent<'a, K> {
-    pub(crate) sink: &'a mut K,
-}
-
-/// A lent sink that comes back, and whether it took all that was said.
-#[derive(Drop)]
-pub(crate) struct Returned<'a, K> {
-    pub(crate) sink: &'a mut K,
-    /// `Write` where it has failed.
-    pub(crate) answer: Result<(), Fault>,
-}
 
 /// The hex digits of a half of an octet.
 const DIGITS: &[u8; 16] = b"0123456789ABCDEF";
@@ -61,105 +29,97 @@ fn digits(octet: u8) -> [u8; 2]
 }
 
 /// Begins a line in which so much was said, unless it has begun.
-fn begin<K: Sink>(said: usize, chunk: &mut Chunk, sink: &mut K)
-    ensures { Puts (K.taken sink.old, K.failures sink.old)
-        (K.taken sink.new, K.failures sink.new) chunk.old chunk.new (hash_of said) }
+fn begin<K: Sink>(said: usize, out: &mut WriteBuffer, sink: &mut K)
+    ensures { PutsTo K.Sink sink.old sink.new out.old out.new (hash_of said) }
 {
     let hash: &[u8] = if said == 0 { b"# " } else { b"" };
-    chunk.put(sink, hash)
+    out.put(sink, hash)
 }
 
 /// Ends a line in which so much was said; one that says nothing has not begun.
-fn end<K: Sink>(said: usize, chunk: &mut Chunk, sink: &mut K)
-    ensures { Puts (K.taken sink.old, K.failures sink.old)
-        (K.taken sink.new, K.failures sink.new) chunk.old chunk.new (feed_of said) }
+fn end<K: Sink>(said: usize, out: &mut WriteBuffer, sink: &mut K)
+    ensures { PutsTo K.Sink sink.old sink.new out.old out.new (feed_of said) }
 {
     let feed: &[u8] = if said == 0 { b"" } else { b"\n" };
-    chunk.put(sink, feed)
+    out.put(sink, feed)
 }
 
 /// Puts words, a space in place of each LF.
-fn put_plain<K: Sink>(words: &[u8], chunk: &mut Chunk, sink: &mut K)
-    ensures { Puts (K.taken sink.old, K.failures sink.old)
-        (K.taken sink.new, K.failures sink.new) chunk.old chunk.new (plain words.now) }
+fn put_plain<K: Sink>(words: &[u8], out: &mut WriteBuffer, sink: &mut K)
+    ensures { PutsTo K.Sink sink.old sink.new out.old out.new (plain words.now) }
 {
     let mut rest = words;
     while let Some((front, back)) = split_at_byte(rest, b'\n') {
-        chunk.put(sink, front);
-        chunk.put(sink, b" ");
+        out.put(sink, front);
+        out.put(sink, b" ");
         rest = back;
     }
-    chunk.put(sink, rest)
+    out.put(sink, rest)
 }
 
 /// Comment lines that mark no finding, which a sink takes in parts: `# ` and words, each. What is said takes no memory and
 /// refuses nothing: where the sink fails it is told when the page is finished, and from then on nothing is sent.
 #[derive(Drop)]
-pub struct ClosingPage<'a, K: Sink, B: Origin> {
-    sink: &'a mut K,
-    chunk: Chunk,
+pub struct ClosingPage<S: LentSink> {
+    sink: S,
+    buffer: WriteBuffer,
     /// The bytes of the words of the line that has not ended.
     said: usize,
-    origin: PhantomData<B>,
-    ghost same: { sink.ghost_name ≡ B.name },
-    ghost stands: { ∥ HasNotes B.before (K.taken sink.now, K.failures sink.now) chunk said ∥₁ },
+    ghost stands: { ∥ HasNotes S.before (S.taken sink, S.failures sink) buffer said ∥₁ },
 }
 
-impl<'a, K: Sink, B: Origin> ClosingPage<'a, K, B> {
+impl<S: LentSink> ClosingPage<S> {
     ghost use Rattle.std.specs.Prelude.{◌<◌, IfErr, OnErr, OnOk, decimal};
     ghost use Rattle.line_model.specs.basics.Device.{with_more};
     ghost use Rattle.line_model.specs.traces.Traces.{text};
     ghost use Rattle.annotated_trace.specs.Wording.{Remarks, ended_notes, notes_of, with_words};
 
-    /// Nothing was said. The sink is the one of the origin, as it was lent.
-    pub(crate) fn new(to: Lent<'a, K>) -> Self
-        requires name { to.sink.ghost_name ≡ B.name }
-        requires before { (K.taken to.sink.now, K.failures to.sink.now) ≡ B.before }
-        ensures nothing { HasNoted B.before (K.taken result.sink.now, K.failures result.sink.now)
-            result.chunk result.said (record { lines = []; line = [] }) }
+    /// Nothing was said. The sink is as it was lent.
+    pub(crate) fn new(sink: S) -> Self
+        requires { (S.taken sink, S.failures sink) ≡ S.before }
+        ensures nothing { HasNoted S.before (S.taken result.sink, S.failures result.sink)
+            result.buffer result.said (record { lines = []; line = [] }) }
     {
-        let Lent { sink } = to;
         ClosingPage {
             sink,
-            chunk: Chunk::new(),
+            buffer: WriteBuffer::new(),
             said: 0,
-            origin: PhantomData,
         }
     }
 
     /// Adds words to the last line: a space for each LF, and no more than the line has room for.
     fn add(&mut self, words: &[u8])
-        ensures said { (notes : Remarks) → HasNoted B.before
-            (K.taken self.old.sink.now, K.failures self.old.sink.now) self.old.chunk self.old.said
-            notes → HasNoted B.before (K.taken self.new.sink.now, K.failures self.new.sink.now)
-            self.new.chunk self.new.said (record notes { line = with_words notes.line words.now }) }
+        ensures said { (notes : Remarks) → HasNoted S.before
+            (S.taken self.old.sink, S.failures self.old.sink) self.old.buffer self.old.said
+            notes → HasNoted S.before (S.taken self.new.sink, S.failures self.new.sink)
+            self.new.buffer self.new.said (record notes { line = with_words notes.line words.now }) }
     {
         let room = WORDS_LIMIT - self.said;
         let front = &words[..room.min(words.len())];
         if front.is_empty() {
             return;
         }
-        begin(self.said, &mut self.chunk, self.sink);
-        put_plain(front, &mut self.chunk, self.sink);
+        begin(self.said, &mut self.buffer, &mut self.sink);
+        put_plain(front, &mut self.buffer, &mut self.sink);
         self.said += front.len();
     }
 
     /// Adds words to the last line, as `Notes::say`: the notes that a page says are those that `Notes` would hold.
     pub fn say(&mut self, words: &str)
-        ensures said { (notes : Remarks) → HasNoted B.before
-            (K.taken self.old.sink.now, K.failures self.old.sink.now) self.old.chunk self.old.said
-            notes → HasNoted B.before (K.taken self.new.sink.now, K.failures self.new.sink.now)
-            self.new.chunk self.new.said (record notes { line = with_words notes.line words.now }) }
+        ensures said { (notes : Remarks) → HasNoted S.before
+            (S.taken self.old.sink, S.failures self.old.sink) self.old.buffer self.old.said
+            notes → HasNoted S.before (S.taken self.new.sink, S.failures self.new.sink)
+            self.new.buffer self.new.said (record notes { line = with_words notes.line words.now }) }
     {
         self.add(words.as_bytes())
     }
 
     /// Adds a number in decimal digits, as `say` adds words.
     pub fn number(&mut self, number: u64)
-        ensures said { (notes : Remarks) → HasNoted B.before
-            (K.taken self.old.sink.now, K.failures self.old.sink.now) self.old.chunk self.old.said
-            notes → HasNoted B.before (K.taken self.new.sink.now, K.failures self.new.sink.now)
-            self.new.chunk self.new.said (record notes {
+        ensures said { (notes : Remarks) → HasNoted S.before
+            (S.taken self.old.sink, S.failures self.old.sink) self.old.buffer self.old.said
+            notes → HasNoted S.before (S.taken self.new.sink, S.failures self.new.sink)
+            self.new.buffer self.new.said (record notes {
               line = with_words notes.line
                   (decimal number);
             }) }
@@ -170,10 +130,10 @@ impl<'a, K: Sink, B: Origin> ClosingPage<'a, K, B> {
 
     /// Adds an octet in hex digits.
     fn octet(&mut self, octet: u8)
-        ensures said { (notes : Remarks) → HasNoted B.before
-            (K.taken self.old.sink.now, K.failures self.old.sink.now) self.old.chunk self.old.said
-            notes → HasNoted B.before (K.taken self.new.sink.now, K.failures self.new.sink.now)
-            self.new.chunk self.new.said (record notes {
+        ensures said { (notes : Remarks) → HasNoted S.before
+            (S.taken self.old.sink, S.failures self.old.sink) self.old.buffer self.old.said
+            notes → HasNoted S.before (S.taken self.new.sink, S.failures self.new.sink)
+            self.new.buffer self.new.said (record notes {
               line = with_words notes.line
                   (encode_upper (octet ∷ []));
             }) }
@@ -183,10 +143,10 @@ impl<'a, K: Sink, B: Origin> ClosingPage<'a, K, B> {
 
     /// Adds octets in hex digits, two for each, as `say` adds words.
     pub fn octets(&mut self, octets: &[u8])
-        ensures said { (notes : Remarks) → HasNoted B.before
-            (K.taken self.old.sink.now, K.failures self.old.sink.now) self.old.chunk self.old.said
-            notes → HasNoted B.before (K.taken self.new.sink.now, K.failures self.new.sink.now)
-            self.new.chunk self.new.said (record notes {
+        ensures said { (notes : Remarks) → HasNoted S.before
+            (S.taken self.old.sink, S.failures self.old.sink) self.old.buffer self.old.said
+            notes → HasNoted S.before (S.taken self.new.sink, S.failures self.new.sink)
+            self.new.buffer self.new.said (record notes {
               line = with_words notes.line
                   (encode_upper octets.now);
             }) }
@@ -198,42 +158,39 @@ impl<'a, K: Sink, B: Origin> ClosingPage<'a, K, B> {
 
     /// Ends the last line, and begins a further one.
     pub fn next(&mut self)
-        ensures ended { (notes : Remarks) → HasNoted B.before
-            (K.taken self.old.sink.now, K.failures self.old.sink.now) self.old.chunk self.old.said
-            notes → HasNoted B.before (K.taken self.new.sink.now, K.failures self.new.sink.now)
-            self.new.chunk self.new.said (ended_notes notes) }
+        ensures ended { (notes : Remarks) → HasNoted S.before
+            (S.taken self.old.sink, S.failures self.old.sink) self.old.buffer self.old.said
+            notes → HasNoted S.before (S.taken self.new.sink, S.failures self.new.sink)
+            self.new.buffer self.new.said (ended_notes notes) }
     {
-        begin(self.said, &mut self.chunk, self.sink);
-        self.chunk.put(self.sink, b"\n");
+        begin(self.said, &mut self.buffer, &mut self.sink);
+        self.buffer.put(&mut self.sink, b"\n");
         self.said = 0;
     }
 
     /// Ends the last line, if it says something, and gives the sink back. It took all notes, or it has failed and took a
     /// first part of them.
-    pub(crate) fn finish(self) -> Returned<'a, K>
-        ensures name { result.sink.ghost_name ≡ B.name }
-        ensures ok { (notes : Remarks) → HasNoted B.before
-            (K.taken self.entry.sink.now, K.failures self.entry.sink.now) self.entry.chunk
-            self.entry.said notes → OnOk result.answer (K.taken result.sink.now
-            ≡ with_more B.before.0 (text (notes_of notes))) }
-        ensures part { (notes : Remarks) → HasNoted B.before
-            (K.taken self.entry.sink.now, K.failures self.entry.sink.now) self.entry.chunk
-            self.entry.said notes → OnErr result.answer ((front : List ℕ) × (rest : List ℕ)
-            × (text (notes_of notes) ≡ front ++ rest)
-            × (K.taken result.sink.now ≡ with_more B.before.0 front)) }
-        ensures cause { (notes : Remarks) → HasNoted B.before
-            (K.taken self.entry.sink.now, K.failures self.entry.sink.now) self.entry.chunk
-            self.entry.said notes → OnErr result.answer (B.before.1 < K.failures result.sink.now) }
-        ensures write { IfErr result.answer (λ fault. fault ≡ Fault.Write) }
+    pub(crate) fn finish(self) -> (S, Result<(), Fault>)
+        ensures ok { (notes : Remarks) → HasNoted S.before
+            (S.taken self.sink, S.failures self.sink) self.buffer
+            self.said notes → OnOk result.1 (S.taken result.0
+            ≡ with_more S.before.0 (text (notes_of notes))) }
+        ensures part { (notes : Remarks) → HasNoted S.before
+            (S.taken self.sink, S.failures self.sink) self.buffer
+            self.said notes → OnErr result.1 (HasFront S.before.0
+            (S.taken result.0) (text (notes_of notes))) }
+        ensures cause { (notes : Remarks) → HasNoted S.before
+            (S.taken self.sink, S.failures self.sink) self.buffer
+            self.said notes → OnErr result.1 (S.before.1 < S.failures result.0) }
+        ensures write { IfErr result.1 (λ fault. fault ≡ Fault.Write) }
     {
         let ClosingPage {
-            sink,
-            mut chunk,
+            mut sink,
+            mut buffer,
             said,
-            ..
         } = self;
-        end(said, &mut chunk, sink);
-        let answer = chunk.end(sink);
-        Returned { sink, answer }
+        end(said, &mut buffer, &mut sink);
+        let answer = buffer.end(&mut sink);
+        (sink, answer)
     }
 }

@@ -1,5 +1,5 @@
 -- Lines that are cut, and texts that go on.
-use Rattle.std.proofs.Common.{◌≡◌, ℕ, ◌<◌, Bool, true, false, List, [], ◌∷◌, ◌++◌, length, take, drop, refl, sym, ap, ◌∙◌, arith, append_assoc, append-nil, cond}
+use Rattle.std.proofs.Common.{◌≡◌, ℕ, ◌<◌, Bool, true, false, List, [], ◌∷◌, ◌++◌, length, take, drop, refl, sym, ap, ◌∙◌, arith, append_assoc, append-nil, cond, Result, Ok, Err, OnErr}
 use Rattle.std.proofs.lemmas.Grind.{common_steps, flat_map-append}
 use Rattle.std.proofs.lemmas.List.{take-append-drop}
 use Rattle.std.proofs.lemmas.Bool.{eqb-true}
@@ -60,7 +60,12 @@ pub is_other : (b : ℕ) → (b ≡ 10 → ⊥) → is_lf b ≡ false
 is_other b h = grind (arith, nat_tests, h)
 
 -- what a sink took of the objects of a first part of a text, it took of those of the text
-pub part_of_text : (text front rest : List ℕ) (n : ℕ) → json_text (take n text) ≡ front ++ rest → (more : List ℕ) × (json_text text ≡ front ++ more)
-part_of_text text front rest n h =
-    let later = json_first (take n text) (drop n text) in
-    (rest ++ later.0, ap json_text (sym (take-append-drop n text)) ∙ later.1 ∙ ap (λ l. l ++ later.0) h ∙ append_assoc front rest later.0)
+pub part_of_text : (text first last front rest : List ℕ) → text ≡ first ++ last → json_text first ≡ front ++ rest → (more : List ℕ) × (json_text text ≡ front ++ more)
+part_of_text text first last front rest e h =
+    let later = json_first first last in
+    (rest ++ later.0, ap json_text e ∙ later.1 ∙ ap (λ l. l ++ later.0) h ∙ append_assoc front rest later.0)
+
+-- what holds in any case holds of an error
+pub always_on_err : {T E : Type 0} (r : Result T E) (Fact : Type 0) → Fact → OnErr r Fact
+always_on_err (Ok x) Fact fact = tt
+always_on_err (Err e) Fact fact = fact

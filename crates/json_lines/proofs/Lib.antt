@@ -1,4 +1,3 @@
-pub mod WrittenLemmas
 pub mod JsonLemmas
 pub mod StandingLemmas
 pub mod MemberLemmas

@@ -8,7 +8,7 @@ use Rattle.line_model.specs.text.Text.{begun_line, is_lf}
 use Rattle.line_model.proofs.TextLemmas.{begun-lf, ended-more, begun-more}
 use Rattle.json_lines.specs.Json.{json_line, json_text, line_room}
 use Rattle.json_lines.specs.Standing.{Goes, IsFirstPart, Stands, since}
-use Rattle.json_lines.specs.Written.{Writes, Puts}
+use Rattle.line_model.specs.basics.Written.{Writes, Puts}
 use Rattle.json_lines.specs.declared.lines.JsonLines.{JsonLines}
 use Rattle.json_lines.proofs.JsonLemmas.{json_lf, json_line_cut}
 use Rattle.line_model.proofs.DeviceLemmas.{with_more-nil}
@@ -36,7 +36,7 @@ parts_of before taken told text is h =
 
 -- ---- between calls and inside them
 
-writes_by : (before taken : Option (List ℕ) × ℕ) (l : JsonLines) (failed : Bool) → l.chunk.failed ≡ failed → Stands before taken l → Writes before taken l.chunk (json_text l.told.bytes)
+writes_by : (before taken : Option (List ℕ) × ℕ) (l : JsonLines) (failed : Bool) → l.buffer.failed ≡ failed → Stands before taken l → Writes before taken l.buffer (json_text l.told.bytes)
 writes_by before taken l false is s = record {
   sent = json_text l.told.bytes;
   left = [];
@@ -59,17 +59,17 @@ writes_by before taken l true is s =
     }
 
 pub goes_of : (before taken : Option (List ℕ) × ℕ) (l : JsonLines) → Stands before taken l → Goes before taken l
-goes_of before taken l s = record { writes = writes_by before taken l l.chunk.failed refl s; line = s.0 }
+goes_of before taken l s = record { writes = writes_by before taken l l.buffer.failed refl s; line = s.0 }
 
-pub stands_of : (before taken : Option (List ℕ) × ℕ) (l : JsonLines) → Goes before taken l → l.chunk.bytes.items ≡ [] → (0 < length l.refused.bytes → l.chunk.failed ≡ true) → Stands before taken l
+pub stands_of : (before taken : Option (List ℕ) × ℕ) (l : JsonLines) → Goes before taken l → l.buffer.bytes.items ≡ [] → (0 < length l.refused.bytes → l.buffer.failed ≡ true) → Stands before taken l
 stands_of before taken l g empty refused =
     let w = g.writes in
-    let all : l.chunk.failed ≡ false → taken.0 ≡ with_more before.0 (json_text l.told.bytes) = λ fine.
+    let all : l.buffer.failed ≡ false → taken.0 ≡ with_more before.0 (json_text l.told.bytes) = λ fine.
     w.took ∙ ap (with_more before.0) (sym (append-nil w.sent) ∙ ap (λ left. w.sent ++ left) (sym (w.held fine ∙ empty)) ∙ w.whole) in
     (g.line, empty, all, first_part before.0 taken.0 w.sent w.left (json_text l.told.bytes) w.took w.whole, w.rising, w.cause, refused)
 
 -- nothing was taken yet
-pub stands_new : (taken : Option (List ℕ) × ℕ) (l : JsonLines) → l.line.items ≡ [] → l.chunk.bytes.items ≡ [] → l.chunk.failed ≡ false → l.told.bytes ≡ [] → l.refused.bytes ≡ [] → Stands taken taken l
+pub stands_new : (taken : Option (List ℕ) × ℕ) (l : JsonLines) → l.line.items ≡ [] → l.buffer.bytes.items ≡ [] → l.buffer.failed ≡ false → l.told.bytes ≡ [] → l.refused.bytes ≡ [] → Stands taken taken l
 stands_new taken l line empty fine told refused =
     let text : json_text l.told.bytes ≡ [] = ap json_text told in
     let none : (o : Option (List ℕ)) → o ≡ with_more o [] = λ o. sym (with_more-nil o) in (
@@ -83,30 +83,30 @@ stands_new taken l line empty fine told refused =
     )
 
 -- a sink that has not failed has refused nothing
-pub nothing_refused : (before taken : Option (List ℕ) × ℕ) (l : JsonLines) → Stands before taken l → l.chunk.failed ≡ false → 0 < length l.refused.bytes → (failed : Bool) → failed ≡ true
+pub nothing_refused : (before taken : Option (List ℕ) × ℕ) (l : JsonLines) → Stands before taken l → l.buffer.failed ≡ false → 0 < length l.refused.bytes → (failed : Bool) → failed ≡ true
 nothing_refused before taken l s fine some any = absurd (let failed = s.6 some in cc)
 
 -- ---- a byte more
 
 -- a line has ended: its object was put, and the next line is held, which is empty
-pub ends_line : (before taken after : Option (List ℕ) × ℕ) (l m : JsonLines) → Goes before taken l → m.told.bytes ≡ l.told.bytes ++ 10 ∷ [] → m.line.items ≡ [] → Puts taken after l.chunk m.chunk (json_line l.line.items) → Goes before after m
+pub ends_line : (before taken after : Option (List ℕ) × ℕ) (l m : JsonLines) → Goes before taken l → m.told.bytes ≡ l.told.bytes ++ 10 ∷ [] → m.line.items ≡ [] → Puts taken after l.buffer m.buffer (json_line l.line.items) → Goes before after m
 ends_line before taken after l m g told empty puts =
     let text : json_text l.told.bytes ++ json_line l.line.items ≡ json_text m.told.bytes =
     ap (λ line. json_text l.told.bytes ++ json_line line) g.line
     ∙ ap (λ object. json_text l.told.bytes ++ object) (json_line_cut (begun_line l.told.bytes))
     ∙ sym (json_lf l.told.bytes) ∙ ap json_text (sym told) in
     record {
-      writes = subst (Writes before after m.chunk) text (puts before (json_text l.told.bytes) g.writes);
+      writes = subst (Writes before after m.buffer) text (puts before (json_text l.told.bytes) g.writes);
       line = empty ∙ ap (take line_room) (sym (ap begun_line told ∙ begun-lf l.told.bytes));
     }
 
 -- a byte of a line: what was put stays, and the line goes on as far as there is room
-pub goes_on : (before taken : Option (List ℕ) × ℕ) (l m : JsonLines) (b : ℕ) → Goes before taken l → is_lf b ≡ false → m.told.bytes ≡ l.told.bytes ++ b ∷ [] → m.chunk ≡ l.chunk
+pub goes_on : (before taken : Option (List ℕ) × ℕ) (l m : JsonLines) (b : ℕ) → Goes before taken l → is_lf b ≡ false → m.told.bytes ≡ l.told.bytes ++ b ∷ [] → m.buffer ≡ l.buffer
     → m.line.items ≡ take line_room (begun_line l.told.bytes ++ b ∷ []) → Goes before taken m
 goes_on before taken l m b g other told same line =
     let lacks : list_any is_lf (b ∷ []) ≡ false = rw other refl in
     let text : json_text l.told.bytes ≡ json_text m.told.bytes = ap (flat_map json_line) (sym (ended-more l.told.bytes (b ∷ []) lacks)) ∙ ap json_text (sym told) in
     record {
-      writes = subst (λ c. Writes before taken c (json_text m.told.bytes)) (sym same) (subst (Writes before taken l.chunk) text g.writes);
+      writes = subst (λ c. Writes before taken c (json_text m.told.bytes)) (sym same) (subst (Writes before taken l.buffer) text g.writes);
       line = line ∙ ap (take line_room) (sym (ap begun_line told ∙ begun-more l.told.bytes (b ∷ []) lacks));
     }

@@ -1,6 +1,5 @@
 pub mod Forms
 pub mod Shown
 pub mod Json
-pub mod Written
 pub mod Standing
 pub mod Cuts

@@ -1,9 +1,9 @@
--- What the sink behind stands at, by what was taken before it.
+-- What the other sink stands at, by what was taken before it.
 use Rattle.std.specs.Prelude.{◌≡◌, ℕ, ◌<◌, ◌≤◌, true, false, List, [], length, take, drop, Option, None, Some}
 use Rattle.line_model.specs.basics.Device.{with_more}
 use Rattle.line_model.specs.text.Text.{begun_line}
 use Rattle.json_lines.specs.Json.{json_text, line_room}
-use Rattle.json_lines.specs.Written.{Writes}
+use Rattle.line_model.specs.basics.Written.{Writes, has_failed, held_bytes}
 use Rattle.json_lines.specs.declared.lines.JsonLines.{JsonLines}
 
 -- what a sink that tells its bytes took since it had taken others
@@ -22,16 +22,16 @@ HoldsLine l = l.line.items ≡ take line_room (begun_line l.told.bytes)
 
 -- on the way: the objects of the lines that were told and have ended
 pub record Goes (before taken : Option (List ℕ) × ℕ) (l : JsonLines) : Type 0 where
-  pub writes : Writes before taken l.chunk (json_text l.told.bytes)
+  pub writes : Writes before taken l.buffer (json_text l.told.bytes)
   pub line : HoldsLine l
 
 -- between calls: the sink took these objects and nothing is held back, or it has failed and took a first part of them
 abbrev pub Stands : (before taken : Option (List ℕ) × ℕ) → JsonLines → Type 0
 Stands before taken l =
     HoldsLine l
-    × (l.chunk.bytes.items ≡ [])
-    × (l.chunk.failed ≡ false → taken.0 ≡ with_more before.0 (json_text l.told.bytes))
+    × (held_bytes l.buffer ≡ [])
+    × (has_failed l.buffer ≡ false → taken.0 ≡ with_more before.0 (json_text l.told.bytes))
     × IsFirstPart before.0 taken.0 (json_text l.told.bytes)
     × (before.1 ≤ taken.1)
-    × (l.chunk.failed ≡ true → before.1 < taken.1)
-    × (0 < length l.refused.bytes → l.chunk.failed ≡ true)
+    × (has_failed l.buffer ≡ true → before.1 < taken.1)
+    × (0 < length l.refused.bytes → has_failed l.buffer ≡ true)

@@ -1,7 +1,6 @@
 //! The report as JSON lines: a sink that takes the text of a report and gives another sink one object for each line.
 #![tactic(auto)]
 
-mod chunk;
 pub mod fields;
 pub mod laws;
 mod lines;

@@ -1,17 +1,19 @@
 //! A text that comes in parts, and the objects of its lines.
 
 ghost use Rattle.std.specs.Prelude.{◌≡◌, ℕ, ◌+◌, List, [], ◌∷◌, ◌++◌, Option, OnErr, OnOk, is_err, length, if◌then◌else◌};
+ghost use Rattle.line_model.specs.basics.Written.{has_failed};
 ghost use Rattle.json_lines.specs.Standing.{Goes, Stands};
 
-use crate::chunk::Chunk;
+use crate::objects::put_object;
 use arrayvec::ArrayVec;
 use line_model::device::Sink;
 use line_model::history::History;
+use line_model::write_buffer::WriteBuffer;
 
 /// The line that has not ended, and the objects that are on their way to a sink.
 #[derive(Drop)]
 pub struct JsonLines {
-    chunk: Chunk,
+    buffer: WriteBuffer,
     line: ArrayVec<u8, 256>,
     /// The bytes that were taken.
     told: History,
@@ -27,7 +29,7 @@ impl JsonLines {
         ensures refused { result.refused.bytes ≡ [] }
     {
         JsonLines {
-            chunk: Chunk::new(),
+            buffer: WriteBuffer::new(),
             line: ArrayVec::new(),
             told: History::new(),
             refused: History::new(),
@@ -44,7 +46,7 @@ impl JsonLines {
     {
         self.told = History::with(&self.told, &byte);
         if byte == b'\n' {
-            self.chunk.object(sink, self.line.as_slice());
+            put_object(&mut self.buffer, sink, self.line.as_slice());
             self.line.clear();
         } else if !self.line.is_full() {
             self.line.push(byte);
@@ -63,21 +65,21 @@ impl JsonLines {
             ≡ (if is_err result then length self.old.refused.bytes + 1 else length
             self.old.refused.bytes) }
     {
-        if self.chunk.has_failed() {
+        if self.buffer.has_failed() {
             self.refused = History::with(&self.refused, &0);
             return Err(());
         }
         for byte in bytes {
             self.take_byte(sink, *byte);
         }
-        self.chunk.flush(sink);
+        self.buffer.flush(sink);
         Ok(())
     }
 
     /// The sink has failed.
     pub fn has_failed(&self) -> bool
-        ensures { result ≡ self.now.chunk.failed }
+        ensures { result ≡ has_failed self.now.buffer }
     {
-        self.chunk.has_failed()
+        self.buffer.has_failed()
     }
 }

@@ -4,11 +4,12 @@ ghost use Rattle.std.specs.Prelude.{◌≡◌, ◌<◌, ◌++◌, ℕ, List, IfE
 ghost use Rattle.line_model.specs.basics.Device.{with_more};
 ghost use Rattle.json_lines.specs.Json.{json_text};
 
-use crate::sink::{JsonSink, Lent, Origin, Returned};
+use crate::sink::JsonSink;
 use line_model::device::Sink;
 use line_model::fault::Fault;
+use line_model::lending::{Borrowed, Lent, Origin, Returned, take_back};
+use line_model::write_buffer::write_all;
 use std::marker::Brand;
-use streams::writing::write_all;
 
 /// As `write_json_lines`, to the sink of an origin.
 fn write_to<'a, K: Sink, B: Origin>(text: &[u8], to: Lent<'a, K>) -> Returned<'a, K>
@@ -23,22 +24,14 @@ fn write_to<'a, K: Sink, B: Origin>(text: &[u8], to: Lent<'a, K>) -> Returned<'a
     ensures failed { IfErr result.answer (λ fault. (fault ≡ Fault.Write)
         × (B.before.1 < K.failures result.sink.now)) }
 {
-    let mut json = JsonSink::<K, B>::new(to);
+    let mut json = JsonSink::new(Borrowed::<K, B>::new(to));
     let written = write_all(&mut json, text);
-    let Returned { sink, answer } = json.finish();
+    let (sink, answer) = json.finish();
     match written {
-        Ok(()) => Returned { sink, answer },
-        Err(fault) => Returned {
-            sink,
-            answer: Err(fault),
-        },
+        Ok(()) => sink.give_back(answer),
+        Err(fault) => sink.give_back(Err(fault)),
     }
 }
-
-/// The sink that comes back is the one that was lent.
-fn take_back<K>(_sink: &mut K)
-    ensures { _sink.new ≡ _sink.old }
-{}
 
 /// Gives a sink the objects of the lines of a text. Where the sink fails it took a first part of them.
 pub fn write_json_lines<K: Sink>(text: &[u8], sink: &mut K) -> Result<(), Fault>

@@ -43,3 +43,4 @@ pub mod ValueBounds
 pub mod RowsSoFar
 pub mod ItemLemmas
 pub mod DeviceLemmas
+pub mod WrittenLemmas

@@ -5,4 +5,5 @@ pub mod Records
 pub mod Items
 pub mod Bounds
 pub mod Device
+pub mod Written
 pub mod Faults

@@ -1,80 +1,14 @@
--- Texts that a sink takes in parts.
+-- The text of a report in its lines.
 use Rattle.std.proofs.Common.{◌≡◌, ℕ, true, false, zero, suc, ◌+◌, ◌<◌, ◌≤◌, List, [], ◌∷◌, ◌++◌, length, get_or, drop, refl, sym, ap, ◌∙◌, subst, arith, Option, append_assoc}
 use Rattle.std.proofs.lemmas.List.{append-nil}
 use Rattle.std.specs.List.{flat_map, enumerate_from}
-use Rattle.line_model.specs.basics.Device.{with_more}
-use Rattle.report_merge.specs.declared.chunk.Chunk.{Chunk}
 use Rattle.line_model.specs.basics.Records.{Report}
 use Rattle.line_model.specs.observer.Report.{account_line, call_line, finding_line, line, peak_line, setting_lines, summary_line, text_of}
 use Rattle.report_merge.specs.Parts.{findings_text, rest_text}
-use Rattle.report_merge.specs.Written.{Writes}
-use Rattle.line_model.proofs.DeviceLemmas.{with_more-append}
-
--- what is held is sent, all of it or a first part, and nothing is held then
-pub flushed : (before taken after : Option (List ℕ) × ℕ) (c d : Chunk) (text front rest : List ℕ) → Writes before taken c text → c.failed ≡ false → c.bytes.items ≡ front ++ rest → after.0 ≡ with_more taken.0 front
-    → (d.failed ≡ false → rest ≡ []) → d.bytes.items ≡ [] → taken.1 ≤ after.1 → (d.failed ≡ true → taken.1 < after.1) → Writes before after d text
-flushed before taken after c d text front rest w fine split sent all empty rising cause = record {
-  sent = w.sent ++ front;
-  left = rest;
-  took = sent ∙ ap (λ o. with_more o front) w.took ∙ with_more-append before.0 w.sent front;
-  whole = append_assoc w.sent front rest ∙ ap (λ l. w.sent ++ l) (sym split ∙ sym (w.held fine)) ∙ w.whole;
-  held = λ e. all e ∙ sym empty;
-  rising = omega (arith, w.rising, rising);
-  cause = λ e. omega (arith, w.rising, cause e);
-}
-
--- after a failure nothing is known of what is held
-pub given_up : (before taken : Option (List ℕ) × ℕ) (c d : Chunk) (text more : List ℕ) → Writes before taken c text → c.failed ≡ true → d.failed ≡ true → Writes before taken d (text ++ more)
-given_up before taken c d text more w was failed = record {
-  sent = w.sent;
-  left = w.left ++ more;
-  took = w.took;
-  whole = sym (append_assoc w.sent w.left more) ∙ ap (λ l. l ++ more) w.whole;
-  held = λ e. absurd (cc);
-  rising = w.rising;
-  cause = λ e. w.cause was;
-}
-
-pub held_more : (before taken : Option (List ℕ) × ℕ) (c d : Chunk) (text more : List ℕ) → Writes before taken c text → d.failed ≡ c.failed → d.bytes.items ≡ c.bytes.items ++ more → Writes before taken d (text ++ more)
-held_more before taken c d text more w same items = record {
-  sent = w.sent;
-  left = w.left ++ more;
-  took = w.took;
-  whole = sym (append_assoc w.sent w.left more) ∙ ap (λ l. l ++ more) w.whole;
-  held = λ e. ap (λ l. l ++ more) (w.held (sym same ∙ e)) ∙ sym items;
-  rising = w.rising;
-  cause = λ e. w.cause (sym same ∙ e);
-}
-
-pub passed : (before taken after : Option (List ℕ) × ℕ) (c d : Chunk) (text more front rest : List ℕ) → Writes before taken c text → c.failed ≡ false → c.bytes.items ≡ [] → more ≡ front ++ rest → after.0 ≡ with_more taken.0 front
-    → (d.failed ≡ false → rest ≡ d.bytes.items) → taken.1 ≤ after.1 → (d.failed ≡ true → taken.1 < after.1) → Writes before after d (text ++ more)
-passed before taken after c d text more front rest w fine empty split sent held rising cause =
-    let all : w.sent ≡ text = sym (append-nil w.sent) ∙ ap (λ l. w.sent ++ l) (sym (w.held fine ∙ empty)) ∙ w.whole in
-    record {
-      sent = w.sent ++ front;
-      left = rest;
-      took = sent ∙ ap (λ o. with_more o front) w.took ∙ with_more-append before.0 w.sent front;
-      whole = append_assoc w.sent front rest ∙ ap (λ l. w.sent ++ l) (sym split) ∙ ap (λ l. l ++ more) all;
-      held = held;
-      rising = omega (arith, w.rising, rising);
-      cause = λ e. omega (arith, w.rising, cause e);
-    }
-
--- what was given up stays so
-pub still_given_up : (before taken : Option (List ℕ) × ℕ) (c d : Chunk) (text : List ℕ) → Writes before taken c text → c.failed ≡ true → d.failed ≡ true → Writes before taken d text
-still_given_up before taken c d text w was failed = record {
-  sent = w.sent;
-  left = w.left;
-  took = w.took;
-  whole = w.whole;
-  held = λ e. absurd (cc);
-  rising = w.rising;
-  cause = λ e. w.cause was;
-}
 
 -- ---- lines
 
--- a text with words behind it, each with its space
+-- a text with words after it, each with its space
 abbrev pub after_words : List ℕ → List (List ℕ) → List ℕ
 after_words text [] = text
 after_words text (w ∷ ws) = after_words (text ++ (w ++ 32 ∷ [])) ws
@@ -107,10 +41,6 @@ pub numbered_more : {X : Type 0} → (f : ℕ × X → List ℕ) (xs : List X) (
 numbered_more f xs i x done lt is h =
     append_assoc done (f (i + 1, x)) (flat_map f (enumerate_from (i + 1 + 1) (drop (i + 1) xs)))
     ∙ ap (λ l. done ++ flat_map f (enumerate_from (i + 1) l)) (sym (dropped xs i x lt is)) ∙ h
-
-pub finished : (before taken : Option (List ℕ) × ℕ) (c : Chunk) (text : List ℕ) → Writes before taken c text → c.failed ≡ false → c.bytes.items ≡ [] → taken.0 ≡ with_more before.0 text
-finished before taken c text w fine empty =
-    w.took ∙ ap (λ l. with_more before.0 l) (sym (append-nil w.sent) ∙ ap (λ l. w.sent ++ l) (sym (w.held fine ∙ empty)) ∙ w.whole)
 
 any_default : {X : Type 0} → (xs : List X) (i : ℕ) (d e : X) → i < length xs → get_or xs i d ≡ get_or xs i e
 any_default [] i d e lt = absurd (omega arith)

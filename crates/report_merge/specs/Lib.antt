@@ -2,5 +2,4 @@ pub mod Seen
 pub mod Refusal
 pub mod Gathered
 pub mod Merged
-pub mod Written
 pub mod Parts

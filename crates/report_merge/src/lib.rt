@@ -1,7 +1,7 @@
 //! The report of a trace: merged from the reports of its pieces, and written as text.
 #![tactic(auto)]
 
-pub mod chunk;
+mod fields;
 mod judge;
 mod lines;
 pub mod merging;

@@ -1,5 +1,5 @@
-//! Readers and writers of the system as sources and sinks, what the program reads its trace from and writes its report
-//! to, and the writing of whole texts to a sink.
+//! Readers and writers of the system as sources and sinks, and what the program reads its trace from and writes its
+//! report to.
 #![tactic(auto)]
 
 pub mod input;
@@ -7,4 +7,3 @@ pub mod io;
 pub mod last_bytes;
 pub mod output;
 pub mod progress;
-pub mod writing;

@@ -1,5 +1,5 @@
 use Rattle.std.proofs.Common.{◌++◌, ◌∷◌, ◌∙◌, [], ap, subst, append_assoc}
-use Rattle.report_merge.specs.Written.{Writes}
+use Rattle.line_model.specs.basics.Written.{Writes}
 use Rattle.annotated_trace.proofs.PageLemmas.{plain_more}
 use Rattle.annotated_trace.proofs.WordingLemmas.{plain_end, plain_step}
 use Rattle.annotated_trace.specs.Wording.{plain}

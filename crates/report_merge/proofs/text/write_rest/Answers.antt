@@ -4,19 +4,19 @@ use Rattle.report_merge.proofs.text.write_rest.Goals as goal
 pub returns-clause-ok : goal.returns-clause-ok
 returns-clause-ok g c =
     let before : Option (List ℕ) × ℕ = (g.W.Sink.taken c.args.sink.now, g.W.Sink.failures c.args.sink.now) in
-    c.end.ensures.ok before _ (c.rest.ensures before _ (c.new-chunk.ensures before))
+    c.end.ensures.ok before _ (c.put_rest.ensures before _ (c.new-out.ensures.nothing before))
 
 pub returns-clause-part : goal.returns-clause-part
 returns-clause-part g c =
     let before : Option (List ℕ) × ℕ = (g.W.Sink.taken c.args.sink.now, g.W.Sink.failures c.args.sink.now) in
-    c.end.ensures.part before _ (c.rest.ensures before _ (c.new-chunk.ensures before))
+    c.end.ensures.part before _ (c.put_rest.ensures before _ (c.new-out.ensures.nothing before))
 
 pub returns-clause-cause : goal.returns-clause-cause
 returns-clause-cause g c =
     let before : Option (List ℕ) × ℕ = (g.W.Sink.taken c.args.sink.now, g.W.Sink.failures c.args.sink.now) in
-    c.end.ensures.cause before _ (c.rest.ensures before _ (c.new-chunk.ensures before))
+    c.end.ensures.cause before _ (c.put_rest.ensures before _ (c.new-out.ensures.nothing before))
 
 pub returns-clause-rising : goal.returns-clause-rising
 returns-clause-rising g c =
     let before : Option (List ℕ) × ℕ = (g.W.Sink.taken c.args.sink.now, g.W.Sink.failures c.args.sink.now) in
-    c.end.ensures.rising before _ (c.rest.ensures before _ (c.new-chunk.ensures before))
+    c.end.ensures.rising before _ (c.put_rest.ensures before _ (c.new-out.ensures.nothing before))

@@ -1,9 +1,9 @@
 use Rattle.std.proofs.Common.{[], Option, List, ℕ, subst}
-use Rattle.report_merge.specs.Written.{Writes}
+use Rattle.line_model.specs.basics.Written.{Writes}
 use Rattle.annotated_trace.proofs.PageLemmas.{nothing_noted}
 use Rattle.annotated_trace.proofs.page.ClosingPage.new.Goals as goal
 
 pub invariant_of-result : goal.invariant_of-result
 invariant_of-result g c =
-    let now : Option (List ℕ) × ℕ = (g.K.Sink.taken c.args.to.sink.now, g.K.Sink.failures c.args.to.sink.now) in
-    record { same = c.requires.name; stands = ∣ record { notes = record { lines = []; line = [] }; noted = nothing_noted g.B.Origin.before now c.new.result (subst (λ before. Writes before now c.new.result []) c.requires.before (c.new.ensures now)) } ∣₁ }
+    let now : Option (List ℕ) × ℕ = (g.S.Sink.taken c.args.sink, g.S.Sink.failures c.args.sink) in
+    record { stands = ∣ record { notes = record { lines = []; line = [] }; noted = nothing_noted g.S.LentSink.before now c.new.result (subst (λ before. Writes before now c.new.result []) c.requires (c.new.ensures.nothing now)) } ∣₁ }

@@ -6,12 +6,12 @@ use Rattle.annotated_trace.proofs.PageLemmas.{none_told, one_told}
 use Rattle.annotated_trace.proofs.page.ClosingPage.octets.Goals as goal
 
 pub loop-octet-init : goal.loop-octet-init
-loop-octet-init g c notes h = none_told g.B.Origin.before _ c.args.self.now.chunk c.args.self.now.said notes h
+loop-octet-init g c notes h = none_told g.S.LentSink.before _ c.args.self.now.buffer c.args.self.now.said notes h
 
 pub loop-octet-preserved : goal.loop-octet-preserved
 loop-octet-preserved g c notes h =
     let octets = c.args.octets.now in
     let i = c.loop-octet.octet-index in
     let first = take i octets in
-    one_told g.B.Origin.before _ c.octet.new.self.chunk c.octet.new.self.said notes first (take (i + 1) octets) _ (take_more octets i 0 c.loop-octet-test.true)
+    one_told g.S.LentSink.before _ c.octet.new.self.buffer c.octet.new.self.said notes first (take (i + 1) octets) _ (take_more octets i 0 c.loop-octet-test.true)
     (c.octet.ensures.said (record { lines = notes.lines; line = with_words notes.line (encode_upper first) }) (c.loop-octet.invariant notes h))

@@ -6,5 +6,5 @@ use Rattle.annotated_trace.proofs.page.ClosingPage.octets.Given as goal
 
 abbrev pub invariant-loop-octet : goal.invariant-loop-octet
 invariant-loop-octet g l =
-    (notes : Remarks) → HasNoted g.B.Origin.before (g.K.Sink.taken l.fn.self.sink.now, g.K.Sink.failures l.fn.self.sink.now) l.fn.self.chunk l.fn.self.said notes
-    → HasNoted g.B.Origin.before (g.K.Sink.taken l.self.sink.now, g.K.Sink.failures l.self.sink.now) l.self.chunk l.self.said (record { lines = notes.lines; line = with_words notes.line (encode_upper (take l.octet-index l.fn.octets)) })
+    (notes : Remarks) → HasNoted g.S.LentSink.before (g.S.Sink.taken l.fn.self.sink, g.S.Sink.failures l.fn.self.sink) l.fn.self.buffer l.fn.self.said notes
+    → HasNoted g.S.LentSink.before (g.S.Sink.taken l.self.sink, g.S.Sink.failures l.self.sink) l.self.buffer l.self.said (record { lines = notes.lines; line = with_words notes.line (encode_upper (take l.octet-index l.fn.octets)) })

@@ -15,6 +15,6 @@ pub returns-clause-stands : goal.returns-clause-stands
 returns-clause-stands g c before s =
     let t = c.loop-byte.invariant in
     let w = t.2 before (goes_of before _ c.args.self.now s) in
-    let fine : c.args.self.now.chunk.failed ≡ false = sym c.has_failed.ensures ∙ c.if-has_failed.false in
-    stands_of before _ (record c.loop-byte.self { chunk = c.flush.new.self }) (record { writes = c.flush.ensures.sent before _ w.writes; line = w.line }) c.flush.ensures.empty
+    let fine : c.args.self.now.buffer.failed ≡ false = sym c.has_failed.ensures ∙ c.if-has_failed.false in
+    stands_of before _ (record c.loop-byte.self { buffer = c.flush.new.self }) (record { writes = c.flush.ensures.sent before _ w.writes; line = w.line }) c.flush.ensures.empty
     (λ some. nothing_refused before _ c.args.self.now s fine (subst (λ bytes. 0 < length bytes) t.1 some) c.flush.new.self.failed)

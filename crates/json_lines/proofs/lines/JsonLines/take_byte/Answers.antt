@@ -2,7 +2,7 @@ use Rattle.std.proofs.Common.{◌≡◌, ◌∙◌, ◌<◌, [], ◌∷◌, ◌+
 use Rattle.std.proofs.lemmas.Bool.Decides.{nat_tests}
 use Rattle.line_model.specs.text.Text.{begun_line}
 use Rattle.json_lines.specs.Json.{json_line, line_room}
-use Rattle.json_lines.specs.Written.{Puts}
+use Rattle.line_model.specs.basics.Written.{Puts}
 use Rattle.json_lines.proofs.JsonLemmas.{cut_more, cut_full, is_other}
 use Rattle.json_lines.proofs.StandingLemmas.{ends_line, goes_on}
 use Rattle.json_lines.proofs.lines.JsonLines.take_byte.Goals as goal
@@ -10,8 +10,8 @@ use Rattle.json_lines.proofs.lines.JsonLines.take_byte.Goals as goal
 pub returns-then-byte-eq10-clause-goes : goal.returns-then-byte-eq10-clause-goes
 returns-then-byte-eq10-clause-goes g c before w =
     let lf : c.with-self.result.bytes ≡ c.args.self.now.told.bytes ++ 10 ∷ [] = c.with-self.ensures ∙ ap (λ b. c.args.self.now.told.bytes ++ b ∷ []) c.if-byte-eq10.true in
-    let puts : Puts (g.W.Sink.taken c.args.sink.now, g.W.Sink.failures c.args.sink.now) (g.W.Sink.taken c.object.new.sink, g.W.Sink.failures c.object.new.sink) c.args.self.now.chunk c.object.new.self (json_line c.args.self.now.line.items) =
-    λ start text h. subst (λ line. Puts (g.W.Sink.taken c.args.sink.now, g.W.Sink.failures c.args.sink.now) (g.W.Sink.taken c.object.new.sink, g.W.Sink.failures c.object.new.sink) c.args.self.now.chunk c.object.new.self (json_line line)) c.as_slice.ensures.value c.object.ensures start text h in
+    let puts : Puts (g.W.Sink.taken c.args.sink.now, g.W.Sink.failures c.args.sink.now) (g.W.Sink.taken c.put_object.new.sink, g.W.Sink.failures c.put_object.new.sink) c.args.self.now.buffer c.put_object.new.out (json_line c.args.self.now.line.items) =
+    λ start text h. subst (λ line. Puts (g.W.Sink.taken c.args.sink.now, g.W.Sink.failures c.args.sink.now) (g.W.Sink.taken c.put_object.new.sink, g.W.Sink.failures c.put_object.new.sink) c.args.self.now.buffer c.put_object.new.out (json_line line)) c.as_slice.ensures.value c.put_object.ensures start text h in
     ends_line before _ _ c.args.self.now _ w lf c.clear.ensures puts
 
 pub returns-then-not-is_full-clause-goes : goal.returns-then-not-is_full-clause-goes

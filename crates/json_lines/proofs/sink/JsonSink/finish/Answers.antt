@@ -3,4 +3,4 @@ use Rattle.json_lines.proofs.sink.JsonSink.finish.Goals as goal
 
 pub returns-clause-part : goal.returns-clause-part
 returns-clause-part g c text is =
-    parts_of g.B.Origin.before.0 (g.K.Sink.taken c.args.self.sink.now) c.args.self.lines.told.bytes text is c.args.self.stands.3
+    parts_of g.S.LentSink.before.0 (g.S.Sink.taken c.args.self.sink) c.args.self.lines.told.bytes text is c.args.self.stands.3

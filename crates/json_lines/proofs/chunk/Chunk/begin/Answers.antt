@@ -1,7 +1,0 @@
-use Rattle.std.proofs.Common.{ap}
-use Rattle.json_lines.specs.Json.{quoted}
-use Rattle.json_lines.proofs.WrittenLemmas.{put_both, put_same}
-use Rattle.json_lines.proofs.chunk.Chunk.begin.Goals as goal
-
-pub returns : goal.returns
-returns g c = put_both _ _ _ _ _ _ _ _ c.put.ensures (put_both _ _ _ _ _ _ _ _ c.quoted.ensures (put_both _ _ _ _ _ _ _ _ c.put-2.ensures (put_same _ _ _ _ _ _ c.quoted-2.ensures (ap quoted c.as_bytes.ensures.value))))

@@ -1,0 +1,120 @@
+//! A sink that is lent to a value which writes to it, and comes back.
+//!
+//! A function that is generic over sinks promises what its sink took, and not which sink it was. So a value that holds the
+//! `&mut` of another sink can't promise by a field that it still holds the same one afterwards: its type has to. The type
+//! of a sink that was lent, `LentSink`, knows what the sink had taken before. A function with a `&mut K` picks an
+//! `Origin`, lends the sink to a function that is generic over the origin, and takes the sink back:
+//!
+//! ```text
+//!  write_lines(sink: &mut K) ─▶ write_to::<K, Brand>(Lent { sink }) ─▶ Borrowed ─▶ a value that writes to any LentSink
+//!                            ◀─ Returned { sink, answer }           ◀─
+//! ```
+
+ghost use Rattle.std.specs.Prelude.{◌≡◌};
+
+use crate::device::Sink;
+use crate::fault::Fault;
+use std::marker::{Brand, PhantomData};
+
+/// Which sink is lent, and what it had taken and how often it had failed before. Contracts alone see it, and each call
+/// picks it.
+pub trait Origin {
+    ghost use Rattle.std.specs.Prelude.{ℕ, List, Option};
+
+    ghost name: { ℕ };
+
+    ghost before: { Option (List ℕ) × ℕ };
+}
+
+impl Origin for Brand {
+    ghost use Rattle.std.specs.Prelude.{None};
+
+    ghost name = { 0 };
+
+    ghost before = { (None, 0) };
+}
+
+/// A sink that was lent.
+pub trait LentSink: Sink {
+    ghost use Rattle.std.specs.Prelude.{ℕ, List, Option};
+
+    /// What it had taken, and how often it had failed before.
+    ghost before: { Option (List ℕ) × ℕ };
+}
+
+/// A sink on its way to who borrows it.
+#[derive(Drop)]
+pub struct Lent<'a, K> {
+    /// The sink.
+    pub sink: &'a mut K,
+}
+
+/// A lent sink that comes back, and what is answered of the use of it.
+#[derive(Drop)]
+pub struct Returned<'a, K, T = Result<(), Fault>> {
+    /// The sink.
+    pub sink: &'a mut K,
+    /// The answer; by default `Write` where the sink has failed.
+    pub answer: T,
+}
+
+/// The sink of an origin.
+#[derive(Drop)]
+pub struct Borrowed<'a, K: Sink, B: Origin> {
+    sink: &'a mut K,
+    origin: PhantomData<B>,
+    ghost same: { sink.ghost_name ≡ B.name },
+}
+
+impl<'a, K: Sink, B: Origin> Borrowed<'a, K, B> {
+    /// Borrows the sink of the origin.
+    pub fn new(lent: Lent<'a, K>) -> Self
+        requires name { lent.sink.ghost_name ≡ B.name }
+        ensures taken { ⟦<Borrowed<'a, K, B> as Sink>⟧.taken result ≡ K.taken lent.entry.sink.now }
+        ensures failures { ⟦<Borrowed<'a, K, B> as Sink>⟧.failures result ≡ K.failures lent.entry.sink.now }
+    {
+        let Lent { sink } = lent;
+        Borrowed {
+            sink,
+            origin: PhantomData,
+        }
+    }
+
+    /// The sink.
+    pub fn get_ref(&self) -> &K
+        ensures taken { K.taken result.now ≡ ⟦<Borrowed<'a, K, B> as Sink>⟧.taken self.now }
+        ensures failures { K.failures result.now ≡ ⟦<Borrowed<'a, K, B> as Sink>⟧.failures self.now }
+    {
+        self.sink
+    }
+
+    /// Gives the sink back with an answer.
+    pub fn give_back<T>(self, answer: T) -> Returned<'a, K, T>
+        ensures name { result.sink.ghost_name ≡ B.name }
+        ensures taken { K.taken result.sink.now ≡ ⟦<Borrowed<'a, K, B> as Sink>⟧.taken self.entry }
+        ensures failures { K.failures result.sink.now ≡ ⟦<Borrowed<'a, K, B> as Sink>⟧.failures self.entry }
+        ensures answer { result.answer ≡ answer }
+    {
+        let Borrowed { sink, .. } = self;
+        Returned { sink, answer }
+    }
+}
+
+impl<K: Sink, B: Origin> Sink for Borrowed<'_, K, B> {
+    ghost taken = { λ s. K.taken s.sink.now };
+
+    ghost failures = { λ s. K.failures s.sink.now };
+
+    fn write(&mut self, bytes: &[u8]) -> Result<usize, ()> {
+        self.sink.write(bytes)
+    }
+}
+
+impl<K: Sink, B: Origin> LentSink for Borrowed<'_, K, B> {
+    ghost before = { B.before };
+}
+
+/// Takes back what was lent. It is as it came back.
+pub fn take_back<T>(_lent: &mut T)
+    ensures { _lent.new ≡ _lent.old }
+{}

@@ -1,0 +1,6 @@
+use Rattle.std.proofs.lemmas.Grind.{common_steps}
+use Rattle.std.proofs.Common.{arith}
+use Rattle.report_merge.proofs.fields.put_word.Goals as goal
+
+pub returns : goal.returns
+returns g c = grind (arith, common_steps) steps 2000000
