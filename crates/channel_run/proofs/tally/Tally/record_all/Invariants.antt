@@ -4,8 +4,8 @@ use Rattle.line_model.specs.declared.event.Event.{Event}
 use Rattle.line_model.specs.observer.Report.{findings_of}
 use Rattle.call_accounts.specs.Counted.{IsCountable}
 use Rattle.call_accounts.specs.SoFar.{IsOf}
-use Rattle.channel_run.specs.Counted.{Counts}
-use Rattle.channel_run.proofs.counted.Counted.hear_all.Given as goal
+use Rattle.channel_run.specs.Tally.{Counts}
+use Rattle.channel_run.proofs.tally.Tally.record_all.Given as goal
 
 abbrev pub invariant-loop-event : goal.invariant-loop-event
 invariant-loop-event g l = record {

@@ -1,5 +1,5 @@
 use Rattle.channel_run.proofs.Worth.{worth_is, within_is}
-use Rattle.channel_run.proofs.counted.Counted.finish.Goals as goal
+use Rattle.channel_run.proofs.tally.Tally.finish.Goals as goal
 
 pub returns-clause-worth : goal.returns-clause-worth
 returns-clause-worth g c es h =

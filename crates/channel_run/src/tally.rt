@@ -4,13 +4,13 @@ ghost use Rattle.std.specs.Prelude.{◌≡◌, ℕ, List, [], ◌∷◌, ◌++�
 ghost use Rattle.std.specs.List.{AllByRecursion};
 ghost use Rattle.line_model.specs.declared.event.Event.{Event};
 ghost use Rattle.line_model.specs.declared.fault.Fault.TheVariants.{Memory};
-ghost use Rattle.line_model.specs.observer.Calls.{all_lengths, segments_of};
+ghost use Rattle.line_model.specs.observer.Calls.{all_lengths};
 ghost use Rattle.line_model.specs.observer.Report.{findings_of};
 ghost use Rattle.call_accounts.specs.Counted.{IsCountable};
 ghost use Rattle.call_accounts.specs.SoFar.{IsOf};
-ghost use Rattle.channel_run.specs.Counted.{Counts, worth, IsWithin};
+ghost use Rattle.channel_run.specs.Tally.{Counts, worth, IsWithin};
 
-use call_accounts::so_far::CallsSoFar;
+use call_accounts::so_far::{CallsSoFar, segments_in};
 use line_model::event::{Event, What};
 use line_model::fault::Fault;
 use line_model::finding::Finding;
@@ -19,7 +19,7 @@ use std::alloc::Allocator;
 
 /// What is counted of one logical channel in one epoch so far.
 #[derive(Drop)]
-pub(crate) struct Counted<A: Allocator> {
+pub(crate) struct Tally<A: Allocator> {
     /// By packet.
     findings: Vec<Finding, A>,
     /// The calls that are over, and the one that is open.
@@ -30,14 +30,14 @@ pub(crate) struct Counted<A: Allocator> {
     segments: u64,
 }
 
-impl<A: Allocator + Clone> Counted<A> {
-    /// Nothing was heard. It takes no memory, but for that of a clone of the allocator.
+impl<A: Allocator + Clone> Tally<A> {
+    /// Nothing was recorded. It takes no memory, but for that of a clone of the allocator.
     pub(crate) fn new(alloc: A) -> Result<Self, Fault>
-        ensures none { IfOk result (λ counted. (epoch channel : ℕ)
-            → Counts counted epoch channel []) }
+        ensures none { IfOk result (λ tally. (epoch channel : ℕ)
+            → Counts tally epoch channel []) }
         ensures memory { IfErr result (λ fault. fault ≡ Memory) }
     {
-        Ok(Counted {
+        Ok(Tally {
             findings: Vec::new(alloc.clone()?),
             calls: CallsSoFar::new(alloc),
             octets: 0,
@@ -53,9 +53,9 @@ impl<A: Allocator + Clone> Counted<A> {
         self.findings.as_slice()
     }
 
-    /// Hears the next event. It answers `Memory` alone; then it stands for nothing any more.
-    pub(crate) fn hear(&mut self, event: &Event) -> Result<(), Fault>
-        ensures heard { (epoch channel : ℕ) (es : List Event) → Counts self.old epoch channel es
+    /// Records the next event. It answers `Memory` alone; then it stands for nothing any more.
+    pub(crate) fn record(&mut self, event: &Event) -> Result<(), Fault>
+        ensures recorded { (epoch channel : ℕ) (es : List Event) → Counts self.old epoch channel es
             → IsOf epoch channel event.now → IsCountable (es ++ event.now ∷ [])
             → OnOk result (Counts self.new epoch channel (es ++ event.now ∷ [])) }
         ensures findings { OnOk result (self.new.findings.items ≡ self.old.findings.items
@@ -64,15 +64,16 @@ impl<A: Allocator + Clone> Counted<A> {
     {
         push_finding(event, &mut self.findings)?;
         self.octets = self.octets.saturating_add(octets_in(event));
-        self.segments = self.segments.saturating_add(segments_in(event));
-        self.calls.hear(event)?;
+        let segments = segments_in(event);
+        self.segments = self.segments.saturating_add(segments);
+        self.calls.hear(event, segments)?;
         Ok(())
     }
 
-    /// Hears the next events, and answers the first finding among them. It answers `Memory` alone; then it stands for
+    /// Records the next events, and answers the first finding among them. It answers `Memory` alone; then it stands for
     /// nothing any more.
-    pub(crate) fn hear_all(&mut self, events: &[Event]) -> Result<Option<Finding>, Fault>
-        ensures heard { (epoch channel : ℕ) (es : List Event) → Counts self.old epoch channel es
+    pub(crate) fn record_all(&mut self, events: &[Event]) -> Result<Option<Finding>, Fault>
+        ensures recorded { (epoch channel : ℕ) (es : List Event) → Counts self.old epoch channel es
             → AllByRecursion (IsOf epoch channel) events.now → IsCountable (es ++ events.now)
             → OnOk result (Counts self.new epoch channel (es ++ events.now)) }
         ensures found { IfOk result (λ found. found ≡ slice_get (findings_of events.now) 0) }
@@ -80,7 +81,7 @@ impl<A: Allocator + Clone> Counted<A> {
     {
         let before = self.findings.as_slice().len();
         for event in events {
-            self.hear(event)?;
+            self.record(event)?;
         }
         Ok(self.findings.as_slice().get(before).copied())
     }
@@ -155,16 +156,6 @@ fn octets_in(event: &Event) -> u64
 {
     match event.what {
         What::Data { octets, .. } => u64::from(octets),
-        _ => 0,
-    }
-}
-
-/// The segments of 64 octets of an event, the last one begun counts whole; 0 where it is no data packet.
-fn segments_in(event: &Event) -> u64
-    ensures { result ≡ segments_of (all_lengths (event.now ∷ [])) }
-{
-    match event.what {
-        What::Data { octets, .. } => u64::from(octets).div_ceil(64),
         _ => 0,
     }
 }

@@ -6,14 +6,14 @@ use Rattle.line_model.specs.basics.Bounds.{IsPieceReport}
 use Rattle.line_model.specs.observer.Calls.{calls_of, all_lengths, segments_of}
 use Rattle.line_model.specs.observer.Report.{findings_of}
 use Rattle.call_accounts.specs.SoFar as so_far
-use Rattle.channel_run.specs.declared.counted.Counted.{Counted}
+use Rattle.channel_run.specs.declared.tally.Tally.{Tally}
 
 -- what is counted is what these events tell, all of one channel in one epoch
-pub record Counts {A : Type 0} (c : Counted A) (epoch channel : ℕ) (es : List Event) : Type 0 where
-  pub findings : c.findings.items ≡ findings_of es
-  pub calls : so_far.StandsFor c.calls epoch channel es
-  pub octets : c.octets ≡ sum (all_lengths es)
-  pub segments : c.segments ≡ segments_of (all_lengths es)
+pub record Counts {A : Type 0} (t : Tally A) (epoch channel : ℕ) (es : List Event) : Type 0 where
+  pub findings : t.findings.items ≡ findings_of es
+  pub calls : so_far.StandsFor t.calls epoch channel es
+  pub octets : t.octets ≡ sum (all_lengths es)
+  pub segments : t.segments ≡ segments_of (all_lengths es)
 
 -- what events of a channel in an epoch are worth
 abbrev pub worth : (id epoch channel : ℕ) → List Event → PieceReport

@@ -1,5 +1,5 @@
 use Rattle.std.proofs.Common.{refl}
-use Rattle.channel_run.proofs.counted.Counted.new.Goals as goal
+use Rattle.channel_run.proofs.tally.Tally.new.Goals as goal
 
 pub returns-clause-none : goal.returns-clause-none
 returns-clause-none g c = λ epoch channel. record {

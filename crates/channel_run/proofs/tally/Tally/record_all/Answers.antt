@@ -1,8 +1,8 @@
 use Rattle.std.proofs.Common.{◌++◌, ◌∙◌, List, length, ap, subst}
 use Rattle.line_model.specs.declared.event.Event.{Event}
-use Rattle.channel_run.specs.Counted.{Counts}
+use Rattle.channel_run.specs.Tally.{Counts}
 use Rattle.channel_run.proofs.LiveLemmas.{heard_on, findings_on, first_found, whole_list}
-use Rattle.channel_run.proofs.counted.Counted.hear_all.Goals as goal
+use Rattle.channel_run.proofs.tally.Tally.record_all.Goals as goal
 
 pub loop-event-preserved : goal.loop-event-preserved
 loop-event-preserved g c =
@@ -11,14 +11,14 @@ loop-event-preserved g c =
     let inv = c.loop-event.invariant in
     record {
       heard = λ epoch channel es h all few.
-          heard_on (Counts c.loop-event.self epoch channel) (Counts c.hear.new.self epoch channel) epoch channel es events i c.event-item.result c.loop-event-test.true c.event-item.is all few
-          (inv.heard epoch channel es h all few) (c.in_ok-hear.ensures.heard epoch channel _);
+          heard_on (Counts c.loop-event.self epoch channel) (Counts c.record.new.self epoch channel) epoch channel es events i c.event-item.result c.loop-event-test.true c.event-item.is all few
+          (inv.heard epoch channel es h all few) (c.in_ok-record.ensures.recorded epoch channel _);
       findings =
-          findings_on c.args.self.now.findings.items c.loop-event.self.findings.items c.hear.new.self.findings.items events i c.event-item.result c.loop-event-test.true c.event-item.is inv.findings c.in_ok-hear.ensures.findings;
+          findings_on c.args.self.now.findings.items c.loop-event.self.findings.items c.record.new.self.findings.items events i c.event-item.result c.loop-event-test.true c.event-item.is inv.findings c.in_ok-record.ensures.findings;
     }
 
-pub returns-clause-heard : goal.returns-clause-heard
-returns-clause-heard g c = λ epoch channel es h all few.
+pub returns-clause-recorded : goal.returns-clause-recorded
+returns-clause-recorded g c = λ epoch channel es h all few.
     subst (λ (l : List Event). Counts c.loop-event.self epoch channel (es ++ l)) (whole_list c.args.events.now c.loop-event.event-index c.loop-event-test.false)
     (c.loop-event.invariant.heard epoch channel es h all few)
 

@@ -1,6 +1,6 @@
 use Rattle.std.proofs.Common.{◌∙◌}
 use Rattle.channel_run.proofs.Worth.{worth_is, within_is}
-use Rattle.channel_run.proofs.counted.Counted.report.Goals as goal
+use Rattle.channel_run.proofs.tally.Tally.report.Goals as goal
 
 pub returns-clause-worth : goal.returns-clause-worth
 returns-clause-worth g c es h =
