@@ -7,7 +7,7 @@ ghost use Rattle.line_model.specs.observer.Calls.{calls_of, all_lengths};
 ghost use Rattle.call_accounts.specs.Counted.{IsCountable};
 ghost use Rattle.call_accounts.specs.Places.{AreHeard, AreLeft, IsFound, calls_at, place_of};
 
-use crate::so_far::CallsSoFar;
+use crate::so_far::{CallsSoFar, segments_in};
 use line_model::call::CallRecord;
 use line_model::event::{Event, What};
 use line_model::fault::Fault;
@@ -69,7 +69,7 @@ impl<A: Allocator + Clone> Places<A> {
             → OnOk result (AreHeard self.new (es ++ event.now ∷ [])) }
     {
         self.turn_to(alloc, event.epoch, event.channel)?;
-        self.here.hear(event)
+        self.here.hear(event, segments_in(event))
     }
 
     /// Takes the record of the call that was opened last at a place.

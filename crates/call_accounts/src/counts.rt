@@ -1,9 +1,9 @@
 //! What is counted of a call so far.
 
-ghost use Rattle.std.specs.Prelude.{◌≡◌, ◌+◌, ◌/◌, List, [], IfOk};
+ghost use Rattle.std.specs.Prelude.{◌≡◌, List, [], ◌∷◌, IfOk};
 ghost use Rattle.line_model.specs.declared.event.Event.{Event};
 ghost use Rattle.line_model.specs.declared.event.What.TheVariants.{Data, Setting, Initial};
-ghost use Rattle.line_model.specs.observer.Calls.{settings_of};
+ghost use Rattle.line_model.specs.observer.Calls.{all_lengths, segments_of, settings_of};
 ghost use Rattle.call_accounts.specs.Counted.{Counts, Adds};
 
 use crate::pad_table::PadTable;
@@ -11,13 +11,6 @@ use line_model::call::SettingRecord;
 use line_model::event::{Entry, Event, What};
 use line_model::state::Side;
 use std::alloc::{AllocError, Allocator};
-
-/// The segments of a data packet: 64 octets each, the last one begun counts whole.
-fn segments(octets: u32) -> u64
-    ensures { result ≡ (octets + 63) / 64 }
-{
-    u64::from(octets).div_ceil(64)
-}
 
 /// What is counted of a call so far.
 #[derive(Clone, Copy)]
@@ -55,14 +48,15 @@ impl CallCounts {
         }
     }
 
-    /// Counts the next event. A sum that would not fit stays at the greatest number.
-    pub(crate) fn hear(&mut self, event: &Event)
+    /// Counts the next event, which has so many segments. A sum that would not fit stays at the greatest number.
+    pub(crate) fn hear(&mut self, event: &Event, segments: u64)
+        requires segments { segments ≡ segments_of (all_lengths (event.now ∷ [])) }
         ensures { Adds self.old self.new event.now }
     {
         match event.what {
             What::Found { .. } | What::Open { .. } | What::End(_) => {}
             What::Up => self.rise(event.packet),
-            What::Data { side, octets } => self.hear_data(side, octets),
+            What::Data { side, octets } => self.hear_data(side, octets, segments),
             What::Setting {
                 pad,
                 parameter,
@@ -83,10 +77,11 @@ impl CallCounts {
     }
 
     /// A data packet.
-    fn hear_data(&mut self, side: Side, octets: u32)
-        ensures { (e : Event) → e.what ≡ Data side octets → Adds self.old self.new e }
+    fn hear_data(&mut self, side: Side, octets: u32, segments: u64)
+        ensures { (e : Event) → e.what ≡ Data side octets
+            → segments ≡ segments_of (all_lengths (e ∷ [])) → Adds self.old self.new e }
     {
-        self.segments = self.segments.saturating_add(segments(octets));
+        self.segments = self.segments.saturating_add(segments);
         match side {
             Side::T => {
                 self.data_t = self.data_t.saturating_add(1);

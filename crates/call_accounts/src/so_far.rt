@@ -6,6 +6,7 @@ ghost use Rattle.line_model.specs.declared.event.What.TheVariants.{Open, End};
 ghost use Rattle.call_accounts.specs.Counted.{Counts};
 ghost use Rattle.call_accounts.specs.SoFar.{AreCallsOf, HearsOn, IsOf, StandsFor, Tells, call_with, opening_of, ended_by, EndFirst};
 ghost use Rattle.line_model.specs.basics.Records as records;
+ghost use Rattle.line_model.specs.observer.Calls.{all_lengths, segments_of};
 
 use crate::counts::CallCounts;
 use line_model::address::Address;
@@ -13,6 +14,16 @@ use line_model::call::{CallRecord, copies};
 use line_model::event::{Event, How, What};
 use line_model::fault::Fault;
 use std::alloc::{AllocError, Allocator};
+
+/// The segments of 64 octets of an event, the last one begun counts whole; 0 where it is no data packet.
+pub fn segments_in(event: &Event) -> u64
+    ensures { result ≡ segments_of (all_lengths (event.now ∷ [])) }
+{
+    match event.what {
+        What::Data { octets, .. } => u64::from(octets).div_ceil(64),
+        _ => 0,
+    }
+}
 
 /// A call that has not ended: where it was opened, and what was counted of it since.
 #[derive(Drop)]
@@ -127,8 +138,10 @@ impl<A: Allocator + Clone> CallsSoFar<A> {
         }
     }
 
-    /// Hears the next event of the channel. Where memory is refused it stands for nothing any more.
-    pub fn hear(&mut self, event: &Event) -> Result<(), AllocError>
+    /// Hears the next event of the channel, which has so many segments (`segments_in`). Where memory is refused it stands
+    /// for nothing any more.
+    pub fn hear(&mut self, event: &Event, segments: u64) -> Result<(), AllocError>
+        requires segments { segments ≡ segments_of (all_lengths (event.now ∷ [])) }
         ensures heard { HearsOn self.old event.now self.new result }
     {
         match &event.what {
@@ -145,7 +158,7 @@ impl<A: Allocator + Clone> CallsSoFar<A> {
             What::End(how) => self.end(event.packet, *how),
             _ => {
                 if let Some(call) = &mut self.call {
-                    call.counts.hear(event);
+                    call.counts.hear(event, segments);
                 }
                 Ok(())
             }

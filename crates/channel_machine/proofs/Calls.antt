@@ -11,7 +11,7 @@ use Rattle.line_model.specs.declared.state.StateName.TheVariants.{Dash, R1, R2, 
 use Rattle.line_model.specs.declared.event.How as how
 use Rattle.line_model.specs.channels.Channels.{Channel, Opening}
 use Rattle.channel_machine.specs.declared.terms.Opened.{Opened}
-use Rattle.channel_machine.specs.declared.events.Stamp.{Stamp}
+use Rattle.channel_machine.specs.declared.events.EventOrigin.{EventOrigin}
 use Rattle.channel_machine.specs.TermsStand.{opened_of}
 use Rattle.channel_machine.specs.Events.{Reports}
 use Rattle.channel_machine.specs.Channels.{Known, Does}
@@ -38,7 +38,7 @@ pub ends_none : (h : How) (c : Channel) (call : Option Opened) → call ≡ opti
 ends_none h c call stands e = none_by h c c.opening (sym stands ∙ e)
 
 -- some events, and then an outcome
-pub after_events : (s : Stamp) (old mid new : Known) (before between after : List Event) (vs : List What) (c : Channel) (f : Channel → Outcome) →
+pub after_events : (s : EventOrigin) (old mid new : Known) (before between after : List Event) (vs : List What) (c : Channel) (f : Channel → Outcome) →
     mid.terms.interface ≡ old.terms.interface → mid.channel ≡ old.channel → Reports s before between vs →
     Does s mid new between after (f c) → Does s old new before after (and_then (record { reported = vs; after = c }) f)
 after_events s old mid new before between after vs c f interface channel first d = record {

@@ -13,7 +13,7 @@ use Rattle.line_model.specs.packets.Formats.{window_in_force, size_in_force, is_
 use Rattle.line_model.specs.channels.ChannelStep.{counts_of, data_counted, data_alike, hearing, completed_message, told_after}
 use Rattle.window_check.specs.FlowResidues.{FlowResidues, Stands, Answers}
 use Rattle.mbit_assembly.specs.Assembler as assembly
-use Rattle.channel_machine.specs.declared.events.Stamp.{Stamp}
+use Rattle.channel_machine.specs.declared.events.EventOrigin.{EventOrigin}
 use Rattle.channel_machine.specs.Events.{Reports}
 use Rattle.channel_machine.specs.Messages.{SettingsStand}
 use Rattle.channel_machine.specs.Transfers.{Transfer, StandsFor, IsHeard, counted_in_force}
@@ -35,13 +35,13 @@ in_force U r i t new c x s n stands answer =
     (subst (λ m. Answers r t.flow new (count_data m (of_side x t.flow.windows) (counts_of c) x s n)) stands.modulus answer)
 
 -- a fault of the numbers
-pub refused : (U : Type 0) (e : ℕ) (i : Interface) (s : Stamp) (t : Transfer) (new : FlowResidues) (before : List Event) (x : Side) (p : AcceptedData) (r : Result Counts ℕ) (c : Channel) →
+pub refused : (U : Type 0) (e : ℕ) (i : Interface) (s : EventOrigin) (t : Transfer) (new : FlowResidues) (before : List Event) (x : Side) (p : AcceptedData) (r : Result Counts ℕ) (c : Channel) →
     Answers {A = U} (Err e) t.flow new r → IsHeard (Some e) i s t t before before x p r c
 refused U e i s t new before x p r c answer =
     ((λ q. ap (λ a. data_counted i x q p a c) (answered_err U e t.flow new r answer).0), refl, refl)
 
 -- another Q bit
-pub mixed : {U : Type 0} (u : U) (i : Interface) (s : Stamp) (t new : Transfer) (flow : FlowResidues) (before after : List Event) (x : Side) (p : AcceptedData) (r : Result Counts ℕ) (c : Channel) →
+pub mixed : {U : Type 0} (u : U) (i : Interface) (s : EventOrigin) (t new : Transfer) (flow : FlowResidues) (before after : List Event) (x : Side) (p : AcceptedData) (r : Result Counts ℕ) (c : Channel) →
     StandsFor i t c → Answers (Ok u) t.flow flow r → is_alike p (assembly.begun_by t.assembler x c.heard) ≡ false → new ≡ t → after ≡ before →
     IsHeard (Some INCONSISTENT_Q_BIT_SETTING) i s t new before after x p r c
 mixed u i s t new flow before after x p r c stands answer other same none =
@@ -103,7 +103,7 @@ told_is i t c x p stands h a =
     ∙ ap (λ n. Some (sequence_octets (begun n x c.heard ++ p ∷ []))) (sym (size_is i t c x stands))
 
 -- a packet without fault, which completes a message or not
-pub accepted : {U : Type 0} (u : U) (i : Interface) (s : Stamp) (t new : Transfer) (before after : List Event) (c : Channel) (x : Side) (sn rn : ℕ) (p : AcceptedData) (m : Option (List ℕ)) →
+pub accepted : {U : Type 0} (u : U) (i : Interface) (s : EventOrigin) (t new : Transfer) (before after : List Event) (c : Channel) (x : Side) (sn rn : ℕ) (p : AcceptedData) (m : Option (List ℕ)) →
     StandsFor i t c → p.side ≡ x → Answers (Ok u) t.flow new.flow (counted_in_force i x sn rn c) →
     is_alike p (assembly.begun_by t.assembler x c.heard) ≡ true → completed_message i x c p ≡ m →
     new.flow.modulus ≡ t.flow.modulus → new.flow.windows ≡ t.flow.windows →

@@ -12,12 +12,12 @@ use Rattle.line_model.specs.channels.Channels.{Channel}
 use Rattle.line_model.specs.packets.Classes.{data_header}
 use Rattle.line_model.specs.channels.FlowControl.{Counts}
 use Rattle.line_model.specs.channels.ChannelStep.{Outcome, counting, data_step, failing, heard_of, hearing, transferring}
-use Rattle.channel_machine.specs.declared.events.Stamp.{Stamp}
+use Rattle.channel_machine.specs.declared.events.EventOrigin.{EventOrigin}
 use Rattle.channel_machine.specs.Transfers.{StandsFor, IsHeard, counted_in_force, packet}
 use Rattle.channel_machine.specs.Channels.{Known, Stands, Does}
 
 -- a fault that left the channel as it was, and what its failing does
-pub refusing : {U : Type 0} (r : Result U Fault) (s : Stamp) (old mid new : Known) (before after : List Event) (c : Channel)
+pub refusing : {U : Type 0} (r : Result U Fault) (s : EventOrigin) (old mid new : Known) (before after : List Event) (c : Channel)
     (f : Channel → Outcome) (o : Outcome) → mid ≡ old → f c ≡ o → Stands old c →
     ((d : Channel) → Stands mid d → IfOk r (λ _. Does s mid new before after (f d))) →
     IfOk r (λ _. Does s old new before after o)
@@ -35,7 +35,7 @@ unchanged_between r old mid new before between after same h =
     unchanged_through r old mid new before after same.0 (subst (λ l. OnErr r ((new ≡ mid) × (after ≡ l))) same.1 h)
 
 -- counts that answered
-pub counted : (s : Stamp) (old new : Known) (before : List Event) (x : Side) (q : StateName) (c : Channel) (a : Result Counts ℕ) (v : Counts) →
+pub counted : (s : EventOrigin) (old new : Known) (before : List Event) (x : Side) (q : StateName) (c : Channel) (a : Result Counts ℕ) (v : Counts) →
     new ≡ record old { transfer = new.transfer } → a ≡ Ok v → Stands old c →
     StandsFor old.terms.interface new.transfer (record c { acknowledged = v.acknowledged; unconfirmed = v.unconfirmed }) →
     Does s old new before before (counting x q a c)
@@ -49,7 +49,7 @@ counted s old new before x q c a v rest is stands transfer =
     }))
 
 -- a data packet without fault
-pub heard_by : (s : Stamp) (old new : Known) (before after : List Event) (x : Side) (q : StateName) (xs ys : List ℕ) (h : DataHeader) (c : Channel) →
+pub heard_by : (s : EventOrigin) (old new : Known) (before after : List Event) (x : Side) (q : StateName) (xs ys : List ℕ) (h : DataHeader) (c : Channel) →
     new ≡ record old { transfer = new.transfer } → Stands old c → data_header old.terms.interface xs ≡ Some h → packet x h ys ≡ heard_of old.terms.interface x xs h →
     (k : Option ℕ) → k ≡ None →
     IsHeard k old.terms.interface s old.transfer new.transfer before after x (packet x h ys) (counted_in_force old.terms.interface x h.send h.receive c) c →
@@ -68,7 +68,7 @@ heard_by s old new before after x q xs ys h c rest stands header same k none hea
     }))
 
 -- a data packet with a fault of its numbers or its Q bit
-pub refused_by : {U : Type 0} (r : Result U Fault) (s : Stamp) (old mid new : Known) (before between after : List Event) (x : Side) (q : StateName) (xs ys : List ℕ)
+pub refused_by : {U : Type 0} (r : Result U Fault) (s : EventOrigin) (old mid new : Known) (before between after : List Event) (x : Side) (q : StateName) (xs ys : List ℕ)
     (h : DataHeader) (c : Channel) → Stands old c → data_header old.terms.interface xs ≡ Some h → packet x h ys ≡ heard_of old.terms.interface x xs h →
     (k : Option ℕ) (n : ℕ) → k ≡ Some n →
     IsHeard k old.terms.interface s old.transfer mid.transfer before between x (packet x h ys) (counted_in_force old.terms.interface x h.send h.receive c) c →

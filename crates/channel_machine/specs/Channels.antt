@@ -9,7 +9,7 @@ use Rattle.line_model.specs.channels.ChannelStep.{Outcome}
 use Rattle.line_model.specs.channels.Channels.{Channel}
 use Rattle.mbit_assembly.specs.Sequences.{Assembly}
 use Rattle.channel_machine.specs.declared.messages.BothSettings.{BothSettings}
-use Rattle.channel_machine.specs.declared.events.Stamp.{Stamp}
+use Rattle.channel_machine.specs.declared.events.EventOrigin.{EventOrigin}
 use Rattle.channel_machine.specs.Events.{Reports}
 use Rattle.channel_machine.specs.TermsStand.{Agreed, TermsStand}
 use Rattle.channel_machine.specs.Reached.{IsReached}
@@ -54,14 +54,14 @@ pub record StandsForReached (p : Known) (c : Channel) : Type 0 where
   pub reached : IsReached c
 
 -- what a function does to a channel and its events
-pub record Does (s : Stamp) (old new : Known) (before after : List Event) (o : Outcome) : Type 0 where
+pub record Does (s : EventOrigin) (old new : Known) (before after : List Event) (o : Outcome) : Type 0 where
   pub interface : new.terms.interface ≡ old.terms.interface
   pub channel : new.channel ≡ old.channel
   pub stands : Stands new o.after
   pub reports : Reports s before after o.reported
 
 -- the same of a function that may want memory, on each channel that it stands for
-abbrev pub Comes : {U : Type 0} → Result U Fault → Stamp → (old new : Known) → (before after : List Event) → (Channel → Outcome) → Type 0
+abbrev pub Comes : {U : Type 0} → Result U Fault → EventOrigin → (old new : Known) → (before after : List Event) → (Channel → Outcome) → Type 0
 Comes r s old new before after f = (c : Channel) → Stands old c → IfOk r (λ _. Does s old new before after (f c))
 
 -- after a fault the channel and its events are as they were

@@ -4,8 +4,8 @@ use Rattle.line_model.specs.declared.state.ChannelState.{ChannelState}
 use Rattle.line_model.specs.declared.state.ChannelState.TheVariants.{Setup}
 use Rattle.line_model.specs.declared.state.PState.TheVariants.{P2, P3, P5}
 use Rattle.line_model.specs.declared.state.StateName.{StateName}
-use Rattle.line_model.specs.declared.verdict.CallChange.{CallChange}
-use Rattle.line_model.specs.declared.verdict.CallChange.TheVariants.{Opens, GoesUp, Ends, Keeps}
+use Rattle.line_model.specs.channels.Verdicts.{CallChange}
+use Rattle.line_model.specs.channels.Verdicts.CallChange.{Opens, GoesUp, Ends, Keeps}
 use Rattle.line_model.specs.channels.ChannelStep.{state_named}
 use Rattle.line_model.specs.channels.Channels.{Channel}
 

@@ -16,7 +16,7 @@ use Rattle.mbit_assembly.specs.Assembler as assembly
 use Rattle.channel_machine.specs.declared.messages.BothSettings.{BothSettings}
 use Rattle.channel_machine.specs.Messages.{SettingsStand}
 use Rattle.channel_machine.specs.Events.{Reports}
-use Rattle.channel_machine.specs.declared.events.Stamp.{Stamp}
+use Rattle.channel_machine.specs.declared.events.EventOrigin.{EventOrigin}
 
 -- what is kept of data transfer: the windows and interrupts, the sequences begun, and the settings of both PADs
 pub record Transfer : Type 0 where
@@ -50,7 +50,7 @@ abbrev pub packet : Side → DataHeader → List ℕ → AcceptedData
 packet x h octets = record { side = x; qualified = h.qualified; more = h.more; delivery = h.delivery; octets = octets }
 
 -- what a data packet does, by the answer of its counts: a fault is told and changes nothing
-abbrev pub IsHeard : Option ℕ → Interface → Stamp → (old new : Transfer) → (before after : List Event) →
+abbrev pub IsHeard : Option ℕ → Interface → EventOrigin → (old new : Transfer) → (before after : List Event) →
     Side → AcceptedData → Result Counts ℕ → Channel → Type 0
 IsHeard (Some n) i s old new before after x p r c =
     ((t : StateName) → data_counted i x t p r c ≡ failing x t n c) × (new ≡ old) × (after ≡ before)

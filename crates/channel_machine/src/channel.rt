@@ -8,7 +8,7 @@ ghost use Rattle.channel_machine.specs.Agreed.{agreed_of};
 ghost use Rattle.channel_machine.specs.TermsStand.{TermsStand};
 ghost use Rattle.channel_machine.specs.Channels.{Stands, Does, Comes, IsUnchanged, IsMemory};
 
-use crate::events::{Place, Stamp};
+use crate::events::{EventOrigin, Judgement};
 use crate::messages::BothSettings;
 use crate::packed::PackedStatus;
 use crate::plain::PlainStatus;
@@ -62,7 +62,7 @@ impl<A: Allocator + Clone, S: StatusStore> StatusChannel<A, S> {
     /// Enters a state, where the call ends.
     pub(crate) fn end(
         &mut self,
-        stamp: Stamp,
+        origin: EventOrigin,
         how: How,
         to: StateName,
         owed: bool,
@@ -73,55 +73,59 @@ impl<A: Allocator + Clone, S: StatusStore> StatusChannel<A, S> {
         ensures capacity { vec_capacity events.new ≡ vec_capacity events.old }
         ensures len { vec_len events.new ≤ vec_len events.old + 1 }
         ensures does { (c : Channel) → Stands self.old c
-            → Does stamp self.old self.new events.old.items events.new.items
+            → Does origin self.old self.new events.old.items events.new.items
             (ending how (entering to owed c)) }
     {
         let terms = self.status.terms();
         match terms.call {
             None => self.enter(to, owed, &terms),
             Some(_) => {
-                events.push_reserved(stamp.event(What::End(how)));
+                events.push_reserved(origin.event(What::End(how)));
                 self.settings = BothSettings::new();
                 self.enter(to, owed, &Terms::new(terms.interface));
             }
         }
     }
 
-    /// Tells an error at a place: one of the DTE has the DCE clear or reset, one of the DCE changes nothing.
+    /// Reports an error of a packet: one of the DTE has the DCE clear or reset, one of the DCE changes nothing.
     pub(crate) fn fail(
         &mut self,
-        place: &Place,
+        judgement: &Judgement,
         code: u8,
         events: &mut Vec<Event, A>,
     ) -> Result<(), Fault>
-        ensures does { Comes result place.now.stamp self.old self.new
+        ensures does { Comes result judgement.now.origin self.old self.new
             events.old.items events.new.items
-            (failing place.now.side place.now.state code) }
+            (failing judgement.now.side judgement.now.state code) }
         ensures unchanged { IsUnchanged result self.old self.new events.old.items events.new.items }
         ensures memory { IsMemory result }
     {
-        let Place { stamp, side, state } = *place;
+        let Judgement {
+            origin,
+            side,
+            state,
+        } = *judgement;
         events.reserve(2)?;
-        events.push_reserved(stamp.event(error(side, state, code)));
+        events.push_reserved(origin.event(error(side, state, code)));
         match side {
-            Side::T => self.give_up(stamp, state, events),
+            Side::T => self.give_up(origin, state, events),
             Side::N => {}
         }
         Ok(())
     }
 
     /// Has the DCE clear or reset after an error of the DTE.
-    fn give_up(&mut self, stamp: Stamp, state: StateName, events: &mut Vec<Event, A>)
+    fn give_up(&mut self, origin: EventOrigin, state: StateName, events: &mut Vec<Event, A>)
         requires room { vec_len events.old < vec_capacity events.old }
         ensures { (c : Channel) → Stands self.old c
-            → Does stamp self.old self.new events.old.items events.new.items (after_error state c) }
+            → Does origin self.old self.new events.old.items events.new.items (after_error state c) }
     {
         let terms = self.status.terms();
         match state {
             StateName::D1 => self.enter(StateName::D3, true, &terms),
             StateName::D2 => self.enter(StateName::D3, true, &terms),
             StateName::D3 => self.enter(StateName::D3, true, &terms),
-            _ => self.end(stamp, How::N, StateName::P7, true, events),
+            _ => self.end(origin, How::N, StateName::P7, true, events),
         }
     }
 }

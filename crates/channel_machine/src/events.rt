@@ -5,28 +5,28 @@ ghost use Rattle.std.specs.Prelude.{◌≡◌};
 use line_model::event::{Event, What};
 use line_model::state::{Side, StateName};
 
-/// What all events of a row on a channel share.
+/// Where the events of a row on a channel come from: what all of them share.
 #[derive(Clone, Copy)]
-pub(crate) struct Stamp {
+pub(crate) struct EventOrigin {
     pub(crate) epoch: u32,
     pub(crate) channel: u16,
     pub(crate) packet: u32,
 }
 
-/// Where a packet stands on its channel: its row, its side, and the state in whose column it was judged.
+/// How a packet was judged: its row, its side, and the state in whose column it stands.
 #[derive(Clone, Copy)]
-pub(crate) struct Place {
-    pub(crate) stamp: Stamp,
+pub(crate) struct Judgement {
+    pub(crate) origin: EventOrigin,
     pub(crate) side: Side,
     pub(crate) state: StateName,
 }
 
-impl Stamp {
-    ghost use Rattle.channel_machine.specs.Events.{stamped};
+impl EventOrigin {
+    ghost use Rattle.channel_machine.specs.Events.{event_at};
 
     /// An event of the row.
     pub(crate) fn event(self, what: What) -> Event
-        ensures { result ≡ stamped self what }
+        ensures { result ≡ event_at self what }
     {
         Event {
             epoch: self.epoch,

@@ -3,7 +3,7 @@
 ghost use Rattle.channel_machine.specs.Channels.{StandsForReached, interface_of, number_of};
 
 use crate::channel::StatusChannel;
-use crate::events::Stamp;
+use crate::events::EventOrigin;
 use crate::messages::BothSettings;
 use crate::status::StatusStore;
 use crate::terms::{Terms, is_pad_call, was_fast};
@@ -11,8 +11,7 @@ use channel_run::run::{Channel, View};
 use line_model::event::Event;
 use line_model::fault::Fault;
 use line_model::interface::Interface;
-use line_model::packet::Packet;
-use line_model::row::Row;
+use line_model::items::ItemRef;
 use line_model::state::{ChannelState, Side};
 use mbit_assembly::assembler::Assembler;
 use std::alloc::Allocator;
@@ -62,15 +61,14 @@ impl<A: Allocator + Clone, S: StatusStore + Drop> Channel<A> for StatusChannel<A
     fn step(
         &mut self,
         epoch: u32,
-        row: &Row<A>,
-        packet: &Packet,
+        item: &ItemRef<'_>,
         events: &mut Vec<Event, A>,
     ) -> Result<(), Fault> {
-        let stamp = Stamp {
+        let origin = EventOrigin {
             epoch,
             channel: self.channel,
-            packet: row.number,
+            packet: item.number,
         };
-        self.take(stamp, row.side, packet, &row.octets, events)
+        self.handle(origin, item.side, &item.packet, item.octets, events)
     }
 }

@@ -10,7 +10,7 @@ ghost use Rattle.x3_parameters.specs.Effects.{indicated_one, asked_one};
 ghost use Rattle.x3_parameters.specs.Told.{set_events, told};
 ghost use Rattle.channel_machine.specs.Events.{Reports};
 
-use crate::events::Stamp;
+use crate::events::EventOrigin;
 use line_model::event::{Entry, Event, What};
 use line_model::finding::{Code, Xcode};
 use line_model::state::{Side, StateName};
@@ -46,7 +46,7 @@ impl BothSettings {
     /// Takes the message that a packet of so many octets completes; `octets` are the first 1,025 of the message.
     pub(crate) fn tell<A: Allocator>(
         &mut self,
-        stamp: Stamp,
+        origin: EventOrigin,
         from: Side,
         octets: &[u8],
         size: u32,
@@ -54,7 +54,7 @@ impl BothSettings {
     )
         requires room { vec_len events.old + 514 ≤ vec_capacity events.old }
         ensures reports { (m : List ℕ) (ts : List Told) → octets.now ≡ take 1025 m
-            → SettingsStand self.old ts → Reports stamp events.old.items events.new.items
+            → SettingsStand self.old ts → Reports origin events.old.items events.new.items
             (told_reports from size ts m) }
         ensures stands { (m : List ℕ) (ts : List Told) → octets.now ≡ take 1025 m
             → SettingsStand self.old ts → SettingsStand self.new (ts
@@ -62,17 +62,17 @@ impl BothSettings {
     {
         match read_message(octets) {
             Err(fault) => {
-                report_fault(stamp, from, Some(fault), events);
-                events.push_reserved(stamp.event(heard(from, size)));
+                report_fault(origin, from, Some(fault), events);
+                events.push_reserved(origin.event(heard(from, size)));
             }
-            Ok(message) => self.take(stamp, from, &message, size, events),
+            Ok(message) => self.handle(origin, from, &message, size, events),
         }
     }
 
     /// Takes a message without a fault of its own, which a packet of so many octets completes.
-    fn take<A: Allocator>(
+    fn handle<A: Allocator>(
         &mut self,
-        stamp: Stamp,
+        origin: EventOrigin,
         from: Side,
         message: &Message<'_>,
         size: u32,
@@ -81,15 +81,15 @@ impl BothSettings {
         requires room { vec_len events.old + 514 ≤ vec_capacity events.old }
         requires short { length message.now.pairs.now < 1024 }
         ensures reports { (ts : List Told) → SettingsStand self.old ts
-            → Reports stamp events.old.items events.new.items
+            → Reports origin events.old.items events.new.items
             (told_reports from size ts (told from message.now).message) }
         ensures stands { (ts : List Told) → SettingsStand self.old ts
             → SettingsStand self.new (ts ++ told from message.now ∷ []) }
     {
         let fault = self.read(from, message);
-        report_fault(stamp, from, fault, events);
-        events.push_reserved(stamp.event(heard(from, size)));
-        report_after(stamp, from, fault, message, events);
+        report_fault(origin, from, fault, events);
+        events.push_reserved(origin.event(heard(from, size)));
+        report_after(origin, from, fault, message, events);
     }
 
     /// Hands a message to the settings of both PADs, and tells its fault.
@@ -118,19 +118,19 @@ pub(crate) fn heard(side: Side, octets: u32) -> What
 
 /// Reports the fault of a message, which stands in d1.
 fn report_fault<A: Allocator>(
-    stamp: Stamp,
+    origin: EventOrigin,
     from: Side,
     fault: Option<Xcode>,
     events: &mut Vec<Event, A>,
 )
     requires room { vec_len events.old < vec_capacity events.old }
-    ensures reports { Reports stamp events.old.items events.new.items
+    ensures reports { Reports origin events.old.items events.new.items
         (option_to_list (option_found from fault)) }
     ensures capacity { vec_capacity events.new ≡ vec_capacity events.old }
     ensures len { vec_len events.new ≤ vec_len events.old + 1 }
 {
     if let Some(fault) = fault {
-        events.push_reserved(stamp.event(found(from, fault)));
+        events.push_reserved(origin.event(found(from, fault)));
     }
 }
 
@@ -147,7 +147,7 @@ fn found(side: Side, fault: Xcode) -> What
 
 /// Reports what a message tells of the settings, after a fault of them: X4 keeps it from telling anything.
 fn report_after<A: Allocator>(
-    stamp: Stamp,
+    origin: EventOrigin,
     from: Side,
     fault: Option<Xcode>,
     message: &Message<'_>,
@@ -155,76 +155,81 @@ fn report_after<A: Allocator>(
 )
     requires room { vec_len events.old + 512 ≤ vec_capacity events.old }
     requires short { length message.now.pairs.now < 1024 }
-    ensures { Reports stamp events.old.items events.new.items
+    ensures { Reports origin events.old.items events.new.items
         (settings_after fault from (octets_of message.now.code message.now.pairs.now)) }
 {
     match fault {
-        None => report_settings(stamp, from, message, events),
-        Some(Xcode::X3) => report_settings(stamp, from, message, events),
+        None => report_settings(origin, from, message, events),
+        Some(Xcode::X3) => report_settings(origin, from, message, events),
         Some(_) => {}
     }
 }
 
 /// Reports the settings that a message says or asks.
 fn report_settings<A: Allocator>(
-    stamp: Stamp,
+    origin: EventOrigin,
     from: Side,
     message: &Message<'_>,
     events: &mut Vec<Event, A>,
 )
     requires room { vec_len events.old + 512 ≤ vec_capacity events.old }
     requires short { length message.now.pairs.now < 1024 }
-    ensures { Reports stamp events.old.items events.new.items
+    ensures { Reports origin events.old.items events.new.items
         (settings_of from (octets_of message.now.code message.now.pairs.now)) }
 {
     match message.code {
         MessageCode::Indication => {
-            report_indicated(stamp, from, Pairs::new(true, message.pairs), events);
+            report_indicated(origin, from, Pairs::new(true, message.pairs), events);
         }
-        MessageCode::Set => report_set(stamp, from.other(), message.pairs, events),
-        MessageCode::SetAndRead => report_set(stamp, from.other(), message.pairs, events),
+        MessageCode::Set => report_set(origin, from.other(), message.pairs, events),
+        MessageCode::SetAndRead => report_set(origin, from.other(), message.pairs, events),
         _ => {}
     }
 }
 
 /// Reports a set of a PAD, whose octets after the code are these.
-fn report_set<A: Allocator>(stamp: Stamp, pad: Side, octets: &[u8], events: &mut Vec<Event, A>)
+fn report_set<A: Allocator>(
+    origin: EventOrigin,
+    pad: Side,
+    octets: &[u8],
+    events: &mut Vec<Event, A>,
+)
     requires room { vec_len events.old + 512 ≤ vec_capacity events.old }
     requires short { length octets.now < 1024 }
-    ensures { Reports stamp events.old.items events.new.items (set_events pad octets.now) }
+    ensures { Reports origin events.old.items events.new.items (set_events pad octets.now) }
 {
     if octets.is_empty() {
-        events.push_reserved(stamp.event(What::Initial { pad }));
+        events.push_reserved(origin.event(What::Initial { pad }));
     } else {
-        report_asked(stamp, pad, Pairs::new(false, octets), events);
+        report_asked(origin, pad, Pairs::new(false, octets), events);
     }
 }
 
 /// Reports what the pairs of an indication say.
 fn report_indicated<A: Allocator>(
-    stamp: Stamp,
+    origin: EventOrigin,
     pad: Side,
     pairs: Pairs<'_>,
     events: &mut Vec<Event, A>,
 )
     requires room { vec_len events.old + length pairs ≤ vec_capacity events.old }
-    ensures { Reports stamp events.old.items events.new.items
+    ensures { Reports origin events.old.items events.new.items
         (flat_map (indicated_one pad) pairs.entry) }
 {
     for pair in pairs {
-        report_indicated_one(stamp, pad, pair, events);
+        report_indicated_one(origin, pad, pair, events);
     }
 }
 
 /// Reports what a pair of an indication says, if anything.
 fn report_indicated_one<A: Allocator>(
-    stamp: Stamp,
+    origin: EventOrigin,
     pad: Side,
     pair: Pair,
     events: &mut Vec<Event, A>,
 )
     requires room { vec_len events.old < vec_capacity events.old }
-    ensures reports { Reports stamp events.old.items events.new.items
+    ensures reports { Reports origin events.old.items events.new.items
         (indicated_one pad (shown pair)) }
     ensures capacity { vec_capacity events.new ≡ vec_capacity events.old }
     ensures len { vec_len events.new ≤ vec_len events.old + 1 }
@@ -236,7 +241,7 @@ fn report_indicated_one<A: Allocator>(
         } else {
             Entry::Said(pair.value)
         };
-        events.push_reserved(stamp.event(What::Setting {
+        events.push_reserved(origin.event(What::Setting {
             pad,
             parameter,
             entry,
@@ -245,25 +250,35 @@ fn report_indicated_one<A: Allocator>(
 }
 
 /// Reports what the pairs of a set ask.
-fn report_asked<A: Allocator>(stamp: Stamp, pad: Side, pairs: Pairs<'_>, events: &mut Vec<Event, A>)
+fn report_asked<A: Allocator>(
+    origin: EventOrigin,
+    pad: Side,
+    pairs: Pairs<'_>,
+    events: &mut Vec<Event, A>,
+)
     requires room { vec_len events.old + length pairs ≤ vec_capacity events.old }
-    ensures { Reports stamp events.old.items events.new.items
+    ensures { Reports origin events.old.items events.new.items
         (flat_map (asked_one pad) pairs.entry) }
 {
     for pair in pairs {
-        report_asked_one(stamp, pad, pair, events);
+        report_asked_one(origin, pad, pair, events);
     }
 }
 
 /// Reports what a pair of a set asks, if anything.
-fn report_asked_one<A: Allocator>(stamp: Stamp, pad: Side, pair: Pair, events: &mut Vec<Event, A>)
+fn report_asked_one<A: Allocator>(
+    origin: EventOrigin,
+    pad: Side,
+    pair: Pair,
+    events: &mut Vec<Event, A>,
+)
     requires room { vec_len events.old < vec_capacity events.old }
-    ensures reports { Reports stamp events.old.items events.new.items (asked_one pad (shown pair)) }
+    ensures reports { Reports origin events.old.items events.new.items (asked_one pad (shown pair)) }
     ensures capacity { vec_capacity events.new ≡ vec_capacity events.old }
     ensures len { vec_len events.new ≤ vec_len events.old + 1 }
 {
     if is_parameter(pair.reference) {
-        events.push_reserved(stamp.event(What::Setting {
+        events.push_reserved(origin.event(What::Setting {
             pad,
             parameter: pair.reference,
             entry: Entry::Asked(pair.value),

@@ -4,7 +4,7 @@ ghost use Rattle.std.specs.Prelude.{◌≡◌, List, ℕ, None, IfOk, IfNone, fa
 ghost use Rattle.line_model.specs.channels.Channels.{Channel};
 ghost use Rattle.line_model.specs.packets.Facilities.{fields_of};
 ghost use Rattle.line_model.specs.channels.ChannelStep.{entering, changing, call_change};
-ghost use Rattle.line_model.specs.declared.verdict.CallChange.TheVariants.{Opens, GoesUp};
+ghost use Rattle.line_model.specs.channels.Verdicts.CallChange.{Opens, GoesUp};
 ghost use Rattle.packet_decode.specs.Shown.{shown, IsUsable};
 ghost use Rattle.channel_machine.specs.Reached.{IsUnanswered};
 ghost use Rattle.packet_decode.specs.Contents.{AreOf, AreUsable};
@@ -14,7 +14,7 @@ ghost use Rattle.channel_machine.specs.Channels.{Stands, Does, IsUnchanged, IsMe
 ghost use Rattle.channel_machine.specs.Moves.{IsChange, TakesUsable, leaving};
 
 use crate::channel::StatusChannel;
-use crate::events::Stamp;
+use crate::events::EventOrigin;
 use crate::status::StatusStore;
 use crate::terms::Terms;
 use line_model::event::{Event, How, What};
@@ -79,7 +79,7 @@ impl<A: Allocator + Clone, S: StatusStore> StatusChannel<A, S> {
     /// Enters a state, where a call is opened.
     pub(crate) fn open(
         &mut self,
-        stamp: Stamp,
+        origin: EventOrigin,
         out: bool,
         fields: &CallFields<'_>,
         to: StateName,
@@ -88,14 +88,14 @@ impl<A: Allocator + Clone, S: StatusStore> StatusChannel<A, S> {
         requires usable { IsUsable self.old.terms.interface fields.now }
         ensures does { (c : Channel) (xs : List ℕ) → shown fields.now ≡ fields_of xs
             → IfNone c.opening (c.accepting ≡ None) → Stands self.old c
-            → IfOk result (λ _. Does stamp self.old self.new events.old.items events.new.items
+            → IfOk result (λ _. Does origin self.old self.new events.old.items events.new.items
             (changing xs (Opens out) (entering to false c))) }
         ensures unchanged { IsUnchanged result self.old self.new events.old.items events.new.items }
         ensures memory { IsMemory result }
     {
         events.reserve(2)?;
-        self.end(stamp, How::Collision, to, false, events);
-        events.push_reserved(stamp.event(What::Open {
+        self.end(origin, How::Collision, to, false, events);
+        events.push_reserved(origin.event(What::Open {
             out,
             called: fields.called.copied(),
             calling: fields.calling.copied(),
@@ -109,7 +109,7 @@ impl<A: Allocator + Clone, S: StatusStore> StatusChannel<A, S> {
     /// Enters a state, where a call comes up.
     pub(crate) fn go_up(
         &mut self,
-        stamp: Stamp,
+        origin: EventOrigin,
         fields: &CallFields<'_>,
         to: StateName,
         events: &mut Vec<Event, A>,
@@ -117,13 +117,13 @@ impl<A: Allocator + Clone, S: StatusStore> StatusChannel<A, S> {
         requires usable { IsUsable self.old.terms.interface fields.now }
         ensures does { (c : Channel) (xs : List ℕ) → shown fields.now ≡ fields_of xs
             → IsUnanswered c → Stands self.old c
-            → IfOk result (λ _. Does stamp self.old self.new events.old.items events.new.items
+            → IfOk result (λ _. Does origin self.old self.new events.old.items events.new.items
             (changing xs GoesUp (entering to false c))) }
         ensures unchanged { IsUnchanged result self.old self.new events.old.items events.new.items }
         ensures memory { IsMemory result }
     {
         events.reserve(1)?;
-        events.push_reserved(stamp.event(What::Up));
+        events.push_reserved(origin.event(What::Up));
         let terms = self.status.terms().accepted(fields);
         self.enter(to, false, &terms);
         Ok(())

@@ -135,8 +135,8 @@ fn settled(above: u32) -> u32
     above - above / 32 % 2 * 32
 }
 
-/// The bits of a state: three of call set-up, 4 of them p4 on a virtual channel in data transfer, and two of data
-/// transfer.
+/// The bits of a state: three for p1 to p7, which are those of p4 on a virtual channel in data transfer, and two for d1
+/// to d3.
 fn state_bits(permanent: bool, state: ChannelState) -> u32
     ensures below { result < 32 }
     ensures state { state_by (result % 8) (result / 8 % 4) ≡ state }

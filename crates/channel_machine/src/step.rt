@@ -14,7 +14,7 @@ ghost use Rattle.channel_machine.specs.Entries.{entry_step, is_entry};
 ghost use Rattle.channel_machine.specs.Sizes.{largest_size};
 
 use crate::channel::StatusChannel;
-use crate::events::{Place, Stamp};
+use crate::events::{EventOrigin, Judgement};
 use crate::judging::judged;
 use crate::moves::{Change, change_of};
 use crate::status::StatusStore;
@@ -29,9 +29,9 @@ use std::alloc::Allocator;
 
 impl<A: Allocator + Clone, S: StatusStore> StatusChannel<A, S> {
     /// Takes a data packet without fault of format.
-    fn take_data(
+    fn handle_data(
         &mut self,
-        place: &Place,
+        judgement: &Judgement,
         header: &DataHeader,
         user_data: &[u8],
         events: &mut Vec<Event, A>,
@@ -39,64 +39,72 @@ impl<A: Allocator + Clone, S: StatusStore> StatusChannel<A, S> {
         requires short { length user_data.now ≤ largest_size }
         ensures does { (xs : List ℕ) → data_header self.old.terms.interface xs ≡ Some header.now
             → user_data.now ≡ drop (header_length self.old.terms.interface) xs
-            → Comes result place.now.stamp self.old self.new events.old.items events.new.items
-            (transferring self.old.terms.interface place.now.side place.now.state Class.Data xs) }
+            → Comes result judgement.now.origin self.old self.new events.old.items events.new.items
+            (transferring self.old.terms.interface judgement.now.side judgement.now.state Class.Data xs) }
         ensures unchanged { IsUnchanged result self.old self.new events.old.items events.new.items }
         ensures memory { IsMemory result }
     {
-        match self.hear(place.stamp, place.side, header, user_data, events)? {
-            Some(code) => self.fail(place, code, events),
+        match self.hear(judgement.origin, judgement.side, header, user_data, events)? {
+            Some(code) => self.fail(judgement, code, events),
             None => Ok(()),
         }
     }
 
     /// Takes an interrupt without fault of format.
-    fn take_interrupt(&mut self, place: &Place, events: &mut Vec<Event, A>) -> Result<(), Fault>
-        ensures does { Comes result place.now.stamp self.old self.new
+    fn handle_interrupt(
+        &mut self,
+        judgement: &Judgement,
+        events: &mut Vec<Event, A>,
+    ) -> Result<(), Fault>
+        ensures does { Comes result judgement.now.origin self.old self.new
             events.old.items events.new.items
-            (λ c. counting place.now.side place.now.state
-            (count_interrupt (counts_of c) place.now.side) c) }
+            (λ c. counting judgement.now.side judgement.now.state
+            (count_interrupt (counts_of c) judgement.now.side) c) }
         ensures unchanged { IsUnchanged result self.old self.new events.old.items events.new.items }
         ensures memory { IsMemory result }
     {
-        match self.status.interrupt(place.side) {
-            Err(code) => self.fail(place, code, events),
+        match self.status.interrupt(judgement.side) {
+            Err(code) => self.fail(judgement, code, events),
             Ok(()) => Ok(()),
         }
     }
 
     /// Takes an interrupt confirmation without fault of format.
-    fn take_confirmation(&mut self, place: &Place, events: &mut Vec<Event, A>) -> Result<(), Fault>
-        ensures does { Comes result place.now.stamp self.old self.new
+    fn handle_confirmation(
+        &mut self,
+        judgement: &Judgement,
+        events: &mut Vec<Event, A>,
+    ) -> Result<(), Fault>
+        ensures does { Comes result judgement.now.origin self.old self.new
             events.old.items events.new.items
-            (λ c. counting place.now.side place.now.state
-            (count_confirm (counts_of c) place.now.side) c) }
+            (λ c. counting judgement.now.side judgement.now.state
+            (count_confirm (counts_of c) judgement.now.side) c) }
         ensures unchanged { IsUnchanged result self.old self.new events.old.items events.new.items }
         ensures memory { IsMemory result }
     {
-        match self.status.confirm(place.side) {
-            Err(code) => self.fail(place, code, events),
+        match self.status.confirm(judgement.side) {
+            Err(code) => self.fail(judgement, code, events),
             Ok(()) => Ok(()),
         }
     }
 
     /// Takes the P(R) of a packet without fault of format.
-    fn take_ready(
+    fn handle_ready(
         &mut self,
-        place: &Place,
+        judgement: &Judgement,
         receive: u8,
         events: &mut Vec<Event, A>,
     ) -> Result<(), Fault>
-        ensures does { Comes result place.now.stamp self.old self.new
+        ensures does { Comes result judgement.now.origin self.old self.new
             events.old.items events.new.items
-            (λ c. counting place.now.side place.now.state
+            (λ c. counting judgement.now.side judgement.now.state
             (count_receive self.old.terms.interface.modulus (counts_of c)
-            place.now.side receive) c) }
+            judgement.now.side receive) c) }
         ensures unchanged { IsUnchanged result self.old self.new events.old.items events.new.items }
         ensures memory { IsMemory result }
     {
-        match self.status.ack(place.side, receive) {
-            Err(code) => self.fail(place, code, events),
+        match self.status.ack(judgement.side, receive) {
+            Err(code) => self.fail(judgement, code, events),
             Ok(()) => Ok(()),
         }
     }
@@ -104,7 +112,7 @@ impl<A: Allocator + Clone, S: StatusStore> StatusChannel<A, S> {
     /// Moves to a state.
     fn go(
         &mut self,
-        place: &Place,
+        judgement: &Judgement,
         to: StateName,
         contents: &Contents<'_>,
         events: &mut Vec<Event, A>,
@@ -112,20 +120,20 @@ impl<A: Allocator + Clone, S: StatusStore> StatusChannel<A, S> {
         requires usable { AreUsable contents.now self.old.terms.interface largest_size }
         ensures does { (c : Channel) (xs : List ℕ)
             → AreOf contents.now self.old.terms.interface xs → IsReached c
-            → is_from (call_change place.now.side (class_of self.old.terms.interface xs) to) to
+            → is_from (call_change judgement.now.side (class_of self.old.terms.interface xs) to) to
             c.state ≡ true → Stands self.old c → IfOk result (λ _.
-            Does place.now.stamp self.old self.new events.old.items events.new.items
-            (moving place.now.side (class_of self.old.terms.interface xs) xs to c)) }
+            Does judgement.now.origin self.old self.new events.old.items events.new.items
+            (moving judgement.now.side (class_of self.old.terms.interface xs) xs to c)) }
         ensures unchanged { IsUnchanged result self.old self.new events.old.items events.new.items }
         ensures memory { IsMemory result }
     {
-        let stamp = place.stamp;
-        match change_of(place.side, contents, to) {
-            Change::Opens(out, fields) => self.open(stamp, out, fields, to, events),
-            Change::GoesUp(fields) => self.go_up(stamp, fields, to, events),
+        let origin = judgement.origin;
+        match change_of(judgement.side, contents, to) {
+            Change::Opens(out, fields) => self.open(origin, out, fields, to, events),
+            Change::GoesUp(fields) => self.go_up(origin, fields, to, events),
             Change::Ends(how) => {
                 events.reserve(1)?;
-                self.end(stamp, how, to, false, events);
+                self.end(origin, how, to, false, events);
                 Ok(())
             }
             Change::Keeps => {
@@ -137,9 +145,9 @@ impl<A: Allocator + Clone, S: StatusStore> StatusChannel<A, S> {
     }
 
     /// Takes a packet whose entry is a move.
-    fn take_move(
+    fn handle_move(
         &mut self,
-        place: &Place,
+        judgement: &Judgement,
         to: StateName,
         packet: &Packet,
         octets: &[u8],
@@ -147,17 +155,17 @@ impl<A: Allocator + Clone, S: StatusStore> StatusChannel<A, S> {
     ) -> Result<(), Fault>
         requires packet { packet.now ≡ packet_of self.old.terms.interface octets.now }
         ensures does { (c : Channel) → IsReached c
-            → is_from (call_change place.now.side (class_of self.old.terms.interface octets.now) to)
+            → is_from (call_change judgement.now.side (class_of self.old.terms.interface octets.now) to)
             to c.state ≡ true → Stands self.old c → IfOk result (λ _.
-            Does place.now.stamp self.old self.new events.old.items events.new.items
-            (entry_step self.old.terms.interface self.old.channel place.now.side
-            (record { state = place.now.state; entry = Move to }) octets.now c)) }
+            Does judgement.now.origin self.old self.new events.old.items events.new.items
+            (entry_step self.old.terms.interface self.old.channel judgement.now.side
+            (record { state = judgement.now.state; entry = Move to }) octets.now c)) }
         ensures unchanged { IsUnchanged result self.old self.new events.old.items events.new.items }
         ensures memory { IsMemory result }
     {
-        match self.read(place.side, packet, octets) {
-            Ok(contents) => self.go(place, to, &contents, events),
-            Err(code) => self.fail(place, code, events),
+        match self.read(judgement.side, packet, octets) {
+            Ok(contents) => self.go(judgement, to, &contents, events),
+            Err(code) => self.fail(judgement, code, events),
         }
     }
 
@@ -165,48 +173,48 @@ impl<A: Allocator + Clone, S: StatusStore> StatusChannel<A, S> {
     #[tactic(auto, using(crate::proofs::Reading::ready_is))]
     fn carry(
         &mut self,
-        place: &Place,
+        judgement: &Judgement,
         contents: TransferContents<'_>,
         events: &mut Vec<Event, A>,
     ) -> Result<(), Fault>
         requires short { IsShort contents largest_size }
         ensures does { (xs : List ℕ) → AreTransferOf contents.entry self.old.terms.interface xs
-            → Comes result place.now.stamp self.old self.new events.old.items events.new.items
-            (transferring self.old.terms.interface place.now.side place.now.state
+            → Comes result judgement.now.origin self.old self.new events.old.items events.new.items
+            (transferring self.old.terms.interface judgement.now.side judgement.now.state
             (class_of self.old.terms.interface xs) xs) }
         ensures unchanged { IsUnchanged result self.old self.new events.old.items events.new.items }
         ensures memory { IsMemory result }
     {
         match contents {
             TransferContents::Data { header, user_data } => {
-                self.take_data(place, &header, user_data, events)
+                self.handle_data(judgement, &header, user_data, events)
             }
-            TransferContents::Receive(receive) => self.take_ready(place, receive, events),
-            TransferContents::Interrupt => self.take_interrupt(place, events),
-            TransferContents::InterruptConfirm => self.take_confirmation(place, events),
+            TransferContents::Receive(receive) => self.handle_ready(judgement, receive, events),
+            TransferContents::Interrupt => self.handle_interrupt(judgement, events),
+            TransferContents::InterruptConfirm => self.handle_confirmation(judgement, events),
         }
     }
 
     /// Takes a packet of data transfer.
-    fn take_transfer(
+    fn handle_transfer(
         &mut self,
-        place: &Place,
+        judgement: &Judgement,
         packet: &Packet,
         octets: &[u8],
         events: &mut Vec<Event, A>,
     ) -> Result<(), Fault>
         requires packet { packet.now ≡ packet_of self.old.terms.interface octets.now }
         requires transfer { is_transfer (class_of self.old.terms.interface octets.now) ≡ true }
-        ensures does { Comes result place.now.stamp self.old self.new
+        ensures does { Comes result judgement.now.origin self.old self.new
             events.old.items events.new.items
-            (entry_step self.old.terms.interface self.old.channel place.now.side
-            (record { state = place.now.state; entry = Normal }) octets.now) }
+            (entry_step self.old.terms.interface self.old.channel judgement.now.side
+            (record { state = judgement.now.state; entry = Normal }) octets.now) }
         ensures unchanged { IsUnchanged result self.old self.new events.old.items events.new.items }
         ensures memory { IsMemory result }
     {
-        match self.read_transfer(place.side, packet, octets) {
-            Ok(contents) => self.carry(place, contents, events),
-            Err(code) => self.fail(place, code, events),
+        match self.read_transfer(judgement.side, packet, octets) {
+            Ok(contents) => self.carry(judgement, contents, events),
+            Err(code) => self.fail(judgement, code, events),
         }
     }
 
@@ -230,26 +238,26 @@ impl<A: Allocator + Clone, S: StatusStore> StatusChannel<A, S> {
     /// Does what the entry of a packet says.
     fn act(
         &mut self,
-        place: &Place,
+        judgement: &Judgement,
         entry: Action,
         packet: &Packet,
         octets: &[u8],
         events: &mut Vec<Event, A>,
     ) -> Result<(), Fault>
         requires packet { packet.now ≡ packet_of self.old.terms.interface octets.now }
-        requires fits { is_entry entry place.now.side (class_of self.old.terms.interface octets.now)
+        requires fits { is_entry entry judgement.now.side (class_of self.old.terms.interface octets.now)
             self.old.state ≡ true }
         ensures does { (c : Channel) → IsReached c → Stands self.old c → IfOk result (λ _.
-            Does place.now.stamp self.old self.new events.old.items events.new.items
-            (entry_step self.old.terms.interface self.old.channel place.now.side
-            (record { state = place.now.state; entry = entry }) octets.now c)) }
+            Does judgement.now.origin self.old self.new events.old.items events.new.items
+            (entry_step self.old.terms.interface self.old.channel judgement.now.side
+            (record { state = judgement.now.state; entry = entry }) octets.now c)) }
         ensures unchanged { IsUnchanged result self.old self.new events.old.items events.new.items }
         ensures memory { IsMemory result }
     {
         match entry {
-            Action::Move(to) => self.take_move(place, to, packet, octets, events),
-            Action::Normal => self.take_transfer(place, packet, octets, events),
-            Action::Error(code) => self.fail(place, code, events),
+            Action::Move(to) => self.handle_move(judgement, to, packet, octets, events),
+            Action::Normal => self.handle_transfer(judgement, packet, octets, events),
+            Action::Error(code) => self.fail(judgement, code, events),
             Action::Ends => {
                 self.status.settle();
                 Ok(())
@@ -259,9 +267,9 @@ impl<A: Allocator + Clone, S: StatusStore> StatusChannel<A, S> {
     }
 
     /// Takes the octets of a packet of a side.
-    pub(crate) fn take(
+    pub(crate) fn handle(
         &mut self,
-        stamp: Stamp,
+        origin: EventOrigin,
         side: Side,
         packet: &Packet,
         octets: &[u8],
@@ -269,13 +277,23 @@ impl<A: Allocator + Clone, S: StatusStore> StatusChannel<A, S> {
     ) -> Result<(), Fault>
         requires packet { packet.now ≡ packet_of self.old.terms.interface octets.now }
         ensures does { (c : Channel) → IsReached c → Stands self.old c
-            → IfOk result (λ _. Does stamp self.old self.new events.old.items events.new.items
+            → IfOk result (λ _. Does origin self.old self.new events.old.items events.new.items
             (channel_step self.old.terms.interface self.old.channel c
-            (record { number = stamp.packet; side = side; octets = octets.now }))) }
+            (record { number = origin.packet; side = side; octets = octets.now }))) }
         ensures unchanged { IsUnchanged result self.old self.new events.old.items events.new.items }
         ensures memory { IsMemory result }
     {
         let (state, entry) = self.judge(side, packet.class());
-        self.act(&Place { stamp, side, state }, entry, packet, octets, events)
+        self.act(
+            &Judgement {
+                origin,
+                side,
+                state,
+            },
+            entry,
+            packet,
+            octets,
+            events,
+        )
     }
 }

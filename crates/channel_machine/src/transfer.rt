@@ -8,7 +8,7 @@ ghost use Rattle.channel_machine.specs.Channels.{Stands, IsUnchanged, IsMemory};
 ghost use Rattle.channel_machine.specs.Sizes.{largest_size};
 
 use crate::channel::StatusChannel;
-use crate::events::Stamp;
+use crate::events::EventOrigin;
 use crate::messages::{ROOM, heard};
 use crate::status::StatusStore;
 use crate::terms::is_pad_call;
@@ -24,7 +24,7 @@ impl<A: Allocator + Clone, S: StatusStore> StatusChannel<A, S> {
     /// Takes a data packet of a side, or tells its fault: that of its numbers, or of its Q bit.
     pub(crate) fn hear(
         &mut self,
-        stamp: Stamp,
+        origin: EventOrigin,
         side: Side,
         header: &DataHeader,
         user_data: &[u8],
@@ -33,7 +33,7 @@ impl<A: Allocator + Clone, S: StatusStore> StatusChannel<A, S> {
         requires short { length user_data.now ≤ largest_size }
         ensures rest { self.new ≡ record self.old { transfer = self.new.transfer } }
         ensures heard { (c : Channel) → Stands self.old c
-            → IfOk result (λ o. IsHeard o self.old.terms.interface stamp self.old.transfer
+            → IfOk result (λ o. IsHeard o self.old.terms.interface origin self.old.transfer
             self.new.transfer events.old.items events.new.items side
             (packet side header.now user_data.now)
             (counted_in_force self.old.terms.interface side header.now.send
@@ -60,7 +60,7 @@ impl<A: Allocator + Clone, S: StatusStore> StatusChannel<A, S> {
         match put {
             Put::Mixed => Ok(Some(INCONSISTENT_Q_BIT_SETTING)),
             Put::Going => {
-                events.push_reserved(stamp.event(heard(side, length)));
+                events.push_reserved(origin.event(heard(side, length)));
                 self.status = status;
                 Ok(None)
             }
@@ -68,10 +68,10 @@ impl<A: Allocator + Clone, S: StatusStore> StatusChannel<A, S> {
                 self.status = status;
                 if is_told {
                     self.settings
-                        .tell(stamp, side, sequence.octets.as_slice(), length, events);
+                        .tell(origin, side, sequence.octets.as_slice(), length, events);
                     return Ok(None);
                 }
-                events.push_reserved(stamp.event(heard(side, length)));
+                events.push_reserved(origin.event(heard(side, length)));
                 Ok(None)
             }
         }

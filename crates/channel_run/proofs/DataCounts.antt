@@ -11,10 +11,9 @@ use Rattle.line_model.specs.declared.state.Side.{Side}
 use Rattle.line_model.specs.declared.state.Side.TheVariants.{T, N}
 use Rattle.line_model.specs.declared.state.StateName.{StateName}
 use Rattle.line_model.specs.declared.state.StateName.TheVariants.{D1, D2, D3}
-use Rattle.line_model.specs.declared.verdict.Verdict.{Verdict}
-use Rattle.line_model.specs.declared.verdict.Verdict.TheVariants.{Fails, Moves, Transfers, EndsOwed, Nothing}
-use Rattle.line_model.specs.declared.verdict.CallChange.{CallChange}
-use Rattle.line_model.specs.declared.verdict.CallChange.TheVariants.{Opens, GoesUp, Ends, Keeps}
+use Rattle.line_model.specs.channels.Verdicts.{Verdict, CallChange}
+use Rattle.line_model.specs.channels.Verdicts.Verdict.{Fails, Moves, Transfers, EndsOwed, Nothing}
+use Rattle.line_model.specs.channels.Verdicts.CallChange.{Opens, GoesUp, Ends, Keeps}
 use Rattle.line_model.specs.declared.event.How.{How}
 use Rattle.line_model.specs.declared.event.What.{What}
 use Rattle.line_model.specs.declared.event.What.TheVariants.{Data as DataHeard}

@@ -33,7 +33,7 @@ use Rattle.line_model.proofs.OneFinding.{founds, step_one}
 use Rattle.call_accounts.specs.Counted.{IsCountable}
 use Rattle.call_accounts.specs.SoFar.{IsOf}
 use Rattle.channel_run.specs.Run.{row_events, end_events}
-use Rattle.channel_run.specs.Counted.{IsWithin}
+use Rattle.channel_run.specs.Tally.{IsWithin}
 use Rattle.channel_run.specs.Live.{channel_after, channel_so_far, so_far, with_item}
 use Rattle.channel_run.proofs.DataCounts.{piece_packets}
 use Rattle.call_accounts.proofs.CountedLemmas.{sum-more}

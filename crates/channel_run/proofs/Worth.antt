@@ -6,7 +6,7 @@ use Rattle.line_model.specs.basics.Records.{CallRecord, PieceReport}
 use Rattle.line_model.specs.basics.Bounds.{IsPieceReport}
 use Rattle.line_model.specs.observer.Calls.{calls_of, all_lengths, segments_of}
 use Rattle.line_model.specs.observer.Report.{findings_of}
-use Rattle.channel_run.specs.Counted.{worth, IsWithin}
+use Rattle.channel_run.specs.Tally.{worth, IsWithin}
 
 pub worth_is : (id epoch channel : ℕ) (es : List Event) (fs : List Finding) (cs : List CallRecord) (octets segments : ℕ) →
     fs ≡ findings_of es → cs ≡ calls_of es → octets ≡ sum (all_lengths es) → segments ≡ segments_of (all_lengths es) →

@@ -1,4 +1,4 @@
 pub mod Run
-pub mod Counted
+pub mod Tally
 pub mod Live
 pub mod Views

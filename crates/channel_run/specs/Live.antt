@@ -6,7 +6,7 @@ use Rattle.line_model.specs.basics.Bounds.{IsPiece}
 use Rattle.line_model.specs.channels.Channels.{Channel, fresh}
 use Rattle.line_model.specs.channels.ChannelStep.{channel_step}
 use Rattle.line_model.specs.pieces.Plans.{piece_events}
-use Rattle.channel_run.specs.Counted.{Counts}
+use Rattle.channel_run.specs.Tally.{Counts}
 use Rattle.channel_run.specs.declared.live.LiveChannel.{LiveChannel}
 
 -- a channel after some rows
@@ -34,4 +34,4 @@ pub record StandsFor {A C : Type 0} (interface_of : C → Interface) (number_of 
   pub channel : live.channel ≡ p.channel
   pub epoch : live.epoch ≡ p.epoch
   pub machine : stands_for live.machine (channel_so_far p)
-  pub counted : Counts live.counted p.epoch p.channel (piece_events (so_far p))
+  pub counted : Counts live.tally p.epoch p.channel (piece_events (so_far p))

@@ -1,6 +1,6 @@
 //! The run of a piece: one logical channel, by any machine, from its rows to what they are worth.
 #![tactic(auto)]
 
-mod counted;
 pub mod live;
 pub mod run;
+mod tally;

@@ -6,20 +6,19 @@ ghost use Rattle.line_model.specs.basics.Records.{Piece};
 ghost use Rattle.line_model.specs.basics.Bounds.{IsPiece};
 ghost use Rattle.line_model.specs.pieces.Plans.{piece_events, value};
 ghost use Rattle.line_model.specs.observer.Report.{findings_of};
-ghost use Rattle.channel_run.specs.Counted.{Counts};
+ghost use Rattle.channel_run.specs.Tally.{Counts};
 ghost use Rattle.channel_run.specs.Live.{StandsFor, channel_so_far, so_far, with_item};
 ghost use Rattle.channel_run.specs.Run.{row_events};
 ghost use Rattle.channel_run.specs.Views.{IsViewOf};
 
-use crate::counted::Counted;
 use crate::run::{Channel, View};
+use crate::tally::Tally;
 use line_model::event::{Event, How, What};
 use line_model::fault::Fault;
 use line_model::finding::Finding;
 use line_model::interface::Interface;
-use line_model::packet::Packet;
+use line_model::items::ItemRef;
 use line_model::piece::PieceReport;
-use line_model::row::Row;
 use std::alloc::Allocator;
 
 /// One logical channel in one epoch: its machine, and what is counted of its rows so far. It keeps no row.
@@ -28,7 +27,7 @@ pub struct LiveChannel<A: Allocator, C: Channel<A>> {
     channel: u16,
     epoch: u32,
     machine: C,
-    counted: Counted<A>,
+    tally: Tally<A>,
 }
 
 impl<A: Allocator + Clone, C: Channel<A>> LiveChannel<A, C> {
@@ -44,7 +43,7 @@ impl<A: Allocator + Clone, C: Channel<A>> LiveChannel<A, C> {
             channel,
             epoch,
             machine: C::fresh(alloc.clone()?, interface, channel, epoch),
-            counted: Counted::new(alloc)?,
+            tally: Tally::new(alloc)?,
         })
     }
 
@@ -53,29 +52,27 @@ impl<A: Allocator + Clone, C: Channel<A>> LiveChannel<A, C> {
     /// stands for nothing any more.
     pub fn take(
         &mut self,
-        row: &Row<A>,
-        packet: &Packet,
+        item: &ItemRef<'_>,
         events: &mut Vec<Event, A>,
     ) -> Result<Option<Finding>, Fault>
         requires room { (p : Piece) × StandsFor C.interface_of C.number_of C.stands_for self.old p
-            × IsPiece p.interface p.channel (p.items
-            ++ record { row = row.now; packet = packet.now } ∷ []) }
+            × IsPiece p.interface p.channel (p.items ++ item.now ∷ []) }
         ensures stands { (p : Piece) → StandsFor C.interface_of C.number_of C.stands_for self.old p
-            → IsPiece p.interface p.channel (p.items
-            ++ record { row = row.now; packet = packet.now } ∷ [])
+            → IsPiece p.interface p.channel (p.items ++ item.now ∷ [])
             → OnOk result (StandsFor C.interface_of C.number_of C.stands_for self.new
-            (with_item p (record { row = row.now; packet = packet.now }))) }
+            (with_item p item.now)) }
         ensures events { (p : Piece) → StandsFor C.interface_of C.number_of C.stands_for self.old p
             → OnOk result (events.new.items ≡ row_events p.interface p.epoch p.channel
-            (channel_so_far p) row.now) }
+            (channel_so_far p) item.now.row) }
         ensures finding { (p : Piece) → StandsFor C.interface_of C.number_of C.stands_for self.old p
             → IfOk result (λ found. option_to_list found
-            ≡ findings_of (row_events p.interface p.epoch p.channel (channel_so_far p) row.now)) }
+            ≡ findings_of (row_events p.interface p.epoch p.channel (channel_so_far p)
+            item.now.row)) }
         ensures memory { IfErr result (λ fault. fault ≡ Memory) }
     {
         events.clear();
-        self.machine.step(self.epoch, row, packet, events)?;
-        let found = self.counted.hear_all(events.as_slice())?;
+        self.machine.step(self.epoch, item, events)?;
+        let found = self.tally.record_all(events.as_slice())?;
         Ok(found)
     }
 
@@ -92,7 +89,7 @@ impl<A: Allocator + Clone, C: Channel<A>> LiveChannel<A, C> {
         ensures { (p : Piece) → StandsFor C.interface_of C.number_of C.stands_for self.now p
             → result.now ≡ (value (so_far p)).findings }
     {
-        self.counted.findings()
+        self.tally.findings()
     }
 
     /// What the piece is worth so far, by a copy: the channel goes on. It answers `Memory` alone.
@@ -104,7 +101,7 @@ impl<A: Allocator + Clone, C: Channel<A>> LiveChannel<A, C> {
             → report ≡ value (record p { id = id; end = None })) }
         ensures memory { IfErr result (λ fault. fault ≡ Memory) }
     {
-        self.counted.report(alloc, id, self.epoch, self.channel)
+        self.tally.report(alloc, id, self.epoch, self.channel)
     }
 
     /// What the piece is worth. Where a restart ended the epoch, `end` is the number of its row, and an open call ends
@@ -117,7 +114,7 @@ impl<A: Allocator + Clone, C: Channel<A>> LiveChannel<A, C> {
         ensures memory { IfErr result (λ fault. fault ≡ Memory) }
     {
         self.close(end)?;
-        self.counted.finish(id, self.epoch, self.channel)
+        self.tally.finish(id, self.epoch, self.channel)
     }
 
     /// The call that is open ends with the row of a restart, where one ended the epoch.
@@ -125,7 +122,7 @@ impl<A: Allocator + Clone, C: Channel<A>> LiveChannel<A, C> {
         ensures place { OnOk result ((self.new.epoch ≡ self.old.epoch)
             × (self.new.channel ≡ self.old.channel)) }
         ensures counted { (p : Piece) → StandsFor C.interface_of C.number_of C.stands_for self.old p
-            → OnOk result (Counts self.new.counted p.epoch p.channel
+            → OnOk result (Counts self.new.tally p.epoch p.channel
             (piece_events (record p { end = end }))) }
         ensures memory { IfErr result (λ fault. fault ≡ Memory) }
     {
@@ -135,7 +132,7 @@ impl<A: Allocator + Clone, C: Channel<A>> LiveChannel<A, C> {
         if !self.machine.is_open() {
             return Ok(());
         }
-        self.counted.hear(&Event {
+        self.tally.record(&Event {
             epoch: self.epoch,
             channel: self.channel,
             packet,

@@ -14,10 +14,9 @@ use crate::live::LiveChannel;
 use line_model::event::Event;
 use line_model::fault::Fault;
 use line_model::interface::Interface;
-use line_model::packet::Packet;
+use line_model::items::ItemRef;
 use line_model::piece::{Piece, PieceReport};
-use line_model::row::Row;
-use line_model::state::{ChannelState, Side};
+use line_model::state::ChannelState;
 use std::alloc::Allocator;
 use window_check::flow::Flow;
 
@@ -79,22 +78,20 @@ pub trait Channel<A: Allocator>: Drop {
     fn step(
         &mut self,
         epoch: u32,
-        row: &Row<A>,
-        packet: &Packet,
+        item: &ItemRef<'_>,
         events: &mut Vec<Event, A>,
     ) -> Result<(), Fault>
-        requires item { IsItem (interface_of self.old) (number_of self.old)
-            (record { row = row.now; packet = packet.now }) }
+        requires item { IsItem (interface_of self.old) (number_of self.old) item.now }
         ensures interface { (c : channels.Channel) → stands_for self.old c
             → IfOk result (λ _. interface_of self.new ≡ interface_of self.old) }
         ensures number { (c : channels.Channel) → stands_for self.old c
             → IfOk result (λ _. number_of self.new ≡ number_of self.old) }
         ensures stands { (c : channels.Channel) → stands_for self.old c
             → IfOk result (λ _. stands_for self.new
-            (channel_step (interface_of self.old) (number_of self.old) c row.now).after) }
+            (channel_step (interface_of self.old) (number_of self.old) c item.now.row).after) }
         ensures events { (c : channels.Channel) → stands_for self.old c
             → IfOk result (λ _. events.new.items ≡ events.old.items
-            ++ row_events (interface_of self.old) epoch (number_of self.old) c row.now) }
+            ++ row_events (interface_of self.old) epoch (number_of self.old) c item.now.row) }
         ensures unchanged { OnErr result ((self.new ≡ self.old)
             × (events.new.items ≡ events.old.items)) }
         ensures memory { IfErr result (λ fault. fault ≡ Memory) };
@@ -115,15 +112,9 @@ pub fn run_piece<A: Allocator + Clone, C: Channel<A>>(
         piece.channel,
         piece.epoch,
     )?;
-    let mut row = Row {
-        number: 0,
-        side: Side::T,
-        octets: Vec::new(alloc.clone()?),
-    };
     let mut events = Vec::new(alloc);
     for item in piece.items.iter() {
-        item.copy_to(&mut row)?;
-        live.take(&row, &item.packet, &mut events)?;
+        live.take(&item, &mut events)?;
     }
     let report = live.end(piece.id, piece.end)?;
     Ok(report)

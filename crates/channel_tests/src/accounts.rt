@@ -4,7 +4,7 @@ ghost use Rattle.std.specs.Prelude.{◌≡◌, [], false};
 
 use crate::calls::{ASKED, Call, PLAIN_CALL, calls_are, first_settings};
 use call_accounts::call::calls_of;
-use call_accounts::so_far::CallsSoFar;
+use call_accounts::so_far::{CallsSoFar, segments_in};
 use line_model::address::Address;
 use line_model::call::CallRecord;
 use line_model::event::{Entry, Event, How, What};
@@ -110,7 +110,7 @@ fn calls_of_many_channels_stand_by_their_openings(rt: HostRuntime) -> Result<(),
 /// Hears events in their order.
 fn hear_all(calls: &mut CallsSoFar<Global>, events: &[Event]) -> Result<(), Fail> {
     for event in events {
-        calls.hear(event)?;
+        calls.hear(event, segments_in(event))?;
     }
     Ok(())
 }

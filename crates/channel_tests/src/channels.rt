@@ -1,7 +1,6 @@
 //! The rows of one channel of recorded interfaces: their findings and calls are those of reports that were made elsewhere.
 
 ghost use Rattle.std.specs.Prelude.{◌≡◌, ◌+◌, ◌≤◌, ◌*◌, length, All, IfOk, OnOk};
-ghost use Rattle.line_model.specs.basics.Octets.{channel_of};
 ghost use Rattle.line_model.specs.basics.Bounds.{IsItem, all_octets};
 
 use crate::calls::{Call, PLAIN_CALL, calls_are};
@@ -14,7 +13,7 @@ use line_model::interface::Interface;
 use line_model::items::{ItemRef, Items};
 use line_model::piece::{Piece, PieceReport};
 use line_model::state::{Side, StateName};
-use packet_decode::decode::decode;
+use packet_decode::decode::{decode, logical_channel};
 use std::alloc::{Allocator, Global};
 use std::process::Abort;
 use std::test::Fail;
@@ -37,17 +36,6 @@ const INTERFACE: Interface = Interface {
 
 /// A row: its number, its side, its octets in hex.
 type Line = (u32, Side, &'static str);
-
-/// The logical channel of a packet.
-fn logical_channel(octets: &[u8]) -> u16
-    ensures { result ≡ channel_of octets.now }
-{
-    match octets {
-        [first, second, ..] => u16::from(*first % 16) * 256 + u16::from(*second),
-        [first] => u16::from(*first % 16) * 256,
-        [] => 0,
-    }
-}
 
 /// Adds a row, if it is one of the channel and not longer than a trace has it.
 fn add_item<A: Allocator + Copy>(

@@ -25,6 +25,7 @@ use line_model::state::{ChannelState, RState, Side};
 use live_report::live::Live;
 use live_report::observer::Observer;
 use packet_decode::decode::decode;
+use packet_decode::transfer::header_length;
 use std::alloc::{AllocError, Allocator};
 
 /// A row, as its describer sees it.
@@ -51,8 +52,7 @@ impl Seen<'_> {
 
     /// The user data of a data packet.
     fn data(&self) -> &[u8] {
-        let header = if self.interface.modulus == 8 { 3 } else { 4 };
-        match self.octets.split_at_checked(header) {
+        match self.octets.split_at_checked(header_length(&self.interface)) {
             Some((_, data)) => data,
             None => &[],
         }

@@ -17,6 +17,8 @@ use line_model::finding::{Code, Finding};
 use line_model::interface::Interface;
 use line_model::packet::{DataHeader, Packet, PacketKind};
 use line_model::state::{Side, StateName};
+use packet_decode::decode::logical_channel;
+use packet_decode::transfer::header_length;
 use report_merge::words::pad_word;
 use window_check::flow::SendWindow;
 
@@ -211,14 +213,11 @@ fn channels<P: Prose>(out: &mut P, below: u16, last: u16, calls: &str) {
 
 /// A channel that the interface does not have.
 fn channel<P: Prose>(out: &mut P, before: &Before, octets: &[u8]) -> bool {
-    let channel = match octets {
-        [first, second, ..] => u64::from(*first % 16) * 256 + u64::from(*second),
-        _ => return false,
-    };
-    if channel <= u64::from(before.interface.svc) {
+    let channel = logical_channel(octets);
+    if octets.len() < 2 || channel <= before.interface.svc {
         return false;
     }
-    say_number(out, "logical channel ", channel);
+    say_number(out, "logical channel ", u64::from(channel));
     say_number(out, " where ", u64::from(before.interface.svc));
     out.say(" is the last");
     true
@@ -237,7 +236,6 @@ fn too_long<P: Prose>(out: &mut P, before: &Before, octets: &[u8], side: Side) -
     if header(&before.packet).is_none() {
         return length(out, octets, "which is too long");
     }
-    let own = if before.interface.modulus == 8 { 3 } else { 4 };
     let size = match before.view {
         Some(view) => match side {
             Side::T => view.size_t,
@@ -245,7 +243,10 @@ fn too_long<P: Prose>(out: &mut P, before: &Before, octets: &[u8], side: Side) -
         },
         None => before.interface.size,
     };
-    count(out, "", octets.len().saturating_sub(own) as u64, " octet");
+    let user_data = octets
+        .len()
+        .saturating_sub(header_length(&before.interface));
+    count(out, "", user_data as u64, " octet");
     say_number(out, " of user data where ", u64::from(size));
     out.say(" are allowed");
     true

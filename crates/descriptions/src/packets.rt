@@ -8,6 +8,7 @@ use crate::prose::{Prose, bracketed, count, say_number};
 use line_model::interface::Interface;
 use line_model::packet::{DataHeader, Packet, PacketKind};
 use line_model::state::Side;
+use packet_decode::transfer::header_length;
 
 /// A packet of a side, with its logical channel and its fields. `fast_before` says whether the call that is open on its
 /// channel asked fast select.
@@ -112,11 +113,11 @@ fn bit<P: Prose>(out: &mut P, name: &str, is_set: bool) {
 
 /// The header of a data packet, and how much user data it has.
 fn data<P: Prose>(out: &mut P, interface: &Interface, header: &DataHeader, length: usize) {
-    let before = if interface.modulus == 8 { 3 } else { 4 };
     say_number(out, ", P(S) ", u64::from(header.send));
     say_number(out, ", P(R) ", u64::from(header.receive));
     bit(out, ", M", header.more);
     bit(out, ", D", header.delivery);
     bit(out, ", Q", header.qualified);
-    count(out, ", ", length.saturating_sub(before) as u64, " octet");
+    let user_data = length.saturating_sub(header_length(interface));
+    count(out, ", ", user_data as u64, " octet");
 }

@@ -4,4 +4,5 @@ pub mod Channels
 pub mod FlowControl
 pub mod Sequences
 pub mod Pad
+pub mod Verdicts
 pub mod ChannelStep

@@ -5,7 +5,6 @@ ghost use Rattle.line_model.specs.declared.fault.Fault.TheVariants.{Memory};
 
 use crate::fault::Fault;
 use crate::packet::Packet;
-use crate::row::Row;
 use crate::state::Side;
 use std::alloc::{AllocError, Allocator, Global};
 use std::marker::Model;
@@ -63,18 +62,6 @@ impl<'a> Model for ItemRef<'a> {
     ghost Value = { records.Item };
 
     ghost view = { λ i. record { row = record { number = i.number; side = i.side; octets = i.octets.now }; packet = i.packet } };
-}
-
-impl ItemRef<'_> {
-    /// Puts the row in the place of another, whose octets' room is used again.
-    pub fn copy_to<A: Allocator>(&self, row: &mut Row<A>) -> Result<(), AllocError>
-        ensures { OnOk result (row.new ≡ self.now.row) }
-    {
-        row.number = self.number;
-        row.side = self.side;
-        row.octets.clear();
-        row.octets.extend_from_slice(self.octets)
-    }
 }
 
 /// The rows that are left of some, first to last.

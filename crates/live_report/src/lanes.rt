@@ -66,7 +66,7 @@ pub fn step_channel<A: Allocator + Copy, C: Channel<A>>(
 {
     let alloc = *events.allocator();
     let mut live = take_out(alloc, interface, epoch, channel, lanes)?;
-    let found = live.take(row, packet, events)?;
+    let found = live.take(&row.with_packet(*packet), events)?;
     lanes.put(channel, live);
     Ok(found)
 }

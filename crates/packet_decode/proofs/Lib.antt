@@ -4,3 +4,4 @@ pub mod AskedLemmas
 pub mod CallTypes
 pub mod ContentsLemmas
 pub mod BlockLemmas
+pub mod KindLemmas

@@ -30,7 +30,7 @@ pub enum TransferContents<'a> {
 }
 
 /// How many octets stand before the user data of a data packet, and in a whole RR or RNR.
-fn header_length(interface: &Interface) -> usize
+pub fn header_length(interface: &Interface) -> usize
     ensures { result ≡ header_length interface.now }
 {
     if interface.modulus == 8 { 3 } else { 4 }

@@ -1,13 +1,13 @@
 //! Where a row goes: what the cutter and a running observer do alike.
 
 ghost use Rattle.std.specs.Prelude.{option_to_list, ◌≡◌, ℕ, List, ◌++◌, OnOk, OnErr};
-ghost use Rattle.line_model.specs.basics.Octets.{channel_of};
 ghost use Rattle.line_model.specs.observer.Observer.{line_in_r1};
 ghost use Rattle.restart_epochs.specs.Cutting.{route_finding};
 
 use crate::restart::{Restart, Route};
 use line_model::finding::{Code, Finding};
 use line_model::state::{Side, StateName};
+pub use packet_decode::decode::logical_channel;
 use std::alloc::{AllocError, Allocator};
 
 /// The restart machine before the first row.
@@ -18,17 +18,6 @@ pub fn first_machine(join: bool) -> Restart
         Restart::joined()
     } else {
         Restart::new()
-    }
-}
-
-/// The logical channel of a packet (X.25 clauses 5.1.2 and 5.1.3).
-pub fn logical_channel(octets: &[u8]) -> u16
-    ensures { result ≡ channel_of octets.now }
-{
-    match octets {
-        [first, second, ..] => u16::from(*first % 16) * 256 + u16::from(*second),
-        [first] => u16::from(*first % 16) * 256,
-        [] => 0,
     }
 }
 

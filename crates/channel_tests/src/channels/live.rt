@@ -13,7 +13,6 @@ use line_model::event::{Event, How};
 use line_model::fault::Fault;
 use line_model::finding::{Code, Finding, Xcode};
 use line_model::piece::{Piece, PieceReport};
-use line_model::row::Row;
 use line_model::state::{Side, StateName};
 use std::alloc::{Allocator, Global};
 use std::test::Fail;
@@ -40,18 +39,16 @@ fn told_of<A: Allocator + Copy, C: Channel<A>>(
     ))
 }
 
-/// What is told of a piece at its end; and after each of its rows. A row and a list of events are lent.
+/// What is told of a piece at its end; and after each of its rows. A list of events is lent.
 fn followed<A: Allocator + Copy, C: Channel<A>>(
     alloc: A,
     piece: &Piece<A>,
-    row: &mut Row<A>,
     events: &mut Vec<Event, A>,
     told: &mut Vec<Told, A>,
 ) -> Result<PieceReport<A>, Fault> {
     let mut live = LiveChannel::<A, C>::fresh(alloc, &piece.interface, piece.channel, piece.epoch)?;
     for item in piece.items.iter() {
-        item.copy_to(row)?;
-        let finding = live.take(row, &item.packet, events)?;
+        let finding = live.take(&item, events)?;
         told.push(told_of(&live, alloc, piece.id, finding)?)?;
     }
     live.end(piece.id, piece.end)
@@ -70,13 +67,8 @@ const BY_ROW: [Told; 7] = [
 
 /// What is told of a piece at its end; and after each of its rows.
 fn follow(alloc: Global, piece: &Piece, told: &mut Vec<Told>) -> Result<PieceReport, Fault> {
-    let mut row = Row {
-        number: 0,
-        side: Side::T,
-        octets: Vec::new(alloc),
-    };
     let mut events = Vec::new(alloc);
-    followed::<Global, PlainChannel>(alloc, piece, &mut row, &mut events, told)
+    followed::<Global, PlainChannel>(alloc, piece, &mut events, told)
 }
 
 /// Follows the call to the restart that ends it.

@@ -11,10 +11,8 @@ use channel_run::run::Channel;
 use line_model::event::Event;
 use line_model::fault::Fault;
 use line_model::interface::Interface;
-use line_model::items::Items;
-use line_model::packet::Packet;
-use line_model::row::Row;
-use line_model::state::{ChannelState, DState, Side};
+use line_model::items::{ItemRef, Items};
+use line_model::state::{ChannelState, DState};
 use std::alloc::Global;
 use std::process::Abort;
 use std::test::Fail;
@@ -37,11 +35,10 @@ fn step_until_taken<'a, C: Channel<&'a Scarce<Global>>>(
     rt: &impl Abort,
     heap: &'a Scarce<Global>,
     channel: &mut C,
-    row: &Row<&'a Scarce<Global>>,
-    packet: &Packet,
+    item: &ItemRef<'_>,
     events: &mut Vec<Event, &'a Scarce<Global>>,
 ) -> Result<u64, Fail>
-    requires item { IsItem (C.interface_of channel.old) (C.number_of channel.old) (record { row = row.now; packet = packet.now }) }
+    requires item { IsItem (C.interface_of channel.old) (C.number_of channel.old) item.now }
     ensures interface { (c : channels.Channel) → C.stands_for channel.old c → OnOk result (C.interface_of channel.new ≡ C.interface_of channel.old) }
     ensures number { (c : channels.Channel) → C.stands_for channel.old c → OnOk result (C.number_of channel.new ≡ C.number_of channel.old) }
     ensures stands { (c : channels.Channel) → C.stands_for channel.old c → OnOk result ((d : channels.Channel) × C.stands_for channel.new d) }
@@ -49,7 +46,7 @@ fn step_until_taken<'a, C: Channel<&'a Scarce<Global>>>(
     let before = seen_of(channel, events.len());
     for good in 0..GROWTHS {
         heap.refuse_one(good);
-        let step = channel.step(1, row, packet, events);
+        let step = channel.step(1, item, events);
         let refused = good < heap.asked();
         heap.grant_all();
         holds_at(rt, step.is_err() == refused, good);
@@ -75,16 +72,10 @@ fn step_through<'a, C: Channel<&'a Scarce<Global>>>(
     requires items { All (IsItem interface.now 1) items.now }
 {
     let mut channel = C::fresh(heap, interface, 1, 1);
-    let mut row = Row {
-        number: 0,
-        side: Side::T,
-        octets: Vec::new(heap),
-    };
     let mut events = Vec::new(heap);
     let mut refused = 0u64;
     for item in items.iter() {
-        item.copy_to(&mut row)?;
-        let growths = step_until_taken(rt, heap, &mut channel, &row, &item.packet, &mut events)?;
+        let growths = step_until_taken(rt, heap, &mut channel, &item, &mut events)?;
         refused = refused.saturating_add(growths);
     }
     Ok((refused, seen_of(&channel, events.len())))

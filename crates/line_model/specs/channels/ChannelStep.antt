@@ -17,12 +17,11 @@ use Rattle.line_model.specs.declared.state.StateName.{StateName}
 use Rattle.line_model.specs.declared.state.StateName.TheVariants.{P1, P2, P3, P4, P5, P6, P7, D1, D2, D3}
 use Rattle.line_model.specs.declared.table.Action.{Action}
 use Rattle.line_model.specs.declared.table.Action.TheVariants.{Move, Normal, Error, Pass, Ends as EndsIndication, Below}
-use Rattle.line_model.specs.declared.verdict.Verdict.{Verdict}
-use Rattle.line_model.specs.declared.verdict.Verdict.TheVariants.{Fails, Moves, Transfers, EndsOwed, Nothing}
+use Rattle.line_model.specs.channels.Verdicts.{Verdict, CallChange}
+use Rattle.line_model.specs.channels.Verdicts.Verdict.{Fails, Moves, Transfers, EndsOwed, Nothing}
 use Rattle.line_model.specs.declared.finding.Code.TheVariants.{Number, Pad}
 use Rattle.line_model.specs.declared.finding.Xcode.{Xcode}
-use Rattle.line_model.specs.declared.verdict.CallChange.{CallChange}
-use Rattle.line_model.specs.declared.verdict.CallChange.TheVariants.{Opens, GoesUp, Ends, Keeps}
+use Rattle.line_model.specs.channels.Verdicts.CallChange.{Opens, GoesUp, Ends, Keeps}
 use Rattle.line_model.specs.declared.event.How.{How}
 use Rattle.line_model.specs.declared.event.How as how
 use Rattle.line_model.specs.declared.event.What.{What}

@@ -5,6 +5,6 @@ use Rattle.channel_machine.proofs.messages.report_asked.Given as goal
 
 abbrev pub invariant-loop-pair : goal.invariant-loop-pair
 invariant-loop-pair g l = record {
-  reported : IsReported l.stamp (asked_one l.pad) l.fn.events.items l.events.items l.pair-iterator l.fn.pairs;
+  reported : IsReported l.origin (asked_one l.pad) l.fn.events.items l.events.items l.pair-iterator l.fn.pairs;
   room : vec_len l.events + length l.pair-iterator ≤ vec_capacity l.events;
 }

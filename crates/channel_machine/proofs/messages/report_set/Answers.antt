@@ -2,7 +2,7 @@ use Rattle.std.proofs.Common.{◌≡◌, ◌∙◌, ◌++◌, ap, arith, false}
 use Rattle.std.specs.Prelude.{map, flat_map}
 use Rattle.x3_parameters.specs.Effects.{asked_one}
 use Rattle.x3_parameters.specs.Told.{set_events, set_events_by}
-use Rattle.channel_machine.specs.Events.{stamped}
+use Rattle.channel_machine.specs.Events.{event_at}
 use Rattle.channel_machine.proofs.PairCounts.{few_pairs}
 use Rattle.channel_machine.proofs.Settings.{asked_all}
 use Rattle.channel_machine.proofs.messages.report_set.Goals as goal
@@ -14,4 +14,4 @@ pub returns-else-is_empty : goal.returns-else-is_empty
 returns-else-is_empty g c =
     let all : flat_map (asked_one c.args.pad) c.new.result ≡ set_events c.args.pad c.args.octets.now =
     asked_all c.args.pad c.args.octets.now c.new.result c.new.ensures ∙ ap (λ b. set_events_by b c.args.pad c.args.octets.now) c.if-is_empty.ensures in
-    c.report_asked.ensures ∙ ap (λ ws. c.args.events.now.items ++ map (stamped c.args.stamp) ws) all
+    c.report_asked.ensures ∙ ap (λ ws. c.args.events.now.items ++ map (event_at c.args.origin) ws) all

@@ -5,7 +5,7 @@ pub returns-in-Up : goal.returns-in-Up
 returns-in-Up c = c.rise.ensures c.args.event.now refl c.in-Up.is
 
 pub returns-in-Data : goal.returns-in-Data
-returns-in-Data c = c.hear_data.ensures c.args.event.now c.in-Data.is
+returns-in-Data c = c.hear_data.ensures c.args.event.now c.in-Data.is c.requires.segments
 
 pub returns-in-Setting : goal.returns-in-Setting
 returns-in-Setting c = c.say.ensures c.args.event.now c.in-Setting.is

@@ -7,57 +7,57 @@ use Rattle.channel_machine.specs.Entries.{entry_step, is_entry}
 use Rattle.channel_machine.proofs.Entries.{nothing_by}
 use Rattle.channel_machine.proofs.channel.StatusChannel.act.Goals as goal
 
-pub take_transfer-requires-clause-transfer : goal.take_transfer-requires-clause-transfer
-take_transfer-requires-clause-transfer g c =
+pub handle_transfer-requires-clause-transfer : goal.handle_transfer-requires-clause-transfer
+handle_transfer-requires-clause-transfer g c =
     let old = c.args.self.now in
-    ap (λ a. is_entry a c.args.place.now.side (class_of old.terms.interface c.args.octets.now) old.state) (sym c.in-Normal.is) ∙ c.requires.fits
+    ap (λ a. is_entry a c.args.judgement.now.side (class_of old.terms.interface c.args.octets.now) old.state) (sym c.in-Normal.is) ∙ c.requires.fits
 
 pub returns-in-Move-clause-does : goal.returns-in-Move-clause-does
 returns-in-Move-clause-does g c k reached s =
     let old = c.args.self.now in
     let i = old.terms.interface in
     let xs = c.args.octets.now in
-    let x = c.args.place.now.side in
+    let x = c.args.judgement.now.side in
     let to = c.in-Move.to in
-    subst (λ a. IfOk c.take_move.result (λ _. Does c.args.place.now.stamp old c.take_move.new.self c.args.events.now.items c.take_move.new.events.items
-    (entry_step i old.channel x (record { state = c.args.place.now.state; entry = a }) xs k)))
+    subst (λ a. IfOk c.handle_move.result (λ _. Does c.args.judgement.now.origin old c.handle_move.new.self c.args.events.now.items c.handle_move.new.events.items
+    (entry_step i old.channel x (record { state = c.args.judgement.now.state; entry = a }) xs k)))
     (sym c.in-Move.is)
-    (c.take_move.ensures.does k reached
+    (c.handle_move.ensures.does k reached
     (ap (λ t. is_entry (Move to) x (class_of i xs) t) (sym s.state) ∙ ap (λ a. is_entry a x (class_of i xs) old.state) (sym c.in-Move.is) ∙ c.requires.fits) s)
 
 pub returns-in_default-clause-does : goal.returns-in_default-clause-does
 returns-in_default-clause-does g c k reached s =
     let old = c.args.self.now in
-    subst (λ o. Does c.args.place.now.stamp old old c.args.events.now.items c.args.events.now.items o)
-    (nothing_by old.terms.interface old.channel c.args.place.now.side c.args.place.now.state c.args.entry c.args.octets.now k
+    subst (λ o. Does c.args.judgement.now.origin old old c.args.events.now.items c.args.events.now.items o)
+    (nothing_by old.terms.interface old.channel c.args.judgement.now.side c.args.judgement.now.state c.args.entry c.args.octets.now k
     c.in_default.not-Move c.in_default.not-Normal c.in_default.not-Error c.in_default.not-Ends)
     (record { interface = refl; channel = refl; stands = s; reports = sym (append-nil c.args.events.now.items) })
 
 pub returns-in-Normal-clause-does : goal.returns-in-Normal-clause-does
 returns-in-Normal-clause-does g c k reached s =
     let old = c.args.self.now in
-    subst (λ a. IfOk c.take_transfer.result (λ _. Does c.args.place.now.stamp old c.take_transfer.new.self c.args.events.now.items c.take_transfer.new.events.items
-    (entry_step old.terms.interface old.channel c.args.place.now.side (record { state = c.args.place.now.state; entry = a }) c.args.octets.now k)))
-    (sym c.in-Normal.is) (c.take_transfer.ensures.does k s)
+    subst (λ a. IfOk c.handle_transfer.result (λ _. Does c.args.judgement.now.origin old c.handle_transfer.new.self c.args.events.now.items c.handle_transfer.new.events.items
+    (entry_step old.terms.interface old.channel c.args.judgement.now.side (record { state = c.args.judgement.now.state; entry = a }) c.args.octets.now k)))
+    (sym c.in-Normal.is) (c.handle_transfer.ensures.does k s)
 
 pub returns-in-Error-clause-does : goal.returns-in-Error-clause-does
 returns-in-Error-clause-does g c k reached s =
     let old = c.args.self.now in
-    subst (λ a. IfOk c.fail.result (λ _. Does c.args.place.now.stamp old c.fail.new.self c.args.events.now.items c.fail.new.events.items
-    (entry_step old.terms.interface old.channel c.args.place.now.side (record { state = c.args.place.now.state; entry = a }) c.args.octets.now k)))
+    subst (λ a. IfOk c.fail.result (λ _. Does c.args.judgement.now.origin old c.fail.new.self c.args.events.now.items c.fail.new.events.items
+    (entry_step old.terms.interface old.channel c.args.judgement.now.side (record { state = c.args.judgement.now.state; entry = a }) c.args.octets.now k)))
     (sym c.in-Error.is) (c.fail.ensures.does k s)
 
 pub returns-in-Move-clause-unchanged : goal.returns-in-Move-clause-unchanged
-returns-in-Move-clause-unchanged g c = c.take_move.ensures.unchanged
+returns-in-Move-clause-unchanged g c = c.handle_move.ensures.unchanged
 
 pub returns-in-Move-clause-memory : goal.returns-in-Move-clause-memory
-returns-in-Move-clause-memory g c = c.take_move.ensures.memory
+returns-in-Move-clause-memory g c = c.handle_move.ensures.memory
 
 pub returns-in-Normal-clause-unchanged : goal.returns-in-Normal-clause-unchanged
-returns-in-Normal-clause-unchanged g c = c.take_transfer.ensures.unchanged
+returns-in-Normal-clause-unchanged g c = c.handle_transfer.ensures.unchanged
 
 pub returns-in-Normal-clause-memory : goal.returns-in-Normal-clause-memory
-returns-in-Normal-clause-memory g c = c.take_transfer.ensures.memory
+returns-in-Normal-clause-memory g c = c.handle_transfer.ensures.memory
 
 pub returns-in-Error-clause-unchanged : goal.returns-in-Error-clause-unchanged
 returns-in-Error-clause-unchanged g c = c.fail.ensures.unchanged

@@ -11,7 +11,7 @@ use Rattle.channel_machine.proofs.channel.StatusChannel.end.Goals as goal
 pub returns-in-None-clause-does : goal.returns-in-None-clause-does
 returns-in-None-clause-does g c k s =
     let terms_are : agreed_of c.terms-terms.result ≡ c.args.self.now.terms = c.terms-terms.ensures ∙ ap (λ (o : Known). o.terms) c.self.view_is in
-    subst (λ o. Does c.args.stamp c.args.self.now c.enter.new.self c.args.events.now.items c.args.events.now.items o)
+    subst (λ o. Does c.args.origin c.args.self.now c.enter.new.self c.args.events.now.items c.args.events.now.items o)
     (ends_none c.args.how (entering c.args.to c.args.owed k) c.terms-terms.result.call (ap (λ t. t.call) terms_are ∙ s.terms.call) c.in-None.is)
     (record {
       interface = c.enter.ensures.interface ∙ ap (λ t. t.interface) terms_are;
@@ -24,7 +24,7 @@ pub returns-in-Some-clause-does : goal.returns-in-Some-clause-does
 returns-in-Some-clause-does g c k s =
     let terms_are : agreed_of c.terms-terms.result ≡ c.args.self.now.terms = c.terms-terms.ensures ∙ ap (λ (o : Known). o.terms) c.self.view_is in
     let bare : Channel = record k { opening = None; accepting = None; told = [] } in
-    let done : Does c.args.stamp c.args.self.now c.enter-in-Some.new.self c.args.events.now.items c.push_reserved.new.self.items (ended c.args.how (entering c.args.to c.args.owed k)) =
+    let done : Does c.args.origin c.args.self.now c.enter-in-Some.new.self c.args.events.now.items c.push_reserved.new.self.items (ended c.args.how (entering c.args.to c.args.owed k)) =
     record {
       interface = c.enter-in-Some.ensures.interface ∙ c.new.ensures.interface ∙ ap (λ t. t.interface) terms_are;
       channel = c.enter-in-Some.ensures.channel ∙ ap (λ (o : Known). o.channel) c.self.view_is;
@@ -33,5 +33,5 @@ returns-in-Some-clause-does g c k s =
           c.new-self-inside.ensures;
       reports = c.push_reserved.ensures.items ∙ ap (λ v. c.args.events.now.items ++ v ∷ []) c.event.ensures;
     } in
-    subst (λ o. Does c.args.stamp c.args.self.now c.enter-in-Some.new.self c.args.events.now.items c.push_reserved.new.self.items o)
+    subst (λ o. Does c.args.origin c.args.self.now c.enter-in-Some.new.self c.args.events.now.items c.push_reserved.new.self.items o)
     (ends c.args.how (entering c.args.to c.args.owed k) c.terms-terms.result.call c.in-Some.field-0 (ap (λ t. t.call) terms_are ∙ s.terms.call) c.in-Some.is) done

@@ -13,24 +13,24 @@ use Rattle.channel_machine.proofs.channel.StatusChannel.go.Goals as goal
 
 pub returns-in-Opens-clause-does : goal.returns-in-Opens-clause-does
 returns-in-Opens-clause-does g c k xs of r from s =
-    let v = call_change c.args.place.now.side (class_of c.args.self.now.terms.interface xs) c.args.to in
+    let v = call_change c.args.judgement.now.side (class_of c.args.self.now.terms.interface xs) c.args.to in
     let change = subst (λ d. IsChange d v xs) c.in-Opens.is (c.change_of.ensures.change c.args.self.now.terms.interface xs of) in
-    subst (λ v. IfOk c.open.result (λ _. Does c.args.place.now.stamp c.args.self.now c.open.new.self c.args.events.now.items c.open.new.events.items (changing xs v (entering c.args.to false k))))
+    subst (λ v. IfOk c.open.result (λ _. Does c.args.judgement.now.origin c.args.self.now c.open.new.self c.args.events.now.items c.open.new.events.items (changing xs v (entering c.args.to false k))))
     (sym change.0) (c.open.ensures.does k xs change.1 r.bare s)
 
 pub returns-in-GoesUp-clause-does : goal.returns-in-GoesUp-clause-does
 returns-in-GoesUp-clause-does g c k xs of r from s =
-    let v = call_change c.args.place.now.side (class_of c.args.self.now.terms.interface xs) c.args.to in
+    let v = call_change c.args.judgement.now.side (class_of c.args.self.now.terms.interface xs) c.args.to in
     let change = subst (λ d. IsChange d v xs) c.in-GoesUp.is (c.change_of.ensures.change c.args.self.now.terms.interface xs of) in
-    subst (λ v. IfOk c.go_up.result (λ _. Does c.args.place.now.stamp c.args.self.now c.go_up.new.self c.args.events.now.items c.go_up.new.events.items (changing xs v (entering c.args.to false k))))
+    subst (λ v. IfOk c.go_up.result (λ _. Does c.args.judgement.now.origin c.args.self.now c.go_up.new.self c.args.events.now.items c.go_up.new.events.items (changing xs v (entering c.args.to false k))))
     (sym change.0) (c.go_up.ensures.does k xs change.1 (unanswered c.args.to k (ap (λ v. is_from v c.args.to k.state) (sym change.0) ∙ from) r) s)
 
 pub returns-in-Keeps-clause-does : goal.returns-in-Keeps-clause-does
 returns-in-Keeps-clause-does g c k xs of r from s =
-    let v = call_change c.args.place.now.side (class_of c.args.self.now.terms.interface xs) c.args.to in
+    let v = call_change c.args.judgement.now.side (class_of c.args.self.now.terms.interface xs) c.args.to in
     let change = subst (λ d. IsChange d v xs) c.in-Keeps.is (c.change_of.ensures.change c.args.self.now.terms.interface xs of) in
     let terms_are : agreed_of c.terms-terms.result ≡ c.args.self.now.terms = c.terms-terms.ensures ∙ ap (λ (o : Known). o.terms) c.self.view_is in
-    subst (λ v. Does c.args.place.now.stamp c.args.self.now c.enter.new.self c.args.events.now.items c.args.events.now.items (changing xs v (entering c.args.to false k)))
+    subst (λ v. Does c.args.judgement.now.origin c.args.self.now c.enter.new.self c.args.events.now.items c.args.events.now.items (changing xs v (entering c.args.to false k)))
     (sym change)
     (record {
       interface = c.enter.ensures.interface ∙ ap (λ t. t.interface) terms_are;

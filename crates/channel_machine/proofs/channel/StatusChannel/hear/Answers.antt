@@ -9,7 +9,7 @@ use Rattle.line_model.specs.channels.ChannelStep.{counts_of}
 use Rattle.mbit_assembly.specs.Assembler.{IsPut, begun_by}
 use Rattle.mbit_assembly.specs.Assembly.{OnMixed}
 use Rattle.mbit_assembly.specs.declared.sequence.Put.TheVariants.{Going, Complete, Mixed}
-use Rattle.channel_machine.specs.Events.{stamped}
+use Rattle.channel_machine.specs.Events.{event_at}
 use Rattle.channel_machine.specs.Messages.{told_reports}
 use Rattle.channel_machine.specs.TermsStand.{is_pad}
 use Rattle.channel_machine.specs.Transfers.{Transfer, IsHeard, packet, counted_in_force}
@@ -27,8 +27,8 @@ returns-in-Err-clause-heard g c k s =
     let st : Stands old k = subst (λ o. Stands o k) (sym c.self.view_is) s in
     let h : AcceptedData = packet c.args.side c.args.header.now c.args.user_data.now in
     let r = counted_in_force before.terms.interface c.args.side c.args.header.now.send c.args.header.now.receive k in
-    subst (λ o. IsHeard (Some c.in-Err.code) o.terms.interface c.args.stamp o.transfer o.transfer c.args.events.now.items c.args.events.now.items c.args.side h (counted_in_force o.terms.interface c.args.side c.args.header.now.send c.args.header.now.receive k) k) c.self.view_is
-    (refused (Unit {0}) c.in-Err.code before.terms.interface c.args.stamp old.transfer after.flow c.args.events.now.items c.args.side h r k
+    subst (λ o. IsHeard (Some c.in-Err.code) o.terms.interface c.args.origin o.transfer o.transfer c.args.events.now.items c.args.events.now.items c.args.side h (counted_in_force o.terms.interface c.args.side c.args.header.now.send c.args.header.now.receive k) k) c.self.view_is
+    (refused (Unit {0}) c.in-Err.code before.terms.interface c.args.origin old.transfer after.flow c.args.events.now.items c.args.side h r k
     (in_force (Unit {0}) (Err c.in-Err.code) before.terms.interface old.transfer after.flow k c.args.side c.args.header.now.send c.args.header.now.receive st.transfer (c.in-Err.ensures.counts (counts_of k) st.transfer.flow)))
 
 pub returns-in-Mixed-clause-heard : goal.returns-in-Mixed-clause-heard
@@ -43,8 +43,8 @@ returns-in-Mixed-clause-heard g c k s =
     let b : IsPut {A = g.row.A.Denot} Mixed i.assembler c.put.new.self c.args.side h k.heard =
     subst (λ q. IsPut q i.assembler c.put.new.self c.args.side h k.heard) c.in-Mixed.is (c.in_ok-put.ensures.put k.heard st.transfer.sequences) in
     let new : Transfer = record old.transfer { assembler = c.put.new.self } in
-    subst (λ o. IsHeard (Some INCONSISTENT_Q_BIT_SETTING) o.terms.interface c.args.stamp o.transfer new c.args.events.now.items c.reserve.new.self.items c.args.side h (counted_in_force o.terms.interface c.args.side c.args.header.now.send c.args.header.now.receive k) k) c.self.view_is
-    (mixed c.in_default.field-0 before.terms.interface c.args.stamp old.transfer new after.flow c.args.events.now.items c.reserve.new.self.items c.args.side h r k st.transfer
+    subst (λ o. IsHeard (Some INCONSISTENT_Q_BIT_SETTING) o.terms.interface c.args.origin o.transfer new c.args.events.now.items c.reserve.new.self.items c.args.side h (counted_in_force o.terms.interface c.args.side c.args.header.now.send c.args.header.now.receive k) k) c.self.view_is
+    (mixed c.in_default.field-0 before.terms.interface c.args.origin old.transfer new after.flow c.args.events.now.items c.reserve.new.self.items c.args.side h r k st.transfer
     (in_force (Unit {0}) (Ok c.in_default.field-0) before.terms.interface old.transfer after.flow k c.args.side c.args.header.now.send c.args.header.now.receive st.transfer (c.in_default.ensures.counts (counts_of k) st.transfer.flow))
     b.0 (ap (λ a. record old.transfer { assembler = a }) b.1) c.in_ok-reserve.ensures.items)
 
@@ -60,13 +60,13 @@ returns-in-Going-clause-heard g c k s =
     let b : IsPut {A = g.row.A.Denot} Going i.assembler c.put.new.self c.args.side h k.heard =
     subst (λ q. IsPut q i.assembler c.put.new.self c.args.side h k.heard) c.in-Going.is (c.in_ok-put.ensures.put k.heard st.transfer.sequences) in
     let new : Transfer = record old.transfer { flow = after.flow; assembler = c.put.new.self } in
-    subst (λ o. IsHeard None o.terms.interface c.args.stamp o.transfer new c.args.events.now.items c.push_reserved.new.self.items c.args.side h (counted_in_force o.terms.interface c.args.side c.args.header.now.send c.args.header.now.receive k) k) c.self.view_is
-    (accepted c.in_default.field-0 before.terms.interface c.args.stamp old.transfer new c.args.events.now.items c.push_reserved.new.self.items
+    subst (λ o. IsHeard None o.terms.interface c.args.origin o.transfer new c.args.events.now.items c.push_reserved.new.self.items c.args.side h (counted_in_force o.terms.interface c.args.side c.args.header.now.send c.args.header.now.receive k) k) c.self.view_is
+    (accepted c.in_default.field-0 before.terms.interface c.args.origin old.transfer new c.args.events.now.items c.push_reserved.new.self.items
     k c.args.side c.args.header.now.send c.args.header.now.receive h None st.transfer refl
     (in_force (Unit {0}) (Ok c.in_default.field-0) before.terms.interface old.transfer after.flow k c.args.side c.args.header.now.send c.args.header.now.receive st.transfer (c.in_default.ensures.counts (counts_of k) st.transfer.flow))
     b.0 (going_is before.terms.interface old.transfer k c.args.side h st.transfer b.1) c.data.ensures.rest.modulus c.data.ensures.rest.windows b.2 c.put.ensures.sizes st.transfer.settings
     (λ v. c.push_reserved.ensures.items ∙ ap (λ l. l ++ c.event.result ∷ []) c.in_ok-reserve.ensures.items
-    ∙ ap (λ v. c.args.events.now.items ++ v ∷ []) (c.event.ensures ∙ ap (λ w. stamped c.args.stamp w) c.heard.ensures)))
+    ∙ ap (λ v. c.args.events.now.items ++ v ∷ []) (c.event.ensures ∙ ap (λ w. event_at c.args.origin w) c.heard.ensures)))
 
 pub returns-else-is_told-2-clause-heard : goal.returns-else-is_told-2-clause-heard
 returns-else-is_told-2-clause-heard g c k s =
@@ -81,14 +81,14 @@ returns-else-is_told-2-clause-heard g c k s =
     subst (λ q. IsPut q i.assembler c.put.new.self c.args.side h k.heard) c.in-Complete.is (c.in_ok-put.ensures.put k.heard st.transfer.sequences) in
     let pad : c.is_pad_call.result ≡ is_pad_call k = c.is_pad_call.ensures ∙ ap (λ o. is_pad o) c.call.ensures ∙ pad_stands before.terms k st.terms in
     let new : Transfer = record old.transfer { flow = after.flow; assembler = c.put.new.self } in
-    subst (λ o. IsHeard None o.terms.interface c.args.stamp o.transfer new c.args.events.now.items c.push_reserved-in-Complete.new.self.items c.args.side h (counted_in_force o.terms.interface c.args.side c.args.header.now.send c.args.header.now.receive k) k) c.self.view_is
-    (accepted c.in_default.field-0 before.terms.interface c.args.stamp old.transfer new c.args.events.now.items c.push_reserved-in-Complete.new.self.items
+    subst (λ o. IsHeard None o.terms.interface c.args.origin o.transfer new c.args.events.now.items c.push_reserved-in-Complete.new.self.items c.args.side h (counted_in_force o.terms.interface c.args.side c.args.header.now.send c.args.header.now.receive k) k) c.self.view_is
+    (accepted c.in_default.field-0 before.terms.interface c.args.origin old.transfer new c.args.events.now.items c.push_reserved-in-Complete.new.self.items
     k c.args.side c.args.header.now.send c.args.header.now.receive h None st.transfer refl
     (in_force (Unit {0}) (Ok c.in_default.field-0) before.terms.interface old.transfer after.flow k c.args.side c.args.header.now.send c.args.header.now.receive st.transfer (c.in_default.ensures.counts (counts_of k) st.transfer.flow))
     b.0 (untold_is before.terms.interface k c.args.side h (ap (λ a. a && h.qualified) (sym pad) ∙ sym c.is_message-is_told.ensures ∙ c.if-is_told-2.false)) c.data.ensures.rest.modulus c.data.ensures.rest.windows b.2 c.put.ensures.sizes
     st.transfer.settings
     (λ v. c.push_reserved-in-Complete.ensures.items ∙ ap (λ l. l ++ c.event-in-Complete.result ∷ []) c.in_ok-reserve.ensures.items
-    ∙ ap (λ v. c.args.events.now.items ++ v ∷ []) (c.event-in-Complete.ensures ∙ ap (λ w. stamped c.args.stamp w) c.heard-in-Complete.ensures)))
+    ∙ ap (λ v. c.args.events.now.items ++ v ∷ []) (c.event-in-Complete.ensures ∙ ap (λ w. event_at c.args.origin w) c.heard-in-Complete.ensures)))
 
 pub returns-then-is_told-2-clause-heard : goal.returns-then-is_told-2-clause-heard
 returns-then-is_told-2-clause-heard g c k s =
@@ -106,13 +106,13 @@ returns-then-is_told-2-clause-heard g c k s =
     let told : (is_pad_call k && h.qualified) ≡ true = ap (λ a. a && h.qualified) (sym pad) ∙ sym c.is_message-is_told.ensures ∙ c.if-is_told-2.true in
     let octets = c.as_slice.ensures ∙ b.5 in
     let new : Transfer = record { flow = after.flow; assembler = c.put.new.self; settings = c.tell.new.self } in
-    subst (λ o. IsHeard None o.terms.interface c.args.stamp o.transfer new c.args.events.now.items c.tell.new.events.items c.args.side h (counted_in_force o.terms.interface c.args.side c.args.header.now.send c.args.header.now.receive k) k) c.self.view_is
-    (accepted c.in_default.field-0 before.terms.interface c.args.stamp old.transfer new c.args.events.now.items c.tell.new.events.items
+    subst (λ o. IsHeard None o.terms.interface c.args.origin o.transfer new c.args.events.now.items c.tell.new.events.items c.args.side h (counted_in_force o.terms.interface c.args.side c.args.header.now.send c.args.header.now.receive k) k) c.self.view_is
+    (accepted c.in_default.field-0 before.terms.interface c.args.origin old.transfer new c.args.events.now.items c.tell.new.events.items
     k c.args.side c.args.header.now.send c.args.header.now.receive h (Some m) st.transfer refl
     (in_force (Unit {0}) (Ok c.in_default.field-0) before.terms.interface old.transfer after.flow k c.args.side c.args.header.now.send c.args.header.now.receive st.transfer (c.in_default.ensures.counts (counts_of k) st.transfer.flow))
     b.0 (told_is before.terms.interface old.transfer k c.args.side h st.transfer told b.1) c.data.ensures.rest.modulus c.data.ensures.rest.windows b.2 c.put.ensures.sizes
     (c.tell.ensures.stands m k.told octets st.transfer.settings)
-    (λ v. c.tell.ensures.reports m k.told octets st.transfer.settings ∙ ap (λ l. l ++ map (stamped c.args.stamp) (told_reports c.args.side (length c.args.user_data.now) k.told m)) c.in_ok-reserve.ensures.items))
+    (λ v. c.tell.ensures.reports m k.told octets st.transfer.settings ∙ ap (λ l. l ++ map (event_at c.args.origin) (told_reports c.args.side (length c.args.user_data.now) k.told m)) c.in_ok-reserve.ensures.items))
 
 pub returns-in-Err-clause-unchanged : goal.returns-in-Err-clause-unchanged
 returns-in-Err-clause-unchanged g c = tt

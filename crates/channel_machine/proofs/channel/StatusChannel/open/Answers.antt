@@ -7,7 +7,7 @@ use Rattle.line_model.specs.declared.event.How.TheVariants.{Collision}
 use Rattle.line_model.specs.packets.Facilities.{fields_of}
 use Rattle.line_model.specs.channels.ChannelStep.{Outcome, ending, entering, opening}
 use Rattle.packet_decode.specs.Shown.{IsUsable}
-use Rattle.channel_machine.specs.Events.{stamped}
+use Rattle.channel_machine.specs.Events.{event_at}
 use Rattle.channel_machine.specs.TermsStand.{TermsStand}
 use Rattle.channel_machine.specs.Agreed.{agreed_of}
 use Rattle.channel_machine.specs.Channels.{Known, Stands, Does}
@@ -23,7 +23,7 @@ opened-terms-requires g c = record {
 pub returns-clause-does : goal.returns-clause-does
 returns-clause-does g c k xs shows bare s =
     let first : Outcome = ending Collision (entering c.args.to false k) in
-    let d : Does c.args.stamp c.args.self.now c.end.new.self c.reserve.new.self.items c.end.new.events.items first = c.end.ensures.does k s in
+    let d : Does c.args.origin c.args.self.now c.end.new.self c.reserve.new.self.items c.end.new.events.items first = c.end.ensures.does k s in
     let o : Option Opening = Some (record { out = c.args.out; packet = xs }) in
     let target : Channel = record first.after { opening = o } in
     let w : What = Open c.args.out (fields_of xs).called (fields_of xs).calling (fields_of xs).reverse_charging in
@@ -32,14 +32,14 @@ returns-clause-does g c k xs shows bare s =
     refl (bare_after Collision c.args.to false k bare) c.opened-terms.ensures.interface (ap (λ f. f.sizes) shows) (ap (λ f. f.windows) shows)
     (c.opened-terms.ensures.call xs shows) c.opened-terms.ensures.values in
     let stands : Stands c.enter.new.self (entering c.args.to false target) = c.enter.ensures.stands target terms d.stands.transfer.settings in
-    after_events c.args.stamp c.args.self.now c.end.new.self c.enter.new.self c.args.events.now.items c.end.new.events.items c.push_reserved.new.self.items
+    after_events c.args.origin c.args.self.now c.end.new.self c.enter.new.self c.args.events.now.items c.end.new.events.items c.push_reserved.new.self.items
     first.reported first.after (opening c.args.out xs) d.interface d.channel
-    (d.reports ∙ ap (λ l. l ++ map (stamped c.args.stamp) first.reported) c.in_ok-reserve.ensures.items)
+    (d.reports ∙ ap (λ l. l ++ map (event_at c.args.origin) first.reported) c.in_ok-reserve.ensures.items)
     (record {
       interface = c.enter.ensures.interface ∙ c.opened-terms.ensures.interface ∙ c.interface.ensures ∙ ap (λ (o : Known). o.terms.interface) c.self.view_is;
       channel = c.enter.ensures.channel;
       stands = subst (λ a. Stands c.enter.new.self a) (reopens Collision c.args.to k o) stands;
       reports = c.push_reserved.ensures.items ∙ ap (λ v. c.end.new.events.items ++ v ∷ [])
-          (c.event.ensures ∙ ap (λ v. stamped c.args.stamp v)
+          (c.event.ensures ∙ ap (λ v. event_at c.args.origin v)
           (λ j. Open c.args.out ((c.copied.ensures ∙ ap (λ f. f.called) shows) j) ((c.copied-2.ensures ∙ ap (λ f. f.calling) shows) j) (shows j).reverse_charging));
     })

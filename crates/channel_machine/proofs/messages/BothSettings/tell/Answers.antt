@@ -6,7 +6,7 @@ use Rattle.line_model.specs.declared.finding.Xcode.{Xcode}
 use Rattle.line_model.specs.channels.ChannelStep.{option_found}
 use Rattle.line_model.specs.channels.Pad.{form_fault, message_fault, settings_after}
 use Rattle.x3_parameters.proofs.Applied.{faulty}
-use Rattle.channel_machine.specs.Events.{Reports, stamped}
+use Rattle.channel_machine.specs.Events.{Reports, event_at}
 use Rattle.channel_machine.specs.Messages.{SettingsStand, told_reports}
 use Rattle.channel_machine.proofs.Kept.{kept_fault, kept_whole, own_message_fault, faulted_settings, unfaulted_short}
 use Rattle.channel_machine.proofs.Reporting.{three}
@@ -17,14 +17,14 @@ returns-in-Err-clause-reports g c m ts kept stands =
     let x = c.args.from in
     let e : form_fault m ≡ Some c.in-Err.fault = sym (kept_fault m) ∙ ap (λ l. form_fault l) (sym kept) ∙ c.in-Err.ensures.fault in
     let fs : Option Xcode → List What = λ o. option_to_list (option_found x o) in
-    let done : Reports c.args.stamp c.args.events.now.items c.push_reserved.new.self.items (fs (Some c.in-Err.fault) ++ Data x c.args.size ∷ []) =
-    three c.args.stamp c.args.events.now.items c.report_fault.new.events.items c.push_reserved.new.self.items c.push_reserved.new.self.items
+    let done : Reports c.args.origin c.args.events.now.items c.push_reserved.new.self.items (fs (Some c.in-Err.fault) ++ Data x c.args.size ∷ []) =
+    three c.args.origin c.args.events.now.items c.report_fault.new.events.items c.push_reserved.new.self.items c.push_reserved.new.self.items
     (fs (Some c.in-Err.fault)) [] (Data x c.args.size) c.report_fault.ensures.reports
-    (c.push_reserved.ensures.items ∙ ap (λ v. c.report_fault.new.events.items ++ v ∷ []) (c.event.ensures ∙ ap (λ w. stamped c.args.stamp w) c.heard.ensures))
+    (c.push_reserved.ensures.items ∙ ap (λ v. c.report_fault.new.events.items ++ v ∷ []) (c.event.ensures ∙ ap (λ w. event_at c.args.origin w) c.heard.ensures))
     (sym (append-nil c.push_reserved.new.self.items)) in
-    subst (λ o. Reports c.args.stamp c.args.events.now.items c.push_reserved.new.self.items (fs o ++ Data x c.args.size ∷ settings_after (message_fault x ts m) x m))
+    subst (λ o. Reports c.args.origin c.args.events.now.items c.push_reserved.new.self.items (fs o ++ Data x c.args.size ∷ settings_after (message_fault x ts m) x m))
     (sym (own_message_fault x ts m c.in-Err.fault e))
-    (subst (λ l. Reports c.args.stamp c.args.events.now.items c.push_reserved.new.self.items (fs (Some c.in-Err.fault) ++ Data x c.args.size ∷ l))
+    (subst (λ l. Reports c.args.origin c.args.events.now.items c.push_reserved.new.self.items (fs (Some c.in-Err.fault) ++ Data x c.args.size ∷ l))
     (sym (faulted_settings x ts m c.in-Err.fault e)) done)
 
 pub returns-in-Err-clause-stands : goal.returns-in-Err-clause-stands
@@ -42,11 +42,11 @@ returns-in-Err-clause-stands g c m ts kept stands =
 pub returns-in-Ok-clause-reports : goal.returns-in-Ok-clause-reports
 returns-in-Ok-clause-reports g c m ts kept stands =
     let whole : c.args.octets.now ≡ m = kept_whole m c.args.octets.now kept (unfaulted_short c.args.octets.now c.in-Ok.ensures.fault) in
-    subst (λ l. Reports c.args.stamp c.args.events.now.items c.take.new.events.items (told_reports c.args.from c.args.size ts l))
-    (c.in-Ok.ensures.message ∙ whole) (c.take.ensures.reports ts stands)
+    subst (λ l. Reports c.args.origin c.args.events.now.items c.handle.new.events.items (told_reports c.args.from c.args.size ts l))
+    (c.in-Ok.ensures.message ∙ whole) (c.handle.ensures.reports ts stands)
 
 pub returns-in-Ok-clause-stands : goal.returns-in-Ok-clause-stands
 returns-in-Ok-clause-stands g c m ts kept stands =
     let whole : c.args.octets.now ≡ m = kept_whole m c.args.octets.now kept (unfaulted_short c.args.octets.now c.in-Ok.ensures.fault) in
-    subst (λ l. SettingsStand c.take.new.self (ts ++ record { from = c.args.from; message = l } ∷ []))
-    (c.in-Ok.ensures.message ∙ whole) (c.take.ensures.stands ts stands)
+    subst (λ l. SettingsStand c.handle.new.self (ts ++ record { from = c.args.from; message = l } ∷ []))
+    (c.in-Ok.ensures.message ∙ whole) (c.handle.ensures.stands ts stands)

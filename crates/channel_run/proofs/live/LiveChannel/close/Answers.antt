@@ -5,7 +5,7 @@ use Rattle.line_model.specs.declared.event.What.TheVariants.{End}
 use Rattle.line_model.specs.basics.Records.{Piece}
 use Rattle.line_model.specs.pieces.Plans.{piece_events}
 use Rattle.call_accounts.specs.Counted.{IsCountable}
-use Rattle.channel_run.specs.Counted.{Counts}
+use Rattle.channel_run.specs.Tally.{Counts}
 use Rattle.channel_run.specs.Live.{channel_so_far, so_far}
 use Rattle.channel_run.proofs.LiveLemmas.{end_heard, none_heard, piece_countable}
 use Rattle.channel_run.proofs.live.LiveChannel.close.Goals as goal
@@ -14,7 +14,7 @@ pub returns-then-not-is_open-clause-counted : goal.returns-then-not-is_open-clau
 returns-then-not-is_open-clause-counted g c = λ p s.
     let self = c.args.self.now in
     let none = none_heard p c.in-Some.packet c.is_open.result (c.is_open.ensures (channel_so_far p) s.machine) c.if-not-is_open.true in
-    subst (λ e. Counts self.counted p.epoch p.channel (piece_events (record p { end = e }))) (sym c.in-Some.is) (subst (Counts self.counted p.epoch p.channel) none s.counted)
+    subst (λ e. Counts self.tally p.epoch p.channel (piece_events (record p { end = e }))) (sym c.in-Some.is) (subst (Counts self.tally p.epoch p.channel) none s.counted)
 
 pub returns-clause-counted : goal.returns-clause-counted
 returns-clause-counted g c = λ p s.
@@ -26,5 +26,5 @@ returns-clause-counted g c = λ p s.
     (λ j. es ++ record { epoch = s.epoch j; channel = s.channel j; packet = n; what = End Restart } ∷ [])
     ∙ end_heard p n c.is_open.result (c.is_open.ensures (channel_so_far p) s.machine) c.if-not-is_open.false in
     let few = subst IsCountable (sym told) (piece_countable done s.small) in
-    let heard = c.in_ok-hear.ensures.heard p.epoch p.channel es s.counted (s.epoch, s.channel) few in
-    subst (λ e. Counts c.hear.new.self p.epoch p.channel (piece_events (record p { end = e }))) (sym c.in-Some.is) (subst (Counts c.hear.new.self p.epoch p.channel) told heard)
+    let heard = c.in_ok-record.ensures.recorded p.epoch p.channel es s.counted (s.epoch, s.channel) few in
+    subst (λ e. Counts c.record.new.self p.epoch p.channel (piece_events (record p { end = e }))) (sym c.in-Some.is) (subst (Counts c.record.new.self p.epoch p.channel) told heard)

@@ -4,7 +4,7 @@ use Rattle.line_model.specs.basics.Bounds.{IsPiece}
 use Rattle.line_model.specs.channels.Channels.{fresh}
 use Rattle.line_model.specs.pieces.Pieces.{piece_value}
 use Rattle.line_model.specs.observer.Observer.{x25, event_of}
-use Rattle.channel_run.specs.Counted.{Counts}
+use Rattle.channel_run.specs.Tally.{Counts}
 use Rattle.channel_run.specs.Live.{channel_after}
 use Rattle.channel_run.proofs.LiveLemmas.{empty_small}
 use Rattle.channel_run.proofs.live.LiveChannel.fresh.Goals as goal

@@ -1,7 +1,7 @@
 use Rattle.std.proofs.Common.{◌∙◌, ℕ, sym, subst}
 use Rattle.std.proofs.lemmas.Result.{IfOk-weaker}
 use Rattle.line_model.specs.pieces.Plans.{piece_events}
-use Rattle.channel_run.specs.Counted.{Counts, worth}
+use Rattle.channel_run.specs.Tally.{Counts, worth}
 use Rattle.channel_run.specs.Live.{so_far}
 use Rattle.channel_run.proofs.LiveLemmas.{piece_within}
 use Rattle.channel_run.proofs.live.LiveChannel.report.Goals as goal
@@ -13,7 +13,7 @@ report-requires g c =
     record {
       within = (
         piece_events (so_far p),
-        subst (λ (w : ℕ × ℕ). Counts c.args.self.now.counted w.0 w.1 (piece_events (so_far p))) (λ j. (sym s.epoch j, sym s.channel j)) s.counted,
+        subst (λ (w : ℕ × ℕ). Counts c.args.self.now.tally w.0 w.1 (piece_events (so_far p))) (λ j. (sym s.epoch j, sym s.channel j)) s.counted,
         piece_within (so_far p) s.small,
       );
     }
@@ -22,7 +22,7 @@ pub returns : goal.returns
 returns g c = record {
   value = IfOk-weaker c.report.result _ _
       (λ report told p s.
-      told (piece_events (so_far p)) (subst (λ (w : ℕ × ℕ). Counts c.args.self.now.counted w.0 w.1 (piece_events (so_far p))) (λ j. (sym s.epoch j, sym s.channel j)) s.counted)
+      told (piece_events (so_far p)) (subst (λ (w : ℕ × ℕ). Counts c.args.self.now.tally w.0 w.1 (piece_events (so_far p))) (λ j. (sym s.epoch j, sym s.channel j)) s.counted)
       ∙ (λ j. worth c.args.id (s.epoch j) (s.channel j) (piece_events (so_far p)))) c.report.ensures.worth;
   memory = c.report.ensures.memory;
 }

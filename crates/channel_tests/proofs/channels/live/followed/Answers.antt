@@ -16,20 +16,17 @@ loop-item-init g c =
 pub take-requires : goal.take-requires
 take-requires g c =
     let p = c.args.piece.now in
-    let taken : record { row = c.copy_to.new.row; packet = c.item.inside.packet } ≡ c.in-Some.item = λ j. record { row = c.in_ok-copy_to.ensures j; packet = ap (λ i. i.packet) c.item.view_is j } in
     let whole : IsPiece p.interface p.channel p.items = subst (λ q. IsPiece q.interface q.channel q.items) c.piece.view_is c.piece.invariant in
-    record { room = (record p { items = c.loop-item.yielded }, c.loop-item.invariant.stands, next_item p.interface p.channel p.items c.loop-item.yielded _ c.next.new.self c.in-Some.item _ whole c.loop-item.invariant.left c.in-Some.ensures.steps taken) }
+    record { room = (record p { items = c.loop-item.yielded }, c.loop-item.invariant.stands, next_item p.interface p.channel p.items c.loop-item.yielded _ c.next.new.self c.in-Some.item _ whole c.loop-item.invariant.left c.in-Some.ensures.steps refl) }
 
 pub told_of-requires : goal.told_of-requires
 told_of-requires g c =
     let p = c.args.piece.now in
-    let item : Item = record { row = c.copy_to.new.row; packet = c.item.inside.packet } in
-    let taken : item ≡ c.in-Some.item = λ j. record { row = c.in_ok-copy_to.ensures j; packet = ap (λ i. i.packet) c.item.view_is j } in
     let whole : IsPiece p.interface p.channel p.items = subst (λ q. IsPiece q.interface q.channel q.items) c.piece.view_is c.piece.invariant in
-    let room = next_item p.interface p.channel p.items c.loop-item.yielded _ c.next.new.self c.in-Some.item item whole c.loop-item.invariant.left c.in-Some.ensures.steps taken in
+    let room = next_item p.interface p.channel p.items c.loop-item.yielded _ c.next.new.self c.in-Some.item c.in-Some.item whole c.loop-item.invariant.left c.in-Some.ensures.steps refl in
     record {
       stands = (
-        record p { items = c.loop-item.yielded ++ item ∷ [] },
+        record p { items = c.loop-item.yielded ++ c.in-Some.item ∷ [] },
         c.in_ok-finding.ensures.stands (record p { items = c.loop-item.yielded }) c.loop-item.invariant.stands room,
       );
     }
@@ -37,12 +34,10 @@ told_of-requires g c =
 pub loop-item-preserved : goal.loop-item-preserved
 loop-item-preserved g c =
     let p = c.args.piece.now in
-    let taken : record { row = c.copy_to.new.row; packet = c.item.inside.packet } ≡ c.in-Some.item = λ j. record { row = c.in_ok-copy_to.ensures j; packet = ap (λ i. i.packet) c.item.view_is j } in
     let whole : IsPiece p.interface p.channel p.items = subst (λ q. IsPiece q.interface q.channel q.items) c.piece.view_is c.piece.invariant in
-    let room = next_item p.interface p.channel p.items c.loop-item.yielded _ c.next.new.self c.in-Some.item _ whole c.loop-item.invariant.left c.in-Some.ensures.steps taken in
+    let room = next_item p.interface p.channel p.items c.loop-item.yielded _ c.next.new.self c.in-Some.item _ whole c.loop-item.invariant.left c.in-Some.ensures.steps refl in
     record {
-      stands = subst (λ (i : Item). StandsFor g.C.Channel.interface_of g.C.Channel.number_of g.C.Channel.stands_for c.take.new.self (record p { items = c.loop-item.yielded ++ i ∷ [] })) taken
-          (c.in_ok-finding.ensures.stands (record p { items = c.loop-item.yielded }) c.loop-item.invariant.stands room);
+      stands = c.in_ok-finding.ensures.stands (record p { items = c.loop-item.yielded }) c.loop-item.invariant.stands room;
       left = c.loop-item.invariant.left ∙ ap (λ l. c.loop-item.yielded ++ l) c.in-Some.ensures.steps ∙ sym (append_assoc c.loop-item.yielded (c.in-Some.item ∷ []) c.next.new.self);
     }
 

@@ -15,12 +15,11 @@ loop-item-init g c = record {
 pub step_until_taken-requires : goal.step_until_taken-requires
 step_until_taken-requires g c =
     let i = c.args.interface.now in
-    let taken : record { row = c.copy_to.new.row; packet = c.item.inside.packet } ≡ c.in-Some.item = λ j. record { row = c.in_ok-copy_to.ensures j; packet = ap (λ x. x.packet) c.item.view_is j } in
     let first : IsItem i 1 c.in-Some.item =
     All-head (IsItem i 1) c.in-Some.item c.next.new.self (subst (All (IsItem i 1)) c.in-Some.ensures.steps c.loop-item.invariant.left) in
     let own = subst (λ n. IsItem i n c.in-Some.item) (sym c.loop-item.invariant.number) first in
     let is = subst (λ x. IsItem x (g.C.Channel.number_of c.loop-item.channel) c.in-Some.item) (sym c.loop-item.invariant.interface) own in
-    λ k. ((refl, tt), subst (IsItem (g.C.Channel.interface_of c.loop-item.channel) (g.C.Channel.number_of c.loop-item.channel)) (sym taken) is)
+    λ k. ((refl, tt), is)
 
 pub loop-item-preserved : goal.loop-item-preserved
 loop-item-preserved g c =
