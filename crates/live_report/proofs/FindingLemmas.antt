@@ -1,16 +1,16 @@
 -- The findings of a walk, with one more row.
-use Rattle.std.proofs.Common.{◌≡◌, ◌∙◌, sym, ap, refl, ℕ, Bool, true, false, List, [], ◌∷◌, ◌++◌, map, append-nil, Option, Some, None, Result, Ok, Err, IfOk}
+use Rattle.std.proofs.Common.{◌≡◌, ◌∙◌, sym, ap, refl, ℕ, Bool, true, false, List, [], ◌∷◌, ◌++◌, map, append-nil, subst, Option, Some, None}
 use Rattle.std.specs.List.{flat_map}
 use Rattle.std.specs.Option.{option_to_list}
 use Rattle.std.proofs.lemmas.List.{map-append}
 use Rattle.std.proofs.lemmas.List.Elements.{filter_map-append}
 use Rattle.line_model.specs.declared.interface.Interface.{Interface}
-use Rattle.line_model.specs.declared.fault.Fault.{Fault}
 use Rattle.line_model.specs.declared.finding.Finding.{Finding}
-use Rattle.line_model.specs.declared.packet.Packet.{Packet}
 use Rattle.line_model.specs.declared.event.What.{What}
-use Rattle.line_model.specs.basics.Records.{Row}
-use Rattle.line_model.specs.channels.RestartMachine.{LineState, Routing}
+use Rattle.line_model.specs.declared.verdict.Route.{Route}
+use Rattle.line_model.specs.declared.verdict.Route.TheVariants.{ToChannel, Leave, Enter, Found, Pass}
+use Rattle.line_model.specs.basics.Records.{Row, Item}
+use Rattle.line_model.specs.channels.RestartMachine.{LineState}
 use Rattle.line_model.specs.channels.Channels.{Channel, fresh, is_open}
 use Rattle.line_model.specs.channels.ChannelStep.{channel_step}
 use Rattle.line_model.specs.basics.Octets.{channel_of}
@@ -21,17 +21,20 @@ use Rattle.line_model.specs.pieces.Plans.{item_of}
 use Rattle.line_model.specs.pieces.Pieces.{piece_rows}
 use Rattle.line_model.specs.observer.Report.{findings_of, report_of}
 use Rattle.restart_epochs.specs.OpenRows.{rows_of}
-use Rattle.restart_epochs.specs.Cutting.{Cutting, StandsFor as IsCutterOf, observer, places, rows_if, route_finding}
+use Rattle.restart_epochs.specs.Cutting.{Cutting, StandsFor as IsCutterOf, observer, places, rows_if}
+use Rattle.restart_epochs.specs.declared.walk.EpochWalk.{EpochWalk}
+use Rattle.restart_epochs.specs.declared.walk.Step.{Step}
+use Rattle.restart_epochs.specs.Walks.{route_finding, routed_at, turn_of, IsStep}
 use Rattle.restart_epochs.proofs.LineFindings.{events_append, found_here}
 use Rattle.restart_epochs.proofs.Routes.{is_to_channel}
 use Rattle.restart_epochs.proofs.Steps.{on_channel, routed_to, routed_none}
-use Rattle.restart_epochs.proofs.Taken.{Told, routed_by}
+use Rattle.restart_epochs.proofs.Taken.{routed_by}
 use Rattle.restart_epochs.proofs.States.{after_rows, states_of}
 use Rattle.channel_run.specs.Run.{row_events}
 use Rattle.channel_run.specs.Live.{channel_after, channel_so_far}
-use Rattle.live_report.specs.declared.observer.Observer.{Observer as Running}
+use Rattle.line_model.specs.packets.Classes.{packet_of}
 use Rattle.live_report.specs.Lanes.{begun_piece}
-use Rattle.live_report.specs.Observing.{StandsFor}
+use Rattle.live_report.specs.Turns.{FindsAt, FindsBy}
 
 pub findings_append : (us vs : List (RowEvent Row What)) → findings_of (map event_of (us ++ vs)) ≡ findings_of (map event_of us) ++ findings_of (map event_of vs)
 findings_append us vs = ap findings_of (map-append event_of us vs) ∙ filter_map-append _ (map event_of us) (map event_of vs)
@@ -105,23 +108,28 @@ found_on_channel i rs c r s to =
 
 -- ---- what a call answers
 
-pub channel_finds : {A C : Type 0} → (I : C → Interface) (N : C → ℕ) (S : C → Channel → Type 0) (i : Interface) (rs : List Row) (o : Running A C) (r : Row) (p : Packet) (step : Routing) (s : StandsFor I N S i rs o) (k : ℕ)
-    → Told s.cutting (record { row = r; packet = p }) step → is_to_channel step.route ≡ true → k ≡ channel_of r.octets → (answer : Result (Option Finding) Fault)
-    → IfOk answer (λ found. option_to_list found ≡ findings_of (row_events s.cutting.interface s.cutting.epoch k (channel_so_far (begun_piece s.cutting.interface s.cutting.epoch k (rows_of s.cutting.open_rows k))) r))
-    → IfOk answer (λ found. (report_of i (rs ++ r ∷ [])).findings ≡ (report_of i rs).findings ++ option_to_list found)
-channel_finds I N S i rs o r p step s k told to is (Err f) h = tt
-channel_finds I N S i rs o r p step s k told to is (Ok found) h =
-    let c = s.cutting in
-    found_on_channel i rs c r s.cut (ap (λ q. is_to_channel q.route) (sym (routed_by i rs c (record { row = r; packet = p }) step s.cut told)) ∙ to)
-    ∙ ap (λ l. findings_of (events i rs) ++ l) (sym (h ∙ ap (λ n. findings_of (row_events c.interface c.epoch n (channel_so_far (begun_piece c.interface c.epoch n (rows_of c.open_rows n))) r)) is))
+pub finds_after : {B : Type 0} → (i : Interface) (rs : List Row) (c : Cutting) (item : Item) (step : Step) (v : EpochWalk B) (found : Option Finding) → IsCutterOf i rs c → item.packet ≡ packet_of c.interface item.row.octets → IsStep c.line c.epoch item step
+    → v.interface ≡ c.interface → v.epoch ≡ c.epoch → FindsBy step v c.open_rows item.row found → (report_of i (rs ++ item.row ∷ [])).findings ≡ (report_of i rs).findings ++ option_to_list found
+finds_after i rs c item step v found s packet is same_interface same_epoch h =
+    at (routed_at c.line item).route refl (subst (λ t. FindsAt t step.finding v c.open_rows item.row found) is.turn h)
+  where
+    r : Row
+    r = item.row
 
-pub line_finds : {A C : Type 0} → (I : C → Interface) (N : C → ℕ) (S : C → Channel → Type 0) (i : Interface) (rs : List Row) (o : Running A C) (r : Row) (p : Packet) (step : Routing) (s : StandsFor I N S i rs o) (finding : Option Finding)
-    → Told s.cutting (record { row = r; packet = p }) step → is_to_channel step.route ≡ false → option_to_list finding ≡ route_finding r step.route → (answer : Result (Option Finding) Fault)
-    → IfOk answer (λ found. found ≡ finding)
-    → IfOk answer (λ found. (report_of i (rs ++ r ∷ [])).findings ≡ (report_of i rs).findings ++ option_to_list found)
-line_finds I N S i rs o r p step s finding told to is (Err f) h = tt
-line_finds I N S i rs o r p step s finding told to is (Ok found) h =
-    let c = s.cutting in
-    let route = routed_by i rs c (record { row = r; packet = p }) step s.cut told in
-    found_on_line i rs c r s.cut (ap (λ q. is_to_channel q.route) (sym route) ∙ to)
-    ∙ ap (λ l. findings_of (events i rs) ++ l) (sym (ap option_to_list h ∙ is ∙ ap (λ q. route_finding r q.route) route))
+    routed : routed_at c.line item ≡ routing i c.line r
+    routed = routed_by i rs c item (routed_at c.line item) s (record { packet = packet; stepped = refl })
+
+    on_line : (q : Route) → (routed_at c.line item).route ≡ q → is_to_channel q ≡ false → found ≡ step.finding → findings_of (events i (rs ++ r ∷ [])) ≡ findings_of (events i rs) ++ option_to_list found
+    on_line q e to same =
+        found_on_line i rs c r s (ap (λ x. is_to_channel x.route) (sym routed) ∙ ap is_to_channel e ∙ to)
+        ∙ ap (λ l. findings_of (events i rs) ++ l) (sym (ap option_to_list same ∙ is.finding ∙ ap (λ x. route_finding r x.route) routed))
+
+    at : (q : Route) → (routed_at c.line item).route ≡ q → FindsAt (turn_of r.octets q) step.finding v c.open_rows r found → findings_of (events i (rs ++ r ∷ [])) ≡ findings_of (events i rs) ++ option_to_list found
+    at ToChannel e f =
+        found_on_channel i rs c r s (ap (λ x. is_to_channel x.route) (sym routed) ∙ ap is_to_channel e)
+        ∙ ap (λ l. findings_of (events i rs) ++ l)
+        (sym (f ∙ (λ t. findings_of (row_events (same_interface t) (same_epoch t) (channel_of r.octets) (channel_so_far (begun_piece (same_interface t) (same_epoch t) (channel_of r.octets) (rows_of c.open_rows (channel_of r.octets)))) r))))
+    at (Leave code) e f = on_line (Leave code) e refl f
+    at Enter e f = on_line Enter e refl f
+    at (Found state code) e f = on_line (Found state code) e refl f
+    at Pass e f = on_line Pass e refl f

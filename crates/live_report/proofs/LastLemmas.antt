@@ -4,7 +4,9 @@ use Rattle.std.specs.Prelude.{MatchOption}
 use Rattle.line_model.specs.declared.event.Event.{Event}
 use Rattle.line_model.specs.declared.interface.Interface.{Interface}
 use Rattle.line_model.specs.declared.packet.Packet.{Packet}
-use Rattle.line_model.specs.basics.Records.{Row}
+use Rattle.line_model.specs.declared.verdict.Route.{Route}
+use Rattle.line_model.specs.declared.verdict.Route.TheVariants.{ToChannel, Leave, Enter, Found, Pass}
+use Rattle.line_model.specs.basics.Records.{Row, Item}
 use Rattle.line_model.specs.basics.Octets.{channel_of}
 use Rattle.line_model.specs.channels.Channels.{Channel}
 use Rattle.line_model.specs.channels.RestartMachine.{Routing}
@@ -14,10 +16,14 @@ use Rattle.channel_run.specs.Live.{channel_so_far}
 use Rattle.channel_run.specs.Run.{row_events}
 use Rattle.restart_epochs.specs.OpenRows.{rows_of}
 use Rattle.restart_epochs.specs.Cutting.{Cutting, StandsFor as IsCutterOf, observer}
+use Rattle.restart_epochs.specs.declared.walk.EpochWalk.{EpochWalk}
+use Rattle.restart_epochs.specs.declared.walk.Step.{Step}
+use Rattle.restart_epochs.specs.Walks.{channel_in, routed_at, turn_of, IsStep}
 use Rattle.restart_epochs.proofs.Routes.{is_to_channel}
 use Rattle.restart_epochs.proofs.Steps.{routed_to, routed_none}
 use Rattle.restart_epochs.proofs.Taken.{Told, routed_by}
 use Rattle.live_report.specs.Lanes.{begun_piece}
+use Rattle.live_report.specs.Turns.{HasEvents}
 use Rattle.live_report.specs.LastRows.{IsLastRow, KnowsLast}
 use Rattle.live_report.specs.declared.last_row.LastRow.{LastRow}
 use Rattle.live_report.proofs.FindingLemmas.{events_on}
@@ -54,7 +60,7 @@ knows i rs r l last events is h before x e =
 goes : (i : Interface) (rs : List Row) (c : Cutting) (r : Row) (p : Packet) (step : Routing) → IsCutterOf i rs c → Told c (record { row = r; packet = p }) step → is_to_channel (routing i c.line r).route ≡ is_to_channel step.route
 goes i rs c r p step s told = ap (λ q. is_to_channel q.route) (sym (routed_by i rs c (record { row = r; packet = p }) step s told))
 
-pub channel_last : (i : Interface) (rs : List Row) (c : Cutting) (r : Row) (p : Packet) (step : Routing) (k : ℕ) (last : Option LastRow) (events : List Event) → IsCutterOf i rs c → Told c (record { row = r; packet = p }) step → is_to_channel step.route ≡ true
+channel_last : (i : Interface) (rs : List Row) (c : Cutting) (r : Row) (p : Packet) (step : Routing) (k : ℕ) (last : Option LastRow) (events : List Event) → IsCutterOf i rs c → Told c (record { row = r; packet = p }) step → is_to_channel step.route ≡ true
     → k ≡ channel_of r.octets → last ≡ Some (record { packet = p; channel = Some k }) → events ≡ row_events c.interface c.epoch k (channel_so_far (begun_piece c.interface c.epoch k (rows_of c.open_rows k))) r → KnowsLast i (rs ++ r ∷ []) last events
 channel_last i rs c r p step k last events s told to is l came =
     let there = goes i rs c r p step s told ∙ to in
@@ -71,7 +77,7 @@ channel_last i rs c r p step k last events s told to is l came =
     some_one : (a b : ℕ) → Some a ≡ Some b → a ≡ b
     some_one a b h = cc
 
-pub line_last : (i : Interface) (rs : List Row) (c : Cutting) (r : Row) (p : Packet) (step : Routing) (last : Option LastRow) (events : List Event) → IsCutterOf i rs c → Told c (record { row = r; packet = p }) step → is_to_channel step.route ≡ false
+line_last : (i : Interface) (rs : List Row) (c : Cutting) (r : Row) (p : Packet) (step : Routing) (last : Option LastRow) (events : List Event) → IsCutterOf i rs c → Told c (record { row = r; packet = p }) step → is_to_channel step.route ≡ false
     → last ≡ Some (record { packet = p; channel = None }) → KnowsLast i (rs ++ r ∷ []) last events
 line_last i rs c r p step last events s told to l =
     let here = ap (λ x. is_to_channel (routing i x r).route) (sym s.line) ∙ goes i rs c r p step s told ∙ to in
@@ -84,3 +90,26 @@ line_last i rs c r p step last events s told to l =
   where
     no_one : (n : ℕ) → ◌≡◌ {A = Option ℕ} None (Some n) → ⊥
     no_one n h = cc
+
+-- by what the row did to the channels
+pub last_known : {B : Type 0} → (i : Interface) (rs : List Row) (c : Cutting) (item : Item) (step : Step) (v : EpochWalk B) (last : Option LastRow) (events : List Event) → IsCutterOf i rs c → item.packet ≡ packet_of c.interface item.row.octets
+    → IsStep c.line c.epoch item step → v.interface ≡ c.interface → v.epoch ≡ c.epoch → last ≡ Some (record { packet = item.packet; channel = channel_in step.turn }) → HasEvents step.turn v c.open_rows item.row events → KnowsLast i (rs ++ item.row ∷ []) last events
+last_known i rs c item step v last events s packet is same_interface same_epoch l came = at (routed_at c.line item).route refl
+    (subst (λ t. last ≡ Some (record { packet = item.packet; channel = channel_in t })) is.turn l) (subst (λ t. HasEvents t v c.open_rows item.row events) is.turn came)
+  where
+    told : Told c item (routed_at c.line item)
+    told = record { packet = packet; stepped = refl }
+
+    on_line : (q : Route) → (routed_at c.line item).route ≡ q → is_to_channel q ≡ false → last ≡ Some (record { packet = item.packet; channel = None }) → KnowsLast i (rs ++ item.row ∷ []) last events
+    on_line q e to h = line_last i rs c item.row item.packet (routed_at c.line item) last events s told (ap is_to_channel e ∙ to) h
+
+    at : (q : Route) → (routed_at c.line item).route ≡ q → last ≡ Some (record { packet = item.packet; channel = channel_in (turn_of item.row.octets q) }) → HasEvents (turn_of item.row.octets q) v c.open_rows item.row events
+        → KnowsLast i (rs ++ item.row ∷ []) last events
+    at ToChannel e h had =
+        let k = channel_of item.row.octets in
+        channel_last i rs c item.row item.packet (routed_at c.line item) k last events s told (ap is_to_channel e) refl h
+        (had ∙ (λ t. row_events (same_interface t) (same_epoch t) k (channel_so_far (begun_piece (same_interface t) (same_epoch t) k (rows_of c.open_rows k))) item.row))
+    at (Leave code) e h had = on_line (Leave code) e refl h
+    at Enter e h had = on_line Enter e refl h
+    at (Found state code) e h had = on_line (Found state code) e refl h
+    at Pass e h had = on_line Pass e refl h

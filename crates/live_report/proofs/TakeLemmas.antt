@@ -1,145 +1,171 @@
--- What an observer holds after one more row, by the route of the row.
-use Rattle.std.proofs.Common.{◌≡◌, ◌∙◌, sym, ap, subst, refl, ℕ, ◌+◌, true, List, [], ◌∷◌, ◌++◌, map, length, Option, Some, arith, append-nil, inl}
+-- What an observer holds after one more row.
+use Rattle.std.proofs.Common.{◌≡◌, ◌≢◌, ◌∙◌, sym, ap, subst, refl, ℕ, ◌+◌, ◌⊎◌, inl, inr, List, [], ◌∷◌, ◌++◌, map, length, Option, Result, Ok, Err, OnOk}
+use Rattle.std.specs.List.{AllByRecursion}
+use Rattle.std.specs.Option.{option_to_list}
 use Rattle.line_model.specs.declared.interface.Interface.{Interface}
-use Rattle.line_model.specs.declared.finding.Finding.{Finding}
-use Rattle.line_model.specs.declared.packet.Packet.{Packet}
-use Rattle.line_model.specs.declared.state.Side.{Side}
-use Rattle.line_model.specs.declared.verdict.Route.TheVariants.{Leave, Enter}
-use Rattle.line_model.specs.basics.Records.{Row, Item}
-use Rattle.line_model.specs.channels.Channels.{Channel}
-use Rattle.line_model.specs.packets.Classes.{packet_of, packet_class}
-use Rattle.line_model.specs.basics.Octets.{channel_of}
-use Rattle.line_model.specs.channels.RestartMachine.{LineState, Routing, line_step}
+use Rattle.line_model.specs.declared.verdict.Route.{Route}
+use Rattle.line_model.specs.declared.verdict.Route.TheVariants.{ToChannel as RouteToChannel, Leave, Enter, Found, Pass}
+use Rattle.line_model.specs.basics.Records.{Row, Item, PieceReport}
 use Rattle.line_model.specs.basics.Bounds.{IsPiece}
+use Rattle.line_model.specs.channels.Channels.{Channel}
+use Rattle.line_model.specs.packets.Classes.{packet_of}
 use Rattle.line_model.specs.pieces.Plans.{value}
-use Rattle.restart_epochs.specs.OpenRows.{no_rows, rows_of}
-use Rattle.restart_epochs.specs.Cutting.{Cutting, IsCutting, IsKeptOn, IsStepped, IsLeft, given_of, pieces_out, route_finding}
-use Rattle.restart_epochs.proofs.Bounds.{kept_bounds, stepped_bounds, left_bounds, lane_piece}
-use Rattle.restart_epochs.proofs.Routes.{is_to_channel, is_quiet}
-use Rattle.restart_epochs.proofs.Taken.{Told, takes_channel, takes_quietly, takes_entering, takes_leaving}
-use Rattle.restart_epochs.proofs.Listings.{rows_with, has_one_more}
+use Rattle.restart_epochs.specs.OpenLanes.{OpenLanes, IsEmpty}
+use Rattle.restart_epochs.specs.OpenRows.{OpenRows, no_rows, rows_of, IsListing}
+use Rattle.restart_epochs.specs.declared.walk.EpochWalk.{EpochWalk}
+use Rattle.restart_epochs.specs.declared.walk.Step.{Step}
+use Rattle.restart_epochs.specs.declared.walk.Turn.{Turn}
+use Rattle.restart_epochs.specs.declared.walk.Turn.TheVariants.{ToChannel, Ends, Stays}
+use Rattle.restart_epochs.specs.Walks.{epoch_after, routed_at, turn_of, IsAdvanced, IsSameWalk, IsStep}
+use Rattle.restart_epochs.specs.Cutting.{Cutting, IsCutting, IsTakenBy, HasTurned, StandsFor as IsCutterOf, ended_by, given_after, given_of}
+use Rattle.restart_epochs.proofs.Bounds.{lane_piece}
+use Rattle.restart_epochs.proofs.Listings.{bare, has_one_more, rows_with}
+use Rattle.restart_epochs.proofs.Taken.{Told, enters_unready, takes, taken_bounds}
+use Rattle.report_merge.specs.Gathered.{gathered}
+use Rattle.channel_run.specs.declared.live.LiveChannel.{LiveChannel}
 use Rattle.live_report.specs.declared.observer.Observer.{Observer}
 use Rattle.live_report.specs.LastRows.{KnowsLast}
+use Rattle.live_report.specs.Lanes.{begun_piece, LaneFor, OpenFor}
+use Rattle.live_report.specs.Turns.{MayTurn}
 use Rattle.live_report.specs.Observing.{AreRows, Holds, StandsFor}
-use Rattle.live_report.proofs.StandLemmas.{MayCome, may_come, next_stands}
-use Rattle.line_model.proofs.Posts.{length-values}
+use Rattle.live_report.proofs.StandLemmas.{MayCome, lanes_bare, lanes_same, may_come, next_stands}
 
 -- ---- what a cutter keeps after one more row
 
-abbrev pub kept_with : Cutting → ℕ → Item → Cutting
-kept_with c k item = record c { packets = c.packets + 1; last = item.row.number; octets = c.octets + length item.row.octets; open_rows = rows_with c.open_rows k item }
+abbrev pub rows_after : Turn → Item → OpenRows → OpenRows
+rows_after (ToChannel channel) item rows = rows_with rows channel item
+rows_after Ends item rows = no_rows
+rows_after Stays item rows = rows
 
-pub is_kept : (c : Cutting) (k : ℕ) (item : Item) → IsKeptOn k item c (kept_with c k item)
-is_kept c k item = record {
+pub has_turned : (turn : Turn) (item : Item) (rows : OpenRows) → HasTurned turn item rows (rows_after turn item rows)
+has_turned (ToChannel channel) item rows = has_one_more rows channel item
+has_turned Ends item rows = (refl, λ k. inl refl)
+has_turned Stays item rows = record { rows = λ k. refl; channels = refl }
+
+abbrev pub cutting_after : Cutting → Item → Step → Cutting
+cutting_after c item step = record c {
+  line = step.machine;
+  epoch = step.epoch;
+  given = given_after step.turn c.given c.open_rows;
+  packets = c.packets + 1;
+  last = item.row.number;
+  octets = c.octets + length item.row.octets;
+  findings = c.findings ++ option_to_list step.finding;
+  open_rows = rows_after step.turn item c.open_rows;
+}
+
+is_taken : (c : Cutting) (item : Item) (step : Step) → IsTakenBy item step c (cutting_after c item step)
+is_taken c item step = record {
   counted = record { interface = refl; packets = refl; last = refl; octets = refl };
   line = refl;
   epoch = refl;
-  given = refl;
   findings = refl;
-  open_rows = has_one_more c.open_rows k item;
-}
-
-abbrev pub stepped_with : Cutting → Row → LineState → ℕ → List Finding → Cutting
-stepped_with c r machine epoch found = record c { line = machine; epoch = epoch; packets = c.packets + 1; last = r.number; octets = c.octets + length r.octets; findings = c.findings ++ found }
-
-pub is_stepped : (c : Cutting) (r : Row) (machine : LineState) (epoch : ℕ) (found : List Finding) → IsStepped r machine epoch found c (stepped_with c r machine epoch found)
-is_stepped c r machine epoch found = record {
-  counted = record { interface = refl; packets = refl; last = refl; octets = refl };
-  line = refl;
-  epoch = refl;
   given = refl;
-  findings = refl;
-  open_rows = record { rows = λ k. refl; channels = refl };
+  open_rows = has_turned step.turn item c.open_rows;
 }
 
-abbrev pub left_with : Cutting → Row → LineState → List Finding → Cutting
-left_with c r machine found =
-    record c { line = machine; given = c.given + length c.open_rows.channels; packets = c.packets + 1; last = r.number; octets = c.octets + length r.octets; findings = c.findings ++ found; open_rows = no_rows }
+-- ---- live channels
 
-pub is_left : (c : Cutting) (r : Row) (machine : LineState) (found : List Finding) → IsLeft r machine found c (left_with c r machine found)
-is_left c r machine found = record {
-  counted = record { interface = refl; packets = refl; last = refl; octets = refl };
-  line = refl;
-  epoch = refl;
-  given = refl;
-  findings = refl;
-  channels = refl;
-  emptied = λ k. inl refl;
+pub on_any : {T E : Type 0} (r : Result T E) (P : Type 0) → P → OnOk r P
+on_any (Ok x) P p = p
+on_any (Err e) P p = tt
+
+-- where all ended, there are none, and no rows
+pub lanes_ended : {A C : Type 0} → (I : C → Interface) (N : C → ℕ) (S : C → Channel → Type 0) (i : Interface) (e : ℕ) (rows after : OpenRows) (item : Item) (lanes : OpenLanes (LiveChannel A C))
+    → IsListing rows → HasTurned Ends item rows after → IsEmpty lanes → OpenFor I N S i e after lanes
+lanes_ended {A} {C} I N S i e rows after item lanes listing turned empty = record {
+  channels = empty.channels ∙ sym turned.0;
+  each = λ k. subst (LaneFor I N S (begun_piece i e k (rows_of after k))) (sym (empty.values k)) (none k (turned.1 k));
 }
+  where
+    none : (k : ℕ) → (rows_of after k ≡ []) ⊎ ((rows_of after k ≡ rows_of rows k) × AllByRecursion (λ j. j ≢ k) rows.channels) → rows_of after k ≡ []
+    none k (inl gone) = gone
+    none k (inr kept) = kept.0 ∙ listing.others k kept.1
 
--- ---- what the observer was told of the row
+-- ---- the same step, by what the observer holds
 
-pub told_of : {A C : Type 0} → (I : C → Interface) (N : C → ℕ) (S : C → Channel → Type 0) (i : Interface) (rs : List Row) (o : Observer A C) (r : Row) (p : Packet) (step : Routing) → (s : StandsFor I N S i rs o)
-    → (octets : List ℕ) (side : Side) (long : ℕ) → octets ≡ r.octets → side ≡ r.side → long ≡ length r.octets → p ≡ packet_of o.interface octets → step ≡ line_step o.machine side (packet_class p) long → Told s.cutting (record { row = r; packet = p }) step
-told_of I N S i rs o r p step s octets side long same_octets same_side same_long e h = record {
-  packet = e ∙ ap (packet_of o.interface) same_octets ∙ ap (λ j. packet_of j r.octets) s.holds.interface;
-  stepped = h ∙ (λ t. line_step (s.holds.line t) (same_side t) (packet_class p) (same_long t));
-}
+pub step_of : {A C : Type 0} → (I : C → Interface) (N : C → ℕ) (S : C → Channel → Type 0) (c : Cutting) (reports : List PieceReport) (o : Observer A C) (item : Item) (step : Step) → Holds I N S c reports o → IsStep o.walk.machine o.walk.epoch item step → IsStep c.line c.epoch item step
+step_of I N S c reports o item step h is = subst (λ l. IsStep l c.epoch item step) h.line (subst (λ n. IsStep o.walk.machine n item step) h.epoch is)
+
+pub lanes_at : {A C : Type 0} → (I : C → Interface) (N : C → ℕ) (S : C → Channel → Type 0) (c : Cutting) (reports : List PieceReport) (o : Observer A C) (v : EpochWalk A) → Holds I N S c reports o → IsSameWalk o.walk v → OpenFor I N S v.interface v.epoch c.open_rows o.pieces.lanes
+lanes_at I N S c reports o v h same =
+    lanes_same I N S c.interface v.interface c.epoch v.epoch c.open_rows c.open_rows o.pieces.lanes h.lanes (same.interface ∙ h.interface) (same.epoch ∙ h.epoch) (record { rows = λ k. refl; channels = refl })
+
+-- ---- bounds
 
 next_of : {A C : Type 0} → (I : C → Interface) (N : C → ℕ) (S : C → Channel → Type 0) (i : Interface) (rs : List Row) (o : Observer A C) (r : Row) → (s : StandsFor I N S i rs o) → AreRows (rs ++ r ∷ []) → MayCome s.cutting r
 next_of I N S i rs o r s sound = may_come s.cutting rs r s.last s.octets sound
 
--- ---- a row of a channel
+bounds_after : {A C : Type 0} → (I : C → Interface) (N : C → ℕ) (S : C → Channel → Type 0) (i : Interface) (rs : List Row) (o : Observer A C) (item : Item) (step : Step) (s : StandsFor I N S i rs o) → AreRows (rs ++ item.row ∷ [])
+    → item.packet ≡ packet_of s.cutting.interface item.row.octets → IsStep s.cutting.line s.cutting.epoch item step → IsCutting (cutting_after s.cutting item step)
+bounds_after I N S i rs o item step s sound packet is =
+    let may = next_of I N S i rs o item.row s sound in
+    taken_bounds s.cutting (cutting_after s.cutting item step) item step s.bounds packet may.rising may.number may.octets is (is_taken s.cutting item step)
 
-pub kept_bound : {A C : Type 0} → (I : C → Interface) (N : C → ℕ) (S : C → Channel → Type 0) (i : Interface) (rs : List Row) (o : Observer A C) (r : Row) (p : Packet) (step : Routing) (s : StandsFor I N S i rs o) → AreRows (rs ++ r ∷ [])
-    → Told s.cutting (record { row = r; packet = p }) step → IsCutting (kept_with s.cutting (channel_of r.octets) (record { row = r; packet = p }))
-kept_bound I N S i rs o r p step s sound told =
-    let may = next_of I N S i rs o r s sound in
-    let item : Item = record { row = r; packet = p } in
-    let k = channel_of r.octets in
-    kept_bounds s.cutting (kept_with s.cutting k item) k item s.bounds (is_kept s.cutting k item) (record { packet = told.packet; channel = refl }) may.rising may.number may.octets
+-- the rows of the channel that a row goes to, with this one, can be a piece
+pub may_turn : {A C : Type 0} → (I : C → Interface) (N : C → ℕ) (S : C → Channel → Type 0) (i : Interface) (rs : List Row) (o : Observer A C) (item : Item) (step : Step) (s : StandsFor I N S i rs o) → AreRows (rs ++ item.row ∷ [])
+    → item.packet ≡ packet_of s.cutting.interface item.row.octets → IsStep s.cutting.line s.cutting.epoch item step → MayTurn step.turn s.cutting.interface item s.cutting.open_rows
+may_turn I N S i rs o item step s sound packet is = at step.turn refl
+  where
+    c : Cutting
+    c = s.cutting
 
--- the rows of the channel, with this one, can be a piece
-pub kept_small : {A C : Type 0} → (I : C → Interface) (N : C → ℕ) (S : C → Channel → Type 0) (i : Interface) (rs : List Row) (o : Observer A C) (r : Row) (p : Packet) (step : Routing) (s : StandsFor I N S i rs o) → AreRows (rs ++ r ∷ [])
-    → Told s.cutting (record { row = r; packet = p }) step → IsPiece s.cutting.interface (channel_of r.octets) (rows_of (rows_with s.cutting.open_rows (channel_of r.octets) (record { row = r; packet = p })) (channel_of r.octets))
-kept_small I N S i rs o r p step s sound told =
-    lane_piece (kept_with s.cutting (channel_of r.octets) (record { row = r; packet = p })) (channel_of r.octets) (kept_bound I N S i rs o r p step s sound told)
+    at : (t : Turn) → step.turn ≡ t → MayTurn t c.interface item c.open_rows
+    at (ToChannel k) e =
+        subst (IsPiece c.interface k) (has_one_more c.open_rows k item).row
+        (subst (λ t. IsPiece c.interface k (rows_of (rows_after t item c.open_rows) k)) e (lane_piece (cutting_after c item step) k (bounds_after I N S i rs o item step s sound packet is)))
+    at Ends e = tt
+    at Stays e = tt
 
-pub kept_stands : {A C : Type 0} → (I : C → Interface) (N : C → ℕ) (S : C → Channel → Type 0) (i : Interface) (rs : List Row) (o new : Observer A C) (r : Row) (p : Packet) (step : Routing) (s : StandsFor I N S i rs o) → AreRows (rs ++ r ∷ [])
-    → Told s.cutting (record { row = r; packet = p }) step → is_to_channel step.route ≡ true
-    → Holds I N S (kept_with s.cutting (channel_of r.octets) (record { row = r; packet = p })) (map value (given_of i rs)) new → KnowsLast i (rs ++ r ∷ []) new.last new.events.items → StandsFor I N S i (rs ++ r ∷ []) new
-kept_stands I N S i rs o new r p step s sound told to holds known =
-    let item : Item = record { row = r; packet = p } in
-    let k = channel_of r.octets in
-    let after = kept_with s.cutting k item in
-    let kept = is_kept s.cutting k item in
-    next_stands I N S i rs r [] o new after s sound (takes_channel i rs s.cutting after item step s.cut told to kept) (kept_bound I N S i rs o r p step s sound told) kept.counted
-    (subst (λ l. Holds I N S after l new) (sym (append-nil (map value (given_of i rs)))) holds) known
+-- ---- the epoch after the row
 
--- ---- a row of the restart machine
+epoch_stays : (i : Interface) (rs : List Row) (c : Cutting) (item : Item) (step : Step) → IsCutterOf i rs c → item.packet ≡ packet_of c.interface item.row.octets → IsStep c.line c.epoch item step
+    → (step.epoch ≡ c.epoch) ⊎ ((k : ℕ) → rows_of (rows_after step.turn item c.open_rows) k ≡ [])
+epoch_stays i rs c item step s packet is = at (routed_at c.line item).route refl
+  where
+    told : Told c item (routed_at c.line item)
+    told = record { packet = packet; stepped = refl }
 
-pub quiet_stands : {A C : Type 0} → (I : C → Interface) (N : C → ℕ) (S : C → Channel → Type 0) (i : Interface) (rs : List Row) (o new : Observer A C) (r : Row) (p : Packet) (step : Routing) (found : List Finding) (s : StandsFor I N S i rs o) → AreRows (rs ++ r ∷ [])
-    → Told s.cutting (record { row = r; packet = p }) step → is_quiet step.route ≡ true → found ≡ route_finding r step.route
-    → Holds I N S (stepped_with s.cutting r step.after s.cutting.epoch found) (map value (given_of i rs)) new → KnowsLast i (rs ++ r ∷ []) new.last new.events.items → StandsFor I N S i (rs ++ r ∷ []) new
-quiet_stands I N S i rs o new r p step found s sound told quiet is holds known =
-    let may = next_of I N S i rs o r s sound in
-    let after = stepped_with s.cutting r step.after s.cutting.epoch found in
-    let stepped = is_stepped s.cutting r step.after s.cutting.epoch found in
-    next_stands I N S i rs r [] o new after s sound (takes_quietly i rs s.cutting after (record { row = r; packet = p }) step found s.cut told quiet is stepped)
-    (stepped_bounds s.cutting after r step.after s.cutting.epoch found s.bounds stepped (omega arith) may.rising may.number may.octets) stepped.counted
-    (subst (λ l. Holds I N S after l new) (sym (append-nil (map value (given_of i rs)))) holds) known
+    at : (q : Route) → (routed_at c.line item).route ≡ q → (step.epoch ≡ c.epoch) ⊎ ((k : ℕ) → rows_of (rows_after step.turn item c.open_rows) k ≡ [])
+    at RouteToChannel e = inl (is.epoch ∙ ap (epoch_after c.epoch) e)
+    at (Leave code) e = inl (is.epoch ∙ ap (epoch_after c.epoch) e)
+    at Enter e = inr (λ k. ap (λ t. rows_of (rows_after t item c.open_rows) k) (is.turn ∙ ap (turn_of item.row.octets) e) ∙ bare i rs c s (enters_unready i rs c item (routed_at c.line item) s told e) k)
+    at (Found state code) e = inl (is.epoch ∙ ap (epoch_after c.epoch) e)
+    at Pass e = inl (is.epoch ∙ ap (epoch_after c.epoch) e)
 
-pub enter_stands : {A C : Type 0} → (I : C → Interface) (N : C → ℕ) (S : C → Channel → Type 0) (i : Interface) (rs : List Row) (o new : Observer A C) (r : Row) (p : Packet) (step : Routing) (found : List Finding) (s : StandsFor I N S i rs o) → AreRows (rs ++ r ∷ [])
-    → Told s.cutting (record { row = r; packet = p }) step → step.route ≡ Enter → found ≡ route_finding r step.route
-    → Holds I N S (stepped_with s.cutting r step.after (s.cutting.epoch + 1) found) (map value (given_of i rs)) new → KnowsLast i (rs ++ r ∷ []) new.last new.events.items → StandsFor I N S i (rs ++ r ∷ []) new
-enter_stands I N S i rs o new r p step found s sound told enter is holds known =
-    let may = next_of I N S i rs o r s sound in
-    let after = stepped_with s.cutting r step.after (s.cutting.epoch + 1) found in
-    let stepped = is_stepped s.cutting r step.after (s.cutting.epoch + 1) found in
-    next_stands I N S i rs r [] o new after s sound (takes_entering i rs s.cutting after (record { row = r; packet = p }) step found s.cut told enter is stepped)
-    (stepped_bounds s.cutting after r step.after (s.cutting.epoch + 1) found s.bounds stepped (omega arith) may.rising may.number may.octets) stepped.counted
-    (subst (λ l. Holds I N S after l new) (sym (append-nil (map value (given_of i rs)))) holds) known
+lanes_moved : {A C : Type 0} → (I : C → Interface) (N : C → ℕ) (S : C → Channel → Type 0) (i : Interface) (e n : ℕ) (rows : OpenRows) (lanes : OpenLanes (LiveChannel A C)) → OpenFor I N S i e rows lanes → (n ≡ e) ⊎ ((k : ℕ) → rows_of rows k ≡ []) → OpenFor I N S i n rows lanes
+lanes_moved I N S i e n rows lanes f (inl same) = subst (λ m. OpenFor I N S i m rows lanes) (sym same) f
+lanes_moved I N S i e n rows lanes f (inr none) = lanes_bare I N S i e n rows lanes f none
 
-pub leave_stands : {A C : Type 0} → (I : C → Interface) (N : C → ℕ) (S : C → Channel → Type 0) (i : Interface) (rs : List Row) (o new : Observer A C) (r : Row) (p : Packet) (step : Routing) (code : Option ℕ) (found : List Finding) (s : StandsFor I N S i rs o) → AreRows (rs ++ r ∷ [])
-    → Told s.cutting (record { row = r; packet = p }) step → step.route ≡ Leave code → found ≡ route_finding r step.route
-    → Holds I N S (left_with s.cutting r step.after found) (map value (given_of i rs) ++ map value (pieces_out s.cutting.interface s.cutting.epoch (Some r.number) (rows_of s.cutting.open_rows) (length (map value (given_of i rs))) s.cutting.open_rows.channels)) new
-    → KnowsLast i (rs ++ r ∷ []) new.last new.events.items → StandsFor I N S i (rs ++ r ∷ []) new
-leave_stands I N S i rs o new r p step code found s sound told leave is holds known =
-    let may = next_of I N S i rs o r s sound in
+-- ---- one more row
+
+pub holds_after : {A C : Type 0} → (I : C → Interface) (N : C → ℕ) (S : C → Channel → Type 0) (i : Interface) (rs : List Row) (c : Cutting) (reports : List PieceReport) (item : Item) (step : Step) (o new : Observer A C) (v : EpochWalk A)
+    → IsCutterOf i rs c → item.packet ≡ packet_of c.interface item.row.octets → IsStep c.line c.epoch item step → Holds I N S c reports o → IsSameWalk o.walk v → IsAdvanced step v new.walk → length reports ≡ c.given
+    → new.pieces.ended ≡ gathered (reports ++ map value (ended_by step.turn v.interface v.epoch item.row.number (length reports) c.open_rows))
+    → OpenFor I N S v.interface v.epoch (rows_after step.turn item c.open_rows) new.pieces.lanes
+    → Holds I N S (cutting_after c item step) (reports ++ map value (ended_by step.turn c.interface c.epoch item.row.number c.given c.open_rows)) new
+holds_after I N S i rs c reports item step o new v s packet is h same on many ended lanes =
+    let interface = same.interface ∙ h.interface in
+    let epoch = same.epoch ∙ h.epoch in
+    let rows = rows_after step.turn item c.open_rows in
+    record {
+      interface = on.interface ∙ interface;
+      line = on.machine;
+      epoch = on.epoch;
+      packets = on.packets ∙ ap (λ n. n + 1) (same.packets ∙ h.packets);
+      findings = on.findings ∙ ap (λ l. l ++ option_to_list step.finding) (same.findings ∙ h.findings);
+      ended = ended ∙ (λ t. gathered (reports ++ map value (ended_by step.turn (interface t) (epoch t) item.row.number (many t) c.open_rows)));
+      lanes = lanes_moved I N S c.interface c.epoch step.epoch rows new.pieces.lanes
+          (lanes_same I N S v.interface c.interface v.epoch c.epoch rows rows new.pieces.lanes lanes (sym interface) (sym epoch) (record { rows = λ k. refl; channels = refl })) (epoch_stays i rs c item step s packet is);
+    }
+
+pub stands_after : {A C : Type 0} → (I : C → Interface) (N : C → ℕ) (S : C → Channel → Type 0) (i : Interface) (rs : List Row) (o new : Observer A C) (item : Item) (step : Step) (s : StandsFor I N S i rs o) → AreRows (rs ++ item.row ∷ [])
+    → item.packet ≡ packet_of s.cutting.interface item.row.octets → IsStep s.cutting.line s.cutting.epoch item step
+    → Holds I N S (cutting_after s.cutting item step) (map value (given_of i rs) ++ map value (ended_by step.turn s.cutting.interface s.cutting.epoch item.row.number s.cutting.given s.cutting.open_rows)) new
+    → KnowsLast i (rs ++ item.row ∷ []) new.last new.pieces.events.items → StandsFor I N S i (rs ++ item.row ∷ []) new
+stands_after I N S i rs o new item step s sound packet is holds known =
     let c = s.cutting in
-    let after = left_with c r step.after found in
-    let left = is_left c r step.after found in
-    next_stands I N S i rs r (pieces_out c.interface c.epoch (Some r.number) (rows_of c.open_rows) c.given c.open_rows.channels) o new after s sound
-    (takes_leaving i rs c after (record { row = r; packet = p }) step code found s.cut told leave is left)
-    (left_bounds c after r step.after found s.bounds left may.rising may.number may.octets) left.counted
-    (subst (λ n. Holds I N S after (map value (given_of i rs) ++ map value (pieces_out c.interface c.epoch (Some r.number) (rows_of c.open_rows) n c.open_rows.channels)) new) (length-values (given_of i rs) ∙ sym s.cut.given) holds) known
+    let after = cutting_after c item step in
+    let t = is_taken c item step in
+    next_stands I N S i rs item.row (ended_by step.turn c.interface c.epoch item.row.number c.given c.open_rows) o new after s sound (takes i rs c after item step s.cut packet is t)
+    (bounds_after I N S i rs o item step s sound packet is) t.counted holds known

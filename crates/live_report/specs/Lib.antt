@@ -1,4 +1,5 @@
 pub mod Lanes
+pub mod Turns
 pub mod Telling
 pub mod LastRows
 pub mod Observing

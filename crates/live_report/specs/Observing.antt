@@ -10,7 +10,7 @@ use Rattle.line_model.specs.pieces.Plans.{value}
 use Rattle.line_model.specs.text.Text.{last_or}
 use Rattle.channel_run.specs.declared.run.Channel.{Ghosts as Machine}
 use Rattle.restart_epochs.specs.OpenRows.{rows_of}
-use Rattle.restart_epochs.specs.Cutting.{Cutting, IsCutting, StandsFor as IsCutterOf, given_of, pieces_out}
+use Rattle.restart_epochs.specs.Cutting.{Cutting, IsCutting, StandsFor as IsCutterOf, given_of}
 use Rattle.report_merge.specs.Gathered.{gathered}
 use Rattle.live_report.specs.declared.observer.Observer.{Observer}
 use Rattle.live_report.specs.LastRows.{KnowsLast}
@@ -26,13 +26,13 @@ pub record AreRows (rs : List Row) : Type 0 where
 -- what these reports of the pieces give whose epochs have ended
 pub record Holds {A C : Type 0} (interface_of : C → Interface) (number_of : C → ℕ) (stands_for : C → Channel → Type 0)
     (c : Cutting) (reports : List PieceReport) (o : Observer A C) : Type 0 where
-  pub interface : o.interface ≡ c.interface
-  pub line : o.machine ≡ c.line
-  pub epoch : o.epoch ≡ c.epoch
-  pub packets : o.packets ≡ c.packets
-  pub findings : o.findings.items ≡ c.findings
-  pub ended : o.ended ≡ gathered reports
-  pub lanes : OpenFor interface_of number_of stands_for c.interface c.epoch c.open_rows o.lanes
+  pub interface : o.walk.interface ≡ c.interface
+  pub line : o.walk.machine ≡ c.line
+  pub epoch : o.walk.epoch ≡ c.epoch
+  pub packets : o.walk.packets ≡ c.packets
+  pub findings : o.walk.findings.items ≡ c.findings
+  pub ended : o.pieces.ended ≡ gathered reports
+  pub lanes : OpenFor interface_of number_of stands_for c.interface c.epoch c.open_rows o.pieces.lanes
 
 -- an observer took these rows of an interface: it holds what a cutter of them does, and the values of the pieces that
 -- are known whole
@@ -45,7 +45,7 @@ pub record StandsFor {A C : Type 0} (interface_of : C → Interface) (number_of 
   pub last : cutting.last ≡ last_or 0 (map (λ r. r.number) rs)
   pub octets : cutting.octets ≡ sum_by (λ r. length r.octets) rs
   pub holds : Holds interface_of number_of stands_for cutting (map value (given_of i rs)) o
-  pub row : KnowsLast i rs o.last o.events.items
+  pub row : KnowsLast i rs o.last o.pieces.events.items
 
 -- the same two by the members of a machine of one channel
 abbrev pub IsHolding : {A C : Type 0} → Machine C A → Cutting → List PieceReport → Observer A C → Type 0
@@ -57,10 +57,6 @@ HasWalked m i rows o = StandsFor m.interface_of m.number_of m.stands_for i rows 
 -- the piece of a channel in the open epoch
 abbrev pub open_piece : Cutting → (channel : ℕ) → Piece
 open_piece c channel = begun_piece c.interface c.epoch channel (rows_of c.open_rows channel)
-
--- the reports of the pieces that are known whole once a row of this number has left r1
-abbrev pub with_ended : (number : ℕ) → List PieceReport → Cutting → List PieceReport
-with_ended number reports c = reports ++ map value (pieces_out c.interface c.epoch (Some number) (rows_of c.open_rows) (length reports) c.open_rows.channels)
 
 -- it has walked some rows
 abbrev pub IsObserver : {A C : Type 0} → Machine C A → Observer A C → Type 0

@@ -8,7 +8,7 @@ use channel_run::live::LiveChannel;
 use channel_run::run::Channel;
 use line_model::fault::Fault;
 use report_merge::parts::Parts;
-use restart_epochs::open_lanes::Lanes;
+use restart_epochs::channel_table::ChannelTable;
 use std::alloc::Allocator;
 use std::boxed::Box;
 
@@ -16,7 +16,7 @@ use std::boxed::Box;
 /// memory alone.
 pub fn end_channels<A: Allocator + Copy, C: Channel<A>>(
     end: Option<u32>,
-    lanes: &mut Lanes<LiveChannel<A, C>, A>,
+    lanes: &mut ChannelTable<LiveChannel<A, C>, A>,
     out: &mut Parts<A>,
 ) -> Result<(), Fault>
     requires room { MayTell C.Channel lanes.old out.old }

@@ -16,7 +16,7 @@ use line_model::finding::Finding;
 use line_model::interface::Interface;
 use line_model::packet::Packet;
 use line_model::row::Row;
-use restart_epochs::open_lanes::Lanes;
+use restart_epochs::channel_table::ChannelTable;
 use std::alloc::Allocator;
 use std::boxed::Box;
 
@@ -26,7 +26,7 @@ fn take_out<A: Allocator + Copy, C: Channel<A>>(
     interface: &Interface,
     epoch: u32,
     channel: u16,
-    lanes: &mut Lanes<LiveChannel<A, C>, A>,
+    lanes: &mut ChannelTable<LiveChannel<A, C>, A>,
 ) -> Result<Box<LiveChannel<A, C>, A>, Fault>
     ensures out { (rows : OpenRows) → LanesStandFor C.Channel interface.now epoch rows lanes.old
         → IfOk result (λ live. IsOut C.Channel interface.now epoch channel rows live.value lanes.new) }
@@ -49,7 +49,7 @@ pub fn step_channel<A: Allocator + Copy, C: Channel<A>>(
     row: &Row<A>,
     packet: &Packet,
     events: &mut Vec<Event, A>,
-    lanes: &mut Lanes<LiveChannel<A, C>, A>,
+    lanes: &mut ChannelTable<LiveChannel<A, C>, A>,
 ) -> Result<Option<Finding>, Fault>
     requires room { (rows : OpenRows) × LanesStandFor C.Channel interface.now epoch rows lanes.old
         × IsPiece interface.now channel (rows_of rows channel ++ item row.now packet.now ∷ []) }

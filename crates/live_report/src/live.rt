@@ -24,7 +24,7 @@ use line_model::row::Row;
 use line_model::state::Side;
 use line_model::totals::Summary;
 use report_merge::text::write_report;
-use restart_epochs::routing::note;
+use restart_epochs::walk::append_finding;
 use std::alloc::Allocator;
 use trace_text::lines::{Lines, TextEnd};
 
@@ -139,7 +139,7 @@ impl<A: Allocator + Copy, C: Channel<A>> Live<A, C> {
         };
         let mut observer = Observer::new(*self.row.octets.allocator(), &interface);
         let first = observer.take(&self.row)?;
-        note(&mut self.found, first)?;
+        append_finding(&mut self.found, first)?;
         match watch(
             rest,
             &mut self.lines,

@@ -8,14 +8,14 @@ use channel_run::live::LiveChannel;
 use channel_run::run::Channel;
 use line_model::fault::Fault;
 use report_merge::parts::Parts;
-use restart_epochs::open_lanes::Lanes;
+use restart_epochs::channel_table::ChannelTable;
 use std::alloc::Allocator;
 
 /// Adds what the pieces of the open epoch are worth so far, by their channels. Their live channels go on. It refuses for
 /// want of memory alone.
 pub fn tell_channels<A: Allocator + Copy, C: Channel<A>>(
     alloc: A,
-    lanes: &Lanes<LiveChannel<A, C>, A>,
+    lanes: &ChannelTable<LiveChannel<A, C>, A>,
     out: &mut Parts<A>,
 ) -> Result<(), Fault>
     requires room { MayTell C.Channel lanes.now out.old }

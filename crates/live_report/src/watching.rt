@@ -15,7 +15,7 @@ use line_model::fault::Fault;
 use line_model::finding::Finding;
 use line_model::report::Report;
 use line_model::row::Row;
-use restart_epochs::routing::note;
+use restart_epochs::walk::append_finding;
 use std::alloc::Allocator;
 use trace_text::lines::Lines;
 
@@ -44,7 +44,7 @@ pub fn watch<A: Allocator + Copy, C: Channel<A>>(
     loop {
         match lines.next_row(rest, row) {
             Ok(Some(after)) => {
-                note(found, observer.take(row)?)?;
+                append_finding(found, observer.take(row)?)?;
                 rest = after;
             }
             Ok(None) => return Ok(()),

@@ -1,9 +1,9 @@
 pub mod Routes
+pub mod KeptLine
 pub mod Epochs
 pub mod Steps
 pub mod Cuts
 pub mod Growth
-pub mod Lanes
 pub mod LineFindings
 pub mod Listed
 pub mod Pushes

@@ -20,7 +20,8 @@ use Rattle.line_model.specs.observer.Observer.{x25, start, routing, is_ready, ro
 use Rattle.line_model.specs.observer.Report.{findings_of}
 use Rattle.line_model.specs.pieces.Plans.{line_findings}
 use Rattle.line_model.proofs.LinePart.{channel_dropped, line_kept, closed_dropped}
-use Rattle.restart_epochs.specs.Cutting.{observer, route_finding}
+use Rattle.restart_epochs.specs.Cutting.{observer}
+use Rattle.restart_epochs.specs.Walks.{route_finding}
 use Rattle.restart_epochs.proofs.Routes.{is_to_channel}
 use Rattle.restart_epochs.proofs.Steps.{routed_to, routed_none}
 use Rattle.line_model.proofs.Pieces.{filter_append}

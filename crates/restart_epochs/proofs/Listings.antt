@@ -1,5 +1,5 @@
 -- The channels that are listed, and the rows of the open epoch with one more.
-use Rattle.std.proofs.Common.{◌≡◌, ◌≢◌, ◌∙◌, sym, ap, subst, refl, ℕ, zero, suc, Bool, true, false, cond, List, [], ◌∷◌, ◌++◌, map, arith}
+use Rattle.std.proofs.Common.{◌≡◌, ◌≢◌, ◌∙◌, sym, ap, subst, refl, ℕ, zero, suc, Bool, true, false, cond, List, [], ◌∷◌, ◌++◌, map, arith, Option, Some, None}
 use Rattle.std.specs.List.{filter, range_with_len, AllByRecursion}
 use Rattle.line_model.specs.declared.interface.Interface.{Interface}
 use Rattle.line_model.specs.basics.Records.{Row, Item}
@@ -7,7 +7,8 @@ use Rattle.line_model.specs.pieces.Plan.{has_some}
 use Rattle.line_model.specs.pieces.Plans.{item_of}
 use Rattle.line_model.specs.pieces.Pieces.{piece_rows}
 use Rattle.line_model.specs.observer.Observer.{is_ready}
-use Rattle.restart_epochs.specs.OpenRows.{OpenRows, rows_of, lane_at, with_channel, HasMore, IsListing}
+use Rattle.restart_epochs.specs.OpenLanes.{lane_at}
+use Rattle.restart_epochs.specs.OpenRows.{OpenRows, rows_in, rows_of, with_channel, HasMore, IsListing}
 use Rattle.restart_epochs.specs.Cutting.{Cutting, StandsFor, IsCutting, observer, places, rows_if, channels_if, no_cutting}
 use Rattle.restart_epochs.proofs.Pushes.{no_rows_of, stands_nothing}
 use Rattle.restart_epochs.proofs.Bounds.{no_items}
@@ -54,19 +55,19 @@ pub bare : (i : Interface) (rs : List Row) (c : Cutting) → StandsFor i rs c �
 bare i rs c s h k = s.rows k ∙ ap (λ b. rows_if b i (places i rs) (observer i rs).epoch k) (ap is_ready (sym s.line) ∙ h)
 
 -- lanes with one more row
-abbrev pub lanes_with : List (List Item) → ℕ → Item → List (List Item)
-lanes_with [] zero item = (item ∷ []) ∷ []
-lanes_with [] (suc k) item = [] ∷ lanes_with [] k item
-lanes_with (lane ∷ lanes) zero item = (lane ++ item ∷ []) ∷ lanes
+abbrev pub lanes_with : List (Option (List Item)) → ℕ → Item → List (Option (List Item))
+lanes_with [] zero item = Some (item ∷ []) ∷ []
+lanes_with [] (suc k) item = None ∷ lanes_with [] k item
+lanes_with (lane ∷ lanes) zero item = Some (rows_in lane ++ item ∷ []) ∷ lanes
 lanes_with (lane ∷ lanes) (suc k) item = lane ∷ lanes_with lanes k item
 
-with_here : (lanes : List (List Item)) (k : ℕ) (item : Item) → lane_at (lanes_with lanes k item) k ≡ lane_at lanes k ++ item ∷ []
+with_here : (lanes : List (Option (List Item))) (k : ℕ) (item : Item) → rows_in (lane_at (lanes_with lanes k item) k) ≡ rows_in (lane_at lanes k) ++ item ∷ []
 with_here [] zero item = refl
 with_here [] (suc k) item = with_here [] k item
 with_here (lane ∷ lanes) zero item = refl
 with_here (lane ∷ lanes) (suc k) item = with_here lanes k item
 
-with_other : (lanes : List (List Item)) (k : ℕ) (item : Item) (j : ℕ) → j ≢ k → lane_at (lanes_with lanes k item) j ≡ lane_at lanes j
+with_other : (lanes : List (Option (List Item))) (k : ℕ) (item : Item) (j : ℕ) → j ≢ k → lane_at (lanes_with lanes k item) j ≡ lane_at lanes j
 with_other [] zero item zero ne = absurd (ne refl)
 with_other [] zero item (suc j) ne = refl
 with_other [] (suc k) item zero ne = refl
@@ -81,7 +82,7 @@ abbrev pub rows_with : OpenRows → ℕ → Item → OpenRows
 rows_with o k item = record { lanes = lanes_with o.lanes k item; channels = with_channel (rows_of o k) k o.channels }
 
 pub has_one_more : (o : OpenRows) (k : ℕ) (item : Item) → HasMore k item o (rows_with o k item)
-has_one_more o k item = record { row = with_here o.lanes k item; others = λ j ne. with_other o.lanes k item j ne; channels = refl }
+has_one_more o k item = record { row = with_here o.lanes k item; others = λ j ne. ap rows_in (with_other o.lanes k item j ne); channels = refl }
 
 -- before the first row
 pub nothing_cut : (i : Interface) → StandsFor i [] (no_cutting i)

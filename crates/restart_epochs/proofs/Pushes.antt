@@ -21,7 +21,8 @@ use Rattle.line_model.proofs.Handed.{handed_in_range, has_channels}
 use Rattle.line_model.proofs.Merged.{piece_once}
 use Rattle.line_model.specs.observer.Observer.{x25, start, routing, is_ready, line_in_r1, channel_in_r1}
 use Rattle.restart_epochs.specs.OpenRows.{OpenRows, rows_of, with_channel, HasMore}
-use Rattle.restart_epochs.specs.Cutting.{Cutting, observer, places, given_of, EndsOf, channels_in, rows_if, channels_if, route_finding, StandsFor, pieces_out, IsKeptOn, IsStepped, IsLeft}
+use Rattle.restart_epochs.specs.Cutting.{Cutting, observer, places, given_of, EndsOf, channels_in, rows_if, channels_if, StandsFor, pieces_out, IsKeptOn, IsStepped, IsLeft}
+use Rattle.restart_epochs.specs.Walks.{route_finding}
 use Rattle.restart_epochs.proofs.Routes.{is_to_channel}
 use Rattle.restart_epochs.proofs.Epochs.{place_of, places_more, rows_same, rows_on_more, end_new}
 use Rattle.restart_epochs.proofs.Steps.{OnChannel, on_channel, OnLine, on_line}

@@ -1,9 +1,10 @@
 -- A cutter that took a row by its route.
-use Rattle.std.proofs.Common.{◌≡◌, ◌∙◌, sym, ap, subst, refl, ℕ, ◌+◌, true, List, [], ◌++◌, length, false, Option, Some, arith, append-nil, append_assoc, Result, Ok, Err, OnOk}
+use Rattle.std.proofs.Common.{◌≡◌, ◌∙◌, sym, ap, subst, refl, ℕ, ◌+◌, ◌<◌, ◌≤◌, true, List, [], ◌++◌, length, false, Option, Some, arith, append-nil, append_assoc, Result, Ok, Err, OnOk, option_to_list}
 use Rattle.line_model.specs.declared.interface.Interface.{Interface}
 use Rattle.line_model.specs.declared.finding.Finding.{Finding}
 use Rattle.line_model.specs.declared.packet.Packet.{Packet}
-use Rattle.line_model.specs.declared.verdict.Route.TheVariants.{Leave, Enter}
+use Rattle.line_model.specs.declared.verdict.Route.{Route}
+use Rattle.line_model.specs.declared.verdict.Route.TheVariants.{ToChannel, Leave, Enter, Found, Pass}
 use Rattle.line_model.specs.basics.Records.{Row, Item, Piece}
 use Rattle.line_model.specs.basics.Octets.{channel_of}
 use Rattle.line_model.specs.packets.Classes.{class_of, packet_of, packet_class}
@@ -11,9 +12,14 @@ use Rattle.line_model.specs.channels.RestartMachine.{LineState, Routing, line_st
 use Rattle.line_model.specs.pieces.Plans.{item_of}
 use Rattle.line_model.specs.observer.Observer.{routing, is_ready}
 use Rattle.line_model.proofs.PacketClass.{class_is}
-use Rattle.restart_epochs.specs.OpenRows.{rows_of}
-use Rattle.restart_epochs.specs.Cutting.{Cutting, StandsFor, route_finding, pieces_out, IsKeptOn, IsStepped, IsLeft, IsTaken, IsCounted, given_of}
+use Rattle.restart_epochs.specs.OpenRows.{OpenRows, rows_of}
+use Rattle.restart_epochs.specs.declared.walk.Step.{Step}
+use Rattle.restart_epochs.specs.Walks.{epoch_after, route_finding, routed_at, turn_of, IsAdvanced, IsSameWalk, IsStep}
+use Rattle.restart_epochs.specs.declared.walk.EpochWalk.{EpochWalk}
+use Rattle.restart_epochs.specs.Cutting.{Cutting, StandsFor, pieces_out, ended_by, given_after, HasTurned, IsCutting, IsKeptOn, IsStepped, IsLeft, IsTaken, IsTakenBy, IsCounted, given_of}
 use Rattle.restart_epochs.proofs.Routes.{is_to_channel, fits, fits_route, leaves_at, enters_at, is_quiet, quiet_at, quiet_line}
+use Rattle.restart_epochs.proofs.KeptLine.{kept_line}
+use Rattle.restart_epochs.proofs.Bounds.{kept_bounds, stepped_bounds, left_bounds}
 use Rattle.restart_epochs.proofs.Pushes.{Pushed, pushed_on_channel, pushed_quietly, pushed_entering, pushed_leaving}
 
 -- a step of the restart machine on a packet, as the walk has it
@@ -84,24 +90,106 @@ taken item c c' new out out' h e counted = record {
   counted = counted;
 }
 
-pub on_channel_taken : (c c' : Cutting) (item : Item) (step : Routing) (out out' : List Piece) → Told c item step → is_to_channel step.route ≡ true → IsKeptOn (channel_of item.row.octets) item c c' → out' ≡ out → IsTaken item c c' out out'
-on_channel_taken c c' item step out out' t to kept e =
-    taken item c c' [] out out' (λ i rs s. takes_channel i rs c c' item step s t to kept) (e ∙ sym (append-nil out)) kept.counted
+-- ---- by the route of the row
 
-plus_none : (n : ℕ) → n + 0 ≡ n
-plus_none n = omega arith
+-- what became of the cutter
+abbrev pub WentBy : Route → (c c' : Cutting) (item : Item) → (line : LineState) → Type 0
+WentBy ToChannel c c' item line = IsKeptOn (channel_of item.row.octets) item c c'
+WentBy (Leave code) c c' item line = IsLeft item.row line (route_finding item.row (Leave code)) c c'
+WentBy Enter c c' item line = IsStepped item.row line (c.epoch + 1) [] c c'
+WentBy (Found state code) c c' item line = IsStepped item.row line c.epoch (route_finding item.row (Found state code)) c c'
+WentBy Pass c c' item line = IsStepped item.row line c.epoch [] c c'
 
-pub quietly_taken : (c c' : Cutting) (item : Item) (step : Routing) (found : List Finding) (out out' : List Piece) → Told c item step → is_quiet step.route ≡ true → found ≡ route_finding item.row step.route
-    → IsStepped item.row step.after (c.epoch + 0) found c c' → out' ≡ out → IsTaken item c c' out out'
-quietly_taken c c' item step found out out' t quiet f h e =
-    taken item c c' [] out out' (λ i rs s. takes_quietly i rs c c' item step found s t quiet f (subst (λ n. IsStepped item.row step.after n found c c') (plus_none c.epoch) h)) (e ∙ sym (append-nil out)) h.counted
+went_by : (c c' : Cutting) (item : Item) (step : Step) → IsStep c.line c.epoch item step → IsTakenBy item step c c' → (route : Route) → (routed_at c.line item).route ≡ route → WentBy route c c' item (routed_at c.line item).after
+went_by c c' item step is t route e = at route e
+    (subst (λ turn. HasTurned turn item c.open_rows c'.open_rows) (is.turn ∙ ap (turn_of item.row.octets) e) t.open_rows)
+    (t.given ∙ ap (λ turn. given_after turn c.given c.open_rows) (is.turn ∙ ap (turn_of item.row.octets) e))
+    (t.epoch ∙ is.epoch ∙ ap (epoch_after c.epoch) e)
+    (t.findings ∙ ap (λ l. c.findings ++ l) (is.finding ∙ ap (route_finding item.row) e))
+  where
+    line : c'.line ≡ (routed_at c.line item).after
+    line = t.line ∙ is.machine
 
-pub entering_taken : (c c' : Cutting) (item : Item) (step : Routing) (found : List Finding) (out out' : List Piece) → Told c item step → step.route ≡ Enter → found ≡ route_finding item.row step.route
-    → IsStepped item.row step.after (c.epoch + 1) found c c' → out' ≡ out → IsTaken item c c' out out'
-entering_taken c c' item step found out out' t enter f h e =
-    taken item c c' [] out out' (λ i rs s. takes_entering i rs c c' item step found s t enter f h) (e ∙ sym (append-nil out)) h.counted
+    at : (q : Route) → (routed_at c.line item).route ≡ q → HasTurned (turn_of item.row.octets q) item c.open_rows c'.open_rows → c'.given ≡ given_after (turn_of item.row.octets q) c.given c.open_rows → c'.epoch ≡ epoch_after c.epoch q → c'.findings ≡ c.findings ++ route_finding item.row q
+        → WentBy q c c' item (routed_at c.line item).after
+    at ToChannel to turned given epoch findings = record {
+      counted = t.counted;
+      line = line ∙ kept_line c.line item.row.side (packet_class item.packet) (length item.row.octets) (ap is_to_channel to);
+      epoch = epoch;
+      given = given;
+      findings = findings ∙ append-nil c.findings;
+      open_rows = turned;
+    }
+    at (Leave code) to turned given epoch findings = record { counted = t.counted; line = line; epoch = epoch; given = given; findings = findings; channels = turned.0; emptied = turned.1 }
+    at Enter to turned given epoch findings = record { counted = t.counted; line = line; epoch = epoch; given = given; findings = findings; open_rows = turned }
+    at (Found state code) to turned given epoch findings = record { counted = t.counted; line = line; epoch = epoch; given = given; findings = findings; open_rows = turned }
+    at Pass to turned given epoch findings = record { counted = t.counted; line = line; epoch = epoch; given = given; findings = findings; open_rows = turned }
 
-pub leaving_taken : (c c' : Cutting) (item : Item) (step : Routing) (code : Option ℕ) (found : List Finding) (out out' : List Piece) → Told c item step → step.route ≡ Leave code → found ≡ route_finding item.row step.route
-    → IsLeft item.row step.after found c c' → out' ≡ out ++ pieces_out c.interface c.epoch (Some item.row.number) (rows_of c.open_rows) c.given c.open_rows.channels → IsTaken item c c' out out'
-leaving_taken c c' item step code found out out' t leave f h e =
-    taken item c c' (pieces_out c.interface c.epoch (Some item.row.number) (rows_of c.open_rows) c.given c.open_rows.channels) out out' (λ i rs s. takes_leaving i rs c c' item step code found s t leave f h) e h.counted
+-- the cutter stands for one more row, and these pieces came to be known whole
+pub takes : (i : Interface) (rs : List Row) (c c' : Cutting) (item : Item) (step : Step) → StandsFor i rs c → item.packet ≡ packet_of c.interface item.row.octets → IsStep c.line c.epoch item step → IsTakenBy item step c c'
+    → Pushed i rs item.row (ended_by step.turn c.interface c.epoch item.row.number c.given c.open_rows) c'
+takes i rs c c' item step s packet is t = at (routed_at c.line item).route refl (went_by c c' item step is t (routed_at c.line item).route refl)
+  where
+    told : Told c item (routed_at c.line item)
+    told = record { packet = packet; stepped = refl }
+
+    now : (q : Route) → (routed_at c.line item).route ≡ q → Pushed i rs item.row (ended_by (turn_of item.row.octets q) c.interface c.epoch item.row.number c.given c.open_rows) c'
+        → Pushed i rs item.row (ended_by step.turn c.interface c.epoch item.row.number c.given c.open_rows) c'
+    now q e = subst (λ turn. Pushed i rs item.row (ended_by turn c.interface c.epoch item.row.number c.given c.open_rows) c') (sym (is.turn ∙ ap (turn_of item.row.octets) e))
+
+    at : (q : Route) → (routed_at c.line item).route ≡ q → WentBy q c c' item (routed_at c.line item).after → Pushed i rs item.row (ended_by step.turn c.interface c.epoch item.row.number c.given c.open_rows) c'
+    at ToChannel e w = now ToChannel e (takes_channel i rs c c' item (routed_at c.line item) s told (ap is_to_channel e) w)
+    at (Leave code) e w = now (Leave code) e (takes_leaving i rs c c' item (routed_at c.line item) code (route_finding item.row (Leave code)) s told e (ap (route_finding item.row) (sym e)) w)
+    at Enter e w = now Enter e (takes_entering i rs c c' item (routed_at c.line item) [] s told e (ap (route_finding item.row) (sym e)) w)
+    at (Found state code) e w = now (Found state code) e (takes_quietly i rs c c' item (routed_at c.line item) (route_finding item.row (Found state code)) s told (ap is_quiet e) (ap (route_finding item.row) (sym e)) w)
+    at Pass e w = now Pass e (takes_quietly i rs c c' item (routed_at c.line item) [] s told (ap is_quiet e) (ap (route_finding item.row) (sym e)) w)
+
+-- it stays within its bounds
+pub taken_bounds : (c c' : Cutting) (item : Item) (step : Step) → IsCutting c → item.packet ≡ packet_of c.interface item.row.octets → c.last < item.row.number → item.row.number ≤ 999999999 → c.octets + length item.row.octets ≤ 2147483648
+    → IsStep c.line c.epoch item step → IsTakenBy item step c c' → IsCutting c'
+taken_bounds c c' item step h packet rising number octets is t = at (routed_at c.line item).route (went_by c c' item step is t (routed_at c.line item).route refl)
+  where
+    at : (q : Route) → WentBy q c c' item (routed_at c.line item).after → IsCutting c'
+    at ToChannel w = kept_bounds c c' (channel_of item.row.octets) item h w (record { packet = packet; channel = refl }) rising number octets
+    at (Leave code) w = left_bounds c c' item.row (routed_at c.line item).after (route_finding item.row (Leave code)) h w rising number octets
+    at Enter w = stepped_bounds c c' item.row (routed_at c.line item).after (c.epoch + 1) [] h w (omega arith) rising number octets
+    at (Found state code) w = stepped_bounds c c' item.row (routed_at c.line item).after c.epoch (route_finding item.row (Found state code)) h w (omega arith) rising number octets
+    at Pass w = stepped_bounds c c' item.row (routed_at c.line item).after c.epoch [] h w (omega arith) rising number octets
+
+-- ---- by what the parts of a cutter did
+
+abbrev pub cutting_of : {A : Type 0} → EpochWalk A → (given : ℕ) → OpenRows → (last octets : ℕ) → Cutting
+cutting_of w given rows last octets = record {
+  interface = w.interface;
+  line = w.machine;
+  epoch = w.epoch;
+  given = given;
+  packets = w.packets;
+  last = last;
+  octets = octets;
+  findings = w.findings.items;
+  open_rows = rows;
+}
+
+pub taken_by : {A : Type 0} → (c : Cutting) (w v u : EpochWalk A) (given given' : ℕ) (rows rows' : OpenRows) (last octets last' octets' : ℕ) (item : Item) (step : Step) → cutting_of w given rows last octets ≡ c
+    → IsSameWalk w v → IsAdvanced step v u → HasTurned step.turn item rows rows' → given' ≡ given_after step.turn given rows → last' ≡ item.row.number → octets' ≡ octets + length item.row.octets → IsTakenBy item step c (cutting_of u given' rows' last' octets')
+taken_by c w v u given given' rows rows' last octets last' octets' item step view same on turned count at_last at_octets = subst (λ q. IsTakenBy item step q (cutting_of u given' rows' last' octets')) view
+    (record {
+      counted = record { interface = on.interface ∙ same.interface; packets = on.packets ∙ ap (λ n. n + 1) same.packets; last = at_last; octets = at_octets };
+      line = on.machine;
+      epoch = on.epoch;
+      findings = on.findings ∙ ap (λ l. l ++ option_to_list step.finding) same.findings;
+      given = count;
+      open_rows = turned;
+    })
+
+pub pushed_by : {A : Type 0} → (c : Cutting) (w v u : EpochWalk A) (given given' : ℕ) (rows rows' : OpenRows) (last octets last' octets' : ℕ) (item : Item) (step : Step) (out out' : List Piece) → cutting_of w given rows last octets ≡ c
+    → item.packet ≡ packet_of c.interface item.row.octets → IsStep w.machine w.epoch item step → IsSameWalk w v → IsAdvanced step v u → HasTurned step.turn item rows rows' → given' ≡ given_after step.turn given rows → last' ≡ item.row.number → octets' ≡ octets + length item.row.octets
+    → out' ≡ out ++ ended_by step.turn v.interface v.epoch item.row.number given rows → IsTaken item c (cutting_of u given' rows' last' octets') out out'
+pushed_by c w v u given given' rows rows' last octets last' octets' item step out out' view packet is same on turned count at_last at_octets e =
+    let new = cutting_of u given' rows' last' octets' in
+    let t = taken_by c w v u given given' rows rows' last octets last' octets' item step view same on turned count at_last at_octets in
+    taken item c new (ended_by step.turn c.interface c.epoch item.row.number c.given c.open_rows) out out'
+    (λ i rs s. takes i rs c new item step s packet (subst (λ q. IsStep q.line q.epoch item step) view is) t)
+    (e ∙ (λ j. out ++ ended_by step.turn (same.interface j) (same.epoch j) item.row.number given rows)
+    ∙ ap (λ q. out ++ ended_by step.turn q.interface q.epoch item.row.number q.given q.open_rows) view) t.counted

@@ -1,11 +1,7 @@
 -- A trace that falls into pieces, row by row (profile).
-use Rattle.std.specs.Prelude.{◌≡◌, ◌≢◌, ◌⊎◌, ℕ, Bool, true, false, ◌+◌, ◌<◌, ◌≤◌, ◌^◌, List, [], ◌∷◌, ◌++◌, length, map, filter, is_some, All, Option, Some, None}
+use Rattle.std.specs.Prelude.{◌≡◌, ◌≢◌, ◌⊎◌, ℕ, Bool, true, false, ◌+◌, ◌<◌, ◌≤◌, ◌^◌, List, [], ◌∷◌, ◌++◌, length, map, filter, is_some, All, Option, Some, None, option_to_list}
 use Rattle.line_model.specs.declared.interface.Interface.{Interface}
 use Rattle.line_model.specs.declared.finding.Finding.{Finding}
-use Rattle.line_model.specs.declared.finding.Code.TheVariants.{Number}
-use Rattle.line_model.specs.declared.state.StateName.TheVariants.{R1}
-use Rattle.line_model.specs.declared.verdict.Route.{Route}
-use Rattle.line_model.specs.declared.verdict.Route.TheVariants.{Found, Leave}
 use Rattle.line_model.specs.basics.Records.{Row, Item, Piece}
 use Rattle.line_model.specs.channels.RestartMachine.{LineState}
 use Rattle.line_model.specs.channels.Channels.{Channel}
@@ -17,6 +13,9 @@ use Rattle.line_model.specs.observer.Observer.{x25, start, is_ready, line_in_r1}
 use Rattle.line_model.specs.pieces.Plans.{plan, item_of, line_findings}
 use Rattle.line_model.specs.basics.Bounds.{IsItem, all_octets}
 use Rattle.restart_epochs.specs.OpenRows.{OpenRows, no_rows, rows_of, IsSame, HasMore}
+use Rattle.restart_epochs.specs.declared.walk.Step.{Step}
+use Rattle.restart_epochs.specs.declared.walk.Turn.{Turn}
+use Rattle.restart_epochs.specs.declared.walk.Turn.TheVariants.{ToChannel, Ends, Stays}
 
 -- the observer of an interface after some rows
 abbrev pub observer : Interface → List Row → Observer LineState Channel
@@ -74,12 +73,6 @@ pub record IsUnchanged (before after : Cutting) : Type 0 where
   pub findings : after.findings ≡ before.findings
   pub open_rows : IsSame before.open_rows after.open_rows
 
--- the finding of the restart machine on a row, by its route
-abbrev pub route_finding : Row → Route → List Finding
-route_finding r (Found s n) = record { packet = r.number; side = r.side; state = s; code = Number n } ∷ []
-route_finding r (Leave (Some n)) = record { packet = r.number; side = r.side; state = R1; code = Number n } ∷ []
-route_finding r _ = []
-
 -- each epoch before the last was left, the last one where the line is not in r1; nothing lies beyond it
 pub record EndsOf (ps : List (Placed Row)) (epoch : ℕ) (ready : Bool) : Type 0 where
   pub begun : 1 ≤ epoch
@@ -124,9 +117,10 @@ abbrev pub pieces_out : Interface → (epoch : ℕ) → (end : Option ℕ) → (
 pieces_out i e end rows id [] = []
 pieces_out i e end rows id (k ∷ ks) = record { id = id; interface = i; epoch = e; channel = k; items = rows k; end = end } ∷ pieces_out i e end rows (id + 1) ks
 
--- the pieces of the open epoch, which a row of this number ends
-abbrev pub ended_pieces : Cutting → (number : ℕ) → List Piece
-ended_pieces c number = pieces_out c.interface c.epoch (Some number) (rows_of c.open_rows) c.given c.open_rows.channels
+-- the pieces that a row of this number ends
+abbrev pub ended_by : Turn → Interface → (epoch : ℕ) → (number : ℕ) → (given : ℕ) → OpenRows → List Piece
+ended_by Ends i e number given rows = pieces_out i e (Some number) (rows_of rows) given rows.channels
+ended_by _ i e number given rows = []
 
 -- a row was counted
 pub record IsCounted (r : Row) (before after : Cutting) : Type 0 where
@@ -166,6 +160,26 @@ pub record IsLeft (r : Row) (machine : LineState) (found : List Finding) (before
   pub findings : after.findings ≡ before.findings ++ found
   pub channels : after.open_rows.channels ≡ []
   pub emptied : IsEmptied before.open_rows after.open_rows
+
+-- what a row did to the rows of the open epoch
+abbrev pub HasTurned : Turn → Item → (before after : OpenRows) → Type 0
+HasTurned (ToChannel channel) item before after = HasMore channel item before after
+HasTurned Ends item before after = (after.channels ≡ []) × IsEmptied before after
+HasTurned Stays item before after = IsSame before after
+
+-- how many pieces were given out after a row
+abbrev pub given_after : Turn → (given : ℕ) → OpenRows → ℕ
+given_after Ends given rows = given + length rows.channels
+given_after _ given rows = given
+
+-- the row of a step was taken
+pub record IsTakenBy (item : Item) (step : Step) (before after : Cutting) : Type 0 where
+  pub counted : IsCounted item.row before after
+  pub line : after.line ≡ step.machine
+  pub epoch : after.epoch ≡ step.epoch
+  pub findings : after.findings ≡ before.findings ++ option_to_list step.finding
+  pub given : after.given ≡ given_after step.turn before.given before.open_rows
+  pub open_rows : HasTurned step.turn item before.open_rows after.open_rows
 
 -- the same pieces were appended to both lists
 pub record HasAppended (out out_after known known_after : List Piece) : Type 0 where

@@ -1,3 +1,4 @@
 pub mod Cutting
 pub mod OpenLanes
 pub mod OpenRows
+pub mod Walks

@@ -19,10 +19,19 @@ pub record OpenLanes (T : Type 0) : Type 0 where
 abbrev pub value_at : {T : Type 0} → OpenLanes T → ℕ → Option T
 value_at o k = lane_at o.lanes k
 
+-- no lanes
+abbrev pub no_lanes : {T : Type 0} → OpenLanes T
+no_lanes = record { lanes = []; channels = [] }
+
 -- no channel has a value, and none is listed
 pub record IsEmpty {T : Type 0} (o : OpenLanes T) : Type 0 where
   pub channels : o.channels ≡ []
   pub values : (k : ℕ) → value_at o k ≡ None
+
+-- the values are the same, and the channels that are listed
+pub record IsAlike {T : Type 0} (before after : OpenLanes T) : Type 0 where
+  pub channels : after.channels ≡ before.channels
+  pub values : (k : ℕ) → value_at after k ≡ value_at before k
 
 -- a channel was listed; the values are the same
 pub record HasListed {T : Type 0} (channel : ℕ) (before after : OpenLanes T) : Type 0 where

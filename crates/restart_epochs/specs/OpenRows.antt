@@ -1,25 +1,24 @@
 -- The rows of the open epoch, by logical channel (profile).
-use Rattle.std.specs.Prelude.{◌≡◌, ◌≢◌, ℕ, zero, suc, List, [], ◌∷◌, ◌++◌, true}
+use Rattle.std.specs.Prelude.{◌≡◌, ◌≢◌, ℕ, List, [], ◌∷◌, ◌++◌, Option, Some, None, true}
 use Rattle.std.specs.BTreeSet.{insert_key}
 use Rattle.std.specs.Ordering.{nat_cmp}
 use Rattle.std.specs.List.{AllByRecursion}
 use Rattle.line_model.specs.basics.Records.{Item}
 use Rattle.line_model.specs.pieces.Plan.{has_some}
+use Rattle.restart_epochs.specs.OpenLanes.{OpenLanes, value_at, no_lanes}
 
--- the rows of a channel; none of one that has no lane
-abbrev pub lane_at : List (List Item) → ℕ → List Item
-lane_at [] k = []
-lane_at (lane ∷ lanes) zero = lane
-lane_at (lane ∷ lanes) (suc k) = lane_at lanes k
+-- a list of rows for each channel that has some
+abbrev pub OpenRows : Type 0
+OpenRows = OpenLanes (List Item)
 
--- a lane for each channel up to some one, and the channels that have rows, in order
-pub record OpenRows : Type 0 where
-  pub lanes : List (List Item)
-  pub channels : List ℕ
+-- the rows of a lane; none of an empty one
+abbrev pub rows_in : Option (List Item) → List Item
+rows_in None = []
+rows_in (Some items) = items
 
 -- the rows of a channel
 abbrev pub rows_of : OpenRows → ℕ → List Item
-rows_of open_rows k = lane_at open_rows.lanes k
+rows_of open_rows k = rows_in (value_at open_rows k)
 
 -- the channels that are listed have rows, and no others
 pub record IsListing (o : OpenRows) : Type 0 where
@@ -28,7 +27,7 @@ pub record IsListing (o : OpenRows) : Type 0 where
 
 -- no rows
 abbrev pub no_rows : OpenRows
-no_rows = record { lanes = []; channels = [] }
+no_rows = no_lanes
 
 -- the rows of each channel are the same, and the channels
 pub record IsSame (before after : OpenRows) : Type 0 where

@@ -6,18 +6,20 @@ ghost use Rattle.line_model.specs.basics.Bounds.{IsPiece};
 ghost use Rattle.restart_epochs.specs.OpenRows.{rows_of};
 ghost use Rattle.restart_epochs.specs.Cutting.{pieces_out, IsEmptied};
 
-use crate::open_epoch::OpenEpoch;
+use crate::channel_table::ChannelTable;
+use crate::kept_rows::take_first;
 use line_model::interface::Interface;
+use line_model::items::Items;
 use line_model::piece::Piece;
 use std::alloc::Allocator;
 
-/// Gives out the pieces of the open epoch, by their channels, with ids from `first` on. The list has room for them.
-pub fn give_out<A: Allocator + Copy>(
+/// Appends the pieces of the open epoch, by their channels, with ids from `first` on. The list has room for them.
+pub fn append_pieces<A: Allocator + Copy>(
     interface: &Interface,
     epoch: u32,
     end: Option<u32>,
     first: u32,
-    epoch_rows: &mut OpenEpoch<A>,
+    epoch_rows: &mut ChannelTable<Items<A>, A>,
     out: &mut Vec<Piece<A>, A>,
 )
     requires room { vec_len out.old + length epoch_rows.old.channels ≤ vec_capacity out.old }
@@ -29,8 +31,9 @@ pub fn give_out<A: Allocator + Copy>(
     ensures channels { epoch_rows.new.channels ≡ [] }
     ensures emptied { IsEmptied epoch_rows.old epoch_rows.new }
 {
+    let alloc = *out.allocator();
     let mut id = first;
-    while let Some((channel, items)) = epoch_rows.pop_first() {
+    while let Some((channel, items)) = take_first(alloc, epoch_rows) {
         let piece = Piece {
             id,
             interface: *interface,

@@ -1,11 +1,12 @@
 //! The restart machine, and the epochs and pieces that it cuts a trace into.
 #![tactic(auto)]
 
+pub mod channel_table;
 pub mod cut;
 pub mod cutter;
-pub mod ended_epoch;
-pub mod open_epoch;
-pub mod open_lanes;
+mod ended_epoch;
+mod kept_rows;
+mod open_pieces;
 pub mod restart;
-pub mod routing;
 mod showing;
+pub mod walk;

@@ -6,20 +6,22 @@ ghost use Rattle.line_model.specs.declared.fault.Fault.TheVariants.{Memory};
 ghost use Rattle.restart_epochs.specs.OpenRows.{rows_of};
 ghost use Rattle.restart_epochs.specs.Cutting.{pieces_out};
 
-use crate::open_epoch::OpenEpoch;
+use crate::channel_table::ChannelTable;
+use crate::kept_rows::copy_rows;
 use line_model::fault::Fault;
 use line_model::interface::Interface;
+use line_model::items::Items;
 use line_model::piece::Piece;
 use std::alloc::Allocator;
 
 /// Copies of the pieces of the open epoch, by their channels, with ids from `first` on and no end. It answers `Memory`
 /// alone.
-pub fn copy_out<A: Allocator + Copy>(
+pub fn copy_pieces<A: Allocator + Copy>(
     alloc: A,
     interface: &Interface,
     epoch: u32,
     first: u32,
-    epoch_rows: &OpenEpoch<A>,
+    epoch_rows: &ChannelTable<Items<A>, A>,
 ) -> Result<Vec<Piece<A>, A>, Fault>
     requires ids { first + length epoch_rows.now.channels < 2 ^ 32 }
     requires pieces { (k : ℕ) → IsPiece interface.now k (rows_of epoch_rows.now k) }
@@ -30,7 +32,7 @@ pub fn copy_out<A: Allocator + Copy>(
     let mut pieces = Vec::new(alloc);
     let mut id = first;
     for channel in epoch_rows.channels() {
-        let items = epoch_rows.copies(*channel)?;
+        let items = copy_rows(alloc, *channel, epoch_rows)?;
         pieces.push(Piece {
             id,
             interface: *interface,

@@ -11,7 +11,7 @@ impl<A: Allocator + Copy> Cutter<A> {
     pub fn interface(&self) -> Interface
         ensures { result ≡ self.now.interface }
     {
-        self.interface
+        self.walk.interface
     }
 
     /// The number of the last row that was taken, or 0.

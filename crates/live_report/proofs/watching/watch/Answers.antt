@@ -38,7 +38,7 @@ loop-after-preserved g c =
     let size : bytes_fed c.next_row.new.self + length c.in-Ok-Some.after.now ≡ bytes_fed c.loop-after.lines + length c.loop-after.rest.now = rw c.in-Ok-Some.field-0-is at c.in-Ok-Some.ensures.size in
     let shorter : length c.in-Ok-Some.after.now < length c.loop-after.rest.now = rw c.in-Ok-Some.field-0-is at c.in-Ok-Some.ensures.shorter in
     let finding = c.in_ok-take-in-Ok-Some.field-0 in
-    let noted = c.in_ok-note-in-Ok-Some.ensures.ok in
+    let noted = c.in_ok-append_finding-in-Ok-Some.ensures.ok in
     let few = c.loop-after.invariant.few in
     record {
       few = omega (arith, few, shorter, ap (λ (xs : List Finding). length xs) noted, length-append c.loop-after.found.items (option_to_list finding), at_most_one finding);
@@ -46,7 +46,7 @@ loop-after-preserved g c =
       course = λ i text w.
           let course = c.loop-after.invariant.course i text w in
           course_row g.C.Channel.interface_of g.C.Channel.number_of g.C.Channel.stands_for i text c.args.chunk.now c.loop-after.rest.now c.in-Ok-Some.after.now c.next_row.new.row c.loop-after.lines c.next_row.new.self c.loop-after.observer c.take.new.self
-          c.args.found.now.items c.loop-after.found.items c.note.new.findings.items (option_to_list finding)
+          c.args.found.now.items c.loop-after.found.items c.append_finding.new.findings.items (option_to_list finding)
           course row (c.in-Ok-Some.ensures.header (text ++ course.read) course.watching.reads)
           (c.in_ok-take-in-Ok-Some.ensures.stands i (early_rows (text ++ course.read)) course.watching.observes
           (next_rows c.loop-after.lines c.next_row.new.self (text ++ course.read) c.loop-after.rest.now c.in-Ok-Some.after.now c.next_row.new.row course.watching.reads row))
@@ -85,10 +85,10 @@ returns-in_err-take-in-Ok-Some-clause-found g c i text w =
     subst (λ r. IsFoundBy r c.args.found.now.items c.loop-after.found.items (found_at i text) (found_at i (text ++ c.args.chunk.now))) (sym memory)
     (course_stopped g.C.Channel.interface_of g.C.Channel.number_of g.C.Channel.stands_for i text c.args.chunk.now c.loop-after.rest.now c.loop-after.lines c.loop-after.observer _ _ (c.loop-after.invariant.course i text w))
 
-pub returns-in_err-note-in-Ok-Some-clause-found : goal.returns-in_err-note-in-Ok-Some-clause-found
-returns-in_err-note-in-Ok-Some-clause-found g c i text w =
-    let p = err_from_is_err_and c.from_residual-in_err-note-in-Ok-Some.result c.from_residual-in_err-note-in-Ok-Some.ensures.1 in
-    let memory : c.from_residual-in_err-note-in-Ok-Some.result ≡ Err Memory = p.1 ∙ ap (λ f. Err f) p.2 in
-    subst (λ r. IsFoundBy r c.args.found.now.items c.note.new.findings.items (found_at i text) (found_at i (text ++ c.args.chunk.now))) (sym memory)
-    (subst (λ l. IsFoundUpTo Memory c.args.found.now.items l (found_at i text) (found_at i (text ++ c.args.chunk.now))) (sym c.in_err-note-in-Ok-Some.ensures.refused)
+pub returns-in_err-append_finding-in-Ok-Some-clause-found : goal.returns-in_err-append_finding-in-Ok-Some-clause-found
+returns-in_err-append_finding-in-Ok-Some-clause-found g c i text w =
+    let p = err_from_is_err_and c.from_residual-in_err-append_finding-in-Ok-Some.result c.from_residual-in_err-append_finding-in-Ok-Some.ensures.1 in
+    let memory : c.from_residual-in_err-append_finding-in-Ok-Some.result ≡ Err Memory = p.1 ∙ ap (λ f. Err f) p.2 in
+    subst (λ r. IsFoundBy r c.args.found.now.items c.append_finding.new.findings.items (found_at i text) (found_at i (text ++ c.args.chunk.now))) (sym memory)
+    (subst (λ l. IsFoundUpTo Memory c.args.found.now.items l (found_at i text) (found_at i (text ++ c.args.chunk.now))) (sym c.in_err-append_finding-in-Ok-Some.ensures.refused)
     (course_stopped g.C.Channel.interface_of g.C.Channel.number_of g.C.Channel.stands_for i text c.args.chunk.now c.loop-after.rest.now c.loop-after.lines c.loop-after.observer _ _ (c.loop-after.invariant.course i text w)))

@@ -34,19 +34,19 @@ returns-in_err-first-clause-found g c text s =
     subst (λ r. IsFoundBy r c.args.self.now.found.items c.args.self.now.found.items (found text) (found (text ++ c.args.chunk.now))) (sym memory)
     (found_no_more c.args.self.now.lines text c.args.chunk.now c.args.self.now.found.items c.args.self.now.found.items s.reads none refl)
 
-pub returns-in_err-note-clause-refused : goal.returns-in_err-note-clause-refused
-returns-in_err-note-clause-refused g c text s =
-    let p = err_from_is_err_and c.from_residual-in_err-note.result c.from_residual-in_err-note.ensures.1 in
-    let memory : c.from_residual-in_err-note.result ≡ Err Memory = p.1 ∙ ap (λ f. Err f) p.2 in
+pub returns-in_err-append_finding-clause-refused : goal.returns-in_err-append_finding-clause-refused
+returns-in_err-append_finding-clause-refused g c text s =
+    let p = err_from_is_err_and c.from_residual-in_err-append_finding.result c.from_residual-in_err-append_finding.ensures.1 in
+    let memory : c.from_residual-in_err-append_finding.result ≡ Err Memory = p.1 ∙ ap (λ f. Err f) p.2 in
     subst (λ r. IfErr r (IsFaultOf (early (text ++ c.args.chunk.now)))) (sym memory) tt
 
-pub returns-in_err-note-clause-found : goal.returns-in_err-note-clause-found
-returns-in_err-note-clause-found g c text s =
+pub returns-in_err-append_finding-clause-found : goal.returns-in_err-append_finding-clause-found
+returns-in_err-append_finding-clause-found g c text s =
     let none = nothing_seen g.C.Channel.interface_of g.C.Channel.number_of g.C.Channel.stands_for c.args.self.now text s c.requires.bare in
-    let p = err_from_is_err_and c.from_residual-in_err-note.result c.from_residual-in_err-note.ensures.1 in
-    let memory : c.from_residual-in_err-note.result ≡ Err Memory = p.1 ∙ ap (λ f. Err f) p.2 in
-    subst (λ r. IsFoundBy r c.args.self.now.found.items c.note.new.findings.items (found text) (found (text ++ c.args.chunk.now))) (sym memory)
-    (found_no_more c.args.self.now.lines text c.args.chunk.now c.args.self.now.found.items c.note.new.findings.items s.reads none c.in_err-note.ensures.refused)
+    let p = err_from_is_err_and c.from_residual-in_err-append_finding.result c.from_residual-in_err-append_finding.ensures.1 in
+    let memory : c.from_residual-in_err-append_finding.result ≡ Err Memory = p.1 ∙ ap (λ f. Err f) p.2 in
+    subst (λ r. IsFoundBy r c.args.self.now.found.items c.append_finding.new.findings.items (found text) (found (text ++ c.args.chunk.now))) (sym memory)
+    (found_no_more c.args.self.now.lines text c.args.chunk.now c.args.self.now.found.items c.append_finding.new.findings.items s.reads none c.in_err-append_finding.ensures.refused)
 
 pub take-requires : goal.take-requires
 take-requires g c =
@@ -94,12 +94,12 @@ returns-in-Ok-clause-found g c text s =
     (c.in_ok-first.ensures.stands i [] c.new-observer.ensures sound) in
     let headed = found_headed c.next_row.new.self given c.in-Some.rest.now i watched.reads watched.header in
     let all = chunk_text c.args.self.now.lines c.next_row.new.self text c.args.chunk.now c.in-Some.rest.now c.next_row.new.row row in
-    let first = first_found i text c.args.chunk.now c.in-Some.rest.now c.next_row.new.row c.args.self.now.lines c.next_row.new.self c.args.self.now.found.items c.note.new.findings.items (option_to_list c.in_ok-first.first) s.reads none row
-    c.in_ok-note.ensures.ok (c.in_ok-first.ensures.finding i [] c.new-observer.ensures) in
+    let first = first_found i text c.args.chunk.now c.in-Some.rest.now c.next_row.new.row c.args.self.now.lines c.next_row.new.self c.args.self.now.found.items c.append_finding.new.findings.items (option_to_list c.in_ok-first.first) s.reads none row
+    c.in_ok-append_finding.ensures.ok (c.in_ok-first.ensures.finding i [] c.new-observer.ensures) in
     let then = c.in-Ok.ensures.found i given watched in
     subst (λ x. HasFound c.args.self.now.found.items c.watch.new.found.items (found text) (found x)) all
     (subst (λ m. HasFound c.args.self.now.found.items c.watch.new.found.items (found text) m) (sym headed.1)
-    (found_next c.args.self.now.found.items c.note.new.findings.items c.watch.new.found.items (found text) (found_at i given) (found_at i (given ++ c.in-Some.rest.now)) first then))
+    (found_next c.args.self.now.found.items c.append_finding.new.findings.items c.watch.new.found.items (found text) (found_at i given) (found_at i (given ++ c.in-Some.rest.now)) first then))
 
 pub returns-in-Err-clause-found : goal.returns-in-Err-clause-found
 returns-in-Err-clause-found g c text s =
@@ -112,24 +112,24 @@ returns-in-Err-clause-found g c text s =
     (c.in_ok-first.ensures.stands i [] c.new-observer.ensures sound) in
     let headed = found_headed c.next_row.new.self given c.in-Some.rest.now i watched.reads watched.header in
     let all = chunk_text c.args.self.now.lines c.next_row.new.self text c.args.chunk.now c.in-Some.rest.now c.next_row.new.row row in
-    let first = first_found i text c.args.chunk.now c.in-Some.rest.now c.next_row.new.row c.args.self.now.lines c.next_row.new.self c.args.self.now.found.items c.note.new.findings.items (option_to_list c.in_ok-first.first) s.reads none row
-    c.in_ok-note.ensures.ok (c.in_ok-first.ensures.finding i [] c.new-observer.ensures) in
+    let first = first_found i text c.args.chunk.now c.in-Some.rest.now c.next_row.new.row c.args.self.now.lines c.next_row.new.self c.args.self.now.found.items c.append_finding.new.findings.items (option_to_list c.in_ok-first.first) s.reads none row
+    c.in_ok-append_finding.ensures.ok (c.in_ok-first.ensures.finding i [] c.new-observer.ensures) in
     let then = c.in-Err.ensures.found i given watched in
     subst (λ x. IsFoundUpTo c.in-Err.fault c.args.self.now.found.items c.watch.new.found.items (found text) (found x)) all
     (subst (λ m. IsFoundUpTo c.in-Err.fault c.args.self.now.found.items c.watch.new.found.items (found text) m) (sym headed.1)
-    (found_up_to c.in-Err.fault c.args.self.now.found.items c.note.new.findings.items c.watch.new.found.items (found text) (found_at i given) (found_at i (given ++ c.in-Some.rest.now)) first then))
+    (found_up_to c.in-Err.fault c.args.self.now.found.items c.append_finding.new.findings.items c.watch.new.found.items (found text) (found_at i given) (found_at i (given ++ c.in-Some.rest.now)) first then))
 
 pub returns-in-Ok-clause-few : goal.returns-in-Ok-clause-few
 returns-in-Ok-clause-few g c =
     let shorter : length c.in-Some.rest.now < length c.args.chunk.now = rw c.in-Some.is at c.in_ok-rest.ensures.shorter in
     let few = c.watch.ensures.few in
-    omega (arith, few, shorter, ap (λ (xs : List Finding). length xs) c.in_ok-note.ensures.ok, length-append c.args.self.now.found.items (option_to_list c.in_ok-first.first), at_most_one c.in_ok-first.first)
+    omega (arith, few, shorter, ap (λ (xs : List Finding). length xs) c.in_ok-append_finding.ensures.ok, length-append c.args.self.now.found.items (option_to_list c.in_ok-first.first), at_most_one c.in_ok-first.first)
 
 pub returns-in-Err-clause-few : goal.returns-in-Err-clause-few
 returns-in-Err-clause-few g c =
     let shorter : length c.in-Some.rest.now < length c.args.chunk.now = rw c.in-Some.is at c.in_ok-rest.ensures.shorter in
     let few = c.watch.ensures.few in
-    omega (arith, few, shorter, ap (λ (xs : List Finding). length xs) c.in_ok-note.ensures.ok, length-append c.args.self.now.found.items (option_to_list c.in_ok-first.first), at_most_one c.in_ok-first.first)
+    omega (arith, few, shorter, ap (λ (xs : List Finding). length xs) c.in_ok-append_finding.ensures.ok, length-append c.args.self.now.found.items (option_to_list c.in_ok-first.first), at_most_one c.in_ok-first.first)
 
 pub returns-in_err-rest-clause-stands : goal.returns-in_err-rest-clause-stands
 returns-in_err-rest-clause-stands g c text s = IfOk-from_err _ _ c.from_residual.ensures.0
@@ -149,14 +149,14 @@ returns-in_err-first-clause-size g c = IfOk-from_err _ _ c.from_residual-in_err-
 pub returns-in_err-first-clause-limit : goal.returns-in_err-first-clause-limit
 returns-in_err-first-clause-limit g c = IfOk-from_err _ _ c.from_residual-in_err-first.ensures.0
 
-pub returns-in_err-note-clause-stands : goal.returns-in_err-note-clause-stands
-returns-in_err-note-clause-stands g c text s = IfOk-from_err _ _ c.from_residual-in_err-note.ensures.0
+pub returns-in_err-append_finding-clause-stands : goal.returns-in_err-append_finding-clause-stands
+returns-in_err-append_finding-clause-stands g c text s = IfOk-from_err _ _ c.from_residual-in_err-append_finding.ensures.0
 
-pub returns-in_err-note-clause-size : goal.returns-in_err-note-clause-size
-returns-in_err-note-clause-size g c = IfOk-from_err _ _ c.from_residual-in_err-note.ensures.0
+pub returns-in_err-append_finding-clause-size : goal.returns-in_err-append_finding-clause-size
+returns-in_err-append_finding-clause-size g c = IfOk-from_err _ _ c.from_residual-in_err-append_finding.ensures.0
 
-pub returns-in_err-note-clause-limit : goal.returns-in_err-note-clause-limit
-returns-in_err-note-clause-limit g c = IfOk-from_err _ _ c.from_residual-in_err-note.ensures.0
+pub returns-in_err-append_finding-clause-limit : goal.returns-in_err-append_finding-clause-limit
+returns-in_err-append_finding-clause-limit g c = IfOk-from_err _ _ c.from_residual-in_err-append_finding.ensures.0
 
 pub returns-in_err-first-clause-refused : goal.returns-in_err-first-clause-refused
 returns-in_err-first-clause-refused g c text s =
@@ -170,11 +170,11 @@ returns-in_err-first-clause-kinds g c =
     let memory : c.from_residual-in_err-first.result ≡ Err Memory = p.1 ∙ ap (λ f. Err f) (p.2 ∙ c.in_err-first.ensures.memory) in
     subst (λ r. IfErr r IsTextFault) (sym memory) tt
 
-pub returns-in_err-note-clause-kinds : goal.returns-in_err-note-clause-kinds
-returns-in_err-note-clause-kinds g c =
-    let p = err_from_is_err_and c.from_residual-in_err-note.result c.from_residual-in_err-note.ensures.1 in
-    let memory : c.from_residual-in_err-note.result ≡ Err Memory = p.1 ∙ ap (λ f. Err f) p.2 in
+pub returns-in_err-append_finding-clause-kinds : goal.returns-in_err-append_finding-clause-kinds
+returns-in_err-append_finding-clause-kinds g c =
+    let p = err_from_is_err_and c.from_residual-in_err-append_finding.result c.from_residual-in_err-append_finding.ensures.1 in
+    let memory : c.from_residual-in_err-append_finding.result ≡ Err Memory = p.1 ∙ ap (λ f. Err f) p.2 in
     subst (λ r. IfErr r IsTextFault) (sym memory) tt
 
-pub returns-in_err-note-clause-few : goal.returns-in_err-note-clause-few
-returns-in_err-note-clause-few g c = omega (arith, ap (λ (xs : List Finding). length xs) c.in_err-note.ensures.refused)
+pub returns-in_err-append_finding-clause-few : goal.returns-in_err-append_finding-clause-few
+returns-in_err-append_finding-clause-few g c = omega (arith, ap (λ (xs : List Finding). length xs) c.in_err-append_finding.ensures.refused)

@@ -16,7 +16,7 @@ pub returns-clause-report : goal.returns-clause-report
 returns-clause-report g c i rs s =
     c.finish.ensures.report i rs _
     (c.in_ok-end_channels.ensures.values s.cutting.interface s.cutting.epoch s.cutting.open_rows (map value (given_of i rs)) s.holds.lanes (listing i rs s.cutting s.cut) s.holds.ended)
-    (of_walk g.C.Channel.interface_of g.C.Channel.number_of g.C.Channel.stands_for i rs c.args.self s c.args.self.findings.items c.args.self.packets refl refl)
+    (of_walk g.C.Channel.interface_of g.C.Channel.number_of g.C.Channel.stands_for i rs c.args.self s c.args.self.walk.findings.items c.args.self.walk.packets refl refl)
 
 pub end_channels-requires-clause-pieces : goal.end_channels-requires-clause-pieces
 end_channels-requires-clause-pieces g c =

@@ -1,4 +1,5 @@
-use Rattle.std.proofs.Common.{refl}
+use Rattle.std.proofs.Common.{refl, subst, sym}
+use Rattle.restart_epochs.specs.OpenLanes.{IsEmpty}
 use Rattle.restart_epochs.specs.OpenRows.{no_rows}
 use Rattle.live_report.proofs.StandLemmas.{lanes_none, nothing_taken}
 use Rattle.live_report.proofs.observer.Observer.new.Goals as goal
@@ -7,11 +8,11 @@ pub returns : goal.returns
 returns g c =
     nothing_taken g.C.Channel.interface_of g.C.Channel.number_of g.C.Channel.stands_for c.args.interface.now _
     (record {
-      interface = refl;
-      line = c.first_machine.ensures;
-      epoch = refl;
-      packets = refl;
-      findings = c.new.ensures.items;
+      interface = c.new.ensures.interface;
+      line = c.new.ensures.machine;
+      epoch = c.new.ensures.epoch;
+      packets = c.new.ensures.packets;
+      findings = c.new.ensures.findings;
       ended = c.new-2.ensures;
-      lanes = lanes_none g.C.Channel.interface_of g.C.Channel.number_of g.C.Channel.stands_for c.args.interface.now 1 no_rows c.new-3.result c.new-3.ensures refl;
+      lanes = lanes_none g.C.Channel.interface_of g.C.Channel.number_of g.C.Channel.stands_for c.args.interface.now 1 no_rows c.new-3.result (subst IsEmpty (sym c.new-3.ensures) (record { channels = refl; values = λ k. refl })) refl;
     })

@@ -16,7 +16,7 @@ pub returns-clause-report : goal.returns-clause-report
 returns-clause-report g c i rs s =
     c.finish.ensures.report i rs _
     (c.in_ok-tell_channels.ensures.values s.cutting.interface s.cutting.epoch s.cutting.open_rows (map value (given_of i rs)) s.holds.lanes (listing i rs s.cutting s.cut) (c.in_ok-parts.ensures.same ∙ s.holds.ended))
-    (of_walk g.C.Channel.interface_of g.C.Channel.number_of g.C.Channel.stands_for i rs c.args.self.now s c.in_ok-findings.findings.items c.args.self.now.packets (c.in_ok-findings.ensures.items ∙ c.as_slice.ensures.value) refl)
+    (of_walk g.C.Channel.interface_of g.C.Channel.number_of g.C.Channel.stands_for i rs c.args.self.now s c.in_ok-findings.findings.items c.args.self.now.walk.packets (c.in_ok-findings.ensures.items ∙ c.as_slice.ensures.value) refl)
 
 pub tell_channels-requires-clause-pieces : goal.tell_channels-requires-clause-pieces
 tell_channels-requires-clause-pieces g c =

@@ -1,4 +1,5 @@
-use Rattle.std.proofs.lemmas.Grind.{common_steps, elements}
+use Rattle.std.proofs.lemmas.Grind.{common_steps}
+use Rattle.std.proofs.lemmas.Result.{IfOk-from_err}
 use Rattle.std.proofs.Common.{◌≡◌, ◌∙◌, ap, refl, ◌++◌, [], List, length, rules, None, arith}
 use Rattle.line_model.specs.basics.Records.{Piece}
 use Rattle.restart_epochs.specs.OpenRows.{rows_of}
@@ -7,15 +8,15 @@ use Rattle.restart_epochs.proofs.Bounds.{lane_piece}
 use Rattle.restart_epochs.proofs.Pushes.{rest_open, out-length}
 use Rattle.restart_epochs.proofs.cutter.Cutter.end.Goals as goal
 
-pub give_out-requires-clause-pieces : goal.give_out-requires-clause-pieces
-give_out-requires-clause-pieces g c k = lane_piece _ k c.self.invariant
+pub append_pieces-requires-clause-pieces : goal.append_pieces-requires-clause-pieces
+append_pieces-requires-clause-pieces g c k = lane_piece _ k c.self.invariant
 
 pub returns-clause-pieces : goal.returns-clause-pieces
 returns-clause-pieces g c i rows s =
     let nothing : c.reserve.new.self.items ≡ [] = search rules in
     ap (λ l. given_of i rows ++ l)
-    (c.give_out.ensures.given
-    ∙ ap (λ l. l ++ pieces_out c.self.inside.interface c.self.inside.epoch None (rows_of c.self.inside.open_rows) c.self.inside.given c.self.inside.open_rows.channels) nothing
+    (c.append_pieces.ensures.given
+    ∙ ap (λ l. l ++ pieces_out c.self.inside.walk.interface c.self.inside.walk.epoch None (rows_of c.self.inside.pieces.rows) c.self.inside.pieces.given c.self.inside.pieces.rows.channels) nothing
     ∙ ap (λ v. pieces_out v.interface v.epoch None (rows_of v.open_rows) v.given v.open_rows.channels) c.self.view_is)
     ∙ rest_open i rows c.args.self s
 
@@ -23,35 +24,29 @@ pub returns-clause-few : goal.returns-clause-few
 returns-clause-few g c i rows s =
     let inside = c.self.inside in
     let nothing : c.reserve.new.self.items ≡ [] = search rules in
-    let open_channels : length c.give_out.new.out.items ≡ length inside.open_rows.channels =
-    ap (λ (l : List Piece). length l) (c.give_out.ensures.given ∙ ap (λ l. l ++ pieces_out inside.interface inside.epoch None (rows_of inside.open_rows) inside.given inside.open_rows.channels) nothing)
-    ∙ out-length inside.interface inside.epoch None (rows_of inside.open_rows) inside.given inside.open_rows.channels in
-    let given : inside.given ≡ length (given_of i rows) = ap (λ v. v.given) c.self.view_is ∙ s.given in
+    let open_channels : length c.append_pieces.new.out.items ≡ length inside.pieces.rows.channels =
+    ap (λ (l : List Piece). length l) (c.append_pieces.ensures.given ∙ ap (λ l. l ++ pieces_out inside.walk.interface inside.walk.epoch None (rows_of inside.pieces.rows) inside.pieces.given inside.pieces.rows.channels) nothing)
+    ∙ out-length inside.walk.interface inside.walk.epoch None (rows_of inside.pieces.rows) inside.pieces.given inside.pieces.rows.channels in
+    let given : inside.pieces.given ≡ length (given_of i rows) = ap (λ v. v.given) c.self.view_is ∙ s.given in
     omega (arith, c.self.invariant.ids, open_channels, given)
 
-pub returns-then-is_err-clause-pieces : goal.returns-then-is_err-clause-pieces
-returns-then-is_err-clause-pieces g c i rows s = tt
+pub returns-in_err-reserve-clause-pieces : goal.returns-in_err-reserve-clause-pieces
+returns-in_err-reserve-clause-pieces g c i rows s = IfOk-from_err _ _ c.from_residual.ensures.0
 
-pub returns-then-is_err-clause-line : goal.returns-then-is_err-clause-line
-returns-then-is_err-clause-line g c i rows s = tt
+pub returns-in_err-reserve-clause-line : goal.returns-in_err-reserve-clause-line
+returns-in_err-reserve-clause-line g c i rows s = IfOk-from_err _ _ c.from_residual.ensures.0
 
-pub returns-then-is_err-clause-packets : goal.returns-then-is_err-clause-packets
-returns-then-is_err-clause-packets g c i rows s = tt
+pub returns-in_err-reserve-clause-packets : goal.returns-in_err-reserve-clause-packets
+returns-in_err-reserve-clause-packets g c i rows s = IfOk-from_err _ _ c.from_residual.ensures.0
 
-pub returns-then-is_err-clause-few : goal.returns-then-is_err-clause-few
-returns-then-is_err-clause-few g c i rows s = tt
+pub returns-in_err-reserve-clause-few : goal.returns-in_err-reserve-clause-few
+returns-in_err-reserve-clause-few g c i rows s = IfOk-from_err _ _ c.from_residual.ensures.0
 
-pub returns-then-is_err-clause-refused : goal.returns-then-is_err-clause-refused
-returns-then-is_err-clause-refused g c = refl
+pub append_pieces-requires-clause-room : goal.append_pieces-requires-clause-room
+append_pieces-requires-clause-room g c = let room = c.in_ok-reserve.ensures.ok in omega (arith, room, c.len.ensures)
 
-pub same-rows : goal.same-rows
-same-rows g c = grind (arith, common_steps) steps 2000000
-
-pub give_out-requires-clause-room : goal.give_out-requires-clause-room
-give_out-requires-clause-room g c = grind (arith, elements) steps 2000000
-
-pub give_out-requires-clause-ids : goal.give_out-requires-clause-ids
-give_out-requires-clause-ids g c = grind (arith, common_steps) steps 2000000
+pub append_pieces-requires-clause-ids : goal.append_pieces-requires-clause-ids
+append_pieces-requires-clause-ids g c = grind (arith, common_steps) steps 2000000
 
 pub returns-clause-line : goal.returns-clause-line
 returns-clause-line g c i rows s = ap (λ v. v.findings) c.self.view_is ∙ s.findings

@@ -5,4 +5,5 @@ use Rattle.restart_epochs.proofs.cutter.Cutter.new.Goals as goal
 
 pub returns-clause-stands : goal.returns-clause-stands
 returns-clause-stands g c =
-    stands_nothing c.args.interface.now _ refl c.first_machine.ensures refl refl refl c.new.ensures.items (λ k. ap (λ o. rows_of o k) c.new-2.ensures) (ap (λ o. o.channels) c.new-2.ensures)
+    let fresh = c.new.ensures in
+    stands_nothing c.args.interface.now _ fresh.interface fresh.machine fresh.epoch refl fresh.packets fresh.findings (λ k. ap (λ o. rows_of o k) c.new-2.ensures) (ap (λ o. o.channels) c.new-2.ensures)

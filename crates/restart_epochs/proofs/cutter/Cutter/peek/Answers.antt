@@ -7,5 +7,5 @@ use Rattle.restart_epochs.proofs.cutter.Cutter.peek.Goals as goal
 
 pub returns-clause-pieces : goal.returns-clause-pieces
 returns-clause-pieces g c i rows s =
-    all_peeked (λ v. v.items) i rows c.args.self.now s c.copy_out.result
-    (subst (λ v. IfOk c.copy_out.result (λ pieces. pieces.items ≡ pieces_out v.interface v.epoch None (rows_of v.open_rows) v.given v.open_rows.channels)) c.self.view_is c.copy_out.ensures.copied)
+    all_peeked (λ v. v.items) i rows c.args.self.now s c.copy_pieces.result
+    (subst (λ v. IfOk c.copy_pieces.result (λ pieces. pieces.items ≡ pieces_out v.interface v.epoch None (rows_of v.open_rows) v.given v.open_rows.channels)) c.self.view_is c.copy_pieces.ensures.copied)

@@ -1,0 +1,44 @@
+-- What a row does to the live channels of the open epoch.
+use Rattle.std.specs.Prelude.{◌≡◌, ◌++◌, ◌∷◌, [], List, Option}
+use Rattle.line_model.specs.declared.interface.Interface.{Interface}
+use Rattle.line_model.specs.declared.event.Event.{Event}
+use Rattle.line_model.specs.declared.finding.Finding.{Finding}
+use Rattle.line_model.specs.basics.Bounds.{IsPiece}
+use Rattle.line_model.specs.basics.Records.{Row, Item}
+use Rattle.restart_epochs.specs.OpenLanes.{OpenLanes}
+use Rattle.restart_epochs.specs.OpenRows.{OpenRows, rows_of, IsListing}
+use Rattle.restart_epochs.specs.declared.walk.EpochWalk.{EpochWalk}
+use Rattle.restart_epochs.specs.declared.walk.Step.{Step}
+use Rattle.restart_epochs.specs.declared.walk.Turn.{Turn}
+use Rattle.restart_epochs.specs.declared.walk.Turn.TheVariants.{ToChannel}
+use Rattle.channel_run.specs.declared.live.LiveChannel.{LiveChannel}
+use Rattle.channel_run.specs.declared.run.Channel.{Ghosts as Machine}
+use Rattle.channel_run.specs.Live.{channel_so_far}
+use Rattle.channel_run.specs.Run.{row_events}
+use Rattle.live_report.specs.Lanes.{begun_piece, FindsOn, LanesStandFor}
+
+-- the live channels of a walk stand for the rows of its open epoch
+abbrev pub StandsAt : {A B C : Type 0} → Machine C A → EpochWalk B → OpenRows → OpenLanes (LiveChannel A C) → Type 0
+StandsAt m walk rows lanes = LanesStandFor m walk.interface walk.epoch rows lanes × IsListing rows
+
+-- of any rows that they stand for
+abbrev pub OfOpen : {A B C : Type 0} → Machine C A → EpochWalk B → OpenLanes (LiveChannel A C) → (OpenRows → Type 0) → Type 0
+OfOpen m walk lanes Fact = (rows : OpenRows) → StandsAt m walk rows lanes → Fact rows
+
+-- a row that goes to a channel can be one of its piece
+abbrev pub MayTurn : Turn → Interface → Item → OpenRows → Type 0
+MayTurn (ToChannel channel) i item rows = IsPiece i channel (rows_of rows channel ++ item ∷ [])
+MayTurn _ i item rows = Unit {0}
+
+-- what a row finds: where it goes to a channel what that finds, else what the restart machine does
+abbrev pub FindsAt : {B : Type 0} → Turn → (line : Option Finding) → EpochWalk B → OpenRows → Row → Option Finding → Type 0
+FindsAt (ToChannel channel) line walk rows row found = FindsOn (begun_piece walk.interface walk.epoch channel (rows_of rows channel)) row found
+FindsAt _ line walk rows row found = found ≡ line
+
+abbrev pub FindsBy : {B : Type 0} → Step → EpochWalk B → OpenRows → Row → Option Finding → Type 0
+FindsBy step walk rows row found = FindsAt step.turn step.finding walk rows row found
+
+-- the events of a row that goes to a channel
+abbrev pub HasEvents : {B : Type 0} → Turn → EpochWalk B → OpenRows → Row → List Event → Type 0
+HasEvents (ToChannel channel) walk rows row events = events ≡ row_events walk.interface walk.epoch channel (channel_so_far (begun_piece walk.interface walk.epoch channel (rows_of rows channel))) row
+HasEvents _ walk rows row events = Unit {0}

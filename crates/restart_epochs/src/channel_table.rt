@@ -1,0 +1,118 @@
+//! A value for each logical channel of the epoch that has not ended.
+
+ghost use Rattle.std.specs.Prelude.{◌≡◌, ℕ, ◌<◌, [], MatchOption, OnOk, OnErr, length};
+ghost use Rattle.std.specs.Option.{option_map};
+ghost use Rattle.restart_epochs.specs.OpenLanes.{no_lanes, value_at, IsAlike, HasListed, HasTaken, HasPut, HasPopped};
+
+use std::alloc::{AllocError, Allocator};
+use std::boxed::Box;
+use std::collections::BTreeSet;
+use std::marker::Model;
+use std::mem;
+
+/// A lane for each channel up to some one, most of them empty, and the channels that are listed, in ascending order.
+#[derive(Drop)]
+pub struct ChannelTable<T, A: Allocator> {
+    lanes: Vec<Option<Box<T, A>>, A>,
+    channels: BTreeSet<u16, A>,
+}
+
+impl<T, A: Allocator> Model for ChannelTable<T, A> {
+    ghost use Rattle.std.specs.Prelude.{map};
+    ghost use Rattle.std.specs.Option.{option_map};
+    ghost use Rattle.restart_epochs.specs.OpenLanes.{OpenLanes};
+
+    ghost Value = { OpenLanes T };
+
+    ghost view = { λ l. record {
+      lanes = map (λ o. option_map (λ b. b.value) o) l.lanes.items;
+      channels = l.channels.keys;
+    } };
+}
+
+impl<T: Drop, A: Allocator + Copy> ChannelTable<T, A> {
+    /// No channel. It takes no memory.
+    pub fn new(alloc: A) -> Self
+        ensures { result ≡ no_lanes }
+    {
+        ChannelTable {
+            lanes: Vec::new(alloc),
+            channels: BTreeSet::new(alloc),
+        }
+    }
+
+    /// How many channels are listed.
+    pub fn len(&self) -> usize
+        ensures { result ≡ length self.now.channels }
+    {
+        self.channels.len()
+    }
+
+    /// The channels that are listed, in ascending order.
+    pub fn channels(&self) -> &BTreeSet<u16, A>
+        ensures { result.now.keys ≡ self.now.channels }
+    {
+        &self.channels
+    }
+
+    /// Makes a lane for each channel up to this one.
+    fn widen(&mut self, channel: u16) -> Result<(), AllocError>
+        ensures alike { IsAlike self.old self.new }
+        ensures wide { OnOk result (channel < length self.new.lanes) }
+    {
+        while self.lanes.len() <= channel as usize {
+            self.lanes.push(None)?;
+        }
+        Ok(())
+    }
+
+    /// Lists a channel, and makes a lane for it. Where memory is refused no value has changed, and no channel is listed.
+    pub fn list(&mut self, channel: u16) -> Result<(), AllocError>
+        ensures ok { OnOk result (HasListed channel self.old self.new) }
+        ensures refused { OnErr result (IsAlike self.old self.new) }
+    {
+        self.widen(channel)?;
+        self.channels.insert(channel)?;
+        Ok(())
+    }
+
+    /// Takes the value of a channel out of its lane, if it has one. The channel stays listed.
+    pub fn take(&mut self, channel: u16) -> Option<Box<T, A>>
+        ensures { HasTaken channel (option_map (λ b. b.value) result) self.old self.new }
+    {
+        if (channel as usize) < self.lanes.len() {
+            return mem::replace(&mut self.lanes[channel as usize], None);
+        }
+        None
+    }
+
+    /// Puts a value into the lane of a channel.
+    pub fn put(&mut self, channel: u16, value: Box<T, A>)
+        requires { channel < length self.old.lanes }
+        ensures { HasPut channel value.value self.old self.new }
+    {
+        self.lanes[channel as usize] = Some(value);
+    }
+
+    /// Takes out the first channel that is listed, with its value.
+    pub fn pop_first(&mut self) -> Option<(u16, Option<Box<T, A>>)>
+        ensures { MatchOption result ((self.old.channels ≡ []) × (self.new ≡ self.old))
+            (λ first. HasPopped first.0 (option_map (λ b. b.value) first.1) self.old self.new) }
+    {
+        let channel = self.channels.pop_first()?;
+        let value = self.take(channel);
+        Some((channel, value))
+    }
+
+    /// The value of a channel, if it has one.
+    pub fn get(&self, channel: u16) -> Option<&T>
+        ensures { option_map (λ r. r.now) result ≡ value_at self.now channel }
+    {
+        if (channel as usize) < self.lanes.len() {
+            if let Some(value) = &self.lanes[channel as usize] {
+                return Some(value);
+            }
+        }
+        None
+    }
+}
