@@ -11,13 +11,13 @@ use crate::prose::{Page, Telling};
 use crate::uncounted::Uncounted;
 use annotated_trace::describer::Describer;
 use annotated_trace::notes::{Notes, Words};
-use annotated_trace::page::{ClosingPage, Origin};
+use annotated_trace::page::ClosingPage;
 use annotated_trace::rows::Rows;
 use channel_run::run::{Channel, View};
-use line_model::device::Sink;
 use line_model::event::{Event, What};
 use line_model::finding::Finding;
 use line_model::interface::Interface;
+use line_model::lending::LentSink;
 use line_model::packet::{DataHeader, Packet, PacketKind};
 use line_model::report::Report;
 use line_model::row::Row;
@@ -365,7 +365,7 @@ impl<A: Allocator + Copy, C: Channel<A>> Describer<A, Live<A, C>> for Descriptio
         telling.answer()
     }
 
-    fn close<K: Sink, B: Origin>(&mut self, report: &Report<A>, page: &mut ClosingPage<'_, K, B>) {
+    fn close<S: LentSink>(&mut self, report: &Report<A>, page: &mut ClosingPage<S>) {
         closing::report(page, report, &self.course.uncounted);
     }
 }

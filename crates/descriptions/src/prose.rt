@@ -1,9 +1,9 @@
 //! Words, numbers and octets, one behind the other.
 
 use annotated_trace::notes::{Notes, Words};
-use annotated_trace::page::{ClosingPage, Origin};
+use annotated_trace::page::ClosingPage;
 use line_model::address::Address;
-use line_model::device::Sink;
+use line_model::lending::LentSink;
 use std::alloc::{AllocError, Allocator};
 
 /// What prose is written to: the comments of a row, the words of a mark, or the page of the closing comments. It refuses
@@ -93,13 +93,13 @@ impl<A: Allocator + Copy> Prose for Telling<'_, Words<A>> {
     }
 }
 
-impl<K: Sink, B: Origin> Page for ClosingPage<'_, K, B> {
+impl<S: LentSink> Page for ClosingPage<S> {
     fn next_line(&mut self) {
         self.next();
     }
 }
 
-impl<K: Sink, B: Origin> Prose for ClosingPage<'_, K, B> {
+impl<S: LentSink> Prose for ClosingPage<S> {
     fn say(&mut self, words: &str) {
         self.say(words);
     }
