@@ -5,7 +5,8 @@ ghost use Rattle.std.specs.Option.{option_map};
 ghost use Rattle.line_model.specs.traces.Traces.{trace_plan, trace_report};
 ghost use Rattle.line_model.specs.work.Book.{sum_of};
 ghost use Rattle.live_report.specs.Reports.{IsReported, IsTaken};
-ghost use Rattle.piece_feed.specs.Readings.{IsRefusal, IsRefusedBy};
+ghost use Rattle.trace_text.specs.Sources.{IsRefusedBy};
+ghost use Rattle.piece_feed.specs.Readings.{IsRefusal};
 ghost use Rattle.trace_scan.specs.Scan.{IsPartTaken};
 ghost use Rattle.trace_scan.specs.Threaded.{AreScanParts, IsStopped, IsWorkedFault, trace_totals};
 
@@ -74,8 +75,9 @@ fn work_on_trace<
     requires workers { (0 < workers) × (workers ≤ 64) }
     requires capacity { (0 < capacity) × (capacity ≤ 4096) }
     ensures parts { IfOk result (AreScanParts P.pieces workers (S.left source.old)
-        (S.left source.new)) }
-    ensures stopped { IfErr result (IsStopped (S.left source.old) (S.left source.new)) }
+        (S.left source.new) (S.before source.new)) }
+    ensures stopped { IfErr result (IsStopped (S.left source.old) (S.left source.new)
+        (S.before source.new)) }
     ensures read_failed { result ≡ Err Fault.Read → S.failures source.old < S.failures source.new }
     ensures start { result ≡ Err Fault.Start → source.new ≡ source.old }
     ensures unasked { S.calls source.new ≡ S.calls source.old → source.new ≡ source.old }
@@ -161,9 +163,9 @@ pub fn scan_with<
         × (scan.totals ≡ trace_totals text)) }
     ensures shares { IfOk result (λ scan. (vec_len scan.shares ≡ workers)
         × (scan.totals ≡ sum_of scan.shares.items)) }
-    // A refusal is by the bytes that were given.
+    // A refusal is by the bytes that were given, and those before the last call of the source show no faulty line.
     ensures refused { (text : List ℕ) → S.left source.old ≡ Some text
-        → IfErr result (IsRefusedBy IsRefusal text (S.left source.new)) }
+        → IfErr result (IsRefusedBy IsRefusal text (S.left source.new) (S.before source.new)) }
     ensures read_failed { result ≡ Err Fault.Read → S.failures source.old < S.failures source.new }
     ensures write_failed { result ≡ Err Fault.Write → K.failures sink.old < K.failures sink.new }
     // Where no thread was made the source was not asked.

@@ -15,7 +15,7 @@ returns-in-Ok-clause-told g c text told =
       told = taken;
       failures = failures;
       plain = c.scan-scanned.result;
-      scanned = scanned_afresh c.args.options.follow text _ _ _ _ failures c.scan-scanned.result c.new-json.ensures.taken c.new-json.ensures.failures
+      scanned = scanned_afresh c.args.options.follow text _ _ _ _ _ failures c.scan-scanned.result c.new-json.ensures.taken c.new-json.ensures.failures
           (λ plain. c.scan-scanned.ensures.status plain text told) (λ follow. c.scan-scanned.ensures.followed follow text told);
       objects = inl (
         none_failed failures c.finish-sink.result.answer _ c.in-Ok.is c.finish-sink.ensures.refused,
@@ -34,7 +34,7 @@ returns-in-Err-clause-told g c text told =
       told = taken;
       failures = failures;
       plain = c.scan-scanned.result;
-      scanned = scanned_afresh c.args.options.follow text _ _ _ _ failures c.scan-scanned.result c.new-json.ensures.taken c.new-json.ensures.failures
+      scanned = scanned_afresh c.args.options.follow text _ _ _ _ _ failures c.scan-scanned.result c.new-json.ensures.taken c.new-json.ensures.failures
           (λ plain. c.scan-scanned.ensures.status plain text told) (λ follow. c.scan-scanned.ensures.followed follow text told);
       objects = inr (c.if-scanned-eq-OTHER_FAULT.true, (λ well. omega (arith, failed.1, well)), record { front = part.0; rest = part.1; whole = part.2; taken = part.3 });
     }
@@ -49,7 +49,7 @@ returns-in-Err-2-clause-told g c text told =
       told = taken;
       failures = failures;
       plain = c.scan-scanned.result;
-      scanned = scanned_afresh c.args.options.follow text _ _ _ _ failures c.scan-scanned.result c.new-json.ensures.taken c.new-json.ensures.failures
+      scanned = scanned_afresh c.args.options.follow text _ _ _ _ _ failures c.scan-scanned.result c.new-json.ensures.taken c.new-json.ensures.failures
           (λ plain. c.scan-scanned.ensures.status plain text told) (λ follow. c.scan-scanned.ensures.followed follow text told);
       objects = inr (c.refuse_write.ensures ∙ ap fault_status failed.0, (λ well. omega (arith, failed.1, well)), record { front = part.0; rest = part.1; whole = part.2; taken = part.3 });
     }
