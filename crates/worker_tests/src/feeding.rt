@@ -1,10 +1,9 @@
 //! Worked traces that are read in steps of any size while workers take their pieces.
 
-ghost use Rattle.std.specs.Prelude.{◌≡◌, ◌<◌, Some};
+ghost use Rattle.std.specs.Prelude.{◌≡◌, Some};
 ghost use Rattle.line_model.specs.traces.Traces.{trace_plan};
 
 use crate::working::NoMemory;
-use line_model::count::Count;
 use line_model::fault::Fault;
 use line_model::packet::Packet;
 use line_model::piece::{Piece, Plan};
@@ -14,48 +13,37 @@ use std::alloc::Global;
 use std::marker::Brand;
 use std::process::Abort;
 use std::sync::Wait;
-use std::sync::ledger::{Blank, Ledger};
 use std::test::Fail;
 use std::thread::Threads;
 use std::time::Clock;
-use test_devices::CutSource;
-use workers::{Worked, work_through};
+use test_devices::{CutSource, Cuts};
+use workers::{Crew, Worked, work_through};
 
 /// How many bytes a source gives at once.
 const STEPS: [usize; 3] = [1, 7, usize::MAX];
 
 /// Reads a text, with workers that want memory for each piece, so that only the feeding counts.
-fn read_on<P: Plan + Send + Sync, C: Ledger, F: Ledger, R: Threads + Wait + Clock + Sync>(
+fn read_by<P: Plan + Send + Sync, R: Threads + Wait + Clock + Sync>(
     rt: &R,
     alloc: Global,
     text: &[u8],
-    step: usize,
-    good: usize,
-    calls: Blank,
-    failures: Blank,
+    cuts: Cuts,
 ) -> Option<Result<Read, Fault>>
     requires plan { P.pieces ≡ Some (trace_plan text.now) }
-    requires calls_name { calls.name ≡ C.name }
-    requires calls_parts { calls.parts ≡ C.parts }
-    requires calls_shared { 0 < C.parts }
-    requires failures_name { failures.name ≡ F.name }
-    requires failures_parts { failures.parts ≡ F.parts }
-    requires failures_shared { 0 < F.parts }
 {
-    let mut source = CutSource {
-        rest: text,
-        step,
-        good,
-        calls: Count::<C>::open(calls),
-        failures: Count::<F>::open(failures),
-    };
+    let mut source = CutSource::new(text, cuts);
     let reading = Reading {
         source: &mut source,
         threads: rt,
         alloc,
         outcome: None,
     };
-    match work_through::<P, _, _, _, _>(rt, alloc, 2, 1, &NoMemory, reading) {
+    let crew = Crew {
+        workers: 2,
+        capacity: 1,
+        gate: &NoMemory,
+    };
+    match work_through::<P, _, _, _, _>(rt, alloc, crew, reading) {
         Ok(Worked { task, .. }) => task.outcome,
         Err(_) => None,
     }
@@ -69,7 +57,12 @@ fn read<R: Threads + Wait + Clock + Sync>(
     step: usize,
     good: usize,
 ) -> Option<Result<Read, Fault>> {
-    read_on::<Brand, Brand, Brand, R>(rt, alloc, text, step, good, Blank::new(1), Blank::new(1))
+    let cuts = Cuts {
+        read_step: step,
+        good_bytes: good,
+        ..Cuts::none()
+    };
+    read_by::<Brand, R>(rt, alloc, text, cuts)
 }
 
 /// The rows of a text, and how many packets, pieces and findings of the line they have.

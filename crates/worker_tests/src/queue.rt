@@ -21,11 +21,11 @@ fn a_witness_knows_what_each_worker_took(rt: HostRuntime) -> Result<(), Fail> {
     let mut other = work.split(&mut feeder);
     feed_one(&rt, rt.alloc(), &work, &mut feeder, 0);
     assert!(rt; matches!(work.take(&rt, &mut one), Taken::Got(_)));
-    work.learn(&mut witness, work.testify(&mut one));
+    work.learn(&mut witness, work.witness_of(&mut one));
     feed_one(&rt, rt.alloc(), &work, &mut feeder, 1);
     assert!(rt; matches!(work.take(&rt, &mut other), Taken::Got(_)));
-    work.learn(&mut witness, work.testify(&mut other));
-    work.hear(feeder, witness);
+    work.learn(&mut witness, work.witness_of(&mut other));
+    work.confirm(feeder, witness);
     Ok(())
 }
 

@@ -15,7 +15,7 @@ use std::sync::Wait;
 use std::test::Fail;
 use std::thread::Threads;
 use std::time::Clock;
-use workers::{Feed, Gate, Worked, feed_piece, feed_pieces, work_through};
+use workers::{Crew, Feed, Gate, Worked, feed_piece, feed_pieces, work_through};
 
 /// Runs pieces without rows, and wants memory for all others.
 struct EmptyPieces;
@@ -128,7 +128,12 @@ impl Feed<Brand, Global> for Batch {
 
 /// Whether the twelve pieces of two workers want memory.
 fn wants_memory<R: Threads + Wait + Clock + Sync>(rt: &R, alloc: Global) -> bool {
-    match work_through(rt, alloc, 2, 1, &NoMemory, twelve(alloc)) {
+    let crew = Crew {
+        workers: 2,
+        capacity: 1,
+        gate: &NoMemory,
+    };
+    match work_through(rt, alloc, crew, twelve(alloc)) {
         Ok(worked) => matches!(worked.gathered, Err(Fault::Memory)),
         Err(_) => false,
     }
@@ -143,7 +148,12 @@ fn a_worker_without_memory_stops_at_its_end(rt: HostRuntime) {
 fn of_one<R: Threads + Wait + Clock + Sync>(rt: &R, batch: Batch) -> Option<(u64, bool)>
     requires planned { ArePlanned None 0 batch.pieces.items }
 {
-    let Ok(worked) = work_through(rt, batch.alloc, 4, 2, &EmptyPieces, batch) else {
+    let crew = Crew {
+        workers: 4,
+        capacity: 2,
+        gate: &EmptyPieces,
+    };
+    let Ok(worked) = work_through(rt, batch.alloc, crew, batch) else {
         return None;
     };
     let Worked { task: _, gathered } = worked;

@@ -184,10 +184,7 @@ fn play_refused<'a, R: Wait + Abort, L: Ledgers>(
     heap: &'a Scarce<Global>,
     blanks: Blanks,
 ) -> Result<(), Fail>
-    requires posts { (blanks.posts.name ≡ L.posts) × (blanks.posts.parts ≡ 4096) }
-    requires findings { (blanks.findings.name ≡ L.findings) × (blanks.findings.parts ≡ 4096) }
-    requires octets { (blanks.octets.name ≡ L.octets) × (blanks.octets.parts ≡ 4096) }
-    requires segments { (blanks.segments.name ≡ L.segments) × (blanks.segments.parts ≡ 4096) }
+    requires names { blanks ≡ L.names }
 {
     let book = Book::<Brand, L, &'a Scarce<Global>>::new(heap, blanks, AnyReport);
     play_with(rt, heap, book)

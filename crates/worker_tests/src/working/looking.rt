@@ -18,7 +18,7 @@ use std::sync::atomic::Ordering::SeqCst;
 use std::test::Fail;
 use std::thread::Threads;
 use std::time::Clock;
-use workers::{Gathered, Handler, RunOutcome, crew_for, gather, run_scoped};
+use workers::{Gathered, Handler, RunOutcome, gather, ready_workers, run_scoped};
 
 /// How many workers there are.
 const WORKERS: usize = 4;
@@ -65,7 +65,7 @@ struct Looking<'a, L: Ledgers> {
     below: &'a AtomicU64,
 }
 
-impl<'a, L: Ledgers> Handler<Brand, Global, Share<L>> for Looking<'a, L> {
+impl<'a, L: Ledgers> Handler<Brand, Global, L> for Looking<'a, L> {
     ghost handles = { λ looking id. Unit {0} };
 
     fn handle<R: Wait>(
@@ -96,7 +96,7 @@ impl<'a, L: Ledgers> Handler<Brand, Global, Share<L>> for Looking<'a, L> {
 }
 
 /// Has four workers take all pieces and post to a book without posts.
-fn work_together<R: Threads + Wait + Clock + Sync, L: Ledgers + Sync>(
+fn work_together<R: Threads + Wait + Clock + Sync, L: Ledgers + Send + Sync>(
     rt: &R,
     alloc: Global,
     mut book: Book<Brand, L>,
@@ -106,7 +106,7 @@ fn work_together<R: Threads + Wait + Clock + Sync, L: Ledgers + Sync>(
     requires fresh { book ≡ 0 }
 {
     let (work, pass) = Work::<Brand>::new(alloc, 2)?;
-    let crew = crew_for(alloc, &work, &mut book, pass, WORKERS)?;
+    let ready = ready_workers(alloc, &work, &mut book, pass, WORKERS)?;
     let looking = Looking {
         locked_posts: book.locked_posts(),
         looks,
@@ -116,7 +116,7 @@ fn work_together<R: Threads + Wait + Clock + Sync, L: Ledgers + Sync>(
         alloc,
         count: PIECES,
     };
-    match run_scoped(rt, alloc, &work, &looking, crew, pieces) {
+    match run_scoped(rt, alloc, &looking, ready, pieces) {
         Ok(
             RunOutcome {
                 task: _,
@@ -136,17 +136,14 @@ fn work_together<R: Threads + Wait + Clock + Sync, L: Ledgers + Sync>(
 }
 
 /// The same over the ledgers of these blanks.
-fn work_over<R: Threads + Wait + Clock + Sync, L: Ledgers + Sync>(
+fn work_over<R: Threads + Wait + Clock + Sync, L: Ledgers + Send + Sync>(
     rt: &R,
     alloc: Global,
     blanks: Blanks,
     looks: &AtomicU64,
     below: &AtomicU64,
 ) -> Result<Gathered, Fault>
-    requires posts { (blanks.posts.name ≡ L.posts) × (blanks.posts.parts ≡ 4096) }
-    requires findings { (blanks.findings.name ≡ L.findings) × (blanks.findings.parts ≡ 4096) }
-    requires octets { (blanks.octets.name ≡ L.octets) × (blanks.octets.parts ≡ 4096) }
-    requires segments { (blanks.segments.name ≡ L.segments) × (blanks.segments.parts ≡ 4096) }
+    requires names { blanks ≡ L.names }
 {
     work_together(
         rt,
