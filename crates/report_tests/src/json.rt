@@ -2,10 +2,11 @@
 
 ghost use Rattle.std.specs.Prelude.{◌≡◌, ◌<◌};
 
-use json_lines::sink::{JsonSink, Lent, Origin, Returned};
+use json_lines::sink::JsonSink;
 use line_model::count::Count;
 use line_model::device::Sink;
 use line_model::fault::Fault;
+use line_model::lending::{Borrowed, Origin};
 use std::alloc::Global;
 use std::marker::Brand;
 use std::process::Abort;
@@ -39,20 +40,18 @@ fn write_parts<K: Sink>(sink: &mut K, text: &[u8], size: usize) -> Result<(), Fa
 }
 
 /// Has a lent sink take the objects of a text that comes in parts.
-fn convert<'a, K: Sink, B: Origin>(text: &[u8], size: usize, to: Lent<'a, K>) -> Returned<'a, K>
-    requires name { to.sink.ghost_name ≡ B.name }
-    requires before { (K.taken to.sink.now, K.failures to.sink.now) ≡ B.before }
+fn convert<'a, K: Sink, B: Origin>(
+    text: &[u8],
+    size: usize,
+    sink: &'a mut K,
+) -> Result<(), Fault>
+    requires name { sink.ghost_name ≡ B.name }
+    requires before { (K.taken sink.now, K.failures sink.now) ≡ B.before }
 {
-    let mut json = JsonSink::<K, B>::new(to);
+    let mut json = JsonSink::new(Borrowed::<K, B>::new(sink));
     let written = write_parts(&mut json, text, size);
-    let Returned { sink, answer } = json.finish();
-    match written {
-        Ok(()) => Returned { sink, answer },
-        Err(fault) => Returned {
-            sink,
-            answer: Err(fault),
-        },
-    }
+    let (_, answer) = json.finish();
+    written.and(answer)
 }
 
 /// What becomes of a text that comes in parts of some size.
@@ -73,14 +72,7 @@ fn outcome<L: Ledger>(
         good_calls: takes.good_calls,
         failures: Count::open(blank),
     };
-    let answer = {
-        let Returned { answer, .. } = convert::<CutSink<L>, Brand>(
-            text,
-            size,
-            Lent { sink: &mut sink },
-        );
-        answer
-    };
+    let answer = convert::<CutSink<L>, Brand>(text, size, &mut sink);
     let calls = takes.good_calls.saturating_sub(sink.good_calls);
     Conversion {
         answer,
