@@ -154,7 +154,3 @@ pub first_of : (choice : Rows) (before taken : Option (List ℕ)) (held x more :
 first_of choice before taken held x more h =
     let lines = more_lines x more in
     record { done = ended_lines x; others = lines.0; lines = lines.1; left = held; annotated = h }
-
--- a text that is not faulty so far is not too large
-pub few_bytes : (x : List ℕ) → early x ≡ None → length x ≤ 1073741824
-few_bytes x sound = omega (arith, (size_kind-none (size_of (ended_lines x)) 0 (length (begun_line x)) (size-sound x sound)).1, size_of-ended x)

@@ -1,8 +1,8 @@
 //! A scan of one thread that writes a trace again.
 
-ghost use Rattle.std.specs.Prelude.{◌≡◌, ℕ, ◌+◌, ◌<◌, ◌≤◌, ◌^◌, [], Err, IfErr, IfOk, OnOk};
-ghost use Rattle.annotated_trace.specs.Annotators.{HasRead, StandsFor};
-ghost use Rattle.annotated_trace.specs.Annotating.{Annotates, HasFed, IsAnnotatingFault, Stops};
+ghost use Rattle.std.specs.Prelude.{◌≡◌, ℕ, ◌+◌, ◌<◌, ◌≤◌, ◌^◌, [], Err, IfErr, IfOk};
+ghost use Rattle.annotated_trace.specs.Annotators.{HasRead};
+ghost use Rattle.annotated_trace.specs.Annotating.{Annotates, HasWritten, IsAnnotatingFault, IsRefusedAfter, Stops};
 
 use crate::annotator::Annotator;
 use crate::describer::Describer;
@@ -10,43 +10,26 @@ use line_model::device::{Sink, Source};
 use line_model::fault::Fault;
 use line_model::totals::Summary;
 use std::alloc::Allocator;
+use trace_text::consumer::{Consumer, read_to_end};
 use trace_text::watcher::Watcher;
 
-/// The bytes that are asked for at once.
-const CHUNK: usize = 1 << 16;
+impl<A: Allocator + Copy, W: Watcher<A>, D: Describer<A, W>, K: Sink> Consumer<K>
+    for Annotator<A, W, D> {
+    ghost was_fed = { λ first start now sink text. HasWritten (HasRead W.Watcher D.Describer) W.size (K.taken start) (K.taken sink) (K.failures start) (K.failures sink) first.choice text now };
 
-/// Feeds an annotator all that a source gives, each read as it comes.
-fn feed_all<A: Allocator + Copy, W: Watcher<A>, D: Describer<A, W>, S: Source, K: Sink>(
-    source: &mut S,
-    sink: &mut K,
-    annotator: &mut Annotator<A, W, D>,
-) -> Result<(), Fault>
-    requires nothing { StandsFor (HasRead W.Watcher D.Describer) annotator.old [] }
-    requires none_held { annotator.old.held.items ≡ [] }
-    ensures whole { OnOk result (HasFed (HasRead W.Watcher D.Describer) (S.left source.old) (S.left source.new)
-        (K.taken sink.old) (K.taken sink.new) annotator.old.choice annotator.new) }
-    ensures stopped { IfErr result (Stops annotator.old.choice (S.left source.old)
-        (S.left source.new) (K.taken sink.old) (K.taken sink.new) (K.failures sink.new
-        ≡ K.failures sink.old)) }
-    ensures choice { annotator.new.choice ≡ annotator.old.choice }
-    ensures kinds { IfErr result IsAnnotatingFault }
-    ensures read_failed { result ≡ Err Fault.Read → S.failures source.old < S.failures source.new }
-    ensures write_failed { result ≡ Err Fault.Write → K.failures sink.old < K.failures sink.new }
-    ensures rising { K.failures sink.old ≤ K.failures sink.new }
-    ensures called { S.calls source.old < S.calls source.new }
-    ensures asked { S.calls source.new ≤ S.calls source.old + (2 ^ 30 + 1) }
-{
-    let mut buffer = [0; CHUNK];
-    loop {
-        match source.read(&mut buffer) {
-            Ok(0) => return Ok(()),
-            Ok(n) => match annotator.feed(&buffer[..n], sink) {
-                Ok(()) => {}
-                Err(fault) => return Err(fault),
-            },
-            Err(()) => return Err(Fault::Read),
-        }
+    ghost refused = { λ first start now sink text last told. IsRefusedAfter first.choice (K.taken start) (K.taken sink) (K.failures start) (K.failures sink) text last told };
+
+    ghost expects = { λ text. Unit {0} };
+
+    ghost size = { λ now. W.size now.trace };
+
+    fn feed(&mut self, chunk: &[u8], sink: &mut K) -> Result<(), Fault> {
+        Annotator::feed(self, chunk, sink)
     }
+
+    ghost sound = { λ first start now sink text fed. fed.sound };
+
+    ghost sized = { λ first start now sink text fed. fed.sized };
 }
 
 /// Writes a trace again that a source gives, each line with its comments as soon as its LF was read, and answers the last
@@ -63,10 +46,12 @@ pub fn annotate<A: Allocator + Copy, W: Watcher<A>, D: Describer<A, W>, S: Sourc
     // The source gave a text without a fault, and the sink took an annotation of it, of exactly the rows that the
     // describer chooses.
     ensures annotated { IfOk result (Annotates (D.rows describer) (S.left source.old) (S.left source.new)
-        (K.taken sink.old) (K.taken sink.new)) }
-    // A refusal is by the bytes that were given, and the sink has a first part of their annotation.
+        (S.before source.new) (K.taken sink.old) (K.taken sink.new)) }
+    // A refusal is by the bytes that were given, and those before the last call of the source show no faulty line; the
+    // sink has a first part of their annotation.
     ensures stopped { IfErr result (Stops (D.rows describer) (S.left source.old) (S.left source.new)
-        (K.taken sink.old) (K.taken sink.new) (K.failures sink.new ≡ K.failures sink.old)) }
+        (S.before source.new) (K.taken sink.old) (K.taken sink.new) (K.failures sink.new
+        ≡ K.failures sink.old)) }
     ensures kinds { IfErr result IsAnnotatingFault }
     ensures read_failed { result ≡ Err Fault.Read → S.failures source.old < S.failures source.new }
     ensures write_failed { result ≡ Err Fault.Write → K.failures sink.old < K.failures sink.new }
@@ -75,8 +60,6 @@ pub fn annotate<A: Allocator + Copy, W: Watcher<A>, D: Describer<A, W>, S: Sourc
     ensures asked { S.calls source.new ≤ S.calls source.old + (2 ^ 30 + 1) }
 {
     let mut annotator = Annotator::new(alloc, trace, describer);
-    match feed_all(source, sink, &mut annotator) {
-        Ok(()) => annotator.end(sink),
-        Err(fault) => Err(fault),
-    }
+    read_to_end(source, &mut annotator, sink)?;
+    annotator.end(sink)
 }

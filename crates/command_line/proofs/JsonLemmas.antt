@@ -5,21 +5,21 @@ use Rattle.line_model.specs.declared.fault.Fault.TheVariants.{Write}
 use Rattle.command_line.specs.Program.{IsScanned, IsScannedAsJson, IsStatus, IsFollowStatus}
 
 -- what a scan says, by whether it follows
-pub scanned_by : (well : Type 0) (followed : Bool) (text : List ℕ) (left before after : Option (List ℕ)) (status : ℕ) →
-    (followed ≡ false → IsStatus text left before after well status) → (followed ≡ true → IsFollowStatus text left before after well status) →
-    IsScanned followed text left before after well status
-scanned_by well false text left before after status plain follow = plain refl
-scanned_by well true text left before after status plain follow = follow refl
+pub scanned_by : (well : Type 0) (followed : Bool) (text : List ℕ) (left asked before after : Option (List ℕ)) (status : ℕ) →
+    (followed ≡ false → IsStatus text left asked before after well status) → (followed ≡ true → IsFollowStatus text left asked before after well status) →
+    IsScanned followed text left asked before after well status
+scanned_by well false text left asked before after status plain follow = plain refl
+scanned_by well true text left asked before after status plain follow = follow refl
 
 -- the same of a sink that had taken nothing and not failed
-pub scanned_afresh : (followed : Bool) (text : List ℕ) (left before after : Option (List ℕ)) (failed failures status : ℕ) →
+pub scanned_afresh : (followed : Bool) (text : List ℕ) (left asked before after : Option (List ℕ)) (failed failures status : ℕ) →
     before ≡ Some [] → failed ≡ 0 →
-    (followed ≡ false → IsStatus text left before after (failures ≡ failed) status) → (followed ≡ true → IsFollowStatus text left before after (failures ≡ failed) status) →
-    IsScanned followed text left (Some []) after (failures ≡ 0) status
-scanned_afresh followed text left before after failed failures status fresh well plain follow =
-    subst (λ f. IsScanned followed text left (Some []) after (failures ≡ f) status) well
-    (subst (λ b. IsScanned followed text left b after (failures ≡ failed) status) fresh
-    (scanned_by (failures ≡ failed) followed text left before after status plain follow))
+    (followed ≡ false → IsStatus text left asked before after (failures ≡ failed) status) → (followed ≡ true → IsFollowStatus text left asked before after (failures ≡ failed) status) →
+    IsScanned followed text left asked (Some []) after (failures ≡ 0) status
+scanned_afresh followed text left asked before after failed failures status fresh well plain follow =
+    subst (λ f. IsScanned followed text left asked (Some []) after (failures ≡ f) status) well
+    (subst (λ b. IsScanned followed text left asked b after (failures ≡ failed) status) fresh
+    (scanned_by (failures ≡ failed) followed text left asked before after status plain follow))
 
 -- no refusal
 abbrev IsFine : {U : Type 0} → Result U Fault → Type 0
@@ -32,8 +32,8 @@ none_failed zero answer u fine failed = refl
 none_failed (suc n) answer u fine failed = absurd (subst (λ r. IsFine r) (failed (omega (arith))) (subst (λ r. IsFine r) (sym fine) tt))
 
 -- the same of a lent sink that came back
-pub told_back : (followed : Bool) (text : List ℕ) (left before taken after : Option (List ℕ)) (failed failures was status : ℕ) → after ≡ taken → failures ≡ failed →
-    IsScannedAsJson followed text left before taken (failed ≡ was) status → IsScannedAsJson followed text left before after (failures ≡ was) status
-told_back followed text left before taken after failed failures was status same well told =
-    subst (λ f. IsScannedAsJson followed text left before after (f ≡ was) status) (sym well)
-    (subst (λ t. IsScannedAsJson followed text left before t (failed ≡ was) status) (sym same) told)
+pub told_back : (followed : Bool) (text : List ℕ) (left asked before taken after : Option (List ℕ)) (failed failures was status : ℕ) → after ≡ taken → failures ≡ failed →
+    IsScannedAsJson followed text left asked before taken (failed ≡ was) status → IsScannedAsJson followed text left asked before after (failures ≡ was) status
+told_back followed text left asked before taken after failed failures was status same well told =
+    subst (λ f. IsScannedAsJson followed text left asked before after (f ≡ was) status) (sym well)
+    (subst (λ t. IsScannedAsJson followed text left asked before t (failed ≡ was) status) (sym same) told)

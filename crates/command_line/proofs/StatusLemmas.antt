@@ -6,7 +6,8 @@ use Rattle.line_model.specs.declared.totals.Summary.{Summary}
 use Rattle.line_model.specs.declared.fault.Fault.{Fault}
 use Rattle.line_model.specs.declared.fault.Fault.TheVariants.{Memory, Trace, Read, Write, Start, Double, Stranger, Missing}
 use Rattle.command_line.specs.Program.{IsCutShort, IsFollowStatus, IsStatus, fault_status, summary_status}
-use Rattle.piece_feed.specs.Readings.{IsRefusal, IsRefusedBy}
+use Rattle.trace_text.specs.Sources.{IsRefusedBy}
+use Rattle.piece_feed.specs.Readings.{IsRefusal}
 use Rattle.live_report.specs.Reports.{IsReported, IsTaken}
 use Rattle.trace_scan.specs.Follow.{IsFollowRefusal, IsToldOf}
 use Rattle.line_model.specs.traces.Traces.{trace_report, trace_summary}
@@ -14,15 +15,15 @@ use Rattle.line_model.specs.traces.Traces.{trace_report, trace_summary}
 some_status : (m : ℕ) → cond {A = ℕ} (suc m == 0) 0 1 ≡ 1
 some_status m = grind (arith, nat_tests)
 
-counted : (text : List ℕ) (left before after : Option (List ℕ)) (well : Type 0) (n status : ℕ) → IsReported text before after (trace_summary text) → n ≡ (trace_summary text).findings → status ≡ summary_status (trace_summary text) → IsStatus text left before after well status
-counted text left before after well zero status r n s = record {
+counted : (text : List ℕ) (left asked before after : Option (List ℕ)) (well : Type 0) (n status : ℕ) → IsReported text before after (trace_summary text) → n ≡ (trace_summary text).findings → status ≡ summary_status (trace_summary text) → IsStatus text left asked before after well status
+counted text left asked before after well zero status r n s = record {
   clean = λ e. (r, sym n);
   found = λ e. absurd (let is : status ≡ 0 = rw (← n) at s in omega (arith, is, e));
   faulty = λ e. absurd (let is : status ≡ 0 = rw (← n) at s in omega (arith, is, e));
   other = λ e. absurd (let is : status ≡ 0 = rw (← n) at s in omega (arith, is, e));
   range = let is : status ≡ 0 = rw (← n) at s in omega (arith, is);
 }
-counted text left before after well (suc m) status r n s = record {
+counted text left asked before after well (suc m) status r n s = record {
   clean = λ e. absurd (let is : status ≡ 1 = (rw (← n) at s) ∙ some_status m in omega (arith, is, e));
   found = λ e. (r, omega (arith, n));
   faulty = λ e. absurd (let is : status ≡ 1 = (rw (← n) at s) ∙ some_status m in omega (arith, is, e));
@@ -30,14 +31,14 @@ counted text left before after well (suc m) status r n s = record {
   range = let is : status ≡ 1 = (rw (← n) at s) ∙ some_status m in omega (arith, is);
 }
 
-pub reported_status : (text : List ℕ) (left before after : Option (List ℕ)) (well : Type 0) (sums : Summary) (status : ℕ) → IsReported text before after sums → status ≡ summary_status sums → IsStatus text left before after well status
-reported_status text left before after well sums status r s =
+pub reported_status : (text : List ℕ) (left asked before after : Option (List ℕ)) (well : Type 0) (sums : Summary) (status : ℕ) → IsReported text before after sums → status ≡ summary_status sums → IsStatus text left asked before after well status
+reported_status text left asked before after well sums status r s =
     let whole : IsReported text before after (trace_summary text) = record { sound = r.sound; taken = r.taken; counted = refl } in
-    counted text left before after well (trace_summary text).findings status whole refl (s ∙ ap summary_status r.counted)
+    counted text left asked before after well (trace_summary text).findings status whole refl (s ∙ ap summary_status r.counted)
 
-other_status : (text : List ℕ) (left before after : Option (List ℕ)) (well : Type 0) (f : Fault) (status : ℕ) → status ≡ 3 → status ≡ fault_status f → IsRefusedBy IsRefusal text left f → ((after ≡ before) ⊎ IsCutShort text before after well)
-    → IsStatus text left before after well status
-other_status text left before after well f status is s r part = record {
+other_status : (text : List ℕ) (left asked before after : Option (List ℕ)) (well : Type 0) (f : Fault) (status : ℕ) → status ≡ 3 → status ≡ fault_status f → IsRefusedBy IsRefusal text left asked f → ((after ≡ before) ⊎ IsCutShort text before after well)
+    → IsStatus text left asked before after well status
+other_status text left asked before after well f status is s r part = record {
   clean = λ e. absurd (omega (arith, e, is));
   found = λ e. absurd (omega (arith, e, is));
   faulty = λ e. absurd (omega (arith, e, is));
@@ -46,28 +47,28 @@ other_status text left before after well f status is s r part = record {
 }
 
 -- a sink failed on the report of a text that was read whole, which has no fault
-cut_short : (text : List ℕ) (left before after : Option (List ℕ)) (well : Type 0) → IsRefusedBy IsRefusal text left Write → IsTaken before after (trace_report text) Write → (¬ well) → IsCutShort text before after well
-cut_short text left before after well r taken failed =
+cut_short : (text : List ℕ) (left asked before after : Option (List ℕ)) (well : Type 0) → IsRefusedBy IsRefusal text left asked Write → IsTaken before after (trace_report text) Write → (¬ well) → IsCutShort text before after well
+cut_short text left asked before after well r taken failed =
     let whole : text ≡ r.given = r.whole ∙ ap (λ xs. r.given ++ xs) r.refusal.0 ∙ append-nil r.given in
     record { failed = failed; sound = subst (λ t. fault t ≡ None) (sym whole) r.refusal.1; count = taken.0; part = taken.1 }
 
-pub refused_status : (text : List ℕ) (left before after : Option (List ℕ)) (well : Type 0) (f : Fault) (status : ℕ) → IsRefusedBy IsRefusal text left f → IsTaken before after (trace_report text) f → (f ≡ Write → ¬ well) → status ≡ fault_status f
-    → IsStatus text left before after well status
-refused_status text left before after well (Trace line kind) status r taken failed s = record {
+pub refused_status : (text : List ℕ) (left asked before after : Option (List ℕ)) (well : Type 0) (f : Fault) (status : ℕ) → IsRefusedBy IsRefusal text left asked f → IsTaken before after (trace_report text) f → (f ≡ Write → ¬ well) → status ≡ fault_status f
+    → IsStatus text left asked before after well status
+refused_status text left asked before after well (Trace line kind) status r taken failed s = record {
   clean = λ e. absurd (omega (arith, e, s));
   found = λ e. absurd (omega (arith, e, s));
   faulty = λ e. (record { line = line; kind = kind; refusal = r }, taken);
   other = λ e. absurd (omega (arith, e, s));
   range = omega (arith, s);
 }
-refused_status text left before after well Write status r taken failed s =
-    other_status text left before after well Write status s s r (inr (cut_short text left before after well r taken (failed refl)))
-refused_status text left before after well Memory status r taken failed s = other_status text left before after well Memory status s s r (inl taken)
-refused_status text left before after well Read status r taken failed s = other_status text left before after well Read status s s r (inl taken)
-refused_status text left before after well Start status r taken failed s = other_status text left before after well Start status s s r (inl taken)
-refused_status text left before after well (Double i) status r taken failed s = other_status text left before after well (Double i) status s s r (inl taken)
-refused_status text left before after well (Stranger i) status r taken failed s = other_status text left before after well (Stranger i) status s s r (inl taken)
-refused_status text left before after well (Missing i) status r taken failed s = other_status text left before after well (Missing i) status s s r (inl taken)
+refused_status text left asked before after well Write status r taken failed s =
+    other_status text left asked before after well Write status s s r (inr (cut_short text left asked before after well r taken (failed refl)))
+refused_status text left asked before after well Memory status r taken failed s = other_status text left asked before after well Memory status s s r (inl taken)
+refused_status text left asked before after well Read status r taken failed s = other_status text left asked before after well Read status s s r (inl taken)
+refused_status text left asked before after well Start status r taken failed s = other_status text left asked before after well Start status s s r (inl taken)
+refused_status text left asked before after well (Double i) status r taken failed s = other_status text left asked before after well (Double i) status s s r (inl taken)
+refused_status text left asked before after well (Stranger i) status r taken failed s = other_status text left asked before after well (Stranger i) status s s r (inl taken)
+refused_status text left asked before after well (Missing i) status r taken failed s = other_status text left asked before after well (Missing i) status s s r (inl taken)
 
 pub status_range : (f : Fault) (status : ℕ) → status ≡ fault_status f → status < 4
 status_range (Trace line kind) status s = omega (arith, s)
@@ -79,9 +80,9 @@ small : (n status : ℕ) → status ≡ cond {A = ℕ} (n == 0) 0 1 → status <
 small zero status s = omega (arith, s)
 small (suc m) status s = omega (arith, s, some_status m)
 
-pub reported_follow : (text : List ℕ) (left before after : Option (List ℕ)) (well : Type 0) (sums : Summary) (status : ℕ) → IsReported text before after sums → status ≡ summary_status sums → IsFollowStatus text left before after well status
-reported_follow text left before after well sums status r s =
-    let is = reported_status text left before after well sums status r s in
+pub reported_follow : (text : List ℕ) (left asked before after : Option (List ℕ)) (well : Type 0) (sums : Summary) (status : ℕ) → IsReported text before after sums → status ≡ summary_status sums → IsFollowStatus text left asked before after well status
+reported_follow text left asked before after well sums status r s =
+    let is = reported_status text left asked before after well sums status r s in
     let few = small sums.findings status s in
     record {
       clean = is.clean;
@@ -91,9 +92,9 @@ reported_follow text left before after well sums status r s =
       range = is.range;
     }
 
-other_follow : (text : List ℕ) (left before after : Option (List ℕ)) (well : Type 0) (f : Fault) (status : ℕ) → status ≡ 3 → status ≡ fault_status f → IsRefusedBy IsFollowRefusal text left f → IsRefusedBy (IsToldOf before after well) text left f
-    → (f ≡ Write → ¬ well) → IsFollowStatus text left before after well status
-other_follow text left before after well f status is s r told failed = record {
+other_follow : (text : List ℕ) (left asked before after : Option (List ℕ)) (well : Type 0) (f : Fault) (status : ℕ) → status ≡ 3 → status ≡ fault_status f → IsRefusedBy IsFollowRefusal text left asked f → IsRefusedBy (IsToldOf before after well) text left asked f
+    → (f ≡ Write → ¬ well) → IsFollowStatus text left asked before after well status
+other_follow text left asked before after well f status is s r told failed = record {
   clean = λ e. absurd (omega (arith, e, is));
   found = λ e. absurd (omega (arith, e, is));
   faulty = λ e. absurd (omega (arith, e, is));
@@ -101,19 +102,19 @@ other_follow text left before after well f status is s r told failed = record {
   range = omega (arith, is);
 }
 
-pub refused_follow : (text : List ℕ) (left before after : Option (List ℕ)) (well : Type 0) (f : Fault) (status : ℕ) → IsRefusedBy IsFollowRefusal text left f → IsRefusedBy (IsToldOf before after well) text left f → (f ≡ Write → ¬ well)
-    → status ≡ fault_status f → IsFollowStatus text left before after well status
-refused_follow text left before after well (Trace line kind) status r told failed s = record {
+pub refused_follow : (text : List ℕ) (left asked before after : Option (List ℕ)) (well : Type 0) (f : Fault) (status : ℕ) → IsRefusedBy IsFollowRefusal text left asked f → IsRefusedBy (IsToldOf before after well) text left asked f → (f ≡ Write → ¬ well)
+    → status ≡ fault_status f → IsFollowStatus text left asked before after well status
+refused_follow text left asked before after well (Trace line kind) status r told failed s = record {
   clean = λ e. absurd (omega (arith, e, s));
   found = λ e. absurd (omega (arith, e, s));
   faulty = λ e. record { line = line; kind = kind; refusal = r; told = told };
   other = λ e. absurd (omega (arith, e, s));
   range = omega (arith, s);
 }
-refused_follow text left before after well Memory status r told failed s = other_follow text left before after well Memory status s s r told failed
-refused_follow text left before after well Read status r told failed s = other_follow text left before after well Read status s s r told failed
-refused_follow text left before after well Write status r told failed s = other_follow text left before after well Write status s s r told failed
-refused_follow text left before after well Start status r told failed s = other_follow text left before after well Start status s s r told failed
-refused_follow text left before after well (Double i) status r told failed s = other_follow text left before after well (Double i) status s s r told failed
-refused_follow text left before after well (Stranger i) status r told failed s = other_follow text left before after well (Stranger i) status s s r told failed
-refused_follow text left before after well (Missing i) status r told failed s = other_follow text left before after well (Missing i) status s s r told failed
+refused_follow text left asked before after well Memory status r told failed s = other_follow text left asked before after well Memory status s s r told failed
+refused_follow text left asked before after well Read status r told failed s = other_follow text left asked before after well Read status s s r told failed
+refused_follow text left asked before after well Write status r told failed s = other_follow text left asked before after well Write status s s r told failed
+refused_follow text left asked before after well Start status r told failed s = other_follow text left asked before after well Start status s s r told failed
+refused_follow text left asked before after well (Double i) status r told failed s = other_follow text left asked before after well (Double i) status s s r told failed
+refused_follow text left asked before after well (Stranger i) status r told failed s = other_follow text left asked before after well (Stranger i) status s s r told failed
+refused_follow text left asked before after well (Missing i) status r told failed s = other_follow text left asked before after well (Missing i) status s s r told failed

@@ -22,9 +22,9 @@ pub fn annotate<A: Allocator + Copy, S: Source, K: Sink>(
 ) -> Result<Summary, Fault>
     // The source gave a text without a fault, and the sink took an annotation of exactly these rows of it.
     ensures annotated { IfOk result (Annotates rows (S.left source.old)
-        (S.left source.new) (K.taken sink.old) (K.taken sink.new)) }
+        (S.left source.new) (S.before source.new) (K.taken sink.old) (K.taken sink.new)) }
     // A refusal is by the bytes that were given, and the sink has a first part of their annotation.
-    ensures stopped { IfErr result (Stops rows (S.left source.old) (S.left source.new)
+    ensures stopped { IfErr result (Stops rows (S.left source.old) (S.left source.new) (S.before source.new)
         (K.taken sink.old) (K.taken sink.new) (K.failures sink.new ≡ K.failures sink.old)) }
     ensures kinds { IfErr result IsAnnotatingFault }
     ensures read_failed { result ≡ Err Fault.Read → S.failures source.old < S.failures source.new }

@@ -72,7 +72,7 @@ fn run_annotate<S: Input, K: Output, E: Sink>(
     sink: &mut K,
     errors: &mut E,
 ) -> u8
-    ensures status { IsAnnotateStatus rows (S.left source.old) (S.left source.new)
+    ensures status { IsAnnotateStatus rows (S.left source.old) (S.left source.new) (S.before source.new)
         (K.taken sink.old) (K.taken sink.new) (K.failures sink.new ≡ K.failures sink.old) result }
     ensures range { result < 4 }
     ensures asked { S.calls source.new ≤ S.calls source.old + (2 ^ 30 + 1) }
@@ -96,7 +96,7 @@ fn annotate_named<S: Input, K: Output, E: Sink>(
     errors: &mut E,
 ) -> u8
     ensures status { IsUnread source.old source.new sink.old sink.new result
-        ⊎ IsAnnotateStatus rows (S.named source.old name.now) (S.left source.new)
+        ⊎ IsAnnotateStatus rows (S.named source.old name.now) (S.left source.new) (S.before source.new)
         (K.taken sink.old) (K.taken sink.new) (K.failures sink.new ≡ K.failures sink.old) result }
     ensures range { result < 4 }
     ensures asked { S.calls source.new ≤ S.calls source.old + (2 ^ 30 + 1) }
@@ -119,7 +119,7 @@ fn annotate_input<S: Input, K: Output, E: Sink>(
     ensures status { let name = option_map (λ name. name.now) options.entry.trace in
         let trace = trace_of name (S.left source.old) (S.named source.old) in
         IsUnread source.old source.new sink.old sink.new result
-        ⊎ IsAnnotateStatus rows trace (S.left source.new)
+        ⊎ IsAnnotateStatus rows trace (S.left source.new) (S.before source.new)
         (K.taken sink.old) (K.taken sink.new) (K.failures sink.new ≡ K.failures sink.old) result }
     ensures range { result < 4 }
     ensures asked { S.calls source.new ≤ S.calls source.old + (2 ^ 30 + 1) }
@@ -153,7 +153,7 @@ pub(crate) fn annotate_trace<S: Input, K: Output, E: Sink>(
     ensures answer { let name = option_map (λ name. name.now) options.entry.trace in
         let trace = trace_of name (S.left source.old) (S.named source.old) in
         IsAnnotateAnswer options.entry.json rows source.old source.new sink.old sink.new
-        trace (S.left source.new) (K.taken sink.old) (K.taken sink.new)
+        trace (S.left source.new) (S.before source.new) (K.taken sink.old) (K.taken sink.new)
         (K.failures sink.new ≡ K.failures sink.old) result }
     ensures unwritten { result ≡ 64 → sink.new ≡ sink.old }
     ensures asked { S.calls source.new ≤ S.calls source.old + (2 ^ 30 + 1) }

@@ -30,7 +30,7 @@ fn scan_to<'a, S: Input, K: Output, E: Sink, R: Threads + Wait + Clock + Sync, B
     requires before { (K.taken sink.now, K.failures sink.now) ≡ B.before }
     ensures name { result.0.ghost_name ≡ B.name }
     ensures told { (text : List ℕ) → S.left source.old ≡ Some text
-        → IsScannedAsJson options.entry.follow text (S.left source.new) B.before.0
+        → IsScannedAsJson options.entry.follow text (S.left source.new) (S.before source.new) B.before.0
         (K.taken result.0.now) (K.failures result.0.now ≡ B.before.1) result.1 }
     ensures range { result.1 < 4 }
     ensures asked { S.calls source.new ≤ S.calls source.old + (2 ^ 30 + 1) }
@@ -59,7 +59,7 @@ pub(crate) fn scan_json<S: Input, K: Output, E: Sink, R: Threads + Wait + Clock 
     errors: &mut E,
 ) -> u8
     ensures told { (text : List ℕ) → S.left source.old ≡ Some text
-        → IsScannedAsJson options.entry.follow text (S.left source.new) (K.taken sink.old)
+        → IsScannedAsJson options.entry.follow text (S.left source.new) (S.before source.new) (K.taken sink.old)
         (K.taken sink.new) (K.failures sink.new ≡ K.failures sink.old) result }
     ensures range { result < 4 }
     ensures asked { S.calls source.new ≤ S.calls source.old + (2 ^ 30 + 1) }

@@ -84,7 +84,7 @@ fn run_alone<S: Input, K: Output, E: Sink>(
     errors: &mut E,
 ) -> u8
     ensures status { (text : List ℕ) → S.left source.old ≡ Some text
-        → IsStatus text (S.left source.new) (K.taken sink.old) (K.taken sink.new)
+        → IsStatus text (S.left source.new) (S.before source.new) (K.taken sink.old) (K.taken sink.new)
         (K.failures sink.new ≡ K.failures sink.old) result }
     ensures range { result < 4 }
     ensures asked { S.calls source.new ≤ S.calls source.old + (2 ^ 30 + 1) }
@@ -103,7 +103,7 @@ fn run_follow<S: Input, K: Output, E: Sink>(
     errors: &mut E,
 ) -> u8
     ensures status { (text : List ℕ) → S.left source.old ≡ Some text
-        → IsFollowStatus text (S.left source.new) (K.taken sink.old) (K.taken sink.new)
+        → IsFollowStatus text (S.left source.new) (S.before source.new) (K.taken sink.old) (K.taken sink.new)
         (K.failures sink.new ≡ K.failures sink.old) result }
     ensures range { result < 4 }
     ensures asked { S.calls source.new ≤ S.calls source.old + (2 ^ 30 + 1) }
@@ -125,7 +125,7 @@ fn run_with<S: Input, K: Output, E: Sink, R: Threads + Wait + Clock + Sync>(
 ) -> u8
     requires workers { (0 < workers) × (workers ≤ 64) }
     ensures status { (text : List ℕ) → S.left source.old ≡ Some text
-        → IsStatus text (S.left source.new) (K.taken sink.old) (K.taken sink.new)
+        → IsStatus text (S.left source.new) (S.before source.new) (K.taken sink.old) (K.taken sink.new)
         (K.failures sink.new ≡ K.failures sink.old) result }
     ensures range { result < 4 }
     ensures asked { S.calls source.new ≤ S.calls source.old + (2 ^ 30 + 1) }
@@ -166,10 +166,10 @@ pub(crate) fn scan<S: Input, K: Output, E: Sink, R: Threads + Wait + Clock + Syn
     errors: &mut E,
 ) -> u8
     ensures status { options.entry.follow ≡ false → (text : List ℕ) → S.left source.old ≡ Some text
-        → IsStatus text (S.left source.new) (K.taken sink.old) (K.taken sink.new)
+        → IsStatus text (S.left source.new) (S.before source.new) (K.taken sink.old) (K.taken sink.new)
         (K.failures sink.new ≡ K.failures sink.old) result }
     ensures followed { options.entry.follow ≡ true → (text : List ℕ) → S.left source.old ≡ Some text
-        → IsFollowStatus text (S.left source.new) (K.taken sink.old) (K.taken sink.new)
+        → IsFollowStatus text (S.left source.new) (S.before source.new) (K.taken sink.old) (K.taken sink.new)
         (K.failures sink.new ≡ K.failures sink.old) result }
     ensures range { result < 4 }
     ensures asked { S.calls source.new ≤ S.calls source.old + (2 ^ 30 + 1) }
@@ -193,7 +193,7 @@ fn tell<S: Input, K: Output, E: Sink, R: Threads + Wait + Clock + Sync>(
     sink: &mut K,
     errors: &mut E,
 ) -> u8
-    ensures told { TellsOf options.entry.json options.entry.follow (S.left source.old) (S.left source.new)
+    ensures told { TellsOf options.entry.json options.entry.follow (S.left source.old) (S.left source.new) (S.before source.new)
         (K.taken sink.old) (K.taken sink.new) (K.failures sink.new ≡ K.failures sink.old) result }
     ensures range { result < 4 }
     ensures asked { S.calls source.new ≤ S.calls source.old + (2 ^ 30 + 1) }
@@ -217,7 +217,7 @@ fn tell_named<S: Input, K: Output, E: Sink, R: Threads + Wait + Clock + Sync>(
 ) -> u8
     ensures told { IsUnread source.old source.new sink.old sink.new result
         ⊎ TellsOf options.entry.json options.entry.follow (S.named source.old name.now)
-        (S.left source.new) (K.taken sink.old) (K.taken sink.new)
+        (S.left source.new) (S.before source.new) (K.taken sink.old) (K.taken sink.new)
         (K.failures sink.new ≡ K.failures sink.old) result }
     ensures range { result < 4 }
     ensures asked { S.calls source.new ≤ S.calls source.old + (2 ^ 30 + 1) }
@@ -240,7 +240,7 @@ fn tell_trace<S: Input, K: Output, E: Sink, R: Threads + Wait + Clock + Sync>(
     ensures told { let name = option_map (λ name. name.now) options.entry.trace in
         let trace = trace_of name (S.left source.old) (S.named source.old) in
         IsUnread source.old source.new sink.old sink.new result
-        ⊎ TellsOf options.entry.json options.entry.follow trace (S.left source.new)
+        ⊎ TellsOf options.entry.json options.entry.follow trace (S.left source.new) (S.before source.new)
         (K.taken sink.old) (K.taken sink.new) (K.failures sink.new ≡ K.failures sink.old) result }
     ensures range { result < 4 }
     ensures asked { S.calls source.new ≤ S.calls source.old + (2 ^ 30 + 1) }
@@ -265,14 +265,14 @@ fn run<S: Input, K: Output, E: Sink, R: Threads + Wait + Clock + Sync>(
         option_map (λ word. word.now) options.entry.explain ≡ None
         → options.entry.annotate ≡ None
         → IsUnread source.old source.new sink.old sink.new result
-        ⊎ TellsOf options.entry.json options.entry.follow trace (S.left source.new)
+        ⊎ TellsOf options.entry.json options.entry.follow trace (S.left source.new) (S.before source.new)
         (K.taken sink.old) (K.taken sink.new) (K.failures sink.new ≡ K.failures sink.old) result }
     ensures annotated { let name = option_map (λ name. name.now) options.entry.trace in
         let trace = trace_of name (S.left source.old) (S.named source.old) in
         option_map (λ word. word.now) options.entry.explain ≡ None
         → IfSome options.entry.annotate (λ rows.
         IsAnnotateAnswer options.entry.json rows source.old source.new sink.old sink.new trace
-        (S.left source.new) (K.taken sink.old) (K.taken sink.new)
+        (S.left source.new) (S.before source.new) (K.taken sink.old) (K.taken sink.new)
         (K.failures sink.new ≡ K.failures sink.old) result) }
     ensures explained { IfSome (option_map (λ word. word.now) options.entry.explain) (λ word.
         (source.new ≡ source.old)
@@ -339,7 +339,7 @@ pub fn program<S: Input, K: Output, E: Sink, R: Threads + Wait + Clock + Sync>(
         let trace = trace_of (named_trace asked) (S.left source.old) (S.named source.old) in
         words_fault asked ≡ [] → asked_word asked ≡ None → annotates asked ≡ false
         → IsUnread source.old source.new sink.old sink.new result
-        ⊎ TellsOf (as_json asked) (follows asked) trace (S.left source.new)
+        ⊎ TellsOf (as_json asked) (follows asked) trace (S.left source.new) (S.before source.new)
         (K.taken sink.old) (K.taken sink.new) (K.failures sink.new ≡ K.failures sink.old) result }
     // Where they ask for an annotation, of each row or of exactly those that they choose, the sink took one of that trace,
     // or it was refused. Where they ask for JSON with it, they are refused.
@@ -349,7 +349,7 @@ pub fn program<S: Input, K: Output, E: Sink, R: Threads + Wait + Clock + Sync>(
         → IsUnread source.old source.new sink.old sink.new result
         ⊎ ((rows : Rows) × AreAskedRows asked rows
         × IsAnnotateAnswer (as_json asked) rows source.old source.new sink.old sink.new trace
-        (S.left source.new) (K.taken sink.old) (K.taken sink.new)
+        (S.left source.new) (S.before source.new) (K.taken sink.old) (K.taken sink.new)
         (K.failures sink.new ≡ K.failures sink.old) result) }
     // Where they ask for the explanation of a word or a line the source is not asked, and the table answers.
     ensures explained { let asked = map (λ word. word.now) words.now in

@@ -1,48 +1,45 @@
 //! The four ledgers of a book.
-ghost use Rattle.std.specs.Prelude.{◌≡◌, ℕ};
-
 use crate::MOST_SHARES;
-use std::marker::{Brand, PhantomData};
+use std::marker::{Brand, Model, PhantomData};
 use std::sync::ledger::{Blank, Ledger};
 
 /// The names of a book's four ledgers, which contracts alone see.
 pub trait Ledgers {
-    ghost posts: { ℕ };
+    ghost use Rattle.findings_book.specs.Names.{LedgerNames};
 
-    ghost findings: { ℕ };
-
-    ghost octets: { ℕ };
-
-    ghost segments: { ℕ };
+    ghost names: { LedgerNames };
 }
 
 impl Ledgers for Brand {
-    ghost posts = { 0 };
+    ghost use Rattle.findings_book.specs.Names.{no_names};
 
-    ghost findings = { 0 };
-
-    ghost octets = { 0 };
-
-    ghost segments = { 0 };
+    ghost names = { no_names };
 }
 
-/// Four new ledgers, which no type stands for yet.
+/// Four new ledgers, which no type stands for yet, each of as many parts as a book can give shares. Contracts see their
+/// names.
 #[derive(Drop)]
 pub struct Blanks {
-    pub posts: Blank,
-    pub findings: Blank,
-    pub octets: Blank,
-    pub segments: Blank,
+    pub(crate) posts: Blank,
+    pub(crate) findings: Blank,
+    pub(crate) octets: Blank,
+    pub(crate) segments: Blank,
+}
+
+impl Model for Blanks {
+    ghost use Rattle.std.specs.Prelude.{◌≡◌};
+    ghost use Rattle.findings_book.specs.Names.{LedgerNames};
+
+    ghost Value = { LedgerNames };
+
+    ghost view = { λ b. record { posts = b.posts.name; findings = b.findings.name; octets = b.octets.name; segments = b.segments.name } };
+
+    ghost invariant = { λ b. (b.posts.parts ≡ 4096) × (b.findings.parts ≡ 4096) × (b.octets.parts ≡ 4096) × (b.segments.parts ≡ 4096) };
 }
 
 impl Blanks {
-    /// Each of as many parts as a book can give shares.
-    pub fn new() -> Blanks
-        ensures posts { result.posts.parts ≡ 4096 }
-        ensures findings { result.findings.parts ≡ 4096 }
-        ensures octets { result.octets.parts ≡ 4096 }
-        ensures segments { result.segments.parts ≡ 4096 }
-    {
+    /// Four new ledgers.
+    pub fn new() -> Blanks {
         Blanks {
             posts: Blank::new(MOST_SHARES),
             findings: Blank::new(MOST_SHARES),
@@ -58,7 +55,7 @@ pub struct OfPosts<L> {
 }
 
 impl<L: Ledgers> Ledger for OfPosts<L> {
-    ghost name = { L.posts };
+    ghost name = { L.names.posts };
 
     ghost parts = { 4096 };
 }
@@ -69,7 +66,7 @@ pub struct OfFindings<L> {
 }
 
 impl<L: Ledgers> Ledger for OfFindings<L> {
-    ghost name = { L.findings };
+    ghost name = { L.names.findings };
 
     ghost parts = { 4096 };
 }
@@ -80,7 +77,7 @@ pub struct OfOctets<L> {
 }
 
 impl<L: Ledgers> Ledger for OfOctets<L> {
-    ghost name = { L.octets };
+    ghost name = { L.names.octets };
 
     ghost parts = { 4096 };
 }
@@ -91,7 +88,7 @@ pub struct OfSegments<L> {
 }
 
 impl<L: Ledgers> Ledger for OfSegments<L> {
-    ghost name = { L.segments };
+    ghost name = { L.names.segments };
 
     ghost parts = { 4096 };
 }

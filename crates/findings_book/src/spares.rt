@@ -90,7 +90,7 @@ impl<L: Ledgers> Spares<L> {
 
 impl<L: Ledgers> Returned<L> {
     /// A share comes back.
-    pub fn take(&mut self, share: Share<L>)
+    pub fn add(&mut self, share: Share<L>)
         ensures parts { self.new.parts ≡ self.old.parts + 1 }
         ensures sums { self.new.sums ≡ plus self.old.sums share }
     {

@@ -30,10 +30,7 @@ impl<L: Ledgers> Model for Sums<L> {
 impl<L: Ledgers> Sums<L> {
     /// Sums of nothing, and the parts of all shares.
     pub fn open(blanks: Blanks) -> (Sums<L>, Spares<L>)
-        requires posts { (blanks.posts.name ≡ L.posts) × (blanks.posts.parts ≡ 4096) }
-        requires findings { (blanks.findings.name ≡ L.findings) × (blanks.findings.parts ≡ 4096) }
-        requires octets { (blanks.octets.name ≡ L.octets) × (blanks.octets.parts ≡ 4096) }
-        requires segments { (blanks.segments.name ≡ L.segments) × (blanks.segments.parts ≡ 4096) }
+        requires names { blanks ≡ L.names }
         ensures zero { result.0 ≡ record { posts = 0; findings = 0; octets = 0; segments = 0 } }
         ensures spares { result.1 ≡ 4096 }
     {

@@ -6,5 +6,4 @@ pub mod Reports
 pub mod Found
 pub mod Lives
 pub mod Follows
-pub mod FedBytes
 pub mod Laws

@@ -3,7 +3,7 @@
 ghost use Rattle.std.specs.Prelude.{◌≡◌, ℕ, List};
 ghost use Rattle.trace_text.specs.Progress.{bytes_fed};
 ghost use Rattle.live_report.specs.Lives.{StandsFor};
-ghost use Rattle.live_report.specs.FedBytes.{fed_length};
+ghost use Rattle.trace_text.specs.FedBytes.{fed_length};
 
 use crate::live::Live;
 use channel_run::run::Channel;

@@ -1,76 +1,58 @@
--- A source that is read while the pieces of its trace are fed.
-use Rattle.std.proofs.Common.{◌≡◌, ◌∙◌, sym, ap, subst, refl, ℕ, ◌<◌, ◌≤◌, ◌^◌, List, [], ◌++◌, length, Option, Some, None, Result, Ok, Err, append_assoc, append-nil, inl, inr}
+-- A text whose pieces are fed while it is read from a source.
+use Rattle.std.proofs.Common.{◌≡◌, ◌∙◌, sym, ap, subst, refl, ℕ, List, [], ◌++◌, length, Option, Some, None, Result, Ok, Err, append-nil, inl, inr, ◌⊎◌}
 use Rattle.std.specs.Prelude.{IfOk, IfErr, IfSome}
 use Rattle.std.specs.Option.{option_map}
 use Rattle.line_model.specs.work.Book.{KnownPlan}
-use Rattle.line_model.specs.basics.Device.{Gives}
 use Rattle.line_model.specs.basics.Records.{Piece}
 use Rattle.line_model.specs.text.Text.{early, fault}
 use Rattle.line_model.specs.traces.Traces.{trace_plan}
 use Rattle.line_model.specs.declared.fault.Fault.{Fault}
 use Rattle.line_model.specs.declared.fault.Fault.TheVariants.{Memory, Trace, Read as ReadFailed}
 use Rattle.line_model.proofs.TextLemmas.{early_rows-nothing}
+use Rattle.trace_text.specs.Sources.{BeginsSo, HasFailed, IsAllGiven, IsFedAll, IsFedUpTo, IsRefusedBy, MayBeFed}
 use Rattle.trace_text.specs.StandsFor.{IsFaultOf, IsTextFault}
-use Rattle.trace_text.proofs.DecidedLemmas.{decided_before, none_decided}
-use Rattle.piece_queue.specs.Passes.{PassView}
+use Rattle.trace_text.proofs.SourceLemmas.{all_sound, sound_before}
+use Rattle.piece_queue.specs.Passes.{PassView, QueueId}
 use Rattle.piece_queue.specs.declared.rule.Record.{Record}
 use Rattle.workers.specs.Workers.{HasFed}
-use Rattle.piece_feed.specs.TextCuts.{HasTaken, IsFedTo, IsPlanOf}
-use Rattle.piece_feed.specs.Readings.{HasRead, IsReadOf, IsReadingFault, IsRefusal}
+use Rattle.piece_feed.specs.TextCuts.{HasTaken, IsPlanOf}
+use Rattle.piece_feed.specs.Readings.{HasRead, IsFedTextOf, IsReadOf, IsReadingFault, IsRefusal, IsRefusedText}
 use Rattle.piece_feed.specs.declared.reading.Read.{Read}
 use Rattle.piece_feed.specs.declared.text_cutter.TextCutter.{TextCutter}
 use Rattle.piece_feed.proofs.Firsts.{none_known}
 
--- where a source tells its bytes it gave these, and has the others
-abbrev pub Gave : (before after : Option (List ℕ)) → List ℕ → Type 0
-Gave before after text = IfSome before (λ all. (rest : List ℕ) × (all ≡ text ++ rest) × (after ≡ Some rest))
+fed_none : (v : Record) → v.ends ≡ 0 → HasFed v v
+fed_none v none = record { ends = none; pending = refl; done = refl; taken = refl }
 
--- the text was read and cut, and its pieces that are known whole were fed
-pub record Course {A : Type 0} (before after : Option (List ℕ)) (c : TextCutter A) (fed : PassView) : Type 0 where
-  pub text : List ℕ
-  pub cut : IsFedTo text fed c
-  pub source : Gave before after text
+pub fed_on : (u v w : Record) → HasFed u v → HasFed v w → HasFed u w
+fed_on u v w first more = record { ends = more.ends; pending = more.pending ∙ first.pending; done = more.done ∙ first.done; taken = more.taken ∙ first.taken }
 
-gave_none : (before : Option (List ℕ)) → Gave before before []
-gave_none None = tt
-gave_none (Some all) = (all, refl, refl)
-
-pub course_begun : {A : Type 0} (before : Option (List ℕ)) (c : TextCutter A) (fed : PassView) → HasTaken [] c → fed.record_of.fed ≡ 0 → fed.pieces ≡ [] → Course before before c fed
-course_begun before c fed taken none no_pieces =
+pub nothing_fed : {A : Type 0} (queue : QueueId) (pass : PassView) (c : TextCutter A) → HasTaken [] c → pass.record_of.fed ≡ 0 → pass.record_of.ends ≡ 0 → pass.pieces ≡ [] → pass.queue ≡ queue → IsFedTextOf queue pass pass [] c
+nothing_fed queue pass c taken none no_ends no_pieces same =
     let known = none_known [] early_rows-nothing in
     record {
-      text = [];
+      kept = fed_none pass.record_of no_ends;
+      no_ends = no_ends;
+      same = refl;
+      queue_is = same;
       cut = record { taken = taken; count = none ∙ sym (ap (λ (ps : List Piece). length ps) known); pieces = no_pieces ∙ sym known };
-      source = gave_none before;
     }
 
-pub gave_more : (before now next : Option (List ℕ)) (text bytes : List ℕ) (room : ℕ) → Gave before now text → Gives now next bytes room → Gave before next (text ++ bytes)
-gave_more None now next text bytes room h more = tt
-gave_more (Some all) now next text bytes room h more =
-    let told = more.told h.0 h.2 in
-    (told.0, h.1 ∙ ap (λ l. text ++ l) told.2 ∙ sym (append_assoc text bytes told.0), told.1)
+-- ---- the plan of the text
 
-pub gave_all : (before now next : Option (List ℕ)) (text bytes : List ℕ) (room : ℕ) → Gave before now text → Gives now next bytes room → 0 < room → bytes ≡ [] → IfSome before (λ all. (all ≡ text) × (next ≡ Some []))
-gave_all None now next text bytes room h more some none = tt
-gave_all (Some all) now next text bytes room h more some none =
-    let told = more.told h.0 h.2 in
-    let over = more.end h.0 h.2 some none in
-    let left : told.0 ≡ [] = ap (λ l. l ++ told.0) (sym none) ∙ sym told.2 ∙ over in
-    (h.1 ∙ ap (λ l. text ++ l) over ∙ append-nil text, told.1 ∙ ap Some left)
+plan_begun : (left : Option (List ℕ)) (text : List ℕ) → BeginsSo left text → IsPlanOf (option_map trace_plan left) text
+plan_begun None text h = tt
+plan_begun (Some all) text h = (h.0, ap trace_plan h.1)
 
-plan_begun : (before after : Option (List ℕ)) (text : List ℕ) → Gave before after text → IsPlanOf (option_map trace_plan before) text
-plan_begun None after text h = tt
-plan_begun (Some all) after text h = (h.0, ap trace_plan h.1)
+pub plan_expected : (known : KnownPlan) (left : Option (List ℕ)) → known ≡ option_map trace_plan left → MayBeFed left (IsPlanOf known)
+plan_expected known left e text begins = subst (λ ps. IsPlanOf ps text) (sym e) (plan_begun left text begins)
 
-pub plan_so_far : (known : KnownPlan) (before after : Option (List ℕ)) (text : List ℕ) → known ≡ option_map trace_plan before → Gave before after text → IsPlanOf known text
-plan_so_far known before after text e h = subst (λ ps. IsPlanOf ps text) (sym e) (plan_begun before after text h)
+plan_ended : (left after asked : Option (List ℕ)) (text : List ℕ) → IsAllGiven left after asked text → IfSome (option_map trace_plan left) (λ ps. ps ≡ trace_plan text)
+plan_ended None after asked text source = tt
+plan_ended (Some all) after asked text source = ap trace_plan (source all refl).0
 
-plan_ended : (before after : Option (List ℕ)) (text : List ℕ) → IfSome before (λ all. (all ≡ text) × (after ≡ Some [])) → IfSome (option_map trace_plan before) (λ ps. ps ≡ trace_plan text)
-plan_ended None after text h = tt
-plan_ended (Some all) after text h = ap trace_plan h.0
-
-pub plan_whole : (known : KnownPlan) (before after : Option (List ℕ)) (text : List ℕ) → known ≡ option_map trace_plan before → IfSome before (λ all. (all ≡ text) × (after ≡ Some [])) → IfSome known (λ ps. ps ≡ trace_plan text)
-plan_whole known before after text e h = subst (λ ps. IfSome ps (λ l. l ≡ trace_plan text)) (sym e) (plan_ended before after text h)
+pub plan_whole : (known : KnownPlan) (left after asked : Option (List ℕ)) (text : List ℕ) → known ≡ option_map trace_plan left → IsAllGiven left after asked text → IfSome known (λ ps. ps ≡ trace_plan text)
+plan_whole known left after asked text e source = subst (λ ps. IfSome ps (λ l. l ≡ trace_plan text)) (sym e) (plan_ended left after asked text source)
 
 -- ---- what is told at the end
 
@@ -79,66 +61,77 @@ reading_fault Memory h = tt
 reading_fault (Trace line kind) h = tt
 reading_fault _ h = absurd h
 
-no_read_fault : (f : Fault) → IsTextFault f → f ≡ ReadFailed → ⊥
+pub no_read_fault : (f : Fault) → IsTextFault f → f ≡ ReadFailed → ⊥
 no_read_fault f h e = subst IsTextFault e h
 
-at_end : (text : List ℕ) (f : Fault) → early text ≡ None → IsFaultOf (fault text) f → IsRefusal text [] f
-at_end text Memory sound h = none_decided text sound
-at_end text (Trace line kind) sound h = (none_decided text sound, inr (refl, h))
-at_end text _ sound h = absurd h
+at_end : (text : List ℕ) (f : Fault) → IsFaultOf (fault text) f → IsRefusal text [] f
+at_end text Memory h = tt
+at_end text (Trace line kind) h = inr (refl, h)
+at_end text _ h = absurd h
 
-on_the_way : (text bytes rest : List ℕ) (f : Fault) → early text ≡ None → length bytes ≤ 2 ^ 16 → IsFaultOf (early (text ++ bytes)) f → IsRefusal (text ++ bytes) rest f
-on_the_way text bytes rest Memory sound few h = decided_before text bytes sound few
-on_the_way text bytes rest (Trace line kind) sound few h = (decided_before text bytes sound few, inl h)
-on_the_way text bytes rest _ sound few h = absurd h
+on_the_way : (given rest : List ℕ) (f : Fault) → IsFaultOf (early given) f → IsRefusal given rest f
+on_the_way given rest Memory h = tt
+on_the_way given rest (Trace line kind) h = inl h
+on_the_way given rest _ h = absurd h
 
-gave_this : (before : Option (List ℕ)) (text : List ℕ) (P : List ℕ → Type 0) → before ≡ Some text → IfSome before P → P text
-gave_this before text P e h = subst (λ o. IfSome o P) e h
-
-pub has_read : {A : Type 0} (before after : Option (List ℕ)) (failed : Type 0) (text : List ℕ) (fed : List Piece) (r : Result (Read A) Fault) → early text ≡ None → IfSome before (λ all. (all ≡ text) × (after ≡ Some []))
-    → IfOk r (IsReadOf text fed) → IfErr r (IsFaultOf (fault text)) → IfErr r IsTextFault → HasRead before after failed fed r
-has_read before after failed text fed (Ok read) sound source ok refused kinds = record {
-  told = λ all e. let at = gave_this before all _ e source in (subst (λ t. IsReadOf t fed read) (sym at.0) ok, at.1);
-  of_text = (text, ok);
+pub has_read : {A : Type 0} (before after asked : Option (List ℕ)) (failed : Type 0) (was_fed : List ℕ → Type 0) (fed : List Piece) (r : Result (Read A) Fault) → (w : IsFedAll before after asked was_fed) → IfOk r (IsReadOf w.text fed) → IfErr r (IsFaultOf (fault w.text)) → IfErr r IsTextFault
+    → HasRead before after asked failed fed r
+has_read before after asked failed was_fed fed (Ok read) w ok refused kinds = record {
+  told = λ all e. let at = w.source all e in (subst (λ t. IsReadOf t fed read) (sym at.0) ok, at.1, at.2);
+  of_text = (w.text, ok);
   kinds = tt;
   refused = λ all e. tt;
   read_failed = λ e. absurd (cc);
 }
-has_read before after failed text fed (Err f) sound source ok refused kinds = record {
+has_read before after asked failed was_fed fed (Err f) w ok refused kinds = record {
   told = λ all e. tt;
   of_text = tt;
   kinds = reading_fault f kinds;
   refused = λ all e.
-      let at = gave_this before all _ e source in
-      record { given = text; rest = []; whole = at.0 ∙ sym (append-nil text); left = at.1; refusal = at_end text f sound refused };
+      let at = w.source all e in
+      record { given = w.text; rest = []; whole = at.0 ∙ sym (append-nil w.text); left = at.1; order = inr (all_sound before after asked was_fed all w e); refusal = at_end w.text f refused };
   read_failed = λ e. let same : f ≡ ReadFailed = cc in absurd (no_read_fault f kinds same);
 }
 
-pub has_refused : {A : Type 0} (before after : Option (List ℕ)) (failed : Type 0) (text bytes : List ℕ) (fed : List Piece) (f : Fault) → early text ≡ None → length bytes ≤ 2 ^ 16 → Gave before after (text ++ bytes) → IsFaultOf (early (text ++ bytes)) f → IsTextFault f
-    → HasRead {A = A} before after failed fed (Err f)
-has_refused before after failed text bytes fed f sound few source refused kinds = record {
+stop_kinds : (was_fed : List ℕ → Type 0) (start pass : PassView) (fed last : List ℕ) (f : Fault) → HasFailed was_fed fed last f ⊎ IsRefusedText start pass fed last f → IsReadingFault f
+stop_kinds was_fed start pass fed last f (inl why) = subst IsReadingFault (sym why.failure) tt
+stop_kinds was_fed start pass fed last f (inr why) = reading_fault f why.kinds
+
+stop_refusal : (was_fed : List ℕ → Type 0) (refused : (fed last : List ℕ) → Fault → Type 0) (fed last rest : List ℕ) (f : Fault) → early fed ≡ None → (refused fed last f → IsFaultOf (early (fed ++ last)) f) → HasFailed was_fed fed last f ⊎ refused fed last f → IsRefusal (fed ++ last) rest f
+stop_refusal was_fed refused fed last rest f sound is (inl why) =
+    subst (IsRefusal (fed ++ last) rest) (sym why.failure) (subst (λ xs. early (fed ++ xs) ≡ None) (sym why.none) (subst (λ xs. early xs ≡ None) (sym (append-nil fed)) sound))
+stop_refusal was_fed refused fed last rest f sound is (inr why) = on_the_way (fed ++ last) rest f (is why)
+
+-- what the bytes say that were given where reading stopped
+pub refused_by : (before after asked : Option (List ℕ)) (was_fed : List ℕ → Type 0) (refused : (fed last : List ℕ) → Fault → Type 0) (f : Fault) (text : List ℕ) → (u : IsFedUpTo before after asked was_fed refused f) → (refused u.fed u.last f → IsFaultOf (early (u.fed ++ u.last)) f) → before ≡ Some text
+    → IsRefusedBy IsRefusal text after asked f
+refused_by before after asked was_fed refused f text u is told =
+    let at = u.given text told in
+    record {
+      given = u.fed ++ u.last;
+      rest = at.0;
+      whole = at.1;
+      left = at.2;
+      order = inr (sound_before before after asked was_fed refused f text u told);
+      refusal = stop_refusal was_fed refused u.fed u.last at.0 f u.sound is u.why;
+    }
+
+pub has_stopped : {A : Type 0} (before after asked : Option (List ℕ)) (failed : Type 0) (was_fed : List ℕ → Type 0) (start pass : PassView) (fed : List Piece) (f : Fault) → IsFedUpTo before after asked was_fed (IsRefusedText start pass) f → (f ≡ ReadFailed → failed)
+    → HasRead {A = A} before after asked failed fed (Err f)
+has_stopped before after asked failed was_fed start pass fed f u fails = record {
   told = λ all e. tt;
   of_text = tt;
-  kinds = reading_fault f kinds;
-  refused = λ all e.
-      let at = gave_this before all _ e source in
-      record { given = text ++ bytes; rest = at.0; whole = at.1; left = at.2; refusal = on_the_way text bytes at.0 f sound few refused };
-  read_failed = λ e. let same : f ≡ ReadFailed = cc in absurd (no_read_fault f kinds same);
+  kinds = stop_kinds was_fed start pass u.fed u.last f u.why;
+  refused = λ all e. refused_by before after asked was_fed (IsRefusedText start pass) f all u (λ why. why.refusal) e;
+  read_failed = λ e. let same : f ≡ ReadFailed = cc in fails same;
 }
 
-pub has_failed : {A : Type 0} (before after : Option (List ℕ)) (failed : Type 0) (text : List ℕ) (fed : List Piece) → Gave before after text → early text ≡ None → failed → HasRead {A = A} before after failed fed (Err ReadFailed)
-has_failed before after failed text fed source sound fails = record {
-  told = λ all e. tt;
-  of_text = tt;
-  kinds = tt;
-  refused = λ all e.
-      let at = gave_this before all _ e source in
-      record { given = text; rest = at.0; whole = at.1; left = at.2; refusal = sound };
-  read_failed = λ e. fails;
-}
+-- ---- what the pass did
 
-pub fed_none : (v : Record) → v.ends ≡ 0 → HasFed v v
-fed_none v none = record { ends = none; pending = refl; done = refl; taken = refl }
+pub stop_kept : (was_fed : List ℕ → Type 0) (start pass : PassView) (fed last : List ℕ) (f : Fault) → (was_fed fed → HasFed start.record_of pass.record_of) → HasFailed was_fed fed last f ⊎ IsRefusedText start pass fed last f → HasFed start.record_of pass.record_of
+stop_kept was_fed start pass fed last f kept (inl why) = kept why.stands
+stop_kept was_fed start pass fed last f kept (inr why) = why.kept
 
-pub fed_on : (u v w : Record) → HasFed u v → HasFed v w → HasFed u w
-fed_on u v w first more = record { ends = more.ends; pending = more.pending ∙ first.pending; done = more.done ∙ first.done; taken = more.taken ∙ first.taken }
+pub stop_queue : (was_fed : List ℕ → Type 0) (start pass : PassView) (fed last : List ℕ) (f : Fault) → (was_fed fed → pass.queue ≡ start.queue) → HasFailed was_fed fed last f ⊎ IsRefusedText start pass fed last f → pass.queue ≡ start.queue
+stop_queue was_fed start pass fed last f same (inl why) = same why.stands
+stop_queue was_fed start pass fed last f same (inr why) = why.same

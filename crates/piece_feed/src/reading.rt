@@ -9,10 +9,12 @@ ghost use Rattle.line_model.specs.declared.fault.Fault.TheVariants.{Memory};
 ghost use Rattle.line_model.specs.pieces.Plans.{plan};
 ghost use Rattle.line_model.specs.basics.Records as records;
 ghost use Rattle.restart_epochs.specs.Cutting.{given_of};
+ghost use Rattle.trace_text.specs.FedBytes.{fed_length};
+ghost use Rattle.trace_text.specs.Progress.{bytes_fed};
 ghost use Rattle.trace_text.specs.StandsFor.{IsFaultOf, IsTextFault};
 ghost use Rattle.workers.specs.Workers.{HasFed};
-ghost use Rattle.piece_feed.specs.TextCuts.{HasCut, IsFedTo};
-ghost use Rattle.piece_feed.specs.Readings.{HasRead, IsCutOf, IsOutcome, IsReadOf};
+ghost use Rattle.piece_feed.specs.TextCuts.{HasCut, IsFedTo, IsPlanOf};
+ghost use Rattle.piece_feed.specs.Readings.{HasRead, IsCutOf, IsFedTextOf, IsOutcome, IsReadOf, IsRefusedText};
 
 use crate::text_cutter::{Front, TextCutter};
 use line_model::device::Source;
@@ -26,10 +28,8 @@ use std::alloc::{Allocator, Global};
 use std::sync::Wait;
 use std::thread::Threads;
 use std::time::Clock;
+use trace_text::consumer::{Consumer, read_to_end};
 use workers::{Feed, feed_pieces};
-
-/// The bytes that are asked for at once.
-const CHUNK: usize = 1 << 16;
 
 /// What was read: the header of the trace, the findings of the restart machine, and how many rows and pieces there are.
 #[derive(Drop)]
@@ -98,12 +98,39 @@ fn finish<P: Plan, A: Allocator + Copy, R: Wait + Clock>(
     ensures kinds { IfErr result IsTextFault }
 {
     let mut pieces = Vec::new(alloc);
-    let front = match text.end(&mut pieces) {
-        Ok(front) => front,
-        Err(fault) => return Err(fault),
-    };
+    let front = text.end(&mut pieces)?;
     feed_pieces(rt, work, pieces, pass);
     end_front(rt, front, work, pass)
+}
+
+/// A text whose pieces are fed as soon as they are known whole.
+#[derive(Drop)]
+struct FedText<'a, P: Plan, A: Allocator, R> {
+    rt: &'a R,
+    work: &'a Work<P, A>,
+    text: TextCutter<A>,
+}
+
+impl<P: Plan, A: Allocator + Copy, R: Wait + Clock> Consumer<FeederPass<A>>
+    for FedText<'_, P, A, R> {
+    ghost was_fed = { λ first start now pass text. IsFedTextOf now.work.now.queue start pass text now.text };
+
+    ghost refused = { λ first start now pass text last told. IsRefusedText start pass text last told };
+
+    // The plan, where it is known, is that of a text that begins so.
+    ghost expects = { λ text. IsPlanOf P.pieces text };
+
+    ghost size = { λ now. bytes_fed now.text.lines };
+
+    fn feed(&mut self, chunk: &[u8], pass: &mut FeederPass<A>) -> Result<(), Fault> {
+        let pieces = self.text.take(chunk)?;
+        feed_pieces(self.rt, self.work, pieces, pass);
+        Ok(())
+    }
+
+    ghost sound = { λ first start now pass text fed. fed.cut.taken.reads.sound };
+
+    ghost sized = { λ first start now pass text fed. fed_length now.text.lines text fed.cut.taken.reads };
 }
 
 /// Reads a source to its end. The pieces of its trace are fed as soon as they are known whole.
@@ -120,23 +147,19 @@ fn read_all<P: Plan, A: Allocator + Copy, S: Source, R: Wait + Clock>(
     requires plan { P.pieces ≡ option_map trace_plan (S.left source.old) }
     ensures queue { pass.new.queue ≡ pass.old.queue }
     ensures kept { HasFed pass.old.record_of pass.new.record_of }
-    ensures read { HasRead (S.left source.old) (S.left source.new) (S.failures source.old
-        < S.failures source.new) pass.new.pieces result }
+    ensures read { HasRead (S.left source.old) (S.left source.new) (S.before source.new)
+        (S.failures source.old < S.failures source.new) pass.new.pieces result }
     ensures called { S.calls source.old < S.calls source.new }
     ensures asked { S.calls source.new ≤ S.calls source.old + (2 ^ 30 + 1) }
 {
-    let mut buffer = [0; CHUNK];
-    let mut text = TextCutter::new(alloc);
-    loop {
-        match source.read(&mut buffer) {
-            Ok(0) => return finish(rt, alloc, text, work, pass),
-            Ok(n) => match text.take(&buffer[..n]) {
-                Ok(pieces) => feed_pieces(rt, work, pieces, pass),
-                Err(fault) => return Err(fault),
-            },
-            Err(()) => return Err(Fault::Read),
-        }
-    }
+    let mut fed = FedText {
+        rt,
+        work,
+        text: TextCutter::new(alloc),
+    };
+    read_to_end(source, &mut fed, pass)?;
+    let FedText { text, .. } = fed;
+    finish(rt, alloc, text, work, pass)
 }
 
 /// The reading thread's part of a scan with threads: a source, what starts threads that would read beside it (none is
@@ -154,7 +177,7 @@ impl<'a, P: Plan, A: Allocator + Copy, S: Source, T: Threads + Sync> Feed<P, A>
     // What starts threads may be shared with them. The plan is that of the bytes that the source tells.
     ghost can_feed = { λ task. IsSync T.row × (P.pieces ≡ option_map trace_plan (S.left task.source.now)) };
 
-    ghost feed_gives = { λ task fed after. (after.source.ghost_name ≡ task.source.ghost_name) × IsOutcome (S.left task.source.now) (S.left after.source.now) (S.failures task.source.now < S.failures after.source.now) fed after.outcome × (S.calls task.source.now < S.calls after.source.now) × (S.calls after.source.now ≤ S.calls task.source.now + (2 ^ 30 + 1)) };
+    ghost feed_gives = { λ task fed after. (after.source.ghost_name ≡ task.source.ghost_name) × IsOutcome (S.left task.source.now) (S.left after.source.now) (S.before after.source.now) (S.failures task.source.now < S.failures after.source.now) fed after.outcome × (S.calls task.source.now < S.calls after.source.now) × (S.calls after.source.now ≤ S.calls task.source.now + (2 ^ 30 + 1)) };
 
     ghost unfed = { λ task after. (after.source.ghost_name ≡ task.source.ghost_name) × (after.source.now ≡ task.source.now) };
 

@@ -14,7 +14,7 @@ use Rattle.line_model.specs.work.Work.Entry.{job, finish}
 use Rattle.piece_queue.specs.declared.rule.Record.{Record}
 use Rattle.piece_queue.specs.declared.rule.Notes.{Notes}
 use Rattle.piece_queue.specs.Rule.{feeder, worker, nobody, after_split, after_join, IsKept, IsInQueue, IsAccounted, TookEntry}
-use Rattle.piece_queue.specs.Known.{notes, records_of, IsFed, IsFedEntry, piece_in, Knows, IsNoted, AreNoted, FedPiece, FedEnd, Took, after_testimony, WasHeard}
+use Rattle.piece_queue.specs.Known.{notes, records_of, IsFed, IsFedEntry, piece_in, Knows, IsNoted, AreNoted, FedPiece, FedEnd, Took, with_witness, IsConfirmed}
 use Rattle.piece_queue.proofs.Moves.{begins, feeds_piece, feeds_end, learns_line, takes, splits, joins, accounts, adds_nobody}
 
 at_record : (views : List Notes) (port : ℕ) (v : Notes) → get_elem? views port ≡ some v → get_elem? (records_of views) port ≡ some v.record_of
@@ -215,16 +215,16 @@ noted_join plan port v other u feeds works items views h at two at' =
           (record { own = λ _. mine.own feeds; known = mine.known }),
     )
 
-pub noted_hears : (plan : KnownPlan) (port : ℕ) (v : Notes) (other : ℕ) (u : Notes) → u.record_of ≡ nobody → Merges (AreNoted plan) port v other u (after_testimony v u) (notes nobody [] [])
-noted_hears plan port v other u idle items views h at two at' =
+pub noted_learns : (plan : KnownPlan) (port : ℕ) (v : Notes) (other : ℕ) (u : Notes) → u.record_of ≡ nobody → Merges (AreNoted plan) port v other u (with_witness v u) (notes nobody [] [])
+noted_learns plan port v other u idle items views h at two at' =
     let k = h.1 in
     let mine = k.each port v at in
-    let was = there views port other (after_testimony v u) u two at' in
+    let was = there views port other (with_witness v u) u two at' in
     let records = records_of views in
     let same : set records port v.record_of ≡ records = set_again records port v.record_of (at_record views port v at) in
     let still : set records other nobody ≡ records = set_again records other nobody (at_record views other u was ∙ ap some idle) in (
       h.0,
-      merge plan items views h.0 port other v (after_testimony v u) k
+      merge plan items views h.0 port other v (with_witness v u) k
           (subst (IsKept plan items) (sym (ap (λ l. set l other nobody) same ∙ still)) k.kept)
           (record { own = mine.own; known = All-append (IsFed h.0) v.known u.known mine.known (k.each other u was).known }),
     )
@@ -232,8 +232,8 @@ noted_hears plan port v other u idle items views h at two at' =
 pub noted_accounts : (plan : KnownPlan) (port : ℕ) (v : Notes) → v.record_of.feeds ≡ true → Learns (AreNoted plan) port v (λ items. (v.record_of.told ≡ v.record_of.fed) × IsAccounted v.record_of)
 noted_accounts plan port v feeds items views h at = accounts plan port v.record_of feeds items (records_of views) h.1.kept (at_record views port v at)
 
-pub noted_hearing : (plan : KnownPlan) (port : ℕ) (v : Notes) → v.record_of.feeds ≡ true → Learns (AreNoted plan) port v (λ items. WasHeard v)
-noted_hearing plan port v feeds items views h at =
+pub noted_confirms : (plan : KnownPlan) (port : ℕ) (v : Notes) → v.record_of.feeds ≡ true → Learns (AreNoted plan) port v (λ items. IsConfirmed v)
+noted_confirms plan port v feeds items views h at =
     let mine = h.1.each port v at in
     let own = mine.own feeds in
     (subst (λ l. All (IsFed l) v.known) (sym own.0) mine.known, own.1)

@@ -59,10 +59,10 @@ FedEnd v x w = EndFed v.record_of x w.record_of × (w.fed ≡ v.fed) × (w.known
 abbrev pub Took : KnownPlan → Notes → Entry → Notes → Type 0
 Took plan v x w = TookEntry plan v.record_of x w.record_of × (w.known ≡ v.known ++ piece_in x)
 
--- a pass that has heard a witness
-abbrev pub after_testimony : Notes → Notes → Notes
-after_testimony v w = notes v.record_of v.fed (v.known ++ w.known)
+-- a pass that knows what a witness knows too
+abbrev pub with_witness : Notes → Notes → Notes
+with_witness v w = notes v.record_of v.fed (v.known ++ w.known)
 
 -- each piece that the feeder was told of was fed; it has fed as many as its record says
-abbrev pub WasHeard : Notes → Type 0
-WasHeard v = All (IsFed v.fed) v.known × (length v.fed ≡ v.record_of.fed)
+abbrev pub IsConfirmed : Notes → Type 0
+IsConfirmed v = All (IsFed v.fed) v.known × (length v.fed ≡ v.record_of.fed)

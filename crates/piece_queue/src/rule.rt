@@ -78,9 +78,9 @@ impl Join<Notes> for Worker {
 }
 
 /// A witness is split from a pass, and knows what that one knows.
-pub struct Testimony;
+pub struct Witnessing;
 
-impl Split<Notes> for Testimony {
+impl Split<Notes> for Witnessing {
     ghost use Rattle.std.specs.Prelude.{[]};
     ghost use Rattle.piece_queue.specs.Rule.{nobody};
     ghost use Rattle.piece_queue.specs.Known.{notes};
@@ -90,12 +90,12 @@ impl Split<Notes> for Testimony {
     ghost right = { λ v. notes nobody [] v.known };
 }
 
-impl Join<Notes> for Testimony {
+impl Join<Notes> for Witnessing {
     ghost use Rattle.std.specs.Prelude.{[]};
     ghost use Rattle.piece_queue.specs.Rule.{nobody};
-    ghost use Rattle.piece_queue.specs.Known.{after_testimony, notes};
+    ghost use Rattle.piece_queue.specs.Known.{with_witness, notes};
 
-    ghost both = { after_testimony };
+    ghost both = { with_witness };
 
     ghost spent = { notes nobody [] [] };
 }
@@ -159,11 +159,11 @@ impl<A: Allocator> Lesson<Entry<A>, Notes> for Account {
     ghost fact = { λ v items. (v.record_of.told ≡ v.record_of.fed) × IsAccounted v.record_of };
 }
 
-/// What the feeder knows once a witness was heard: each piece of the witness was fed.
-pub struct Hearing;
+/// What the feeder knows once a witness is confirmed: each piece of the witness was fed.
+pub struct Confirmation;
 
-impl<A: Allocator> Lesson<Entry<A>, Notes> for Hearing {
-    ghost use Rattle.piece_queue.specs.Known.{WasHeard};
+impl<A: Allocator> Lesson<Entry<A>, Notes> for Confirmation {
+    ghost use Rattle.piece_queue.specs.Known.{IsConfirmed};
 
-    ghost fact = { λ v items. WasHeard v };
+    ghost fact = { λ v items. IsConfirmed v };
 }

@@ -7,7 +7,7 @@ ghost use Rattle.piece_queue.specs.Rule.{feeder, worker, after_split, after_join
 
 use crate::entry::Entry;
 use crate::rule::{
-    Account, FeedsEnd, FeedsPiece, Hearing, Notes, PlanOrder, Takes, Testimony, Worker,
+    Account, Confirmation, FeedsEnd, FeedsPiece, Notes, PlanOrder, Takes, Witnessing, Worker,
 };
 use crate::witness::Witness;
 use crossbeam_queue::{ArrayQueue, Pass, RuledArrayQueue};
@@ -230,18 +230,18 @@ impl<P: Plan, A: Allocator> Work<P, A> {
         ensures same { pass.new ≡ pass.old }
         ensures witness { (result.queue ≡ self.now.queue) × (result.pieces ≡ []) }
     {
-        let pass = self.queue.another::<Testimony>(&mut pass.pass);
+        let pass = self.queue.another::<Witnessing>(&mut pass.pass);
         Witness { pass }
     }
 
     /// A witness of the pieces that a worker took.
-    pub fn testify(&self, pass: &mut WorkerPass<A>) -> Witness<A>
+    pub fn witness_of(&self, pass: &mut WorkerPass<A>) -> Witness<A>
         requires { pass.old.queue ≡ self.now.queue }
         ensures same { pass.new ≡ pass.old }
         ensures witness { (result.queue ≡ self.now.queue) × (result.pieces ≡ pass.old.pieces) }
     {
         Witness {
-            pass: self.queue.another::<Testimony>(&mut pass.pass),
+            pass: self.queue.another::<Witnessing>(&mut pass.pass),
         }
     }
 
@@ -252,19 +252,19 @@ impl<P: Plan, A: Allocator> Work<P, A> {
         ensures pieces { witness.new.pieces ≡ witness.old.pieces ++ other.pieces }
     {
         let Witness { pass: other } = other;
-        self.queue.absorb::<Testimony>(&mut witness.pass, other);
+        self.queue.absorb::<Witnessing>(&mut witness.pass, other);
     }
 
     /// Each piece that a witness knows of was fed, and stands at its id among those that were. They are as many as the
     /// record of the feeder says.
-    pub fn hear(&self, pass: FeederPass<A>, witness: Witness<A>)
+    pub fn confirm(&self, pass: FeederPass<A>, witness: Witness<A>)
         requires { (pass.queue ≡ self.now.queue) × (witness.queue ≡ self.now.queue) }
         ensures fed { All (IsFed pass.pieces) witness.pieces }
         ensures number { length pass.pieces ≡ pass.record_of.fed }
     {
         let FeederPass { mut pass } = pass;
         let Witness { pass: witness } = witness;
-        self.queue.absorb::<Testimony>(&mut pass, witness);
-        self.queue.learn_as::<Hearing>(&mut pass);
+        self.queue.absorb::<Witnessing>(&mut pass, witness);
+        self.queue.learn_as::<Confirmation>(&mut pass);
     }
 }

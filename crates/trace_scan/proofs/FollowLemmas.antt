@@ -1,64 +1,59 @@
--- What a follower was fed of a source, and what its sink took.
-use Rattle.std.proofs.Common.{◌≡◌, ◌≢◌, ◌∙◌, sym, ap, subst, refl, ℕ, ◌<◌, ◌≤◌, ◌^◌, List, [], ◌++◌, length, Option, Some, None, Result, Ok, Err, IfOk, IfErr, append-nil, append_assoc, arith, inl, inr}
+-- What a sink took of a trace that is followed, and what a refusal says of it.
+use Rattle.std.proofs.Common.{◌≡◌, ◌≢◌, ◌∙◌, sym, ap, subst, refl, ℕ, ◌<◌, ◌≤◌, ◌^◌, List, [], ◌++◌, length, Option, Some, None, Result, Ok, Err, IfOk, IfErr, OnOk, append-nil, arith, inl, inr, ◌⊎◌}
+use Rattle.std.specs.Prelude.{IfSome}
 use Rattle.std.proofs.Math.Seq.{take-length}
-use Rattle.line_model.specs.channels.Channels.{Channel}
-use Rattle.line_model.specs.basics.Device.{Gives, with_more}
+use Rattle.line_model.specs.basics.Device.{with_more}
 use Rattle.line_model.specs.text.Text.{early}
 use Rattle.line_model.specs.traces.Traces.{trace_report}
-use Rattle.line_model.specs.declared.interface.Interface.{Interface}
 use Rattle.line_model.specs.declared.totals.Summary.{Summary}
 use Rattle.line_model.specs.declared.fault.Fault.{Fault}
 use Rattle.line_model.specs.declared.fault.Fault.TheVariants.{Memory, Trace, Read, Write}
+use Rattle.channel_run.specs.declared.run.Channel.{Ghosts as Machine}
 use Rattle.live_report.specs.declared.follow.Follower.{Follower}
-use Rattle.live_report.specs.Follows.{HasFindings, HasFindingsAtLine, HasFirst, IsRefusalOf, StandsFor}
+use Rattle.live_report.specs.Follows.{HasFindings, HasFindingsAtLine, HasFirst, HasFollowed, IsFed, IsRefusalOf}
 use Rattle.live_report.specs.Found.{found_text}
-use Rattle.live_report.specs.Reports.{IsRefusal, IsReported}
+use Rattle.live_report.specs.Reports.{IsRefusal, IsReportFault, IsReported}
 use Rattle.live_report.proofs.FollowLemmas.{nothing_told}
-use Rattle.piece_feed.specs.Readings.{IsRefusedBy}
-use Rattle.trace_text.proofs.DecidedLemmas.{decided_before, none_decided}
-use Rattle.trace_scan.specs.Follow.{IsFollowRefusal, IsFollowed, IsGiven, IsStopped, IsToldOf}
+use Rattle.trace_text.specs.Sources.{HasFailed, IsFedAll, IsFedUpTo, IsRefusedBy}
+use Rattle.trace_text.proofs.DecidedLemmas.{all_sound, decided_before}
+use Rattle.trace_text.proofs.SourceLemmas.{sound_before, all_sound as sound_at_end}
+use Rattle.trace_scan.specs.Follow.{IsFollowRefusal, IsFollowed, IsRefusedAfter, IsToldOf}
+use Rattle.trace_scan.specs.Scan.{IsScanFault}
+use Rattle.trace_scan.proofs.ScanLemmas.{report_scan}
 
--- a follower was fed what a source gave, and the sink has the lines of what was found
-pub record Reached {A C : Type 0} (I : C → Interface) (N : C → ℕ) (S : C → Channel → Type 0) (left after before taken : Option (List ℕ)) (f : Follower A C) : Type 0 where
-  pub given : List ℕ
-  pub stands : StandsFor I N S f given
-  pub told : HasFindings before taken given
-  pub source : IsGiven left after given
+pub nothing_followed : {A C : Type 0} (m : Machine C A) (taken : Option (List ℕ)) (n : ℕ) (f : Follower A C) → HasFollowed m [] f → IsFollowed m taken taken n n [] f
+nothing_followed m taken n f s = record { stands = s; told = nothing_told taken; rising = omega arith }
 
-pub begun : {A C : Type 0} → (I : C → Interface) (N : C → ℕ) (S : C → Channel → Type 0) (left taken : Option (List ℕ)) (f : Follower A C) → StandsFor I N S f [] → Reached I N S left left taken taken f
-begun I N S left taken f s = record { given = []; stands = s; told = nothing_told taken; source = λ text told. (text, refl, told) }
+-- what has followed a text may be fed and ended
+pub fed_of : {A C : Type 0} (m : Machine C A) (text : List ℕ) (f : Follower A C) → HasFollowed m text f → IsFed m.interface_of m.number_of m.stands_for f
+fed_of m text f s = record { fed = λ running. (text, s); kinds = subst (λ o. IfSome o IsReportFault) (sym s.running) tt }
 
-more_given : (left after next : Option (List ℕ)) (given bytes : List ℕ) (room : ℕ) → IsGiven left after given → Gives after next bytes room → IsGiven left next (given ++ bytes)
-more_given left after next given bytes room source gives text told =
-    let before = source text told in
-    let more = gives.told before.0 before.2 in
-    (more.0, before.1 ∙ ap (λ xs. given ++ xs) more.2 ∙ sym (append_assoc given bytes more.0), more.1)
+-- ---- one more chunk
 
-pub fed_more : {A C : Type 0} → (I : C → Interface) (N : C → ℕ) (S : C → Channel → Type 0) (left after next before taken taken_next : Option (List ℕ)) (f g : Follower A C) (bytes : List ℕ) (room : ℕ)
-    → (r : Reached I N S left after before taken f) → Gives after next bytes room → StandsFor I N S g (r.given ++ bytes) → HasFindings before taken_next (r.given ++ bytes) → Reached I N S left next before taken_next g
-fed_more I N S left after next before taken taken_next f g bytes room r gives s told = record {
-  given = r.given ++ bytes;
-  stands = s;
-  told = told;
-  source = more_given left after next r.given bytes room r.source gives;
+pub follow_fed : {A C T : Type 0} (m : Machine C A) (r : Result T Fault) (before taken next : Option (List ℕ)) (x y z : ℕ) (text bytes : List ℕ) (f g : Follower A C) → IsFollowed m before taken x y text f → OnOk r (HasFollowed m (text ++ bytes) g) → OnOk r (HasFindings before next (text ++ bytes)) → y ≤ z
+    → OnOk r (IsFollowed m before next x z (text ++ bytes) g)
+follow_fed m (Ok u) before taken next x y z text bytes f g was s told rises = record { stands = s; told = told; rising = omega (arith, was.rising, rises) }
+follow_fed m (Err e) before taken next x y z text bytes f g was s told rises = tt
+
+pub follow_refused : {T : Type 0} (r : Result T Fault) (before taken : Option (List ℕ)) (x y z : ℕ) (text last : List ℕ) → x ≤ y → y ≤ z → IfErr r (IsRefusalOf (early (text ++ last))) → HasFirst before taken (found_text (text ++ last)) → (z ≡ y → IfErr r (HasFindingsAtLine before taken (text ++ last)))
+    → IfErr r IsReportFault → (r ≡ Err Write → y < z) → IfErr r (IsRefusedAfter before taken x z text last)
+follow_refused (Ok u) before taken x y z text last le le' refusal first all kinds failed = tt
+follow_refused (Err f) before taken x y z text last le le' refusal first all kinds failed = record {
+  refusal = refusal;
+  first = first;
+  at_line = λ same. all (omega (arith, le, le', same));
+  kinds = kinds;
+  failed = λ w. let more = failed (ap Err w) in omega (arith, le, more);
 }
 
-pub all_read : {A C : Type 0} → (I : C → Interface) (N : C → ℕ) (S : C → Channel → Type 0) (left after next before taken : Option (List ℕ)) (f : Follower A C) (bytes : List ℕ) (room : ℕ)
-    → Reached I N S left after before taken f → Gives after next bytes room → 0 < room → bytes ≡ [] → IsFollowed I N S left next before taken f
-all_read I N S left after next before taken f bytes room r gives some none = record {
-  text = r.given;
-  stands = r.stands;
-  told = r.told;
-  source = λ text told.
-      let before = r.source text told in
-      let rest = gives.end before.0 before.2 some none in
-      let more = gives.told before.0 before.2 in (
-        before.1 ∙ ap (λ xs. r.given ++ xs) rest ∙ append-nil r.given,
-        more.1 ∙ ap (λ xs. Some xs) (sym (ap (λ xs. xs ++ more.0) none) ∙ sym more.2 ∙ rest),
-      );
-}
+no_report_read : (f : Fault) → IsReportFault f → f ≡ Read → ⊥
+no_report_read f h e = subst IsReportFault e h
 
--- ---- where reading was refused
+pub follow_reads : {T : Type 0} (r : Result T Fault) → IfErr r IsReportFault → IfErr r (λ f. f ≢ Read)
+follow_reads (Ok u) t = tt
+follow_reads (Err f) t = no_report_read f t
+
+-- ---- where reading stopped
 
 follow_refusal : (given bytes rest : List ℕ) (f : Fault) → early given ≡ None → length bytes ≤ 2 ^ 16 → IsRefusalOf (early (given ++ bytes)) f → IsFollowRefusal (given ++ bytes) rest f
 follow_refusal given bytes rest Memory sound few h = decided_before given bytes sound few
@@ -71,37 +66,73 @@ told_of before taken well given rest (Trace line kind) first all = (first, all)
 told_of before taken well given rest Write first all = inl first
 told_of before taken well given rest _ first all = first
 
-pub stopped_at : {A C : Type 0} → (I : C → Interface) (N : C → ℕ) (S : C → Channel → Type 0) (left after next before taken taken_next : Option (List ℕ)) (f : Follower A C) (bytes : List ℕ) (room : ℕ) (x y z : ℕ) (told : Fault)
-    → (r : Reached I N S left after before taken f) → Gives after next bytes room → length bytes ≤ 2 ^ 16 → IsRefusalOf (early (r.given ++ bytes)) told → HasFirst before taken_next (found_text (r.given ++ bytes)) → x ≤ y → y ≤ z
-    → (z ≡ y → HasFindingsAtLine before taken_next (r.given ++ bytes) told) → IsStopped left next before taken_next (z ≡ x) told
-stopped_at I N S left after next before taken taken_next f bytes room x y z told r gives few refusal first le le' all = record {
-  given = r.given ++ bytes;
-  source = more_given left after next r.given bytes room r.source gives;
-  refusal = λ rest. follow_refusal r.given bytes rest told r.stands.live.reads.sound few refusal;
-  told = λ rest. told_of before taken_next (z ≡ x) (r.given ++ bytes) rest told first (λ same. all (omega (arith, le, le', same)));
-}
-
 -- all of some bytes are a first part of them
 all_first : (before taken : Option (List ℕ)) (bytes : List ℕ) → taken ≡ with_more before bytes → HasFirst before taken bytes
 all_first before taken bytes h = (length bytes, h ∙ ap (with_more before) (sym (take-length bytes)))
 
-pub failed_read : {A C : Type 0} → (I : C → Interface) (N : C → ℕ) (S : C → Channel → Type 0) (left after next before taken : Option (List ℕ)) (f : Follower A C) (well : Type 0)
-    → Reached I N S left after before taken f → next ≡ after → IsStopped left next before taken well Read
-failed_read I N S left after next before taken f well r same = record {
-  given = r.given;
-  source = λ text told. let g = r.source text told in (g.0, g.1, same ∙ g.2);
-  refusal = λ rest. r.stands.live.reads.sound;
-  told = λ rest. all_first before taken (found_text r.given) r.told;
+-- what stops a follower: the source failed, or it refused what the source gave last
+abbrev pub IsFollowStop : {A C : Type 0} → Machine C A → (before taken : Option (List ℕ)) → (x z : ℕ) → Follower A C → (fed last : List ℕ) → Fault → Type 0
+IsFollowStop m before taken x z g fed last f = HasFailed (λ text. IsFollowed m before taken x z text g) fed last f ⊎ IsRefusedAfter before taken x z fed last f
+
+-- what a refusal says of the bytes that were given, and of the sink
+record Stop (before taken : Option (List ℕ)) (well : Type 0) (given : List ℕ) (f : Fault) : Type 0 where
+  pub refusal : (rest : List ℕ) → IsFollowRefusal given rest f
+  pub told : (rest : List ℕ) → IsToldOf before taken well given rest f
+
+stop_failed : (before taken : Option (List ℕ)) (well : Type 0) (given : List ℕ) → early given ≡ None → HasFindings before taken given → Stop before taken well given Read
+stop_failed before taken well given sound told = record { refusal = λ rest. sound; told = λ rest. all_first before taken (found_text given) told }
+
+stop_is : {A C : Type 0} (m : Machine C A) (before taken : Option (List ℕ)) (x z : ℕ) (g : Follower A C) (fed last : List ℕ) (f : Fault) → early fed ≡ None → length last ≤ 2 ^ 16 → IsFollowStop m before taken x z g fed last f → Stop before taken (z ≡ x) (fed ++ last) f
+stop_is m before taken x z g fed last f sound few (inl why) =
+    subst (Stop before taken (z ≡ x) (fed ++ last)) (sym why.failure)
+    (subst (λ xs. Stop before taken (z ≡ x) (fed ++ xs) Read) (sym why.none) (subst (λ xs. Stop before taken (z ≡ x) xs Read) (sym (append-nil fed)) (stop_failed before taken (z ≡ x) fed sound why.stands.told)))
+stop_is m before taken x z g fed last f sound few (inr why) = record {
+  refusal = λ rest. follow_refusal fed last rest f sound few why.refusal;
+  told = λ rest. told_of before taken (z ≡ x) (fed ++ last) rest f why.first why.at_line;
 }
 
-pub stopped_refused : (text : List ℕ) (left after before taken : Option (List ℕ)) (well : Type 0) (f : Fault) → left ≡ Some text → IsStopped left after before taken well f → IsRefusedBy IsFollowRefusal text after f
-stopped_refused text left after before taken well f told s = let g = s.source text told in record { given = s.given; rest = g.0; whole = g.1; left = g.2; refusal = s.refusal g.0 }
+pub stop_kinds : {A C : Type 0} (m : Machine C A) (before taken : Option (List ℕ)) (x z : ℕ) (g : Follower A C) (fed last : List ℕ) (f : Fault) → IsFollowStop m before taken x z g fed last f → IsScanFault f
+stop_kinds m before taken x z g fed last f (inl why) = subst IsScanFault (sym why.failure) tt
+stop_kinds m before taken x z g fed last f (inr why) = report_scan f why.kinds
 
-pub stopped_taken : (text : List ℕ) (left after before taken : Option (List ℕ)) (well : Type 0) (f : Fault) → left ≡ Some text → IsStopped left after before taken well f → IsRefusedBy (IsToldOf before taken well) text after f
-stopped_taken text left after before taken well f told s = let g = s.source text told in record { given = s.given; rest = g.0; whole = g.1; left = g.2; refusal = s.told g.0 }
+pub stop_write : {A C : Type 0} (m : Machine C A) (before taken : Option (List ℕ)) (x z : ℕ) (g : Follower A C) (fed last : List ℕ) (f : Fault) → IsFollowStop m before taken x z g fed last f → f ≡ Write → x < z
+stop_write m before taken x z g fed last f (inl why) w = absurd (let same : Read ≡ Write = sym why.failure ∙ w in cc)
+stop_write m before taken x z g fed last f (inr why) w = why.failed w
 
-pub stopped_given : (left after before taken : Option (List ℕ)) (well : Type 0) (f : Fault) → IsStopped left after before taken well f → (given : List ℕ) × (rest : List ℕ) × IsFollowRefusal given rest f × IsToldOf before taken well given rest f
-stopped_given left after before taken well f s = (s.given, [], s.refusal [], s.told [])
+-- by what a reader of the source says
+abbrev pub IsFollowedUpTo : {A C : Type 0} → Machine C A → (left after asked before taken : Option (List ℕ)) → (x z : ℕ) → Follower A C → Fault → Type 0
+IsFollowedUpTo m left after asked before taken x z g f = IsFedUpTo left after asked (λ text. IsFollowed m before taken x z text g) (IsRefusedAfter before taken x z) f
+
+pub stopped_refused : {A C : Type 0} (m : Machine C A) (left after asked before taken : Option (List ℕ)) (x z : ℕ) (g : Follower A C) (f : Fault) (text : List ℕ) → left ≡ Some text → IsFollowedUpTo m left after asked before taken x z g f → IsRefusedBy IsFollowRefusal text after asked f
+stopped_refused m left after asked before taken x z g f text told u =
+    let at = u.given text told in
+    record {
+      given = u.fed ++ u.last;
+      rest = at.0;
+      whole = at.1;
+      left = at.2;
+      order = inr (sound_before left after asked (λ t. IsFollowed m before taken x z t g) (IsRefusedAfter before taken x z) f text u told);
+      refusal = (stop_is m before taken x z g u.fed u.last f u.sound u.few u.why).refusal at.0;
+    }
+
+pub stopped_taken : {A C : Type 0} (m : Machine C A) (left after asked before taken : Option (List ℕ)) (x z : ℕ) (g : Follower A C) (f : Fault) (text : List ℕ) → left ≡ Some text → IsFollowedUpTo m left after asked before taken x z g f
+    → IsRefusedBy (IsToldOf before taken (z ≡ x)) text after asked f
+stopped_taken m left after asked before taken x z g f text told u =
+    let at = u.given text told in
+    record {
+      given = u.fed ++ u.last;
+      rest = at.0;
+      whole = at.1;
+      left = at.2;
+      order = inr (sound_before left after asked (λ t. IsFollowed m before taken x z t g) (IsRefusedAfter before taken x z) f text u told);
+      refusal = (stop_is m before taken x z g u.fed u.last f u.sound u.few u.why).told at.0;
+    }
+
+pub stopped_given : {A C : Type 0} (m : Machine C A) (left after asked before taken : Option (List ℕ)) (x z : ℕ) (g : Follower A C) (f : Fault) → IsFollowedUpTo m left after asked before taken x z g f
+    → (given : List ℕ) × (rest : List ℕ) × IsFollowRefusal given rest f × IsToldOf before taken (z ≡ x) given rest f
+stopped_given m left after asked before taken x z g f u =
+    let stop = stop_is m before taken x z g u.fed u.last f u.sound u.few u.why in
+    (u.fed ++ u.last, [], stop.refusal [], stop.told [])
 
 -- ---- where all was read
 
@@ -113,8 +144,8 @@ end_some given before taken (Ok sums) h = (given, h)
 end_some given before taken (Err f) h = tt
 
 at_end : (given : List ℕ) (f : Fault) → early given ≡ None → IsRefusal given f → IsFollowRefusal given [] f
-at_end given Memory sound h = none_decided given sound
-at_end given (Trace line kind) sound h = (none_decided given sound, inr (refl, h))
+at_end given Memory sound h = all_sound given sound
+at_end given (Trace line kind) sound h = (all_sound given sound, inr (refl, h))
 at_end given Write sound h = sound
 at_end given _ sound h = absurd h
 
@@ -133,17 +164,22 @@ pub end_given : (given : List ℕ) (before taken after : Option (List ℕ)) (wel
 end_given given before taken after well (Ok sums) sound h r kept part = tt
 end_given given before taken after well (Err f) sound h r kept part = (given, [], at_end given f sound r, told_at_end given before taken after well f h r kept (λ e. part (ap Err e)))
 
-pub end_refused : (text given : List ℕ) (left : Option (List ℕ)) (r : Result Summary Fault) → text ≡ given → left ≡ Some [] → early given ≡ None → IfErr r (IsRefusal given) → IfErr r (IsRefusedBy IsFollowRefusal text left)
-end_refused text given left (Ok sums) same e sound h = tt
-end_refused text given left (Err f) same e sound h = record { given = given; rest = []; whole = same ∙ sym (append-nil given); left = e; refusal = at_end given f sound h }
+pub end_refused : (source after asked : Option (List ℕ)) (was_fed : List ℕ → Type 0) (text : List ℕ) (r : Result Summary Fault) → (w : IsFedAll source after asked was_fed) → source ≡ Some text → IfErr r (IsRefusal w.text) → IfErr r (IsRefusedBy IsFollowRefusal text after asked)
+end_refused source after asked was_fed text (Ok sums) w told h = tt
+end_refused source after asked was_fed text (Err f) w told h =
+    let all = w.source text told in
+    record { given = w.text; rest = []; whole = all.0 ∙ sym (append-nil w.text); left = all.1; order = inr (sound_at_end source after asked was_fed text w told); refusal = at_end w.text f w.sound h }
 
-pub end_taken : (text given : List ℕ) (left before taken after : Option (List ℕ)) (well : Type 0) (r : Result Summary Fault) → text ≡ given → left ≡ Some [] → HasFindings before taken given → IfErr r (IsRefusal given)
-    → IfErr r (λ fault. fault ≢ Write → after ≡ taken) → (r ≡ Err Write → HasFirst before after (trace_report given)) → IfErr r (IsRefusedBy (IsToldOf before after well) text left)
-end_taken text given left before taken after well (Ok sums) same e h r kept part = tt
-end_taken text given left before taken after well (Err f) same e h r kept part = record {
-  given = given;
-  rest = [];
-  whole = same ∙ sym (append-nil given);
-  left = e;
-  refusal = told_at_end given before taken after well f h r kept (λ e. part (ap Err e));
-}
+pub end_taken : (source left asked : Option (List ℕ)) (was_fed : List ℕ → Type 0) (text : List ℕ) (before taken after : Option (List ℕ)) (well : Type 0) (r : Result Summary Fault) → (w : IsFedAll source left asked was_fed) → source ≡ Some text → HasFindings before taken w.text → IfErr r (IsRefusal w.text)
+    → IfErr r (λ fault. fault ≢ Write → after ≡ taken) → (r ≡ Err Write → HasFirst before after (trace_report w.text)) → IfErr r (IsRefusedBy (IsToldOf before after well) text left asked)
+end_taken source left asked was_fed text before taken after well (Ok sums) w told h r kept part = tt
+end_taken source left asked was_fed text before taken after well (Err f) w told h r kept part =
+    let all = w.source text told in
+    record {
+      given = w.text;
+      rest = [];
+      whole = all.0 ∙ sym (append-nil w.text);
+      left = all.1;
+      order = inr (sound_at_end source left asked was_fed text w told);
+      refusal = told_at_end w.text before taken after well f h r kept (λ e. part (ap Err e));
+    }

@@ -1,4 +1,3 @@
-pub mod ReadingLemmas
 pub mod ScanLemmas
 pub mod ThreadedLemmas
 pub mod FollowLemmas

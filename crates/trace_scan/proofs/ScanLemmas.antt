@@ -1,5 +1,5 @@
 -- What a refusal says of the bytes that were given, and the report of a text that was read.
-use Rattle.std.proofs.Common.{◌≡◌, sym, refl, subst, ℕ, List, [], Some, None, Option, Result, Ok, Err, IfOk, IfErr, take, append-nil, inl, inr}
+use Rattle.std.proofs.Common.{◌≡◌, ◌≢◌, ◌∙◌, sym, refl, subst, ℕ, List, [], ◌++◌, Some, None, Option, Result, Ok, Err, IfOk, IfErr, OnOk, take, append-nil, inl, inr, ◌⊎◌}
 use Rattle.line_model.specs.basics.Device.{with_more}
 use Rattle.line_model.specs.text.Text.{early, fault, head, rows}
 use Rattle.line_model.specs.traces.Traces.{trace_report}
@@ -11,36 +11,42 @@ use Rattle.line_model.specs.declared.fault.Fault.{Fault}
 use Rattle.line_model.specs.declared.fault.Fault.TheVariants.{Memory, Trace, Read, Write}
 use Rattle.live_report.specs.Reports.{IsRefusal as IsReportRefusal, IsReportFault, IsReported, IsTaken}
 use Rattle.trace_text.specs.Watched.{IsReportOf}
-use Rattle.trace_text.proofs.DecidedLemmas.{none_decided}
+use Rattle.trace_text.specs.Sources.{HasFailed, IsFedAll, IsFedUpTo, IsRefusedBy}
+use Rattle.trace_text.specs.StandsFor.{IsFaultOf, IsTextFault}
 use Rattle.live_report.proofs.LawLemmas.{no_fault_so_far}
-use Rattle.piece_feed.specs.Readings.{IsReadingFault, IsRefusal, IsRefusedBy}
-use Rattle.trace_scan.specs.Scan.{IsEarlyRefusal, IsPartTaken, IsScanFault}
+use Rattle.piece_feed.specs.Readings.{IsRefusal}
+use Rattle.trace_scan.specs.Scan.{IsPartTaken, IsScanFault}
 
 pub report_is : (text : List ℕ) (i : Interface) (made : Report) → fault text ≡ None → head text ≡ Some i → made ≡ report_of i (rows text) → IsReportOf text made
 report_is text i made sound h is = record { sound = sound; interface = i; header = h; report = is }
 
 -- ---- where the whole text was read
 
-at_end : (text : List ℕ) (f : Fault) → early text ≡ None → IsReportRefusal text f → IsRefusal text [] f
-at_end text Memory sound h = none_decided text sound
-at_end text (Trace line kind) sound h = (none_decided text sound, inr (refl, h))
-at_end text Write sound h = (refl, h)
-at_end text _ sound h = absurd h
+at_end : (text : List ℕ) (f : Fault) → IsReportRefusal text f → IsRefusal text [] f
+at_end text Memory h = tt
+at_end text (Trace line kind) h = inr (refl, h)
+at_end text Write h = (refl, h)
+at_end text _ h = absurd h
 
-pub refused_at_end : (text : List ℕ) (left : Option (List ℕ)) (f : Fault) → early text ≡ None → IsReportRefusal text f → left ≡ Some [] → IsRefusedBy IsRefusal text left f
-refused_at_end text left f sound h e = record { given = text; rest = []; whole = sym (append-nil text); left = e; refusal = at_end text f sound h }
+-- the last call of the source gave nothing
+refused_at_end : (text : List ℕ) (left asked : Option (List ℕ)) (f : Fault) → early text ≡ None → IsReportRefusal text f → left ≡ Some [] → asked ≡ Some [] → IsRefusedBy IsRefusal text left asked f
+refused_at_end text left asked f sound h e none =
+    let whole = sym (append-nil text) in
+    record { given = text; rest = []; whole = whole; left = e; order = inr (record { before = text; last = []; whole = whole; left = none; sound = sound }); refusal = at_end text f h }
 
-pub end_refused : (r : Result Summary Fault) (text : List ℕ) (left : Option (List ℕ)) → early text ≡ None → IfErr r (IsReportRefusal text) → left ≡ Some [] → IfErr r (IsRefusedBy IsRefusal text left)
-end_refused (Ok sums) text left sound h e = tt
-end_refused (Err f) text left sound h e = refused_at_end text left f sound h e
+pub end_refused : (r : Result Summary Fault) (before left asked : Option (List ℕ)) (was_fed : List ℕ → Type 0) (text : List ℕ) → (w : IsFedAll before left asked was_fed) → before ≡ Some text → IfErr r (IsReportRefusal w.text) → IfErr r (IsRefusedBy IsRefusal text left asked)
+end_refused (Ok sums) before left asked was_fed text w told h = tt
+end_refused (Err f) before left asked was_fed text w told h =
+    let all = w.source text told in
+    refused_at_end text left asked f (subst (λ t. early t ≡ None) (sym all.0) w.sound) (subst (λ t. IsReportRefusal t f) (sym all.0) h) all.1 all.2
 
 -- the sink's failure comes where the whole text was accepted
-pub write_refused : (text : List ℕ) (left : Option (List ℕ)) (f : Fault) → f ≡ Write → left ≡ Some [] → fault text ≡ None → IsRefusedBy IsRefusal text left f
-write_refused text left f w e h = refused_at_end text left f (no_fault_so_far text h) (subst (IsReportRefusal text) (sym w) h) e
+pub write_refused : (text : List ℕ) (left asked : Option (List ℕ)) (f : Fault) → f ≡ Write → left ≡ Some [] → asked ≡ Some [] → fault text ≡ None → IsRefusedBy IsRefusal text left asked f
+write_refused text left asked f w e none h = refused_at_end text left asked f (no_fault_so_far text h) (subst (IsReportRefusal text) (sym w) h) e none
 
 -- memory ran out after the whole text was accepted
-pub memory_refused : (text : List ℕ) (left : Option (List ℕ)) (f : Fault) → f ≡ Memory → left ≡ Some [] → fault text ≡ None → IsRefusedBy IsRefusal text left f
-memory_refused text left f m e h = refused_at_end text left f (no_fault_so_far text h) (subst (IsReportRefusal text) (sym m) tt) e
+pub memory_refused : (text : List ℕ) (left asked : Option (List ℕ)) (f : Fault) → f ≡ Memory → left ≡ Some [] → asked ≡ Some [] → fault text ≡ None → IsRefusedBy IsRefusal text left asked f
+memory_refused text left asked f m e none h = refused_at_end text left asked f (no_fault_so_far text h) (subst (IsReportRefusal text) (sym m) tt) e none
 
 pub end_of_text : (r : Result Summary Fault) (text : List ℕ) (before after : Option (List ℕ)) → IfOk r (IsReported text before after) → IfOk r (λ sums. (x : List ℕ) × IsReported x before after sums)
 end_of_text (Ok sums) text before after h = (text, h)
@@ -64,23 +70,60 @@ end_kinds (Err f) h = report_scan f h
 
 -- ---- where reading was refused
 
-early_to_any : (given rest : List ℕ) (f : Fault) → IsEarlyRefusal given rest f → IsRefusal given rest f
-early_to_any given rest Memory h = h
-early_to_any given rest (Trace line kind) h = (h.0, inl h.1)
-early_to_any given rest Read h = h
-early_to_any given rest _ h = absurd h
+-- nothing but the text's faults and a failing source stops a walk, and it leaves its sink as it is
+text_scan : (f : Fault) → IsTextFault f → IsScanFault f
+text_scan Memory h = tt
+text_scan (Trace line kind) h = tt
+text_scan _ h = absurd h
 
-pub refused_early : (text : List ℕ) (left : Option (List ℕ)) (f : Fault) → IsRefusedBy IsEarlyRefusal text left f → IsRefusedBy IsRefusal text left f
-refused_early text left f r = record { given = r.given; rest = r.rest; whole = r.whole; left = r.left; refusal = early_to_any r.given r.rest f r.refusal }
+-- what a walk says of bytes that it refused
+abbrev pub IsWalkStop : (kept : Type 0) (fed last : List ℕ) → Fault → Type 0
+IsWalkStop kept fed last told = IsFaultOf (early (fed ++ last)) told × IsTextFault told × kept
 
-pub reading_scan : (f : Fault) → IsReadingFault f → IsScanFault f
-reading_scan Memory h = tt
-reading_scan (Trace line kind) h = tt
-reading_scan Read h = tt
-reading_scan _ h = absurd h
+pub walk_kinds : (was_fed : List ℕ → Type 0) (kept : Type 0) (fed last : List ℕ) (f : Fault) → HasFailed was_fed fed last f ⊎ IsWalkStop kept fed last f → IsScanFault f
+walk_kinds was_fed kept fed last f (inl why) = subst IsScanFault (sym why.failure) tt
+walk_kinds was_fed kept fed last f (inr why) = text_scan f why.1
 
-pub nothing_taken : (taken : Option (List ℕ)) (report : List ℕ) (f : Fault) → IsReadingFault f → IsTaken taken taken report f
-nothing_taken taken report Memory h = refl
-nothing_taken taken report (Trace line kind) h = refl
-nothing_taken taken report Read h = refl
-nothing_taken taken report _ h = absurd h
+pub walk_kept : (was_fed : List ℕ → Type 0) (kept : Type 0) (fed last : List ℕ) (f : Fault) → (was_fed fed → kept) → HasFailed was_fed fed last f ⊎ IsWalkStop kept fed last f → kept
+walk_kept was_fed kept fed last f is (inl why) = is why.stands
+walk_kept was_fed kept fed last f is (inr why) = why.2
+
+no_text_write : (f : Fault) → IsTextFault f → f ≡ Write → ⊥
+no_text_write f h w = subst IsTextFault w h
+
+pub walk_unwritten : (was_fed : List ℕ → Type 0) (kept : Type 0) (fed last : List ℕ) (f : Fault) → HasFailed was_fed fed last f ⊎ IsWalkStop kept fed last f → f ≡ Write → ⊥
+walk_unwritten was_fed kept fed last f (inl why) w = absurd (let same : Read ≡ Write = sym why.failure ∙ w in cc)
+walk_unwritten was_fed kept fed last f (inr why) w = no_text_write f why.1 w
+
+pub nothing_taken : (before after : Option (List ℕ)) (report : List ℕ) (f : Fault) → (f ≡ Write → ⊥) → after ≡ before → IsTaken before after report f
+nothing_taken before after report Write unwritten same = absurd (unwritten refl)
+nothing_taken before after report _ unwritten same = same
+
+-- ---- one more chunk of a walk
+
+pub walked_more : {T : Type 0} (r : Result T Fault) (fed kept : Type 0) → kept → OnOk r fed → OnOk r (fed × kept)
+walked_more (Ok u) fed kept k h = (h, k)
+walked_more (Err f) fed kept k h = tt
+
+pub walk_refused : {T : Type 0} (r : Result T Fault) (refusal : Fault → Type 0) (kept : Type 0) → kept → IfErr r refusal → IfErr r IsTextFault → IfErr r (λ f. refusal f × IsTextFault f × kept)
+walk_refused (Ok u) refusal kept k h t = tt
+walk_refused (Err f) refusal kept k h t = (h, t, k)
+
+no_text_read : (f : Fault) → IsTextFault f → f ≡ Read → ⊥
+no_text_read f h e = subst IsTextFault e h
+
+pub walk_reads : {T : Type 0} (r : Result T Fault) → IfErr r IsTextFault → IfErr r (λ f. f ≢ Read)
+walk_reads (Ok u) t = tt
+walk_reads (Err f) t = no_text_read f t
+
+-- ---- at the end of a walk, whose sink is as it was
+
+pub walk_reported : {K : Type 0} (took : K → Option (List ℕ)) (start sink : K) (after : Option (List ℕ)) (text given : List ℕ) (r : Result Summary Fault) → sink ≡ start → text ≡ given → IfOk r (IsReported given (took sink) after) → IfOk r (IsReported text (took start) after)
+walk_reported took start sink after text given r same e h = subst (λ s. IfOk r (IsReported text (took s) after)) same (subst (λ t. IfOk r (IsReported t (took sink) after)) (sym e) h)
+
+pub walk_taken : {K : Type 0} (took : K → Option (List ℕ)) (start sink : K) (after : Option (List ℕ)) (text given : List ℕ) (r : Result Summary Fault) → sink ≡ start → text ≡ given → IfErr r (IsTaken (took sink) after (trace_report given)) → IfErr r (IsTaken (took start) after (trace_report text))
+walk_taken took start sink after text given r same e h = subst (λ s. IfErr r (IsTaken (took s) after (trace_report text))) same (subst (λ t. IfErr r (IsTaken (took sink) after (trace_report t))) (sym e) h)
+
+pub walk_kept_end : {K : Type 0} (start sink after : K) (r : Result Summary Fault) → sink ≡ start → IfErr r (λ f. f ≢ Write → after ≡ sink) → IfErr r (λ f. f ≢ Write → after ≡ start)
+walk_kept_end start sink after (Ok sums) same h = tt
+walk_kept_end start sink after (Err f) same h = λ n. h n ∙ same

@@ -5,7 +5,6 @@ use Rattle.line_model.specs.declared.fault.Fault.{Fault}
 use Rattle.line_model.specs.declared.fault.Fault.TheVariants.{Memory, Trace, Read as ReadFailed, Write, Start}
 use Rattle.piece_feed.specs.declared.reading.Read.{Read}
 use Rattle.piece_feed.specs.Readings.{IsOutcome, IsReadingFault, IsRefusal}
-use Rattle.trace_text.proofs.DecidedLemmas.{nothing_decided}
 use Rattle.live_report.specs.Reports.{IsTaken}
 use Rattle.trace_scan.specs.Scan.{IsPartTaken}
 use Rattle.trace_scan.specs.declared.threaded.ScanParts.{ScanParts}
@@ -67,51 +66,51 @@ reading_stops _ h = absurd h
 memory_stops : (f : Fault) → f ≡ Memory → IsStopFault f
 memory_stops f m = subst IsStopFault (sym m) tt
 
-worker_stopped : {A : Type 0} (o : Option (Result (Read A) Fault)) (before after : Option (List ℕ)) (failed : Type 0) (fed : List Piece) (f : Fault) → IfSome o (λ r. is_ok r ≡ true) → IsOutcome before after failed fed o → f ≡ Memory → IsStopped before after f
-worker_stopped None before after failed fed f k h m = absurd h
-worker_stopped (Some (Err e)) before after failed fed f k h m = absurd (cc)
-worker_stopped (Some (Ok read)) before after failed fed f k h m = record {
+worker_stopped : {A : Type 0} (o : Option (Result (Read A) Fault)) (before after asked : Option (List ℕ)) (failed : Type 0) (fed : List Piece) (f : Fault) → IfSome o (λ r. is_ok r ≡ true) → IsOutcome before after asked failed fed o → f ≡ Memory → IsStopped before after asked f
+worker_stopped None before after asked failed fed f k h m = absurd h
+worker_stopped (Some (Err e)) before after asked failed fed f k h m = absurd (cc)
+worker_stopped (Some (Ok read)) before after asked failed fed f k h m = record {
   kinds = memory_stops f m;
-  refused = λ text told. let all = h.told text told in memory_refused text after f m all.1 all.0.sound;
+  refused = λ text told. let all = h.told text told in memory_refused text after asked f m all.1 all.2 all.0.sound;
 }
 
 -- the task came back without its turn: no byte was given
 unfed_refusal : (rest : List ℕ) (f : Fault) → (f ≡ Memory) ⊎ (f ≡ Start) → IsRefusal [] rest f
-unfed_refusal rest f (inl m) = subst (IsRefusal [] rest) (sym m) nothing_decided
+unfed_refusal rest f (inl m) = subst (IsRefusal [] rest) (sym m) tt
 unfed_refusal rest f (inr s) = subst (IsRefusal [] rest) (sym s) refl
 
 unfed_stops : (f : Fault) → (f ≡ Memory) ⊎ (f ≡ Start) → IsStopFault f
 unfed_stops f (inl m) = subst IsStopFault (sym m) tt
 unfed_stops f (inr s) = subst IsStopFault (sym s) tt
 
-pub unfed_stopped : (before after : Option (List ℕ)) (f : Fault) → after ≡ before → (f ≡ Memory) ⊎ (f ≡ Start) → IsStopped before after f
-unfed_stopped before after f same why = record {
+pub unfed_stopped : (before after asked : Option (List ℕ)) (f : Fault) → after ≡ before → (f ≡ Memory) ⊎ (f ≡ Start) → IsStopped before after asked f
+unfed_stopped before after asked f same why = record {
   kinds = unfed_stops f why;
-  refused = λ text told. record { given = []; rest = text; whole = refl; left = same ∙ told; refusal = unfed_refusal text f why };
+  refused = λ text told. record { given = []; rest = text; whole = refl; left = same ∙ told; order = inl refl; refusal = unfed_refusal text f why };
 }
 
-pub was_read : {A : Type 0} (o : Option (Result (Read A) Fault)) (before after : Option (List ℕ)) (failed : Type 0) (fed : List Piece) → IsOutcome before after failed fed o → is_some o ≡ true
-was_read None before after failed fed h = absurd h
-was_read (Some r) before after failed fed h = refl
+pub was_read : {A : Type 0} (o : Option (Result (Read A) Fault)) (before after asked : Option (List ℕ)) (failed : Type 0) (fed : List Piece) → IsOutcome before after asked failed fed o → is_some o ≡ true
+was_read None before after asked failed fed h = absurd h
+was_read (Some r) before after asked failed fed h = refl
 
-pub stopped : {T A W : Type 0} (r : Result T Fault) (o : Option (Result (Read A) Fault)) (g : Result W Fault) (before after : Option (List ℕ)) (failed : Type 0) (fed : List Piece) (made : W → Type 0)
-    → IfErr r (λ f. (o ≡ Some (Err f)) ⊎ (IfSome o (λ p. is_ok p ≡ true) × (g ≡ Err f))) → IsOutcome before after failed fed o → MatchResult g made (λ f. f ≡ Memory)
-    → IfErr r (IsStopped before after)
-stopped (Ok t) o g before after failed fed made first h m = tt
-stopped (Err f) o g before after failed fed made (inl e) h m =
-    let read = subst (λ p. IsOutcome before after failed fed p) e h in
+pub stopped : {T A W : Type 0} (r : Result T Fault) (o : Option (Result (Read A) Fault)) (g : Result W Fault) (before after asked : Option (List ℕ)) (failed : Type 0) (fed : List Piece) (made : W → Type 0)
+    → IfErr r (λ f. (o ≡ Some (Err f)) ⊎ (IfSome o (λ p. is_ok p ≡ true) × (g ≡ Err f))) → IsOutcome before after asked failed fed o → MatchResult g made (λ f. f ≡ Memory)
+    → IfErr r (IsStopped before after asked)
+stopped (Ok t) o g before after asked failed fed made first h m = tt
+stopped (Err f) o g before after asked failed fed made (inl e) h m =
+    let read = subst (λ p. IsOutcome before after asked failed fed p) e h in
     record { kinds = reading_stops f read.kinds; refused = λ text told. read.refused text told }
-stopped (Err f) o g before after failed fed made (inr w) h m =
-    worker_stopped o before after failed fed f w.0 h (subst (λ q. MatchResult q made (λ f. f ≡ Memory)) w.1 m)
+stopped (Err f) o g before after asked failed fed made (inr w) h m =
+    worker_stopped o before after asked failed fed f w.0 h (subst (λ q. MatchResult q made (λ f. f ≡ Memory)) w.1 m)
 
 -- ---- what was read and posted
 
-pub parts_are : {A : Type 0} (r : Result (ScanParts A) Fault) (o : Option (Result (Read A) Fault)) (g : Result (Gathered A) Fault) (known : KnownPlan) (workers : ℕ) (before after : Option (List ℕ)) (failed : Type 0) (fed : List Piece)
-    → IfOk r (λ t. (o ≡ Some (Ok t.read)) × (g ≡ Ok t.gathered)) → IsOutcome before after failed fed o → MatchResult g (IsWhole known workers fed) (λ f. f ≡ Memory)
-    → IfOk r (AreScanParts known workers before after)
-parts_are (Err f) o g known workers before after failed fed both h m = tt
-parts_are (Ok t) o g known workers before after failed fed both h m =
-    let read = subst (λ p. IsOutcome before after failed fed p) both.0 h in
+pub parts_are : {A : Type 0} (r : Result (ScanParts A) Fault) (o : Option (Result (Read A) Fault)) (g : Result (Gathered A) Fault) (known : KnownPlan) (workers : ℕ) (before after asked : Option (List ℕ)) (failed : Type 0) (fed : List Piece)
+    → IfOk r (λ t. (o ≡ Some (Ok t.read)) × (g ≡ Ok t.gathered)) → IsOutcome before after asked failed fed o → MatchResult g (IsWhole known workers fed) (λ f. f ≡ Memory)
+    → IfOk r (AreScanParts known workers before after asked)
+parts_are (Err f) o g known workers before after asked failed fed both h m = tt
+parts_are (Ok t) o g known workers before after asked failed fed both h m =
+    let read = subst (λ p. IsOutcome before after asked failed fed p) both.0 h in
     record { fed = fed; whole = subst (λ q. MatchResult q (IsWhole known workers fed) (λ f. f ≡ Memory)) both.1 m; told = λ text told. read.told text told; of_text = read.of_text }
 
 -- the reports are those of the walk over the rows of the text that was read

@@ -8,8 +8,8 @@ use Rattle.line_model.specs.pieces.Plans.{channel_totals}
 use Rattle.line_model.specs.text.Text.{head, rows}
 use Rattle.line_model.specs.declared.totals.Totals.{Totals}
 use Rattle.workers.specs.Gathers.{IsWhole}
-use Rattle.piece_feed.specs.Readings.{IsRefusal, IsRefusedBy}
-use Rattle.piece_feed.specs.Readings.{IsReadOf}
+use Rattle.trace_text.specs.Sources.{IsRefusedBy}
+use Rattle.piece_feed.specs.Readings.{IsReadOf, IsRefusal}
 use Rattle.trace_scan.specs.declared.threaded.ScanParts.{ScanParts}
 
 -- the totals over the channels of a text, those of nothing where it has no header
@@ -17,10 +17,10 @@ abbrev pub trace_totals : List ℕ → Totals
 trace_totals x = elim (head x) [ None ↦ record { posts = 0; findings = 0; octets = 0; segments = 0 } | Some i ↦ channel_totals i (rows x) ]
 
 -- these pieces were fed: those of a text that was read, the one that the source tells if it does; and each of them was run and posted once
-pub record AreScanParts {A : Type 0} (plan : KnownPlan) (workers : ℕ) (before after : Option (List ℕ)) (t : ScanParts A) : Type 0 where
+pub record AreScanParts {A : Type 0} (plan : KnownPlan) (workers : ℕ) (before after asked : Option (List ℕ)) (t : ScanParts A) : Type 0 where
   pub fed : List Piece
   pub whole : IsWhole plan workers fed t.gathered
-  pub told : (text : List ℕ) → before ≡ Some text → IsReadOf text fed t.read × (after ≡ Some [])
+  pub told : (text : List ℕ) → before ≡ Some text → IsReadOf text fed t.read × (after ≡ Some []) × (asked ≡ Some [])
   pub of_text : (text : List ℕ) × IsReadOf text fed t.read
 
 -- the faults that may stop reading and working
@@ -32,9 +32,9 @@ IsStopFault Start = Unit {0}
 IsStopFault _ = ⊥
 
 -- a refusal, by the bytes that were given
-pub record IsStopped (before after : Option (List ℕ)) (f : Fault) : Type 0 where
+pub record IsStopped (before after asked : Option (List ℕ)) (f : Fault) : Type 0 where
   pub kinds : IsStopFault f
-  pub refused : (text : List ℕ) → before ≡ Some text → IsRefusedBy IsRefusal text after f
+  pub refused : (text : List ℕ) → before ≡ Some text → IsRefusedBy IsRefusal text after asked f
 
 -- the faults that a scan with workers may meet
 abbrev pub IsWorkedFault : Fault → Type 0

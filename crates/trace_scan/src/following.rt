@@ -1,13 +1,13 @@
 //! A scan of one thread that follows a trace as it grows.
 
-ghost use Rattle.std.specs.Prelude.{◌≡◌, ℕ, ◌+◌, ◌<◌, ◌≤◌, ◌^◌, [], List, Some, Err, IfErr, IfOk, OnOk};
-ghost use Rattle.live_report.specs.Follows.{IsFed, StandsFor};
+ghost use Rattle.std.specs.Prelude.{◌≡◌, ℕ, ◌+◌, ◌<◌, ◌≤◌, ◌^◌, List, Some, Err, IfErr, IfOk};
 ghost use Rattle.live_report.specs.Reports.{IsReported};
-ghost use Rattle.piece_feed.specs.Readings.{IsRefusedBy};
-ghost use Rattle.trace_scan.specs.Follow.{IsFollowRefusal, IsFollowed, IsStopped, IsToldOf};
+ghost use Rattle.trace_text.specs.FedBytes.{fed_length};
+ghost use Rattle.trace_text.specs.Progress.{bytes_fed};
+ghost use Rattle.trace_text.specs.Sources.{IsRefusedBy};
+ghost use Rattle.trace_scan.specs.Follow.{IsFollowRefusal, IsFollowed, IsRefusedAfter, IsToldOf};
 ghost use Rattle.trace_scan.specs.Scan.{IsScanFault};
 
-use crate::reading::CHUNK;
 use channel_machine::channel::PackedChannel;
 use channel_run::run::Channel;
 use line_model::device::{Sink, Source};
@@ -15,39 +15,30 @@ use line_model::fault::Fault;
 use line_model::totals::Summary;
 use live_report::follow::Follower;
 use std::alloc::Allocator;
+use trace_text::consumer::{Consumer, read_to_end};
 
-/// Feeds a follower all that a source gives, each read as it comes.
-fn follow_all<A: Allocator + Copy, C: Channel<A>, S: Source, K: Sink>(
-    source: &mut S,
-    sink: &mut K,
-    follower: &mut Follower<A, C>,
-) -> Result<(), Fault>
-    requires fed { IsFed C.interface_of C.number_of C.stands_for follower.old }
-    requires nothing { StandsFor C.interface_of C.number_of C.stands_for follower.old [] }
-    ensures fed { IsFed C.interface_of C.number_of C.stands_for follower.new }
-    ensures whole { OnOk result (IsFollowed C.interface_of C.number_of C.stands_for
-        (S.left source.old) (S.left source.new) (K.taken sink.old)
-        (K.taken sink.new) follower.new) }
-    ensures stopped { IfErr result (IsStopped (S.left source.old) (S.left source.new)
-        (K.taken sink.old) (K.taken sink.new) (K.failures sink.new ≡ K.failures sink.old)) }
-    ensures kinds { IfErr result IsScanFault }
-    ensures read_failed { result ≡ Err Fault.Read → S.failures source.old < S.failures source.new }
-    ensures write_failed { result ≡ Err Fault.Write → K.failures sink.old < K.failures sink.new }
-    ensures rising { K.failures sink.old ≤ K.failures sink.new }
-    ensures called { S.calls source.old < S.calls source.new }
-    ensures asked { S.calls source.new ≤ S.calls source.old + (2 ^ 30 + 1) }
-{
-    let mut buffer = [0; CHUNK];
-    loop {
-        match source.read(&mut buffer) {
-            Ok(0) => return Ok(()),
-            Ok(n) => match follower.feed(&buffer[..n], sink) {
-                Ok(()) => {}
-                Err(fault) => return Err(fault),
-            },
-            Err(()) => return Err(Fault::Read),
-        }
+/// A trace that is followed: the sink takes each finding as it comes.
+#[derive(Drop)]
+struct Following<A: Allocator, C: Channel<A>> {
+    follower: Follower<A, C>,
+}
+
+impl<A: Allocator + Copy, C: Channel<A>, K: Sink> Consumer<K> for Following<A, C> {
+    ghost was_fed = { λ first start now sink text. IsFollowed C.Channel (K.taken start) (K.taken sink) (K.failures start) (K.failures sink) text now.follower };
+
+    ghost refused = { λ first start now sink text last told. IsRefusedAfter (K.taken start) (K.taken sink) (K.failures start) (K.failures sink) text last told };
+
+    ghost expects = { λ text. Unit {0} };
+
+    ghost size = { λ now. bytes_fed now.follower.live.lines };
+
+    fn feed(&mut self, chunk: &[u8], sink: &mut K) -> Result<(), Fault> {
+        self.follower.feed(chunk, sink)
     }
+
+    ghost sound = { λ first start now sink text fed. fed.stands.live.reads.sound };
+
+    ghost sized = { λ first start now sink text fed. fed_length now.follower.live.lines text fed.stands.live.reads };
 }
 
 /// Walks a trace in one thread, and writes each finding as soon as the LF of its row was read, and the rest of the report
@@ -62,16 +53,17 @@ pub fn follow<A: Allocator + Copy, S: Source, K: Sink>(
     // Of a text without a fault the sink took exactly the report.
     ensures reported { (text : List ℕ) → S.left source.old ≡ Some text
         → IfOk result (IsReported text (K.taken sink.old) (K.taken sink.new)) }
-    // A refusal is by the bytes that were given.
+    // A refusal is by the bytes that were given, and those before the last call of the source show no faulty line.
     ensures refused { (text : List ℕ) → S.left source.old ≡ Some text
-        → IfErr result (IsRefusedBy IsFollowRefusal text (S.left source.new)) }
+        → IfErr result (IsRefusedBy IsFollowRefusal text (S.left source.new) (S.before source.new)) }
     ensures kinds { IfErr result IsScanFault }
     ensures read_failed { result ≡ Err Fault.Read → S.failures source.old < S.failures source.new }
     ensures write_failed { result ≡ Err Fault.Write → K.failures sink.old < K.failures sink.new }
     // What the sink has at a refusal are first lines of what was found in the bytes that were given.
     ensures taken { (text : List ℕ) → S.left source.old ≡ Some text
         → IfErr result (IsRefusedBy (IsToldOf (K.taken sink.old) (K.taken sink.new)
-        (K.failures sink.new ≡ K.failures sink.old)) text (S.left source.new)) }
+        (K.failures sink.new ≡ K.failures sink.old)) text (S.left source.new)
+        (S.before source.new)) }
     // The source is asked at least once.
     ensures called { S.calls source.old < S.calls source.new }
     ensures asked { S.calls source.new ≤ S.calls source.old + (2 ^ 30 + 1) }
@@ -82,9 +74,9 @@ pub fn follow<A: Allocator + Copy, S: Source, K: Sink>(
         × IsFollowRefusal given rest fault × IsToldOf (K.taken sink.old) (K.taken sink.new)
         (K.failures sink.new ≡ K.failures sink.old) given rest fault) }
 {
-    let mut follower = Follower::<A, PackedChannel<A>>::new(alloc);
-    match follow_all(source, sink, &mut follower) {
-        Ok(()) => follower.end(sink),
-        Err(fault) => Err(fault),
-    }
+    let mut following = Following {
+        follower: Follower::<A, PackedChannel<A>>::new(alloc),
+    };
+    read_to_end(source, &mut following, sink)?;
+    following.follower.end(sink)
 }

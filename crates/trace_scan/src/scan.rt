@@ -1,18 +1,20 @@
 //! A scan of one thread.
 
 ghost use Rattle.std.specs.Prelude.{◌≡◌, ◌≢◌, ℕ, ◌+◌, ◌<◌, ◌≤◌, ◌^◌, List, Some, Err, IfOk, IfErr};
-ghost use Rattle.piece_feed.specs.Readings.{IsRefusal, IsRefusedBy};
+ghost use Rattle.trace_text.specs.Sources.{IsRefusedBy};
+ghost use Rattle.piece_feed.specs.Readings.{IsRefusal};
 ghost use Rattle.live_report.specs.Reports.{IsReported, IsTaken};
 ghost use Rattle.trace_scan.specs.Scan.{IsPartTaken, IsScanFault};
 ghost use Rattle.line_model.specs.traces.Traces.{trace_report};
 
-use crate::reading::feed_all;
+use crate::reading::Walk;
 use channel_machine::channel::PackedChannel;
 use line_model::device::{Sink, Source};
 use line_model::fault::Fault;
 use line_model::totals::Summary;
 use live_report::live::Live;
 use std::alloc::Allocator;
+use trace_text::consumer::read_to_end;
 
 /// Walks a trace in one thread, writes what is found once the whole text was accepted, and answers the report's last
 /// line as numbers. Refuses as reading does, and where the sink fails. The fault of a line is the text's however it goes
@@ -28,9 +30,9 @@ pub fn scan_alone<A: Allocator + Copy, S: Source, K: Sink>(
     // So it is with a source that does not tell its bytes.
     ensures of_text { IfOk result (λ sums. (text : List ℕ)
         × IsReported text (K.taken sink.old) (K.taken sink.new) sums) }
-    // A refusal is by the bytes that were given.
+    // A refusal is by the bytes that were given, and those before the last call of the source show no faulty line.
     ensures refused { (text : List ℕ) → S.left source.old ≡ Some text
-        → IfErr result (IsRefusedBy IsRefusal text (S.left source.new)) }
+        → IfErr result (IsRefusedBy IsRefusal text (S.left source.new) (S.before source.new)) }
     ensures kinds { IfErr result IsScanFault }
     ensures read_failed { result ≡ Err Fault.Read → S.failures source.old < S.failures source.new }
     ensures write_failed { result ≡ Err Fault.Write → K.failures sink.old < K.failures sink.new }
@@ -44,9 +46,9 @@ pub fn scan_alone<A: Allocator + Copy, S: Source, K: Sink>(
     ensures called { S.calls source.old < S.calls source.new }
     ensures asked { S.calls source.new ≤ S.calls source.old + (2 ^ 30 + 1) }
 {
-    let mut live = Live::<A, PackedChannel<A>>::new(alloc);
-    match feed_all(source, &mut live) {
-        Ok(()) => live.end(sink),
-        Err(fault) => Err(fault),
-    }
+    let mut walk = Walk {
+        live: Live::<A, PackedChannel<A>>::new(alloc),
+    };
+    read_to_end(source, &mut walk, sink)?;
+    walk.live.end(sink)
 }

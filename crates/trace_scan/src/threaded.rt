@@ -5,7 +5,8 @@ ghost use Rattle.std.specs.Option.{option_map};
 ghost use Rattle.line_model.specs.traces.Traces.{trace_plan, trace_report};
 ghost use Rattle.line_model.specs.work.Book.{sum_of};
 ghost use Rattle.live_report.specs.Reports.{IsReported, IsTaken};
-ghost use Rattle.piece_feed.specs.Readings.{IsRefusal, IsRefusedBy};
+ghost use Rattle.trace_text.specs.Sources.{IsRefusedBy};
+ghost use Rattle.piece_feed.specs.Readings.{IsRefusal};
 ghost use Rattle.trace_scan.specs.Scan.{IsPartTaken};
 ghost use Rattle.trace_scan.specs.Threaded.{AreScanParts, IsStopped, IsWorkedFault, trace_totals};
 
@@ -22,7 +23,7 @@ use std::marker::Brand;
 use std::sync::Wait;
 use std::thread::Threads;
 use std::time::Clock;
-use workers::{Gate, Gathered, Worked, work_through};
+use workers::{Crew, Gate, Gathered, Worked, work_through};
 
 /// What the reading thread read, and what the workers made of its pieces.
 #[derive(Drop)]
@@ -70,8 +71,9 @@ fn work_on_trace<
     requires workers { (0 < workers) × (workers ≤ 64) }
     requires capacity { (0 < capacity) × (capacity ≤ 4096) }
     ensures parts { IfOk result (AreScanParts P.pieces workers (S.left source.old)
-        (S.left source.new)) }
-    ensures stopped { IfErr result (IsStopped (S.left source.old) (S.left source.new)) }
+        (S.left source.new) (S.before source.new)) }
+    ensures stopped { IfErr result (IsStopped (S.left source.old) (S.left source.new)
+        (S.before source.new)) }
     ensures read_failed { result ≡ Err Fault.Read → S.failures source.old < S.failures source.new }
     ensures start { result ≡ Err Fault.Start → source.new ≡ source.old }
     ensures unasked { S.calls source.new ≡ S.calls source.old → source.new ≡ source.old }
@@ -83,9 +85,12 @@ fn work_on_trace<
         alloc,
         outcome: None,
     };
-    match work_through::<P, A, G, R, Reading<A, S, R>>(
-        rt, alloc, workers, capacity, gate, reading,
-    ) {
+    let crew = Crew {
+        workers,
+        capacity,
+        gate,
+    };
+    match work_through::<P, A, G, R, Reading<A, S, R>>(rt, alloc, crew, reading) {
         Ok(worked) => {
             let Worked { task, gathered } = worked;
             let Reading {
@@ -154,9 +159,9 @@ pub fn scan_with<
         × (scan.totals ≡ trace_totals text)) }
     ensures shares { IfOk result (λ scan. (vec_len scan.shares ≡ workers)
         × (scan.totals ≡ sum_of scan.shares.items)) }
-    // A refusal is by the bytes that were given.
+    // A refusal is by the bytes that were given, and those before the last call of the source show no faulty line.
     ensures refused { (text : List ℕ) → S.left source.old ≡ Some text
-        → IfErr result (IsRefusedBy IsRefusal text (S.left source.new)) }
+        → IfErr result (IsRefusedBy IsRefusal text (S.left source.new) (S.before source.new)) }
     ensures read_failed { result ≡ Err Fault.Read → S.failures source.old < S.failures source.new }
     ensures write_failed { result ≡ Err Fault.Write → K.failures sink.old < K.failures sink.new }
     // Where no thread was made the source was not asked.

@@ -1,6 +1,7 @@
 //! The text of a trace, read in chunks of any size.
 #![tactic(auto)]
 
+pub mod consumer;
 mod content;
 pub mod cuts;
 mod digits;

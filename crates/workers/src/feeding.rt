@@ -65,7 +65,7 @@ pub fn feed_piece<P: Plan, A: Allocator, R: Wait + Clock>(
             Ok(()) => return,
             Err(back) => piece = back,
         }
-        backoff.take(rt);
+        backoff.wait(rt);
     }
     unreachable!()
 }
@@ -110,7 +110,7 @@ fn feed_end<P: Plan, A: Allocator, R: Wait + Clock>(
             Ok(()) => return,
             Err(()) => {}
         }
-        backoff.take(rt);
+        backoff.wait(rt);
     }
     unreachable!()
 }

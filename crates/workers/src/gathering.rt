@@ -73,6 +73,6 @@ pub fn gather_all<'w, P: Plan, L: Ledgers + QueueName, A: Allocator + Copy>(
     ensures refused { IfErr result (λ fault. fault ≡ Fault.Memory) }
 {
     let (gathered, witness) = gather(alloc, book, shares)?;
-    witness.hear(pass);
+    witness.confirm(pass);
     Ok(gathered)
 }

@@ -48,7 +48,7 @@ pub trait Handler<P: Plan, A: Allocator, H: Posted> {
         ensures refused { IfErr result (λ fault. fault ≡ Fault.Memory) };
 }
 
-/// Runs pieces by a gate, and posts their reports at the locked_posts of a book, each with a witness of its piece.
+/// Runs pieces by a gate, and posts their reports to a book, each with a witness of its piece.
 #[derive(Drop)]
 pub struct Posting<'a, 'w, P: Plan, L: Ledgers + QueueName, A: Allocator, G> {
     pub work: &'w Work<P, A>,
@@ -75,7 +75,7 @@ impl<'a, 'w, P: Plan, L: Ledgers + QueueName, A: Allocator + Copy, G: Gate> Hand
             // A report that is answered as posted twice is posted again.
             let witness = PieceWitness {
                 work: self.work,
-                witness: self.work.testify(pass),
+                witness: self.work.witness_of(pass),
                 name: PhantomData,
             };
             match self.locked_posts.post(rt, report, share, witness) {

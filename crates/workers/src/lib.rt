@@ -18,5 +18,5 @@ pub use gate::Gate;
 pub use gathering::{Gathered, gather};
 pub use handler::{Handler, Posted};
 pub use run::{RunOutcome, run_scoped};
-pub use starting::{Crew, crew_for};
-pub use whole::{Worked, work_through};
+pub use starting::{ReadyWorkers, ready_workers};
+pub use whole::{Crew, Worked, work_through};

@@ -6,10 +6,10 @@ ghost use Rattle.workers.specs.Runs.{IsRunOutcome};
 use crate::feeding::{Feed, feed_ends};
 use crate::handler::{Handler, Posted};
 use crate::joining::join_all;
-use crate::starting::{Crew, Started, start_all};
+use crate::starting::{ReadyWorkers, Started, start_all};
 use line_model::fault::Fault;
 use line_model::piece::Plan;
-use piece_queue::{FeederPass, Work};
+use piece_queue::FeederPass;
 use std::alloc::{Allocator, Global};
 use std::sync::Wait;
 use std::thread;
@@ -40,23 +40,22 @@ fn run<
     scope: &'s Scope<'s, &'e ()>,
     rt: &'s R,
     alloc: A,
-    work: &'s Work<P, A>,
     handler: &'s W,
-    crew: Crew<H, A>,
+    ready: ReadyWorkers<'s, P, H, A>,
     task: T,
 ) -> Result<RunOutcome<T, H, A>, (T, Fault)>
-    requires queue { crew.queue ≡ work.now.queue }
-    requires handler { W.handles handler.now work.now.queue }
-    requires some { 0 < crew.count }
+    requires handler { W.handles handler.now ready.queue }
+    requires some { 0 < ready.count }
     requires able { T.can_feed task }
-    ensures ran { IfOk result (IsRunOutcome H.posts (T.feed_gives task) crew.count work.now.queue) }
+    ensures ran { IfOk result (IsRunOutcome H.posts (T.feed_gives task) ready.entry.count ready.entry.queue) }
     ensures refused { IfErr result (λ e. T.unfed task e.0
         × ((e.1 ≡ Fault.Memory) ⊎ (e.1 ≡ Fault.Start))) }
 {
-    let Some(started) = start_all(scope, rt, alloc, work, handler, crew) else {
+    let Some(started) = start_all(scope, rt, alloc, handler, ready) else {
         return Err((task.back(), Fault::Memory));
     };
     let Started {
+        work,
         mut pass,
         running,
         shares,
@@ -89,16 +88,14 @@ pub fn run_scoped<
 >(
     rt: &R,
     alloc: A,
-    work: &Work<P, A>,
     handler: &W,
-    crew: Crew<H, A>,
+    ready: ReadyWorkers<'_, P, H, A>,
     task: T,
 ) -> Result<RunOutcome<T, H, A>, (T, Fault)>
-    requires queue { crew.queue ≡ work.now.queue }
-    requires handler { W.handles handler.now work.now.queue }
-    requires some { 0 < crew.count }
+    requires handler { W.handles handler.now ready.queue }
+    requires some { 0 < ready.count }
     requires able { T.can_feed task }
-    ensures ran { IfOk result (IsRunOutcome H.posts (T.feed_gives task) crew.count work.now.queue) }
+    ensures ran { IfOk result (IsRunOutcome H.posts (T.feed_gives task) ready.entry.count ready.entry.queue) }
     ensures refused { IfErr result (λ e. T.unfed task e.0
         × ((e.1 ≡ Fault.Memory) ⊎ (e.1 ≡ Fault.Start))) }
 {
@@ -106,12 +103,10 @@ pub fn run_scoped<
         thread::scope_env(),
         rt,
         move |scope| -> Result<RunOutcome<T, H, A>, (T, Fault)>
-            requires { (crew.queue ≡ work.now.queue) × (0 < crew.count) × T.can_feed task
-                × W.handles handler.now work.now.queue }
-            ensures { IfOk result (IsRunOutcome H.posts (T.feed_gives task) crew.count
-                work.entry.now.queue)
+            requires { (0 < ready.count) × T.can_feed task × W.handles handler.now ready.queue }
+            ensures { IfOk result (IsRunOutcome H.posts (T.feed_gives task) ready.entry.count ready.entry.queue)
                 × IfErr result (λ e. T.unfed task e.0
                 × ((e.1 ≡ Fault.Memory) ⊎ (e.1 ≡ Fault.Start))) }
-        { run(scope, rt, alloc, work, handler, crew, task) },
+        { run(scope, rt, alloc, handler, ready, task) },
     )
 }

@@ -16,7 +16,7 @@ use std::sync::Wait;
 use std::thread::{PromisedHandle, Scope};
 use std::time::Clock;
 
-/// What a worker starts with.
+/// What a worker starts with: a pass of the queue, and a share of the book.
 #[derive(Drop)]
 pub struct WorkerStart<H, A: Allocator = Global> {
     pub pass: WorkerPass<A>,
@@ -26,61 +26,61 @@ pub struct WorkerStart<H, A: Allocator = Global> {
 /// A worker that runs.
 pub type Running<'w, P, H, A> = PromisedHandle<WorkerOutcome<H, A>, Finishes<'w, P, A>>;
 
-/// The pass of the feeder, and a worker_start for each worker. Contracts see of which queue it is, and how many worker_starts it has.
+/// Workers that are ready to start at a queue, and the pass of its feeder. Contracts see which queue it is, and how many
+/// workers they are.
 #[derive(Drop)]
-pub struct Crew<H: Posted, A: Allocator = Global> {
+pub struct ReadyWorkers<'w, P: Plan, H: Posted, A: Allocator = Global> {
+    pub(crate) work: &'w Work<P, A>,
     pub(crate) pass: FeederPass<A>,
-    pub(crate) worker_starts: Vec<WorkerStart<H, A>, A>,
+    pub(crate) starts: Vec<WorkerStart<H, A>, A>,
 }
 
-impl<H: Posted, A: Allocator> Model for Crew<H, A> {
+impl<'w, P: Plan, H: Posted, A: Allocator> Model for ReadyWorkers<'w, P, H, A> {
     ghost use Rattle.std.specs.Prelude.{◌≡◌, [], All, vec_len};
     ghost use Rattle.piece_queue.specs.Rule.{feeder};
     ghost use Rattle.workers.specs.Workers.{IsWorkerStart};
-    ghost use Rattle.workers.specs.Crews as crews;
+    ghost use Rattle.workers.specs.Ready.{ReadyView};
 
-    ghost Value = { crews.Crew };
+    ghost Value = { ReadyView };
 
-    ghost view = { λ c. record { queue = c.pass.queue; count = vec_len c.worker_starts } };
+    ghost view = { λ c. record { queue = c.work.now.queue; count = vec_len c.starts } };
 
-    ghost invariant = { λ c. (c.pass.record_of ≡ feeder 0 0 (vec_len c.worker_starts) 0 []) × (c.pass.pieces ≡ []) × All (IsWorkerStart H.posts c.pass.queue) c.worker_starts.items };
+    ghost invariant = { λ c. (c.pass.queue ≡ c.work.now.queue) × (c.pass.record_of ≡ feeder 0 0 (vec_len c.starts) 0 []) × (c.pass.pieces ≡ []) × All (IsWorkerStart H.posts c.work.now.queue) c.starts.items };
 }
 
-/// A worker_start for each of so many workers, or want of memory.
-pub fn crew_for<P: Plan, L: Ledgers, A: Allocator + Copy, N: Witness>(
+/// So many workers, each with a pass of the queue and a share of the book; or want of memory.
+pub fn ready_workers<'w, P: Plan, L: Ledgers, A: Allocator + Copy, N: Witness>(
     alloc: A,
-    work: &Work<P, A>,
+    work: &'w Work<P, A>,
     book: &mut Book<P, L, A, N>,
     pass: FeederPass<A>,
     workers: usize,
-) -> Result<Crew<Share<L>, A>, Fault>
+) -> Result<ReadyWorkers<'w, P, Share<L>, A>, Fault>
     requires queue { pass.queue ≡ work.now.queue }
     requires fresh { (pass.record_of ≡ feeder 0 0 0 0 []) × (pass.pieces ≡ []) }
     requires few { workers ≤ 64 }
     requires shares { book.old ≡ 0 }
-    ensures queue { IfOk result (λ crew. crew.queue ≡ work.now.queue) }
-    ensures count { IfOk result (λ crew. crew.count ≡ workers) }
-    ensures given { IfOk result (λ crew. book.new ≡ workers) }
+    ensures queue { IfOk result (λ ready. ready.queue ≡ work.now.queue) }
+    ensures count { IfOk result (λ ready. ready.count ≡ workers) }
+    ensures given { IfOk result (λ ready. book.new ≡ workers) }
     ensures refused { IfErr result (λ fault. fault ≡ Fault.Memory) }
 {
     let mut pass = pass;
-    let mut worker_starts = Vec::new(alloc);
+    let mut starts = Vec::new(alloc);
     for _worker in 0..workers {
-        worker_starts.reserve(1)?;
-        worker_starts.push_reserved(WorkerStart {
+        starts.reserve(1)?;
+        starts.push_reserved(WorkerStart {
             pass: work.split(&mut pass),
             share: book.share(),
         });
     }
-    Ok(Crew {
-        pass,
-        worker_starts,
-    })
+    Ok(ReadyWorkers { work, pass, starts })
 }
 
-/// The feeder's pass, the workers that run, room for their shares, and whether each worker has its thread.
+/// The queue and its feeder's pass, the workers that run, room for their shares, and whether each worker has its thread.
 #[derive(Drop)]
 pub struct Started<'s, P: Plan, H: Posted, A: Allocator> {
+    pub work: &'s Work<P, A>,
     pub pass: FeederPass<A>,
     pub running: Vec<Running<'s, P, H, A>, A>,
     pub shares: Vec<H, A>,
@@ -100,33 +100,33 @@ pub fn start_all<
     scope: &'s Scope<'s, &'e ()>,
     rt: &'s R,
     alloc: A,
-    work: &'s Work<P, A>,
     handler: &'s W,
-    crew: Crew<H, A>,
+    ready: ReadyWorkers<'s, P, H, A>,
 ) -> Option<Started<'s, P, H, A>>
-    requires queue { crew.queue ≡ work.now.queue }
-    requires handler { W.handles handler.now work.now.queue }
-    ensures pass { IfSome result (λ s. (s.pass.queue ≡ work.now.queue)
-        × (s.pass.record_of ≡ feeder 0 0 crew.count 0 []) × (s.pass.pieces ≡ [])) }
+    requires handler { W.handles handler.now ready.queue }
+    ensures queue { IfSome result (λ s. s.work.now.queue ≡ ready.entry.queue) }
+    ensures pass { IfSome result (λ s. (s.pass.queue ≡ s.work.now.queue)
+        × (s.pass.record_of ≡ feeder 0 0 ready.entry.count 0 []) × (s.pass.pieces ≡ [])) }
     ensures room { IfSome result (λ s. (vec_len s.shares ≡ 0)
         × (vec_len s.running ≤ vec_capacity s.shares)) }
-    ensures all { IfSome result (λ s. IsTrue s.all → vec_len s.running ≡ crew.count) }
-    ensures promised { IfSome result (λ s. All (λ h. h.promise.work.now.queue ≡ work.now.queue)
+    ensures all { IfSome result (λ s. IsTrue s.all → vec_len s.running ≡ ready.entry.count) }
+    ensures promised { IfSome result (λ s. All (λ h. h.promise.work.now.queue ≡ s.work.now.queue)
         s.running.items) }
 {
-    let Crew {
+    let ReadyWorkers {
+        work,
         pass: feeder_pass,
-        worker_starts,
-    } = crew;
-    let count = worker_starts.len();
+        starts,
+    } = ready;
+    let count = starts.len();
     let Ok(mut running) = Vec::with_capacity(alloc, count) else {
         return None;
     };
     let Ok(shares) = Vec::with_capacity(alloc, count) else {
         return None;
     };
-    for worker_start in worker_starts {
-        let WorkerStart { pass, share } = worker_start;
+    for start in starts {
+        let WorkerStart { pass, share } = start;
         let started = scope.spawn_with(
             Finishes { work },
             move || -> WorkerOutcome<H, A>
@@ -139,6 +139,7 @@ pub fn start_all<
             Some(one) => running.push_reserved(one),
             None => {
                 return Some(Started {
+                    work,
                     pass: feeder_pass,
                     running,
                     shares,
@@ -148,6 +149,7 @@ pub fn start_all<
         }
     }
     Some(Started {
+        work,
         pass: feeder_pass,
         running,
         shares,

@@ -26,7 +26,7 @@ impl Backoff {
     }
 
     /// Lets the other threads run, and sleeps where it waited for long. The next backoff is longer.
-    pub fn take(&mut self, clock: &impl Clock) {
+    pub fn wait(&mut self, clock: &impl Clock) {
         if self.micros < SHORTEST {
             thread::yield_now();
         } else {

@@ -9,7 +9,7 @@ use crate::gate::Gate;
 use crate::gathering::{Gathered, gather_all};
 use crate::handler::Posting;
 use crate::run::{RunOutcome, run_scoped};
-use crate::starting::crew_for;
+use crate::starting::ready_workers;
 use crate::witness::{PieceWitness, QueueName};
 use findings_book::{Blanks, Book, Ledgers, Share};
 use line_model::fault::Fault;
@@ -20,6 +20,17 @@ use std::marker::Brand;
 use std::sync::Wait;
 use std::thread::Threads;
 use std::time::Clock;
+
+/// So many workers over a queue of so many entries, who run pieces by a gate.
+#[derive(Clone, Copy)]
+pub struct Crew<'a, G> {
+    /// How many workers there are.
+    pub workers: usize,
+    /// How many entries the queue holds.
+    pub capacity: usize,
+    /// How a worker runs a piece.
+    pub gate: &'a G,
+}
 
 /// What became of the task, and what the workers made, or want of memory.
 #[derive(Drop)]
@@ -70,30 +81,29 @@ fn work_with<
     alloc: A,
     mut book: Book<P, L, A, PieceWitness<'w, P, L, A>>,
     queue: (&'w Work<P, A>, FeederPass<A>),
-    workers: usize,
-    gate: &G,
+    crew: Crew<'_, G>,
     task: T,
 ) -> Result<Worked<T, A>, (T, Fault)>
     requires book { book ≡ 0 }
     requires named { queue.0.now.queue ≡ L.queue }
     requires queue { queue.1.queue ≡ queue.0.now.queue }
     requires fresh { (queue.1.record_of ≡ feeder 0 0 0 0 []) × (queue.1.pieces ≡ []) }
-    requires workers { (0 < workers) × (workers ≤ 64) }
+    requires workers { (0 < crew.workers) × (crew.workers ≤ 64) }
     requires able { T.can_feed task }
-    ensures worked { IfOk result (HasWorked P.pieces (T.feed_gives task) workers) }
+    ensures worked { IfOk result (HasWorked P.pieces (T.feed_gives task) crew.entry.workers) }
     ensures refused { IfErr result (λ e. T.unfed task e.0
         × ((e.1 ≡ Fault.Memory) ⊎ (e.1 ≡ Fault.Start))) }
 {
     let (work, pass) = queue;
-    let Ok(crew) = crew_for(alloc, work, &mut book, pass, workers) else {
+    let Ok(ready) = ready_workers(alloc, work, &mut book, pass, crew.workers) else {
         return Err((task.back(), Fault::Memory));
     };
     let posting = Posting {
         work,
         locked_posts: book.locked_posts(),
-        gate,
+        gate: crew.gate,
     };
-    let ran = run_scoped(rt, alloc, work, &posting, crew, task)?;
+    let ran = run_scoped(rt, alloc, &posting, ready, task)?;
     Ok(gather_ran(alloc, book, ran))
 }
 
@@ -110,55 +120,44 @@ fn work_in<
     alloc: A,
     blanks: Blanks,
     queue: (&Work<P, A>, FeederPass<A>),
-    workers: usize,
-    gate: &G,
+    crew: Crew<'_, G>,
     task: T,
 ) -> Result<Worked<T, A>, (T, Fault)>
-    requires posts { (blanks.posts.name ≡ L.posts) × (blanks.posts.parts ≡ 4096) }
-    requires findings { (blanks.findings.name ≡ L.findings) × (blanks.findings.parts ≡ 4096) }
-    requires octets { (blanks.octets.name ≡ L.octets) × (blanks.octets.parts ≡ 4096) }
-    requires segments { (blanks.segments.name ≡ L.segments) × (blanks.segments.parts ≡ 4096) }
+    requires names { blanks ≡ L.names }
     requires named { queue.0.now.queue ≡ L.queue }
     requires queue { queue.1.queue ≡ queue.0.now.queue }
     requires fresh { (queue.1.record_of ≡ feeder 0 0 0 0 []) × (queue.1.pieces ≡ []) }
-    requires workers { (0 < workers) × (workers ≤ 64) }
+    requires workers { (0 < crew.workers) × (crew.workers ≤ 64) }
     requires able { T.can_feed task }
-    ensures worked { IfOk result (HasWorked P.pieces (T.feed_gives task) workers) }
+    ensures worked { IfOk result (HasWorked P.pieces (T.feed_gives task) crew.entry.workers) }
     ensures refused { IfErr result (λ e. T.unfed task e.0
         × ((e.1 ≡ Fault.Memory) ⊎ (e.1 ≡ Fault.Start))) }
 {
     let (work, mut pass) = queue;
     let witness = PieceWitness::<P, L, A>::new(work, &mut pass);
     let book = Book::<P, L, A, PieceWitness<P, L, A>>::new(alloc, blanks, witness);
-    work_with(rt, alloc, book, (work, pass), workers, gate, task)
+    work_with(rt, alloc, book, (work, pass), crew, task)
 }
 
-/// Works through the pieces that the task feeds, with 1 to 64 workers and a queue of 1 to 4,096 entries. Where memory
-/// ran out or a thread was refused before the task had its turn, it comes back without it.
+/// Works through the pieces that the task feeds, with a crew of 1 to 64 workers over a queue of 1 to 4,096 entries. Where
+/// memory ran out or a thread was refused before the task had its turn, it comes back without it.
 pub fn work_through<
     P: Plan + Send + Sync,
     A: Allocator + Copy + Send + Sync,
     G: Gate,
     R: Threads + Wait + Clock + Sync,
     T: Feed<P, A> + Drop,
->(
-    rt: &R,
-    alloc: A,
-    workers: usize,
-    capacity: usize,
-    gate: &G,
-    task: T,
-) -> Result<Worked<T, A>, (T, Fault)>
-    requires workers { (0 < workers) × (workers ≤ 64) }
-    requires capacity { (0 < capacity) × (capacity ≤ 4096) }
+>(rt: &R, alloc: A, crew: Crew<'_, G>, task: T) -> Result<Worked<T, A>, (T, Fault)>
+    requires workers { (0 < crew.workers) × (crew.workers ≤ 64) }
+    requires capacity { (0 < crew.capacity) × (crew.capacity ≤ 4096) }
     requires able { T.can_feed task }
-    ensures worked { IfOk result (HasWorked P.pieces (T.feed_gives task) workers) }
+    ensures worked { IfOk result (HasWorked P.pieces (T.feed_gives task) crew.entry.workers) }
     ensures refused { IfErr result (λ e. T.unfed task e.0
         × ((e.1 ≡ Fault.Memory) ⊎ (e.1 ≡ Fault.Start))) }
 {
-    let Ok((work, pass)) = Work::<P, A>::new(alloc, capacity) else {
+    let Ok((work, pass)) = Work::<P, A>::new(alloc, crew.capacity) else {
         return Err((task.back(), Fault::Memory));
     };
     let blanks = Blanks::new();
-    work_in::<P, Brand, A, G, R, T>(rt, alloc, blanks, (&work, pass), workers, gate, task)
+    work_in::<P, Brand, A, G, R, T>(rt, alloc, blanks, (&work, pass), crew, task)
 }

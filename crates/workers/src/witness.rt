@@ -10,7 +10,7 @@ use piece_queue::{FeederPass, Work};
 use std::alloc::Allocator;
 use std::marker::{Brand, Model, PhantomData};
 
-/// The queue whose witnesses a book hears, which contracts alone see.
+/// The queue of which the witnesses of a book are, which contracts alone see.
 pub trait QueueName {
     ghost use Rattle.piece_queue.specs.Passes.{QueueId};
 
@@ -59,7 +59,7 @@ impl<'a, P: Plan, N: QueueName, A: Allocator> PieceWitness<'a, P, N, A> {
 
     /// Each report that it vouches for is the value of the piece of its id among those that were fed. They are as many
     /// as the record of the feeder says.
-    pub fn hear(self, pass: FeederPass<A>)
+    pub fn confirm(self, pass: FeederPass<A>)
         requires { pass.queue ≡ N.queue }
         ensures fed { (r : records.PieceReport) → IsValueOfOne self.entry r
             → IsValue (Some pass.pieces) r }
@@ -70,7 +70,7 @@ impl<'a, P: Plan, N: QueueName, A: Allocator> PieceWitness<'a, P, N, A> {
             witness,
             name: _,
         } = self;
-        work.hear(pass, witness);
+        work.confirm(pass, witness);
     }
 }
 

@@ -89,7 +89,7 @@ pub fn work_on<
                 work.give_back(rt, piece);
             }
             Taken::Finish => return WorkerOutcome { pass, share, fault },
-            Taken::Empty => backoff.take(rt),
+            Taken::Empty => backoff.wait(rt),
         }
     }
     unreachable!()

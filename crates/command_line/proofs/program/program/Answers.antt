@@ -13,7 +13,7 @@ Tells : (g : Over) → (c : goal.After-run g) → (json followed : Bool) → (na
 Tells g c json followed name =
     IsUnread c.args.source.now c.run.new.source c.args.sink.now c.run.new.sink c.run.result
     ⊎ ((text : List ℕ) → trace_of name (g.S.Source.left c.args.source.now) (g.S.Input.named c.args.source.now) ≡ Some text →
-    IsTold json followed text (g.S.Source.left c.run.new.source) (g.K.Sink.taken c.args.sink.now) (g.K.Sink.taken c.run.new.sink)
+    IsTold json followed text (g.S.Source.left c.run.new.source) (g.S.Source.before c.run.new.source) (g.K.Sink.taken c.args.sink.now) (g.K.Sink.taken c.run.new.sink)
     (g.K.Sink.failures c.run.new.sink ≡ g.K.Sink.failures c.args.sink.now) c.run.result)
 
 -- what the options say of an annotation
@@ -42,7 +42,7 @@ returns-in-Ok-clause-told g c right unasked unannotated =
 Annotates : (g : Over) → (c : goal.After-run g) → (json : Bool) → (name : Option (List ℕ)) → Rows → Type 0
 Annotates g c json name rows =
     IsAnnotateAnswer json rows c.args.source.now c.run.new.source c.args.sink.now c.run.new.sink
-    (trace_of name (g.S.Source.left c.args.source.now) (g.S.Input.named c.args.source.now)) (g.S.Source.left c.run.new.source)
+    (trace_of name (g.S.Source.left c.args.source.now) (g.S.Input.named c.args.source.now)) (g.S.Source.left c.run.new.source) (g.S.Source.before c.run.new.source)
     (g.K.Sink.taken c.args.sink.now) (g.K.Sink.taken c.run.new.sink) (g.K.Sink.failures c.run.new.sink ≡ g.K.Sink.failures c.args.sink.now) c.run.result
 
 pub returns-in-Ok-clause-annotated : goal.returns-in-Ok-clause-annotated

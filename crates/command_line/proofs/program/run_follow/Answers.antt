@@ -4,11 +4,11 @@ use Rattle.command_line.proofs.program.run_follow.Goals as goal
 
 pub returns-in-Ok-clause-status : goal.returns-in-Ok-clause-status
 returns-in-Ok-clause-status g c text told =
-    reported_follow text (g.S.Source.left c.follow.new.source) (g.K.Sink.taken c.args.sink.now) (g.K.Sink.taken c.follow.new.sink) _ c.in-Ok.summary c.summary_status.result (c.in-Ok.ensures.reported text told) c.summary_status.ensures
+    reported_follow text (g.S.Source.left c.follow.new.source) (g.S.Source.before c.follow.new.source) (g.K.Sink.taken c.args.sink.now) (g.K.Sink.taken c.follow.new.sink) _ c.in-Ok.summary c.summary_status.result (c.in-Ok.ensures.reported text told) c.summary_status.ensures
 
 pub returns-in-Err-clause-status : goal.returns-in-Err-clause-status
 returns-in-Err-clause-status g c text told =
-    refused_follow text (g.S.Source.left c.follow.new.source) (g.K.Sink.taken c.args.sink.now) (g.K.Sink.taken c.follow.new.sink) _ c.in-Err.fault c.refuse_scan.result (c.in-Err.ensures.refused text told) (c.in-Err.ensures.taken text told)
+    refused_follow text (g.S.Source.left c.follow.new.source) (g.S.Source.before c.follow.new.source) (g.K.Sink.taken c.args.sink.now) (g.K.Sink.taken c.follow.new.sink) _ c.in-Err.fault c.refuse_scan.result (c.in-Err.ensures.refused text told) (c.in-Err.ensures.taken text told)
     (λ e well. omega (arith, c.in-Err.ensures.write_failed (ap Err e), well)) c.refuse_scan.ensures
 
 pub returns-in-Err-clause-range : goal.returns-in-Err-clause-range

@@ -9,28 +9,28 @@ pub feed_pieces-requires-clause-next : goal.feed_pieces-requires-clause-next
 feed_pieces-requires-clause-next g c =
     let text = c.requires.ready.0 in
     let fed = c.requires.ready.1 in
-    line_next g.P.Plan.pieces text c.in-Ok.front.interface c.end.new.pieces.items c.args.pass.now.record_of.fed (c.in-Ok.ensures.sound text fed.taken).1 fed.count
-    (all_appended c.new-pieces.result.items c.end.new.pieces.items _ _ c.new-pieces.ensures.items (c.in-Ok.ensures.pieces text fed.taken)) c.requires.ready.2
+    line_next g.P.Plan.pieces text c.in_ok-front.front.interface c.end.new.pieces.items c.args.pass.now.record_of.fed (c.in_ok-front.ensures.sound text fed.taken).1 fed.count
+    (all_appended c.new-pieces.result.items c.end.new.pieces.items _ _ c.new-pieces.ensures.items (c.in_ok-front.ensures.pieces text fed.taken)) c.requires.ready.2
 
 pub end_front-requires-clause-ready : goal.end_front-requires-clause-ready
 end_front-requires-clause-ready g c =
     let text = c.requires.ready.0 in
     let fed = c.requires.ready.1 in
-    let more = all_appended c.new-pieces.result.items c.end.new.pieces.items _ _ c.new-pieces.ensures.items (c.in-Ok.ensures.pieces text fed.taken) in
-    let header = (c.in-Ok.ensures.sound text fed.taken).1 in (
+    let more = all_appended c.new-pieces.result.items c.end.new.pieces.items _ _ c.new-pieces.ensures.items (c.in_ok-front.ensures.pieces text fed.taken) in
+    let header = (c.in_ok-front.ensures.sound text fed.taken).1 in (
       rows text,
-      c.in-Ok.ensures.cut text fed.taken,
+      c.in_ok-front.ensures.cut text fed.taken,
       all_fed _ _ _ _ c.end.new.pieces.items _ c.end.new.pieces.ok.0 fed.count more c.feed_pieces.ensures.fed,
       c.feed_pieces.ensures.pieces ∙ ap (λ ps. ps ++ c.end.new.pieces.items) fed.pieces ∙ sym more,
-      plan_is g.P.Plan.pieces text c.in-Ok.front.interface c.in-Ok.front.interface (rows text) header refl refl c.requires.ready.2,
+      plan_is g.P.Plan.pieces text c.in_ok-front.front.interface c.in_ok-front.front.interface (rows text) header refl refl c.requires.ready.2,
     )
 
 pub returns-clause-read : goal.returns-clause-read
 returns-clause-read g c text fed =
-    let sound = c.in-Ok.ensures.sound text fed.taken in
-    let more = all_appended c.new-pieces.result.items c.end.new.pieces.items _ _ c.new-pieces.ensures.items (c.in-Ok.ensures.pieces text fed.taken) in
-    IfOk-weaker c.end_front.result _ _ (λ read h. read_of text c.in-Ok.front.interface c.in-Ok.front.interface (rows text) c.end_front.new.pass.pieces read sound.0 sound.1 refl refl h)
-    (c.end_front.ensures.cut (rows text) (c.in-Ok.ensures.cut text fed.taken) (c.feed_pieces.ensures.pieces ∙ ap (λ ps. ps ++ c.end.new.pieces.items) fed.pieces ∙ sym more))
+    let sound = c.in_ok-front.ensures.sound text fed.taken in
+    let more = all_appended c.new-pieces.result.items c.end.new.pieces.items _ _ c.new-pieces.ensures.items (c.in_ok-front.ensures.pieces text fed.taken) in
+    IfOk-weaker c.end_front.result _ _ (λ read h. read_of text c.in_ok-front.front.interface c.in_ok-front.front.interface (rows text) c.end_front.new.pass.pieces read sound.0 sound.1 refl refl h)
+    (c.end_front.ensures.cut (rows text) (c.in_ok-front.ensures.cut text fed.taken) (c.feed_pieces.ensures.pieces ∙ ap (λ ps. ps ++ c.end.new.pieces.items) fed.pieces ∙ sym more))
 
 pub returns-clause-refused : goal.returns-clause-refused
 returns-clause-refused g c text fed = IfErr-weaker c.end_front.result _ _ (λ f h. memory_fault (fault text) f h) c.end_front.ensures.memory

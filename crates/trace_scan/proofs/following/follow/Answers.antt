@@ -1,50 +1,101 @@
-use Rattle.trace_scan.proofs.FollowLemmas.{end_given, end_reported, end_refused, end_some, end_taken, same_taken, stopped_given, stopped_refused, stopped_taken}
+use Rattle.std.proofs.Common.{◌≡◌, ◌∙◌, ◌≤◌, ◌<◌, Err, arith}
+use Rattle.std.proofs.lemmas.Result.{IfOk-from_err}
+use Rattle.line_model.specs.declared.fault.Fault.TheVariants.{Write}
+use Rattle.trace_text.proofs.SourceLemmas.{passed_on, same_fault}
+use Rattle.trace_scan.specs.Scan.{IsScanFault}
+use Rattle.trace_scan.proofs.FollowLemmas.{end_given, end_refused, end_reported, end_some, end_taken, fed_of, nothing_followed, same_taken, stop_kinds, stop_write, stopped_given, stopped_refused, stopped_taken}
 use Rattle.trace_scan.proofs.ScanLemmas.{end_kinds}
 use Rattle.trace_scan.proofs.following.follow.Goals as goal
 
-pub returns-in-Ok-clause-reported : goal.returns-in-Ok-clause-reported
-returns-in-Ok-clause-reported g c text told =
-    let w = c.in-Ok.ensures.whole in
-    end_reported text w.text (g.K.Sink.taken c.args.sink.now) (g.K.Sink.taken c.end.new.sink) c.end.result (w.source text told).0 (c.end.ensures.reported w.text (g.K.Sink.taken c.args.sink.now) w.stands w.told)
+pub read_to_end-requires-clause-nothing : goal.read_to_end-requires-clause-nothing
+read_to_end-requires-clause-nothing g c = nothing_followed _ (g.K.Sink.taken c.args.sink.now) (g.K.Sink.failures c.args.sink.now) c.new.result c.new.ensures.stands
 
-pub returns-in-Ok-clause-refused : goal.returns-in-Ok-clause-refused
-returns-in-Ok-clause-refused g c text told =
-    let w = c.in-Ok.ensures.whole in
-    let all = w.source text told in
-    end_refused text w.text (g.S.Source.left c.follow_all.new.source) c.end.result all.0 all.1 w.stands.live.reads.sound (c.end.ensures.refused w.text w.stands)
+pub read_to_end-requires-clause-expected : goal.read_to_end-requires-clause-expected
+read_to_end-requires-clause-expected g c text begins = tt
 
-pub returns-in-Ok-clause-taken : goal.returns-in-Ok-clause-taken
-returns-in-Ok-clause-taken g c text told =
-    let w = c.in-Ok.ensures.whole in
-    let all = w.source text told in
-    end_taken text w.text (g.S.Source.left c.follow_all.new.source) (g.K.Sink.taken c.args.sink.now) (g.K.Sink.taken c.follow_all.new.sink) (g.K.Sink.taken c.end.new.sink) _ c.end.result all.0 all.1 w.told
-    (c.end.ensures.refused w.text w.stands) (same_taken c.end.result (g.K.Sink.taken) c.follow_all.new.sink c.end.new.sink c.end.ensures.unwritten) (c.end.ensures.taken w.text (g.K.Sink.taken c.args.sink.now) w.stands w.told)
+-- ---- where the whole text was read
 
-pub returns-in-Ok-clause-kinds : goal.returns-in-Ok-clause-kinds
-returns-in-Ok-clause-kinds g c = end_kinds c.end.result c.end.ensures.kinds
+pub end-requires : goal.end-requires
+end-requires g c = let w = c.in_ok-read_to_end.ensures.whole in record { fed = fed_of _ w.text c.read_to_end.new.consumer.follower w.fed.stands }
 
-pub returns-in-Ok-clause-of_text : goal.returns-in-Ok-clause-of_text
-returns-in-Ok-clause-of_text g c =
-    let w = c.in-Ok.ensures.whole in
-    end_some w.text (g.K.Sink.taken c.args.sink.now) (g.K.Sink.taken c.end.new.sink) c.end.result (c.end.ensures.reported w.text (g.K.Sink.taken c.args.sink.now) w.stands w.told)
+pub returns-clause-reported : goal.returns-clause-reported
+returns-clause-reported g c text told =
+    let w = c.in_ok-read_to_end.ensures.whole in
+    end_reported text w.text (g.K.Sink.taken c.args.sink.now) (g.K.Sink.taken c.end.new.sink) c.end.result (w.source text told).0 (c.end.ensures.reported w.text (g.K.Sink.taken c.args.sink.now) w.fed.stands w.fed.told)
 
-pub returns-in-Ok-clause-of_given : goal.returns-in-Ok-clause-of_given
-returns-in-Ok-clause-of_given g c =
-    let w = c.in-Ok.ensures.whole in
-    end_given w.text (g.K.Sink.taken c.args.sink.now) (g.K.Sink.taken c.follow_all.new.sink) (g.K.Sink.taken c.end.new.sink) _ c.end.result w.stands.live.reads.sound w.told
-    (c.end.ensures.refused w.text w.stands) (same_taken c.end.result (g.K.Sink.taken) c.follow_all.new.sink c.end.new.sink c.end.ensures.unwritten) (c.end.ensures.taken w.text (g.K.Sink.taken c.args.sink.now) w.stands w.told)
+pub returns-clause-refused : goal.returns-clause-refused
+returns-clause-refused g c text told =
+    let w = c.in_ok-read_to_end.ensures.whole in
+    end_refused (g.S.Source.left c.args.source.now) (g.S.Source.left c.read_to_end.new.source) (g.S.Source.before c.read_to_end.new.source) _ text c.end.result w told (c.end.ensures.refused w.text w.fed.stands)
 
-pub returns-in-Err-clause-refused : goal.returns-in-Err-clause-refused
-returns-in-Err-clause-refused g c text told = stopped_refused text (g.S.Source.left c.args.source.now) (g.S.Source.left c.follow_all.new.source) _ _ _ c.in-Err.fault told c.in-Err.ensures.stopped
+pub returns-clause-taken : goal.returns-clause-taken
+returns-clause-taken g c text told =
+    let w = c.in_ok-read_to_end.ensures.whole in
+    end_taken (g.S.Source.left c.args.source.now) (g.S.Source.left c.read_to_end.new.source) (g.S.Source.before c.read_to_end.new.source) _ text (g.K.Sink.taken c.args.sink.now) (g.K.Sink.taken c.read_to_end.new.out) (g.K.Sink.taken c.end.new.sink) _ c.end.result w told w.fed.told
+    (c.end.ensures.refused w.text w.fed.stands) (same_taken c.end.result (g.K.Sink.taken) c.read_to_end.new.out c.end.new.sink c.end.ensures.unwritten) (c.end.ensures.taken w.text (g.K.Sink.taken c.args.sink.now) w.fed.stands w.fed.told)
 
-pub returns-in-Err-clause-taken : goal.returns-in-Err-clause-taken
-returns-in-Err-clause-taken g c text told = stopped_taken text (g.S.Source.left c.args.source.now) (g.S.Source.left c.follow_all.new.source) _ _ _ c.in-Err.fault told c.in-Err.ensures.stopped
+pub returns-clause-kinds : goal.returns-clause-kinds
+returns-clause-kinds g c = end_kinds c.end.result c.end.ensures.kinds
 
-pub returns-in-Err-clause-of_given : goal.returns-in-Err-clause-of_given
-returns-in-Err-clause-of_given g c = stopped_given _ _ _ _ _ c.in-Err.fault c.in-Err.ensures.stopped
+pub returns-clause-write_failed : goal.returns-clause-write_failed
+returns-clause-write_failed g c e =
+    let w = c.in_ok-read_to_end.ensures.whole in
+    omega (arith, w.fed.rising, c.end.ensures.write_failed w.text w.fed.stands e)
 
-pub returns-in-Ok-clause-called : goal.returns-in-Ok-clause-called
-returns-in-Ok-clause-called g c = c.follow_all.ensures.called
+pub returns-clause-of_text : goal.returns-clause-of_text
+returns-clause-of_text g c =
+    let w = c.in_ok-read_to_end.ensures.whole in
+    end_some w.text (g.K.Sink.taken c.args.sink.now) (g.K.Sink.taken c.end.new.sink) c.end.result (c.end.ensures.reported w.text (g.K.Sink.taken c.args.sink.now) w.fed.stands w.fed.told)
 
-pub returns-in-Err-clause-called : goal.returns-in-Err-clause-called
-returns-in-Err-clause-called g c = c.follow_all.ensures.called
+pub returns-clause-of_given : goal.returns-clause-of_given
+returns-clause-of_given g c =
+    let w = c.in_ok-read_to_end.ensures.whole in
+    end_given w.text (g.K.Sink.taken c.args.sink.now) (g.K.Sink.taken c.read_to_end.new.out) (g.K.Sink.taken c.end.new.sink) _ c.end.result w.sound w.fed.told
+    (c.end.ensures.refused w.text w.fed.stands) (same_taken c.end.result (g.K.Sink.taken) c.read_to_end.new.out c.end.new.sink c.end.ensures.unwritten) (c.end.ensures.taken w.text (g.K.Sink.taken c.args.sink.now) w.fed.stands w.fed.told)
+
+pub returns-clause-called : goal.returns-clause-called
+returns-clause-called g c = c.read_to_end.ensures.called
+
+-- ---- where reading was refused
+
+pub returns-in_err-read_to_end-clause-reported : goal.returns-in_err-read_to_end-clause-reported
+returns-in_err-read_to_end-clause-reported g c text told = IfOk-from_err _ _ c.from_residual.ensures.0
+
+pub returns-in_err-read_to_end-clause-of_text : goal.returns-in_err-read_to_end-clause-of_text
+returns-in_err-read_to_end-clause-of_text g c = IfOk-from_err _ _ c.from_residual.ensures.0
+
+pub returns-in_err-read_to_end-clause-refused : goal.returns-in_err-read_to_end-clause-refused
+returns-in_err-read_to_end-clause-refused g c text told =
+    let fault = c.in_err-read_to_end.field-0.0 in
+    passed_on c.from_residual.result fault _ c.from_residual.ensures.1
+    (stopped_refused _ (g.S.Source.left c.args.source.now) (g.S.Source.left c.read_to_end.new.source) (g.S.Source.before c.read_to_end.new.source) (g.K.Sink.taken c.args.sink.now) (g.K.Sink.taken c.read_to_end.new.out)
+    (g.K.Sink.failures c.args.sink.now) (g.K.Sink.failures c.read_to_end.new.out) c.read_to_end.new.consumer.follower fault text told c.in_err-read_to_end.ensures.stopped)
+
+pub returns-in_err-read_to_end-clause-taken : goal.returns-in_err-read_to_end-clause-taken
+returns-in_err-read_to_end-clause-taken g c text told =
+    let fault = c.in_err-read_to_end.field-0.0 in
+    passed_on c.from_residual.result fault _ c.from_residual.ensures.1
+    (stopped_taken _ (g.S.Source.left c.args.source.now) (g.S.Source.left c.read_to_end.new.source) (g.S.Source.before c.read_to_end.new.source) (g.K.Sink.taken c.args.sink.now) (g.K.Sink.taken c.read_to_end.new.out)
+    (g.K.Sink.failures c.args.sink.now) (g.K.Sink.failures c.read_to_end.new.out) c.read_to_end.new.consumer.follower fault text told c.in_err-read_to_end.ensures.stopped)
+
+pub returns-in_err-read_to_end-clause-of_given : goal.returns-in_err-read_to_end-clause-of_given
+returns-in_err-read_to_end-clause-of_given g c =
+    let fault = c.in_err-read_to_end.field-0.0 in
+    passed_on c.from_residual.result fault _ c.from_residual.ensures.1
+    (stopped_given _ (g.S.Source.left c.args.source.now) (g.S.Source.left c.read_to_end.new.source) (g.S.Source.before c.read_to_end.new.source) (g.K.Sink.taken c.args.sink.now) (g.K.Sink.taken c.read_to_end.new.out)
+    (g.K.Sink.failures c.args.sink.now) (g.K.Sink.failures c.read_to_end.new.out) c.read_to_end.new.consumer.follower fault c.in_err-read_to_end.ensures.stopped)
+
+pub returns-in_err-read_to_end-clause-kinds : goal.returns-in_err-read_to_end-clause-kinds
+returns-in_err-read_to_end-clause-kinds g c =
+    let fault = c.in_err-read_to_end.field-0.0 in
+    let u = c.in_err-read_to_end.ensures.stopped in
+    passed_on c.from_residual.result fault IsScanFault c.from_residual.ensures.1 (stop_kinds _ _ _ _ _ c.read_to_end.new.consumer.follower u.fed u.last fault u.why)
+
+pub returns-in_err-read_to_end-clause-write_failed : goal.returns-in_err-read_to_end-clause-write_failed
+returns-in_err-read_to_end-clause-write_failed g c e =
+    let fault = c.in_err-read_to_end.field-0.0 in
+    let u = c.in_err-read_to_end.ensures.stopped in
+    stop_write _ _ _ _ _ c.read_to_end.new.consumer.follower u.fed u.last fault u.why (same_fault c.from_residual.result fault Write c.from_residual.ensures.1 e)
+
+pub returns-in_err-read_to_end-clause-called : goal.returns-in_err-read_to_end-clause-called
+returns-in_err-read_to_end-clause-called g c = c.read_to_end.ensures.called

@@ -13,8 +13,8 @@ use Rattle.trace_scan.proofs.threaded.scan_with.Goals as goal
 pub returns-in-Err-merge-clause-refused : goal.returns-in-Err-merge-clause-refused
 returns-in-Err-merge-clause-refused g c text told =
     let read = c.in-Ok.ensures.parts.told text told in
-    memory_refused text (g.S.Source.left c.work_on_trace.new.source) c.in-Err-merge.fault
-    (c.in-Err-merge.ensures.plan c.in-Ok.parts.read.interface (rows text) (of_walk (option_map trace_plan (g.S.Source.left c.args.source.now)) c.args.workers text c.in-Ok.ensures.parts.fed c.in-Ok.parts.read c.in-Ok.parts.gathered read.0 c.in-Ok.ensures.parts.whole)) read.1 read.0.sound
+    memory_refused text (g.S.Source.left c.work_on_trace.new.source) (g.S.Source.before c.work_on_trace.new.source) c.in-Err-merge.fault
+    (c.in-Err-merge.ensures.plan c.in-Ok.parts.read.interface (rows text) (of_walk (option_map trace_plan (g.S.Source.left c.args.source.now)) c.args.workers text c.in-Ok.ensures.parts.fed c.in-Ok.parts.read c.in-Ok.parts.gathered read.0 c.in-Ok.ensures.parts.whole)) read.1 read.2 read.0.sound
 
 pub returns-in-Ok-write_report-clause-reported : goal.returns-in-Ok-write_report-clause-reported
 returns-in-Ok-write_report-clause-reported g c text told =
@@ -32,7 +32,7 @@ returns-in-Ok-write_report-clause-totals g c text told =
 pub returns-in-Err-write_report-clause-refused : goal.returns-in-Err-write_report-clause-refused
 returns-in-Err-write_report-clause-refused g c text told =
     let read = c.in-Ok.ensures.parts.told text told in
-    write_refused text (g.S.Source.left c.work_on_trace.new.source) c.in-Err-write_report.fault c.in-Err-write_report.ensures.write read.1 read.0.sound
+    write_refused text (g.S.Source.left c.work_on_trace.new.source) (g.S.Source.before c.work_on_trace.new.source) c.in-Err-write_report.fault c.in-Err-write_report.ensures.write read.1 read.2 read.0.sound
 
 pub returns-in-Err-write_report-clause-taken : goal.returns-in-Err-write_report-clause-taken
 returns-in-Err-write_report-clause-taken g c text told =

@@ -8,15 +8,15 @@ pub returns-in-Ok-clause-stopped : goal.returns-in-Ok-clause-stopped
 returns-in-Ok-clause-stopped g c =
     let w = c.in-Ok.ensures.worked in
     let same : c.in-Ok.worked.task.source.now ≡ c.source-1.given.0 = search rules in
-    subst (λ s. IfErr c.first_fault.result (IsStopped (g.S.Source.left c.args.source.now) (g.S.Source.left s))) same
-    (stopped c.first_fault.result c.in-Ok.worked.task.outcome c.in-Ok.worked.gathered (g.S.Source.left c.args.source.now) (g.S.Source.left c.in-Ok.worked.task.source.now) _ w.0 _ c.first_fault.ensures.first w.1.1 w.2)
+    subst (λ s. IfErr c.first_fault.result (IsStopped (g.S.Source.left c.args.source.now) (g.S.Source.left s) (g.S.Source.before s))) same
+    (stopped c.first_fault.result c.in-Ok.worked.task.outcome c.in-Ok.worked.gathered (g.S.Source.left c.args.source.now) (g.S.Source.left c.in-Ok.worked.task.source.now) (g.S.Source.before c.in-Ok.worked.task.source.now) _ w.0 _ c.first_fault.ensures.first w.1.1 w.2)
 
 pub returns-in-Ok-clause-parts : goal.returns-in-Ok-clause-parts
 returns-in-Ok-clause-parts g c =
     let w = c.in-Ok.ensures.worked in
     let same : c.in-Ok.worked.task.source.now ≡ c.source-1.given.0 = search rules in
-    subst (λ s. IfOk c.first_fault.result (AreScanParts g.P.Plan.pieces c.args.workers (g.S.Source.left c.args.source.now) (g.S.Source.left s))) same
-    (parts_are c.first_fault.result c.in-Ok.worked.task.outcome c.in-Ok.worked.gathered g.P.Plan.pieces c.args.workers (g.S.Source.left c.args.source.now) (g.S.Source.left c.in-Ok.worked.task.source.now) _ w.0 c.first_fault.ensures.both w.1.1 w.2)
+    subst (λ s. IfOk c.first_fault.result (AreScanParts g.P.Plan.pieces c.args.workers (g.S.Source.left c.args.source.now) (g.S.Source.left s) (g.S.Source.before s))) same
+    (parts_are c.first_fault.result c.in-Ok.worked.task.outcome c.in-Ok.worked.gathered g.P.Plan.pieces c.args.workers (g.S.Source.left c.args.source.now) (g.S.Source.left c.in-Ok.worked.task.source.now) (g.S.Source.before c.in-Ok.worked.task.source.now) _ w.0 c.first_fault.ensures.both w.1.1 w.2)
 
 pub returns-in-Ok-clause-unasked : goal.returns-in-Ok-clause-unasked
 returns-in-Ok-clause-unasked g c none =
@@ -28,4 +28,4 @@ returns-in-Ok-clause-unasked g c none =
 pub returns-in-Err-clause-stopped : goal.returns-in-Err-clause-stopped
 returns-in-Err-clause-stopped g c =
     let same : c.source-in-Err-1.given.0 ≡ c.args.source.now = search rules in
-    unfed_stopped (g.S.Source.left c.args.source.now) (g.S.Source.left c.source-in-Err-1.given.0) c.in-Err.fault (ap (g.S.Source.left) same) c.in-Err.ensures.refused.1
+    unfed_stopped (g.S.Source.left c.args.source.now) (g.S.Source.left c.source-in-Err-1.given.0) (g.S.Source.before c.source-in-Err-1.given.0) c.in-Err.fault (ap (g.S.Source.left) same) c.in-Err.ensures.refused.1

@@ -9,8 +9,8 @@ returns-clause-whole g c =
     let shares : length c.in_ok-gathered.gathered.reports.items ≡ sum_by (λ (t : Totals). t.posts) c.in_ok-gathered.gathered.shares.items = ap (λ (t : Totals). t.posts) (sym e.totals ∙ e.sums) in
     let posted = ap (sum_by (λ (t : Totals). t.posts)) e.each in record {
       posted = e.reports;
-      of_fed = record { distinct = e.reports.distinct; values = λ k d lt. c.hear.ensures.fed _ (e.vouched k d lt) };
-      number = shares ∙ (posted ∙ (c.requires.posted ∙ sym c.hear.ensures.number));
+      of_fed = record { distinct = e.reports.distinct; values = λ k d lt. c.confirm.ensures.fed _ (e.vouched k d lt) };
+      number = shares ∙ (posted ∙ (c.requires.posted ∙ sym c.confirm.ensures.number));
       sums = e.totals;
       of_shares = e.sums;
       each = search rules;

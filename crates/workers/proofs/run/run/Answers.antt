@@ -7,12 +7,12 @@ pub returns-clause-ran : goal.returns-clause-ran
 returns-clause-ran g c =
     let v = c.feed_ends-2.new.pass.record_of in
     let joined = c.join_all-joined.ensures.joined in
-    let same : vec_len c.in-Some.started.running ≡ c.args.crew.count = c.in-Some.ensures.all c.if-not-all.false in
+    let same : vec_len c.in-Some.started.running ≡ c.args.ready.count = c.in-Some.ensures.all c.if-not-all.false in
     let pending : v.pending ≡ vec_len c.in-Some.started.running =
     c.feed_ends-2.ensures.pending ∙ (c.feed-task.ensures.fed.pending ∙ (ap (λ v. v.pending) c.in-Some.ensures.pass.1 ∙ sym same)) in
     let some : 0 < vec_len c.in-Some.started.running = omega (arith, same, c.requires.some) in
     let pieces = c.join_all-joined.ensures.pieces ∙ c.feed_ends-2.ensures.pieces in record {
-      queue = joined.queue;
+      queue = joined.queue ∙ c.in-Some.ensures.queue;
       became = subst (λ l. g.T.Feed.feed_gives c.args.task l c.feed-task.result) (sym pieces) c.feed-task.ensures.gives;
       fault = ended _ _ _ _ c.join_all-joined.result.pass.record_of.fed v c.join_all-joined.result joined pending some (sym joined.fed) same;
     }

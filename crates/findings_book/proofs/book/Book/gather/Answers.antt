@@ -25,8 +25,8 @@ pub loop-share-preserved : goal.loop-share-preserved
 loop-share-preserved g c =
     let i = c.loop-share.invariant in record {
       parts = search rules;
-      posts = omega (arith, ap (λ t. t.posts) c.take.ensures.sums, i.posts, sum_by_push (λ (s : Totals). s.posts) c.loop-share.yielded c.in-Some.share);
-      findings = omega (arith, ap (λ t. t.findings) c.take.ensures.sums, i.findings, sum_by_push (λ (s : Totals). s.findings) c.loop-share.yielded c.in-Some.share);
-      octets = omega (arith, ap (λ t. t.octets) c.take.ensures.sums, i.octets, sum_by_push (λ (s : Totals). s.octets) c.loop-share.yielded c.in-Some.share);
-      segments = omega (arith, ap (λ t. t.segments) c.take.ensures.sums, i.segments, sum_by_push (λ (s : Totals). s.segments) c.loop-share.yielded c.in-Some.share);
+      posts = omega (arith, ap (λ t. t.posts) c.add.ensures.sums, i.posts, sum_by_push (λ (s : Totals). s.posts) c.loop-share.yielded c.in-Some.share);
+      findings = omega (arith, ap (λ t. t.findings) c.add.ensures.sums, i.findings, sum_by_push (λ (s : Totals). s.findings) c.loop-share.yielded c.in-Some.share);
+      octets = omega (arith, ap (λ t. t.octets) c.add.ensures.sums, i.octets, sum_by_push (λ (s : Totals). s.octets) c.loop-share.yielded c.in-Some.share);
+      segments = omega (arith, ap (λ t. t.segments) c.add.ensures.sums, i.segments, sum_by_push (λ (s : Totals). s.segments) c.loop-share.yielded c.in-Some.share);
     }

@@ -20,7 +20,7 @@ returns-in-Ok-clause-refused g c = tt
 
 pub post-requires-clause-vouched : goal.post-requires-clause-vouched
 post-requires-clause-vouched g c =
-    let pieces = c.testify.ensures.witness.1 ∙ ap (λ v. v.pieces) c.loop.invariant.pass in
+    let pieces = c.witness_of.ensures.witness.1 ∙ ap (λ v. v.pieces) c.loop.invariant.pass in
     subst (λ l. IsValueOfOne l c.loop.report) (sym pieces) c.loop.invariant.of_one
 
 pub loop-preserved : goal.loop-preserved
@@ -30,17 +30,17 @@ loop-preserved g c =
       value = subst (IsValue g.P.Plan.pieces) (sym back.0) i.value;
       of_one = subst (IsValueOfOne c.args.pass.now.pieces) (sym back.0) i.of_one;
       share = back.1 ∙ i.share;
-      pass = c.testify.ensures.same ∙ i.pass;
+      pass = c.witness_of.ensures.same ∙ i.pass;
     }
 
-pub testify-requires : goal.testify-requires
-testify-requires g c = ap (λ v. v.queue) c.loop.invariant.pass ∙ (c.requires.queue.0 ∙ sym c.requires.queue.1)
+pub witness_of-requires : goal.witness_of-requires
+witness_of-requires g c = ap (λ v. v.queue) c.loop.invariant.pass ∙ (c.requires.queue.0 ∙ sym c.requires.queue.1)
 
 pub post-requires-clause-value : goal.post-requires-clause-value
 post-requires-clause-value g c = c.loop.invariant.value
 
 pub returns-in-Ok-clause-same : goal.returns-in-Ok-clause-same
-returns-in-Ok-clause-same g c = c.testify.ensures.same ∙ c.loop.invariant.pass
+returns-in-Ok-clause-same g c = c.witness_of.ensures.same ∙ c.loop.invariant.pass
 
 pub returns-in-Ok-clause-posted : goal.returns-in-Ok-clause-posted
 returns-in-Ok-clause-posted g c = ap (λ s. s.posts) c.in-Ok.ensures.share ∙ ap (λ s. s.posts + 1) c.loop.invariant.share

@@ -1,4 +1,0 @@
-use Rattle.report_tests.proofs.observing.told.Given as goal
-
-abbrev pub ghosts-told_on : goal.ghosts-told_on
-ghosts-told_on g a = record { name = a.blank.name; parts = a.blank.parts }

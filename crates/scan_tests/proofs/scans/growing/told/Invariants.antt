@@ -1,4 +1,0 @@
-use Rattle.scan_tests.proofs.scans.growing.told.Given as goal
-
-abbrev pub ghosts-told_on : goal.ghosts-told_on
-ghosts-told_on g a = record { name = a.blank.name; parts = a.blank.parts }

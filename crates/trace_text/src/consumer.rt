@@ -1,0 +1,79 @@
+//! A source that is read to its end, and what takes its bytes.
+
+ghost use Rattle.std.specs.Prelude.{◌≡◌, ℕ, ◌+◌, ◌<◌, ◌≤◌, ◌^◌, [], Err, IfErr, OnOk};
+ghost use Rattle.trace_text.specs.Sources.{IsFedAll, IsFedUpTo, MayBeFed};
+
+use line_model::device::Source;
+use line_model::fault::Fault;
+
+/// The bytes that are asked for at once.
+const CHUNK: usize = 1 << 16;
+
+/// What takes a text, chunk by chunk, and puts what it makes of it into an `O`.
+pub trait Consumer<O> {
+    ghost use Rattle.std.specs.Prelude.{◌≡◌, ◌≢◌, ℕ, ◌++◌, List, None, IfErr, OnOk, length};
+    ghost use Rattle.line_model.specs.text.Text.{early};
+    ghost use Rattle.line_model.specs.declared.fault.Fault.{Fault as AnyFault};
+
+    /// Since it and its `O` were the first two, it was fed this text, and refused none of it.
+    ghost was_fed: { Self → O → Self → O → List ℕ → Type 0 };
+
+    /// After it was fed this text it refused this chunk.
+    ghost refused: { Self → O → Self → O → List ℕ → List ℕ → AnyFault → Type 0 };
+
+    /// A text that begins so may be fed.
+    ghost expects: { List ℕ → Type 0 };
+
+    /// How many bytes it was fed.
+    ghost size: { Self → ℕ };
+
+    /// Takes the next chunk of the text.
+    fn feed(&mut self, chunk: &[u8], out: &mut O) -> Result<(), Fault>
+        requires fed { (first : Self) × (start : O) × (text : List ℕ)
+            × was_fed first start self.old out.old text × expects (text ++ chunk.now) }
+        ensures fed { (first : Self) (start : O) (text : List ℕ)
+            → was_fed first start self.old out.old text
+            → OnOk result (was_fed first start self.new out.new (text ++ chunk.now)) }
+        ensures refused { (first : Self) (start : O) (text : List ℕ)
+            → was_fed first start self.old out.old text
+            → IfErr result (refused first start self.new out.new text chunk.now) }
+        ensures kinds { IfErr result (λ fault. fault ≢ Fault.Read) };
+
+    /// No line of what it was fed is known to be faulty.
+    ghost sound: { (first : Self) (start : O) (now : Self) (out : O) (text : List ℕ)
+        → was_fed first start now out text → early text ≡ None };
+
+    /// It counts the bytes of the text.
+    ghost sized: { (first : Self) (start : O) (now : Self) (out : O) (text : List ℕ)
+        → was_fed first start now out text → size now ≡ length text };
+}
+
+/// Feeds all that a source gives, each read before the next. It stops at the first refusal, and with `Fault::Read` where
+/// the source fails.
+pub fn read_to_end<O, T: Consumer<O>, S: Source>(
+    source: &mut S,
+    consumer: &mut T,
+    out: &mut O,
+) -> Result<(), Fault>
+    requires nothing { T.was_fed consumer.old out.old consumer.old out.old [] }
+    requires expected { MayBeFed (S.left source.old) T.expects }
+    ensures whole { OnOk result (IsFedAll (S.left source.old) (S.left source.new)
+        (S.before source.new) (T.was_fed consumer.old out.old consumer.new out.new)) }
+    // At a refusal all was fed that the source gave before its last call.
+    ensures stopped { IfErr result (IsFedUpTo (S.left source.old) (S.left source.new)
+        (S.before source.new) (T.was_fed consumer.old out.old consumer.new out.new)
+        (T.refused consumer.old out.old consumer.new out.new)) }
+    ensures read_failed { result ≡ Err Fault.Read → S.failures source.old < S.failures source.new }
+    // The source is asked at least once.
+    ensures called { S.calls source.old < S.calls source.new }
+    ensures asked { S.calls source.new ≤ S.calls source.old + (2 ^ 30 + 1) }
+{
+    let mut buffer = [0; CHUNK];
+    loop {
+        match source.read(&mut buffer) {
+            Ok(0) => return Ok(()),
+            Ok(n) => consumer.feed(&buffer[..n], out)?,
+            Err(()) => return Err(Fault::Read),
+        }
+    }
+}
