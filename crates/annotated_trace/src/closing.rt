@@ -9,7 +9,7 @@ use crate::holding::send_held;
 use crate::page::ClosingPage;
 use line_model::device::Sink;
 use line_model::fault::Fault;
-use line_model::lending::{Borrowed, Lent, Origin, Returned, take_back};
+use line_model::lending::{Borrowed, Origin, take_back};
 use line_model::report::Report;
 use line_model::totals::Summary;
 use std::alloc::Allocator;
@@ -20,20 +20,20 @@ use trace_text::watcher::Watcher;
 fn write_to<'a, A: Allocator, W: Watcher<A>, D: Describer<A, W>, K: Sink, B: Origin>(
     report: &Report<A>,
     describer: &mut D,
-    to: Lent<'a, K>,
-) -> Returned<'a, K>
-    requires name { to.sink.ghost_name ≡ B.name }
-    requires before { (K.taken to.sink.now, K.failures to.sink.now) ≡ B.before }
-    ensures name { result.sink.ghost_name ≡ B.name }
-    ensures ok { OnOk result.answer (HasClosing B.before.0 (K.taken result.sink.now)) }
-    ensures part { OnErr result.answer (HasFirstOfClosing B.before.0 (K.taken result.sink.now)) }
-    ensures cause { OnErr result.answer (B.before.1 < K.failures result.sink.now) }
-    ensures write { IfErr result.answer (λ fault. fault ≡ Fault.Write) }
+    sink: &'a mut K,
+) -> (&'a mut K, Result<(), Fault>)
+    requires name { sink.ghost_name ≡ B.name }
+    requires before { (K.taken sink.now, K.failures sink.now) ≡ B.before }
+    ensures name { result.0.ghost_name ≡ B.name }
+    ensures ok { OnOk result.1 (HasClosing B.before.0 (K.taken result.0.now)) }
+    ensures part { OnErr result.1 (HasFirstOfClosing B.before.0 (K.taken result.0.now)) }
+    ensures cause { OnErr result.1 (B.before.1 < K.failures result.0.now) }
+    ensures write { IfErr result.1 (λ fault. fault ≡ Fault.Write) }
 {
-    let mut page = ClosingPage::new(Borrowed::<K, B>::new(to));
+    let mut page = ClosingPage::new(Borrowed::<K, B>::new(sink));
     describer.close(report, &mut page);
-    let (sink, answer) = page.finish();
-    sink.give_back(answer)
+    let (lent, answer) = page.finish();
+    (lent.give_back(), answer)
 }
 
 /// Gives a sink the comments behind the last line of a text. It takes no memory. Where the sink fails it took a first part
@@ -48,7 +48,7 @@ fn write_closing<A: Allocator, W: Watcher<A>, D: Describer<A, W>, K: Sink>(
     ensures cause { OnErr result (K.failures sink.old < K.failures sink.new) }
     ensures write { IfErr result (λ fault. fault ≡ Fault.Write) }
 {
-    let Returned { sink, answer } = write_to::<A, W, D, K, Brand>(report, describer, Lent { sink });
+    let (sink, answer) = write_to::<A, W, D, K, Brand>(report, describer, sink);
     take_back(sink);
     answer
 }

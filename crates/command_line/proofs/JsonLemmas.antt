@@ -2,7 +2,7 @@
 use Rattle.std.proofs.Common.{◌≡◌, ◌<◌, ℕ, zero, suc, Bool, true, false, List, [], Option, Some, Result, Ok, Err, refl, subst, sym, arith}
 use Rattle.line_model.specs.declared.fault.Fault.{Fault}
 use Rattle.line_model.specs.declared.fault.Fault.TheVariants.{Write}
-use Rattle.command_line.specs.Program.{IsScanned, IsStatus, IsFollowStatus}
+use Rattle.command_line.specs.Program.{IsScanned, IsScannedAsJson, IsStatus, IsFollowStatus}
 
 -- what a scan says, by whether it follows
 pub scanned_by : (well : Type 0) (followed : Bool) (text : List ℕ) (left asked before after : Option (List ℕ)) (status : ℕ) →
@@ -30,3 +30,10 @@ IsFine (Err fault) = ⊥
 pub none_failed : {U : Type 0} (failures : ℕ) (answer : Result U Fault) (u : U) → answer ≡ Ok u → (0 < failures → answer ≡ Err Write) → failures ≡ 0
 none_failed zero answer u fine failed = refl
 none_failed (suc n) answer u fine failed = absurd (subst (λ r. IsFine r) (failed (omega (arith))) (subst (λ r. IsFine r) (sym fine) tt))
+
+-- the same of a lent sink that came back
+pub told_back : (followed : Bool) (text : List ℕ) (left asked before taken after : Option (List ℕ)) (failed failures was status : ℕ) → after ≡ taken → failures ≡ failed →
+    IsScannedAsJson followed text left asked before taken (failed ≡ was) status → IsScannedAsJson followed text left asked before after (failures ≡ was) status
+told_back followed text left asked before taken after failed failures was status same well told =
+    subst (λ f. IsScannedAsJson followed text left asked before after (f ≡ was) status) (sym well)
+    (subst (λ t. IsScannedAsJson followed text left asked before t (failed ≡ was) status) (sym same) told)

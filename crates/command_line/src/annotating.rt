@@ -12,10 +12,10 @@ use annotated_trace::rows::Rows;
 use command_options::options::Options;
 use line_model::device::Sink;
 use line_model::totals::Summary;
+use line_model::write_buffer::write_all;
 use std::alloc::Global;
 use streams::input::Input;
 use streams::output::Output;
-use streams::writing::write_all;
 
 /// Prints how many calls the report has, where the rows of a further one were chosen.
 fn print_missing_call<E: Sink>(alloc: Global, errors: &mut E, call: u32, calls: u64) {

@@ -13,9 +13,9 @@ use explanations::table::{all, push_explanations};
 use explanations::text::{explanations_text, headings_text};
 use line_model::device::Sink;
 use line_model::fault::Fault;
+use line_model::write_buffer::write_all;
 use std::alloc::{AllocError, Global};
 use streams::output::Output;
-use streams::writing::write_all;
 
 /// The text of some explanations, if there are any.
 fn answer_by(alloc: Global, found: &[Explanation]) -> Result<Option<String>, AllocError>

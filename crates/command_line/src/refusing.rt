@@ -9,12 +9,12 @@ use crate::program::{OTHER_FAULT, fault_status};
 use advice::advice::advice;
 use line_model::device::Sink;
 use line_model::fault::{Fault, Kind};
+use line_model::write_buffer::write_all;
 use std::alloc::Global;
 use std::io;
 use std::io::ErrorKind;
 use streams::input::{Input, OpenRefusal};
 use streams::output::Output;
-use streams::writing::write_all;
 
 /// Prints a fault.
 fn print_fault<E: Sink>(alloc: Global, errors: &mut E, fault: Fault) {

@@ -1,7 +1,6 @@
 -- Lines that are cut, and texts that go on.
-use Rattle.std.proofs.Common.{◌≡◌, ℕ, ◌<◌, Bool, true, false, List, [], ◌∷◌, ◌++◌, length, take, drop, refl, sym, ap, ◌∙◌, arith, append_assoc, append-nil, cond, Result, Ok, Err, OnErr}
+use Rattle.std.proofs.Common.{◌≡◌, ℕ, ◌<◌, Bool, true, false, List, [], ◌∷◌, ◌++◌, length, take, drop, refl, sym, ap, ◌∙◌, arith, append_assoc, append-nil, cond}
 use Rattle.std.proofs.lemmas.Grind.{common_steps, flat_map-append}
-use Rattle.std.proofs.lemmas.List.{take-append-drop}
 use Rattle.std.proofs.lemmas.Bool.{eqb-true}
 use Rattle.std.proofs.lemmas.Bool.Decides.{nat_tests}
 use Rattle.std.specs.Prelude.{nat_le}
@@ -64,8 +63,3 @@ pub part_of_text : (text first last front rest : List ℕ) → text ≡ first ++
 part_of_text text first last front rest e h =
     let later = json_first first last in
     (rest ++ later.0, ap json_text e ∙ later.1 ∙ ap (λ l. l ++ later.0) h ∙ append_assoc front rest later.0)
-
--- what holds in any case holds of an error
-pub always_on_err : {T E : Type 0} (r : Result T E) (Fact : Type 0) → Fact → OnErr r Fact
-always_on_err (Ok x) Fact fact = tt
-always_on_err (Err e) Fact fact = fact

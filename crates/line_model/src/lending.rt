@@ -2,18 +2,17 @@
 //!
 //! A function that is generic over sinks promises what its sink took, and not which sink it was. So a value that holds the
 //! `&mut` of another sink can't promise by a field that it still holds the same one afterwards: its type has to. The type
-//! of a sink that was lent, `LentSink`, knows what the sink had taken before. A function with a `&mut K` picks an
-//! `Origin`, lends the sink to a function that is generic over the origin, and takes the sink back:
+//! of a sink that was lent, a `LentSink`, knows what the sink had taken before. A function with a `&mut K` has another one
+//! lend it, which is generic over the `Origin`, and takes back what that returns:
 //!
 //! ```text
-//!  write_lines(sink: &mut K) ─▶ write_to::<K, Brand>(Lent { sink }) ─▶ Borrowed ─▶ a value that writes to any LentSink
-//!                            ◀─ Returned { sink, answer }           ◀─
+//!  write_lines(sink: &mut K) ─▶ write_to::<K, Brand>(sink) ─▶ Borrowed ─▶ a value that writes to any LentSink
+//!  take_back(sink)           ◀─ (sink, answer)             ◀─ give_back
 //! ```
 
 ghost use Rattle.std.specs.Prelude.{◌≡◌};
 
 use crate::device::Sink;
-use crate::fault::Fault;
 use std::marker::{Brand, PhantomData};
 
 /// Which sink is lent, and what it had taken and how often it had failed before. Contracts alone see it, and each call
@@ -42,22 +41,6 @@ pub trait LentSink: Sink {
     ghost before: { Option (List ℕ) × ℕ };
 }
 
-/// A sink on its way to who borrows it.
-#[derive(Drop)]
-pub struct Lent<'a, K> {
-    /// The sink.
-    pub sink: &'a mut K,
-}
-
-/// A lent sink that comes back, and what is answered of the use of it.
-#[derive(Drop)]
-pub struct Returned<'a, K, T = Result<(), Fault>> {
-    /// The sink.
-    pub sink: &'a mut K,
-    /// The answer; by default `Write` where the sink has failed.
-    pub answer: T,
-}
-
 /// The sink of an origin.
 #[derive(Drop)]
 pub struct Borrowed<'a, K: Sink, B: Origin> {
@@ -68,12 +51,12 @@ pub struct Borrowed<'a, K: Sink, B: Origin> {
 
 impl<'a, K: Sink, B: Origin> Borrowed<'a, K, B> {
     /// Borrows the sink of the origin.
-    pub fn new(lent: Lent<'a, K>) -> Self
-        requires name { lent.sink.ghost_name ≡ B.name }
-        ensures taken { ⟦<Borrowed<'a, K, B> as Sink>⟧.taken result ≡ K.taken lent.entry.sink.now }
-        ensures failures { ⟦<Borrowed<'a, K, B> as Sink>⟧.failures result ≡ K.failures lent.entry.sink.now }
+    pub fn new(sink: &'a mut K) -> Self
+        requires name { sink.ghost_name ≡ B.name }
+        ensures taken { ⟦<Borrowed<'a, K, B> as Sink>⟧.taken result ≡ K.taken sink.entry.now }
+        ensures failures { ⟦<Borrowed<'a, K, B> as Sink>⟧.failures result
+            ≡ K.failures sink.entry.now }
     {
-        let Lent { sink } = lent;
         Borrowed {
             sink,
             origin: PhantomData,
@@ -83,20 +66,20 @@ impl<'a, K: Sink, B: Origin> Borrowed<'a, K, B> {
     /// The sink.
     pub fn get_ref(&self) -> &K
         ensures taken { K.taken result.now ≡ ⟦<Borrowed<'a, K, B> as Sink>⟧.taken self.now }
-        ensures failures { K.failures result.now ≡ ⟦<Borrowed<'a, K, B> as Sink>⟧.failures self.now }
+        ensures failures { K.failures result.now
+            ≡ ⟦<Borrowed<'a, K, B> as Sink>⟧.failures self.now }
     {
         self.sink
     }
 
-    /// Gives the sink back with an answer.
-    pub fn give_back<T>(self, answer: T) -> Returned<'a, K, T>
-        ensures name { result.sink.ghost_name ≡ B.name }
-        ensures taken { K.taken result.sink.now ≡ ⟦<Borrowed<'a, K, B> as Sink>⟧.taken self.entry }
-        ensures failures { K.failures result.sink.now ≡ ⟦<Borrowed<'a, K, B> as Sink>⟧.failures self.entry }
-        ensures answer { result.answer ≡ answer }
+    /// Gives back the sink that was lent.
+    pub fn give_back(self) -> &'a mut K
+        ensures name { result.ghost_name ≡ B.name }
+        ensures taken { K.taken result.now ≡ ⟦<Borrowed<'a, K, B> as Sink>⟧.taken self.entry }
+        ensures failures { K.failures result.now
+            ≡ ⟦<Borrowed<'a, K, B> as Sink>⟧.failures self.entry }
     {
-        let Borrowed { sink, .. } = self;
-        Returned { sink, answer }
+        self.sink
     }
 }
 

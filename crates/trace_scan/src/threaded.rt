@@ -12,6 +12,7 @@ ghost use Rattle.trace_scan.specs.Threaded.{AreScanParts, IsStopped, IsWorkedFau
 
 use line_model::device::{Sink, Source};
 use line_model::fault::Fault;
+use line_model::lending::take_back;
 use line_model::piece::Plan;
 use line_model::totals::{Summary, Totals};
 use piece_feed::{Read, Reading};
@@ -30,11 +31,6 @@ struct ScanParts<A: Allocator = Global> {
     read: Read<A>,
     gathered: Gathered<A>,
 }
-
-/// The source that comes back is the one that was lent.
-fn take_back<S>(_source: &mut S)
-    ensures { _source.new ≡ _source.old }
-{}
 
 /// The reading thread's fault stands before that of a worker.
 fn first_fault<A: Allocator>(

@@ -8,13 +8,13 @@ ghost use Rattle.annotated_trace.specs.declared.rows.Rows.TheVariants.{All};
 use annotated_trace::annotating::annotate;
 use annotated_trace::describer::Describer;
 use annotated_trace::notes::{Notes, Words};
-use annotated_trace::page::{ClosingPage, Origin};
+use annotated_trace::page::ClosingPage;
 use annotated_trace::rows::Rows;
 use channel_machine::channel::{PackedChannel, PlainChannel};
 use line_model::count::Count;
-use line_model::device::Sink;
 use line_model::fault::Fault;
 use line_model::finding::Finding;
+use line_model::lending::LentSink;
 use line_model::report::Report;
 use live_report::live::Live;
 use std::alloc::{AllocError, Allocator, Global};
@@ -59,7 +59,7 @@ impl<A: Allocator + Copy, W: Watcher<A>> Describer<A, W> for Numbered {
         words.number(u64::from(finding.packet))
     }
 
-    fn close<K: Sink, B: Origin>(&mut self, report: &Report<A>, page: &mut ClosingPage<'_, K, B>) {
+    fn close<S: LentSink>(&mut self, report: &Report<A>, page: &mut ClosingPage<S>) {
         page.say("findings: ");
         page.number(report.summary.findings);
         page.next();

@@ -6,11 +6,11 @@ ghost use Rattle.annotated_trace.specs.declared.rows.Rows.TheVariants.{All};
 use crate::annotations::{Answer, annotated_by};
 use annotated_trace::describer::Describer;
 use annotated_trace::notes::{Notes, Words};
-use annotated_trace::page::{ClosingPage, Origin};
+use annotated_trace::page::ClosingPage;
 use annotated_trace::rows::Rows;
-use line_model::device::Sink;
 use line_model::fault::Fault;
 use line_model::finding::Finding;
+use line_model::lending::LentSink;
 use line_model::report::Report;
 use std::alloc::{AllocError, Allocator, Global};
 use std::process::Abort;
@@ -66,7 +66,7 @@ impl<A: Allocator + Copy, W: Watcher<A>> Describer<A, W> for Wordy {
         Ok(())
     }
 
-    fn close<K: Sink, B: Origin>(&mut self, _report: &Report<A>, page: &mut ClosingPage<'_, K, B>) {
+    fn close<S: LentSink>(&mut self, _report: &Report<A>, page: &mut ClosingPage<S>) {
         for _ in 0..1000 {
             page.say(WORDS);
         }

@@ -1,4 +1,4 @@
 use Rattle.annotated_trace.proofs.closing.write_closing.Given as goal
 
 abbrev pub ghosts-write_to : goal.ghosts-write_to
-ghosts-write_to g a = record { name = a.to.sink.ghost_name; before = (g.K.Sink.taken a.to.sink.now, g.K.Sink.failures a.to.sink.now) }
+ghosts-write_to g a = record { name = a.sink.ghost_name; before = (g.K.Sink.taken a.sink.now, g.K.Sink.failures a.sink.now) }

@@ -4,52 +4,58 @@ use Rattle.std.specs.Prelude.{OnOk, IfErr}
 use Rattle.line_model.specs.basics.Device.{with_more}
 use Rattle.json_lines.specs.Json.{json_text}
 use Rattle.command_line.specs.Program.{fault_status}
-use Rattle.command_line.proofs.JsonLemmas.{none_failed, scanned_afresh}
+use Rattle.command_line.proofs.JsonLemmas.{none_failed, scanned_afresh, told_back}
 use Rattle.command_line.proofs.json.scan_to.Goals as goal
 
 pub returns-in-Ok-clause-told : goal.returns-in-Ok-clause-told
 returns-in-Ok-clause-told g c text told =
     let taken = c.scan-scanned.new.sink.lines.told.bytes in
     let failures = length c.scan-scanned.new.sink.lines.refused.bytes in
-    record {
+    let back = c.give_back-in-Ok in
+    told_back c.args.options.follow text _ _ _ (g.K.Sink.taken c.finish-lent.result.0.sink.now) _ (g.K.Sink.failures c.finish-lent.result.0.sink.now) _ _ back.ensures.taken back.ensures.failures
+    (record {
       told = taken;
       failures = failures;
       plain = c.scan-scanned.result;
       scanned = scanned_afresh c.args.options.follow text _ _ _ _ _ failures c.scan-scanned.result c.new-json.ensures.taken c.new-json.ensures.failures
           (λ plain. c.scan-scanned.ensures.status plain text told) (λ follow. c.scan-scanned.ensures.followed follow text told);
       objects = inl (
-        none_failed failures c.finish-sink.result.answer _ c.in-Ok.is c.finish-sink.ensures.refused,
+        none_failed failures c.finish-lent.result.1 _ c.in-Ok.is c.finish-lent.ensures.refused,
         refl,
-        subst (λ r. OnOk r (g.K.Sink.taken c.finish-sink.result.sink.now ≡ with_more g.B.Origin.before.0 (json_text taken))) c.in-Ok.is (c.finish-sink.ensures.ok taken refl),
+        subst (λ r. OnOk r (g.K.Sink.taken c.finish-lent.result.0.sink.now ≡ with_more g.B.Origin.before.0 (json_text taken))) c.in-Ok.is (c.finish-lent.ensures.ok taken refl),
       );
-    }
+    })
 
 pub returns-in-Err-clause-told : goal.returns-in-Err-clause-told
 returns-in-Err-clause-told g c text told =
     let taken = c.scan-scanned.new.sink.lines.told.bytes in
     let failures = length c.scan-scanned.new.sink.lines.refused.bytes in
-    let part = c.finish-sink.ensures.part taken refl in
-    let failed = subst (λ r. IfErr r (λ fault. (fault ≡ Write) × (g.B.Origin.before.1 < g.K.Sink.failures c.finish-sink.result.sink.now))) c.in-Err.is c.finish-sink.ensures.failed in
-    record {
+    let part = c.finish-lent.ensures.part taken refl in
+    let failed = subst (λ r. IfErr r (λ fault. (fault ≡ Write) × (g.B.Origin.before.1 < g.K.Sink.failures c.finish-lent.result.0.sink.now))) c.in-Err.is c.finish-lent.ensures.failed in
+    let back = c.give_back-in-Err in
+    told_back c.args.options.follow text _ _ _ (g.K.Sink.taken c.finish-lent.result.0.sink.now) _ (g.K.Sink.failures c.finish-lent.result.0.sink.now) _ _ back.ensures.taken back.ensures.failures
+    (record {
       told = taken;
       failures = failures;
       plain = c.scan-scanned.result;
       scanned = scanned_afresh c.args.options.follow text _ _ _ _ _ failures c.scan-scanned.result c.new-json.ensures.taken c.new-json.ensures.failures
           (λ plain. c.scan-scanned.ensures.status plain text told) (λ follow. c.scan-scanned.ensures.followed follow text told);
       objects = inr (c.if-scanned-eq-OTHER_FAULT.true, (λ well. omega (arith, failed.1, well)), record { front = part.0; rest = part.1; whole = part.2; taken = part.3 });
-    }
+    })
 
 pub returns-in-Err-2-clause-told : goal.returns-in-Err-2-clause-told
 returns-in-Err-2-clause-told g c text told =
     let taken = c.scan-scanned.new.sink.lines.told.bytes in
     let failures = length c.scan-scanned.new.sink.lines.refused.bytes in
-    let part = c.finish-sink.ensures.part taken refl in
-    let failed = subst (λ r. IfErr r (λ fault. (fault ≡ Write) × (g.B.Origin.before.1 < g.K.Sink.failures c.finish-sink.result.sink.now))) c.in-Err-2.is c.finish-sink.ensures.failed in
-    record {
+    let part = c.finish-lent.ensures.part taken refl in
+    let failed = subst (λ r. IfErr r (λ fault. (fault ≡ Write) × (g.B.Origin.before.1 < g.K.Sink.failures c.finish-lent.result.0.sink.now))) c.in-Err-2.is c.finish-lent.ensures.failed in
+    let back = c.give_back-in-Err-2 in
+    told_back c.args.options.follow text _ _ _ (g.K.Sink.taken c.finish-lent.result.0.sink.now) _ (g.K.Sink.failures c.finish-lent.result.0.sink.now) _ _ back.ensures.taken back.ensures.failures
+    (record {
       told = taken;
       failures = failures;
       plain = c.scan-scanned.result;
       scanned = scanned_afresh c.args.options.follow text _ _ _ _ _ failures c.scan-scanned.result c.new-json.ensures.taken c.new-json.ensures.failures
           (λ plain. c.scan-scanned.ensures.status plain text told) (λ follow. c.scan-scanned.ensures.followed follow text told);
       objects = inr (c.refuse_write.ensures ∙ ap fault_status failed.0, (λ well. omega (arith, failed.1, well)), record { front = part.0; rest = part.1; whole = part.2; taken = part.3 });
-    }
+    })
