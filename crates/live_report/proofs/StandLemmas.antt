@@ -84,7 +84,7 @@ may_come c rs r last octets h =
 
 pub next_stands : {A C : Type 0} → (I : C → Interface) (N : C → ℕ) (S : C → Channel → Type 0) (i : Interface) (rs : List Row) (r : Row) (more : List Piece) (before new : Observer A C) (after : Cutting)
     → (s : StandsFor I N S i rs before) → AreRows (rs ++ r ∷ []) → Pushed i rs r more after → IsCutting after → IsCounted r s.cutting after → Holds I N S after (map value (given_of i rs) ++ map value more) new
-    → KnowsLast i (rs ++ r ∷ []) new.last new.pieces.events.items → StandsFor I N S i (rs ++ r ∷ []) new
+    → KnowsLast i (rs ++ r ∷ []) new.last new.events.items → StandsFor I N S i (rs ++ r ∷ []) new
 next_stands I N S i rs r more before new after s sound pushed bounds counted holds known = record {
   sound = sound;
   cutting = after;
@@ -109,5 +109,5 @@ nothing_taken I N S i o holds = record {
   last = refl;
   octets = refl;
   holds = subst (λ reports. Holds I N S (no_cutting i) reports o) (sym (ap (map value) (of_no_length (given_of i []) (nothing_cut i).given))) holds;
-  row = no_row i o.last o.pieces.events.items;
+  row = no_row i o.last o.events.items;
 }

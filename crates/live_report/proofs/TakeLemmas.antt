@@ -1,5 +1,5 @@
 -- What an observer holds after one more row.
-use Rattle.std.proofs.Common.{◌≡◌, ◌≢◌, ◌∙◌, sym, ap, subst, refl, ℕ, ◌+◌, ◌⊎◌, inl, inr, List, [], ◌∷◌, ◌++◌, map, length, Option, Result, Ok, Err, OnOk}
+use Rattle.std.proofs.Common.{◌≡◌, ◌≢◌, ◌∙◌, sym, ap, subst, refl, ℕ, ◌+◌, ◌⊎◌, inl, inr, List, [], ◌∷◌, ◌++◌, map, length, Result, Ok, Err, OnOk}
 use Rattle.std.specs.List.{AllByRecursion}
 use Rattle.std.specs.Option.{option_to_list}
 use Rattle.line_model.specs.declared.interface.Interface.{Interface}
@@ -87,9 +87,9 @@ lanes_ended {A} {C} I N S i e rows after item lanes listing turned empty = recor
 pub step_of : {A C : Type 0} → (I : C → Interface) (N : C → ℕ) (S : C → Channel → Type 0) (c : Cutting) (reports : List PieceReport) (o : Observer A C) (item : Item) (step : Step) → Holds I N S c reports o → IsStep o.walk.machine o.walk.epoch item step → IsStep c.line c.epoch item step
 step_of I N S c reports o item step h is = subst (λ l. IsStep l c.epoch item step) h.line (subst (λ n. IsStep o.walk.machine n item step) h.epoch is)
 
-pub lanes_at : {A C : Type 0} → (I : C → Interface) (N : C → ℕ) (S : C → Channel → Type 0) (c : Cutting) (reports : List PieceReport) (o : Observer A C) (v : EpochWalk A) → Holds I N S c reports o → IsSameWalk o.walk v → OpenFor I N S v.interface v.epoch c.open_rows o.pieces.lanes
+pub lanes_at : {A C : Type 0} → (I : C → Interface) (N : C → ℕ) (S : C → Channel → Type 0) (c : Cutting) (reports : List PieceReport) (o : Observer A C) (v : EpochWalk A) → Holds I N S c reports o → IsSameWalk o.walk v → OpenFor I N S v.interface v.epoch c.open_rows o.lanes
 lanes_at I N S c reports o v h same =
-    lanes_same I N S c.interface v.interface c.epoch v.epoch c.open_rows c.open_rows o.pieces.lanes h.lanes (same.interface ∙ h.interface) (same.epoch ∙ h.epoch) (record { rows = λ k. refl; channels = refl })
+    lanes_same I N S c.interface v.interface c.epoch v.epoch c.open_rows c.open_rows o.lanes h.lanes (same.interface ∙ h.interface) (same.epoch ∙ h.epoch) (record { rows = λ k. refl; channels = refl })
 
 -- ---- bounds
 
@@ -141,8 +141,8 @@ lanes_moved I N S i e n rows lanes f (inr none) = lanes_bare I N S i e n rows la
 
 pub holds_after : {A C : Type 0} → (I : C → Interface) (N : C → ℕ) (S : C → Channel → Type 0) (i : Interface) (rs : List Row) (c : Cutting) (reports : List PieceReport) (item : Item) (step : Step) (o new : Observer A C) (v : EpochWalk A)
     → IsCutterOf i rs c → item.packet ≡ packet_of c.interface item.row.octets → IsStep c.line c.epoch item step → Holds I N S c reports o → IsSameWalk o.walk v → IsAdvanced step v new.walk → length reports ≡ c.given
-    → new.pieces.ended ≡ gathered (reports ++ map value (ended_by step.turn v.interface v.epoch item.row.number (length reports) c.open_rows))
-    → OpenFor I N S v.interface v.epoch (rows_after step.turn item c.open_rows) new.pieces.lanes
+    → new.ended ≡ gathered (reports ++ map value (ended_by step.turn v.interface v.epoch item.row.number (length reports) c.open_rows))
+    → OpenFor I N S v.interface v.epoch (rows_after step.turn item c.open_rows) new.lanes
     → Holds I N S (cutting_after c item step) (reports ++ map value (ended_by step.turn c.interface c.epoch item.row.number c.given c.open_rows)) new
 holds_after I N S i rs c reports item step o new v s packet is h same on many ended lanes =
     let interface = same.interface ∙ h.interface in
@@ -155,14 +155,14 @@ holds_after I N S i rs c reports item step o new v s packet is h same on many en
       packets = on.packets ∙ ap (λ n. n + 1) (same.packets ∙ h.packets);
       findings = on.findings ∙ ap (λ l. l ++ option_to_list step.finding) (same.findings ∙ h.findings);
       ended = ended ∙ (λ t. gathered (reports ++ map value (ended_by step.turn (interface t) (epoch t) item.row.number (many t) c.open_rows)));
-      lanes = lanes_moved I N S c.interface c.epoch step.epoch rows new.pieces.lanes
-          (lanes_same I N S v.interface c.interface v.epoch c.epoch rows rows new.pieces.lanes lanes (sym interface) (sym epoch) (record { rows = λ k. refl; channels = refl })) (epoch_stays i rs c item step s packet is);
+      lanes = lanes_moved I N S c.interface c.epoch step.epoch rows new.lanes
+          (lanes_same I N S v.interface c.interface v.epoch c.epoch rows rows new.lanes lanes (sym interface) (sym epoch) (record { rows = λ k. refl; channels = refl })) (epoch_stays i rs c item step s packet is);
     }
 
 pub stands_after : {A C : Type 0} → (I : C → Interface) (N : C → ℕ) (S : C → Channel → Type 0) (i : Interface) (rs : List Row) (o new : Observer A C) (item : Item) (step : Step) (s : StandsFor I N S i rs o) → AreRows (rs ++ item.row ∷ [])
     → item.packet ≡ packet_of s.cutting.interface item.row.octets → IsStep s.cutting.line s.cutting.epoch item step
     → Holds I N S (cutting_after s.cutting item step) (map value (given_of i rs) ++ map value (ended_by step.turn s.cutting.interface s.cutting.epoch item.row.number s.cutting.given s.cutting.open_rows)) new
-    → KnowsLast i (rs ++ item.row ∷ []) new.last new.pieces.events.items → StandsFor I N S i (rs ++ item.row ∷ []) new
+    → KnowsLast i (rs ++ item.row ∷ []) new.last new.events.items → StandsFor I N S i (rs ++ item.row ∷ []) new
 stands_after I N S i rs o new item step s sound packet is holds known =
     let c = s.cutting in
     let after = cutting_after c item step in

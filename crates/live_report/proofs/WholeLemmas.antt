@@ -29,9 +29,9 @@ all_told I N S i rs o s =
     ∙ ap (map value) (rest_open i rs c s.cut)
 
 -- the pieces that are known whole and those of the open epoch are few
-pub few_pieces : {A C : Type 0} → (I : C → Interface) (N : C → ℕ) (S : C → Channel → Type 0) (i : Interface) (rs : List Row) (o : Observer A C) (s : StandsFor I N S i rs o) → o.pieces.ended.pieces + length s.cutting.open_rows.channels ≤ 999999999
+pub few_pieces : {A C : Type 0} → (I : C → Interface) (N : C → ℕ) (S : C → Channel → Type 0) (i : Interface) (rs : List Row) (o : Observer A C) (s : StandsFor I N S i rs o) → o.ended.pieces + length s.cutting.open_rows.channels ≤ 999999999
 few_pieces I N S i rs o s =
-    let given : o.pieces.ended.pieces ≡ s.cutting.given = ap (λ p. p.pieces) s.holds.ended ∙ length-values (given_of i rs) ∙ sym s.cut.given in
+    let given : o.ended.pieces ≡ s.cutting.given = ap (λ p. p.pieces) s.holds.ended ∙ length-values (given_of i rs) ∙ sym s.cut.given in
     let ids = s.bounds.ids in
     let rows = s.bounds.rows in
     let last = s.bounds.last in

@@ -1,5 +1,5 @@
 -- The observer that runs: what it holds after some rows.
-use Rattle.std.specs.Prelude.{◌≡◌, ℕ, ◌≤◌, ◌^◌, List, [], ◌∷◌, ◌++◌, All, Option, Some, Result, IfOk, OnOk, length, map, option_to_list, sum_by}
+use Rattle.std.specs.Prelude.{◌≡◌, ℕ, ◌≤◌, ◌^◌, List, [], ◌∷◌, ◌++◌, All, Option, Result, IfOk, OnOk, length, map, option_to_list, sum_by}
 use Rattle.std.specs.List.Sorted.{IsStrictlyIncreasing}
 use Rattle.line_model.specs.declared.interface.Interface.{Interface}
 use Rattle.line_model.specs.declared.finding.Finding.{Finding}
@@ -31,8 +31,8 @@ pub record Holds {A C : Type 0} (interface_of : C → Interface) (number_of : C 
   pub epoch : o.walk.epoch ≡ c.epoch
   pub packets : o.walk.packets ≡ c.packets
   pub findings : o.walk.findings.items ≡ c.findings
-  pub ended : o.pieces.ended ≡ gathered reports
-  pub lanes : OpenFor interface_of number_of stands_for c.interface c.epoch c.open_rows o.pieces.lanes
+  pub ended : o.ended ≡ gathered reports
+  pub lanes : OpenFor interface_of number_of stands_for c.interface c.epoch c.open_rows o.lanes
 
 -- an observer took these rows of an interface: it holds what a cutter of them does, and the values of the pieces that
 -- are known whole
@@ -45,7 +45,7 @@ pub record StandsFor {A C : Type 0} (interface_of : C → Interface) (number_of 
   pub last : cutting.last ≡ last_or 0 (map (λ r. r.number) rs)
   pub octets : cutting.octets ≡ sum_by (λ r. length r.octets) rs
   pub holds : Holds interface_of number_of stands_for cutting (map value (given_of i rs)) o
-  pub row : KnowsLast i rs o.last o.pieces.events.items
+  pub row : KnowsLast i rs o.last o.events.items
 
 -- the same two by the members of a machine of one channel
 abbrev pub IsHolding : {A C : Type 0} → Machine C A → Cutting → List PieceReport → Observer A C → Type 0

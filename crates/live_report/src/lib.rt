@@ -7,7 +7,6 @@ mod lanes;
 pub mod last_row;
 pub mod laws;
 pub mod live;
-mod live_pieces;
 pub mod observer;
 mod telling;
 mod watched;

@@ -1,40 +1,52 @@
 //! The observer that runs: it walks a trace row by row, and keeps what it found, not what it read.
 
-ghost use Rattle.std.specs.Prelude.{◌≡◌, ◌++◌, ◌∷◌, [], List, length, IfErr, IfSome, MatchOption};
+ghost use Rattle.std.specs.Prelude.{◌≡◌, ◌<◌, ◌+◌, ◌^◌, ◌++◌, ◌∷◌, [], List, length, map, IfErr, IfOk, IfSome, MatchOption, OnOk};
 ghost use Rattle.line_model.specs.basics.Records as records;
 ghost use Rattle.line_model.specs.declared.fault.Fault.TheVariants.{Memory};
 ghost use Rattle.line_model.specs.declared.interface.Interface.{Interface as AnyInterface};
-ghost use Rattle.restart_epochs.specs.Cutting.{Cutting, observer};
+ghost use Rattle.line_model.specs.pieces.Plans.{value};
+ghost use Rattle.restart_epochs.specs.OpenRows.{OpenRows};
+ghost use Rattle.restart_epochs.specs.Cutting.{Cutting, ended_by, observer, HasTurned};
+ghost use Rattle.report_merge.specs.Gathered.{gathered};
 ghost use Rattle.channel_run.specs.Live.{channel_so_far};
 ghost use Rattle.channel_run.specs.Views.{IsViewOf};
+ghost use Rattle.live_report.specs.Lanes.{item, LanesStandFor};
 ghost use Rattle.live_report.specs.LastRows.{IsLastRow};
+ghost use Rattle.live_report.specs.Turns.{FindsBy, HasEvents, MayTurn, OfOpen, StandsAt};
 ghost use Rattle.live_report.specs.Observing.{open_piece, HasWalked, IsHolding, IsObserver, MayWalk, TellsFinding, TellsReport, WalksOn};
 
 use crate::ending::end_channels;
+use crate::lanes::step_channel;
 use crate::last_row::LastRow;
-use crate::live_pieces::LivePieces;
 use crate::telling::tell_channels;
+use channel_run::live::LiveChannel;
 use channel_run::run::{Channel, View};
 use line_model::event::Event;
 use line_model::fault::Fault;
 use line_model::finding::Finding;
 use line_model::interface::Interface;
+use line_model::packet::Packet;
 use line_model::report::Report;
 use line_model::row::Row;
 use line_model::state::RState;
 use packet_decode::decode::decode;
 use report_merge::parts::Parts;
 use restart_epochs::channel_table::ChannelTable;
-use restart_epochs::walk::EpochWalk;
+use restart_epochs::walk::{EpochWalk, Step, Turn};
 use std::alloc::Allocator;
 
 /// An observer of an interface, and what it found so far.
 #[derive(Drop)]
 pub struct Observer<A: Allocator, C: Channel<A>> {
     walk: EpochWalk<A>,
-    pieces: LivePieces<A, C>,
+    /// What the pieces give whose epochs have ended.
+    ended: Parts<A>,
+    /// The channels that have rows in the epoch that has not ended.
+    lanes: ChannelTable<LiveChannel<A, C>, A>,
     /// The row that was taken last, as it was judged.
     last: Option<LastRow>,
+    /// The events of the last row that a channel took.
+    events: Vec<Event, A>,
 }
 
 impl<A: Allocator + Copy, C: Channel<A>> Observer<A, C> {
@@ -44,12 +56,50 @@ impl<A: Allocator + Copy, C: Channel<A>> Observer<A, C> {
     {
         Observer {
             walk: EpochWalk::new(alloc, interface),
-            pieces: LivePieces {
-                ended: Parts::new(alloc),
-                lanes: ChannelTable::new(alloc),
-                events: Vec::new(alloc),
-            },
+            ended: Parts::new(alloc),
+            lanes: ChannelTable::new(alloc),
             last: None,
+            events: Vec::new(alloc),
+        }
+    }
+
+    /// Steps the channel that a row goes to, or ends the channels that it ends, and returns what the row finds. It
+    /// refuses for want of memory alone.
+    fn turn(&mut self, step: &Step, row: &Row<A>, packet: &Packet) -> Result<Option<Finding>, Fault>
+        requires room { (rows : OpenRows) × (reports : List records.PieceReport)
+            × StandsAt C.Channel self.old.walk rows self.old.lanes × (self.old.ended ≡ gathered reports)
+            × MayTurn step.now.turn self.old.walk.interface (item row.now packet.now) rows }
+        requires pieces { self.old.ended.pieces + length self.old.lanes.channels < 2 ^ 32 }
+        ensures walk { self.new.walk ≡ self.old.walk }
+        ensures lanes { OfOpen C.Channel self.old.walk self.old.lanes (λ rows. (after : OpenRows)
+            → MayTurn step.now.turn self.old.walk.interface (item row.now packet.now) rows
+            → HasTurned step.now.turn (item row.now packet.now) rows after
+            → OnOk result (LanesStandFor C.Channel self.old.walk.interface self.old.walk.epoch after self.new.lanes)) }
+        ensures ended { OfOpen C.Channel self.old.walk self.old.lanes (λ rows. (reports : List records.PieceReport)
+            → self.old.ended ≡ gathered reports
+            → OnOk result (self.new.ended ≡ gathered (reports ++ map value (ended_by step.now.turn
+            self.old.walk.interface self.old.walk.epoch row.now.number (length reports) rows)))) }
+        ensures finding { OfOpen C.Channel self.old.walk self.old.lanes (λ rows.
+            IfOk result (FindsBy step.now self.old.walk rows row.now)) }
+        ensures events { OfOpen C.Channel self.old.walk self.old.lanes (λ rows.
+            OnOk result (HasEvents step.now.turn self.old.walk rows row.now self.new.events.items)) }
+        ensures memory { IfErr result (λ fault. fault ≡ Memory) }
+    {
+        match step.turn {
+            Turn::ToChannel(channel) => step_channel(
+                &self.walk.interface,
+                self.walk.epoch,
+                channel,
+                row,
+                packet,
+                &mut self.events,
+                &mut self.lanes,
+            ),
+            Turn::Ends => {
+                end_channels(Some(row.number), &mut self.lanes, &mut self.ended)?;
+                Ok(step.finding)
+            }
+            Turn::Stays => Ok(step.finding),
         }
     }
 
@@ -82,16 +132,16 @@ impl<A: Allocator + Copy, C: Channel<A>> Observer<A, C> {
     pub fn last_row(&self) -> Option<LastRow>
         ensures { (i : AnyInterface) (before : List records.Row) (row : records.Row)
             → HasWalked C.Channel i (before ++ row ∷ []) self.now
-            → MatchOption result ⊥ (λ last. IsLastRow i before row last self.now.pieces.events.items) }
+            → MatchOption result ⊥ (λ last. IsLastRow i before row last self.now.events.items) }
     {
         self.last
     }
 
     /// The events of the last row that a channel took.
     pub fn events(&self) -> &[Event]
-        ensures { result.now ≡ self.now.pieces.events.items }
+        ensures { result.now ≡ self.now.events.items }
     {
-        self.pieces.events.as_slice()
+        self.events.as_slice()
     }
 
     /// What is known of a logical channel in the epoch that goes on, if it has rows there.
@@ -100,7 +150,7 @@ impl<A: Allocator + Copy, C: Channel<A>> Observer<A, C> {
             → IsHolding C.Channel c reports self.now
             → IfSome result (IsViewOf c.interface (channel_so_far (open_piece c channel))) }
     {
-        match self.pieces.lanes.get(channel) {
+        match self.lanes.get(channel) {
             Some(live) => Some(live.view()),
             None => None,
         }
@@ -117,7 +167,7 @@ impl<A: Allocator + Copy, C: Channel<A>> Observer<A, C> {
     {
         let packet = decode(&self.walk.interface, row.octets.as_slice());
         let step = self.walk.step(&row.with_packet(packet))?;
-        let found = self.pieces.turn(&self.walk, &step, row, &packet)?;
+        let found = self.turn(&step, row, &packet)?;
         self.last = Some(LastRow {
             packet,
             channel: step.turn.channel(),
@@ -134,8 +184,8 @@ impl<A: Allocator + Copy, C: Channel<A>> Observer<A, C> {
         ensures memory { IfErr result (λ fault. fault ≡ Memory) }
     {
         let alloc = *self.walk.findings.allocator();
-        let mut parts = self.pieces.ended.copy()?;
-        tell_channels(alloc, &self.pieces.lanes, &mut parts)?;
+        let mut parts = self.ended.copy()?;
+        tell_channels(alloc, &self.lanes, &mut parts)?;
         let findings = Vec::from_slice(alloc, self.walk.findings.as_slice())?;
         parts.finish(findings, self.walk.packets)
     }
@@ -148,10 +198,11 @@ impl<A: Allocator + Copy, C: Channel<A>> Observer<A, C> {
     {
         let Observer {
             walk,
-            mut pieces,
+            mut ended,
+            mut lanes,
             ..
         } = self;
-        end_channels(None, &mut pieces.lanes, &mut pieces.ended)?;
-        pieces.ended.finish(walk.findings, walk.packets)
+        end_channels(None, &mut lanes, &mut ended)?;
+        ended.finish(walk.findings, walk.packets)
     }
 }

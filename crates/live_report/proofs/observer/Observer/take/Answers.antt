@@ -1,9 +1,10 @@
-use Rattle.std.proofs.Common.{◌≡◌, ◌∙◌, arith, ap, subst, sym, ◌+◌, length, map, Some}
+use Rattle.std.proofs.Common.{◌≡◌, ◌∙◌, arith, ap, subst, sym, ◌<◌, length, map, Some}
+use Rattle.std.specs.Vec.{vec_len, vec_capacity}
 use Rattle.line_model.specs.packets.Classes.{packet_of}
 use Rattle.line_model.specs.pieces.Plans.{value}
 use Rattle.line_model.proofs.Posts.{length-values}
 use Rattle.restart_epochs.specs.Cutting.{given_of}
-use Rattle.restart_epochs.specs.Walks.{IsStep}
+use Rattle.restart_epochs.specs.Walks.{IsAdvanced, IsStep}
 use Rattle.restart_epochs.proofs.Listings.{listing}
 use Rattle.live_report.specs.Lanes.{item}
 use Rattle.live_report.specs.Turns.{MayTurn, StandsAt}
@@ -45,7 +46,10 @@ turn-requires-clause-pieces g c =
 pub take-requires-clause-packets : goal.take-requires-clause-packets
 take-requires-clause-packets g c =
     let s = c.requires.room.2 in
-    omega (arith, c.in_ok-step.ensures.same.packets, s.holds.packets, s.bounds.rows, s.bounds.last)
+    omega (arith, ap (λ w. w.packets) c.in_ok-found.ensures.walk, c.in_ok-step.ensures.same.packets, s.holds.packets, s.bounds.rows, s.bounds.last)
+
+pub take-requires-clause-room : goal.take-requires-clause-room
+take-requires-clause-room g c = subst (λ w. vec_len w.findings < vec_capacity w.findings) (sym c.in_ok-found.ensures.walk) c.in_ok-step.ensures.room
 
 pub returns-clause-stands : goal.returns-clause-stands
 returns-clause-stands g c i rs s sound =
@@ -57,10 +61,10 @@ returns-clause-stands g c i rs s sound =
     let octets : c.as_slice.result.now ≡ c.args.row.now.octets = c.as_slice.ensures.value ∙ ap (λ x. x.octets) c.row.view_is in
     let packet : one.packet ≡ packet_of s.cutting.interface one.row.octets = c.decode-packet.ensures ∙ (λ t. packet_of (s.holds.interface t) (octets t)) in
     let is = step_of g.C.Channel.interface_of g.C.Channel.number_of g.C.Channel.stands_for s.cutting _ o one step s.holds (subst (λ x. IsStep o.walk.machine o.walk.epoch x step) c.with_packet.ensures c.in_ok-step.ensures.step) in
-    let here : StandsAt g.C.Channel v s.cutting.open_rows o.pieces.lanes = (lanes_at g.C.Channel.interface_of g.C.Channel.number_of g.C.Channel.stands_for s.cutting _ o v s.holds same, listing i rs s.cutting s.cut) in
+    let here : StandsAt g.C.Channel v s.cutting.open_rows o.lanes = (lanes_at g.C.Channel.interface_of g.C.Channel.number_of g.C.Channel.stands_for s.cutting _ o v s.holds same, listing i rs s.cutting s.cut) in
     let may = subst (λ j. MayTurn step.turn j one s.cutting.open_rows) (sym (same.interface ∙ s.holds.interface)) (may_turn g.C.Channel.interface_of g.C.Channel.number_of g.C.Channel.stands_for i rs o one step s sound packet is) in
     stands_after g.C.Channel.interface_of g.C.Channel.number_of g.C.Channel.stands_for i rs o _ one step s sound packet is
-    (holds_after g.C.Channel.interface_of g.C.Channel.number_of g.C.Channel.stands_for i rs s.cutting (map value (given_of i rs)) one step o _ v s.cut packet is s.holds same c.take.ensures (length-values (given_of i rs) ∙ sym s.cut.given)
+    (holds_after g.C.Channel.interface_of g.C.Channel.number_of g.C.Channel.stands_for i rs s.cutting (map value (given_of i rs)) one step o _ v s.cut packet is s.holds same (subst (λ w. IsAdvanced step w c.take.new.self) c.in_ok-found.ensures.walk c.take.ensures) (length-values (given_of i rs) ∙ sym s.cut.given)
     (c.in_ok-found.ensures.ended s.cutting.open_rows here (map value (given_of i rs)) s.holds.ended)
     (c.in_ok-found.ensures.lanes s.cutting.open_rows here (rows_after step.turn one s.cutting.open_rows) may (has_turned step.turn one s.cutting.open_rows)))
     (last_known i rs s.cutting one step v _ _ s.cut packet is (same.interface ∙ s.holds.interface) (same.epoch ∙ s.holds.epoch) (ap (λ k. Some (record { packet = one.packet; channel = k })) c.channel.ensures)
@@ -76,5 +80,5 @@ returns-clause-finding g c i rs s =
     let octets : c.as_slice.result.now ≡ c.args.row.now.octets = c.as_slice.ensures.value ∙ ap (λ x. x.octets) c.row.view_is in
     let packet : one.packet ≡ packet_of s.cutting.interface one.row.octets = c.decode-packet.ensures ∙ (λ t. packet_of (s.holds.interface t) (octets t)) in
     let is = step_of g.C.Channel.interface_of g.C.Channel.number_of g.C.Channel.stands_for s.cutting _ o one step s.holds (subst (λ x. IsStep o.walk.machine o.walk.epoch x step) c.with_packet.ensures c.in_ok-step.ensures.step) in
-    let here : StandsAt g.C.Channel v s.cutting.open_rows o.pieces.lanes = (lanes_at g.C.Channel.interface_of g.C.Channel.number_of g.C.Channel.stands_for s.cutting _ o v s.holds same, listing i rs s.cutting s.cut) in
+    let here : StandsAt g.C.Channel v s.cutting.open_rows o.lanes = (lanes_at g.C.Channel.interface_of g.C.Channel.number_of g.C.Channel.stands_for s.cutting _ o v s.holds same, listing i rs s.cutting s.cut) in
     finds_after i rs s.cutting one step v _ s.cut packet is (same.interface ∙ s.holds.interface) (same.epoch ∙ s.holds.epoch) (c.in_ok-found.ensures.finding s.cutting.open_rows here)

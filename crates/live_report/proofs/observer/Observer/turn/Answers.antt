@@ -1,4 +1,4 @@
-use Rattle.std.proofs.Common.{◌≡◌, ◌∙◌, ap, sym, subst, ◌++◌, append-nil, length, map, refl}
+use Rattle.std.proofs.Common.{◌∙◌, ap, sym, subst, ◌++◌, append-nil, length, map, refl}
 use Rattle.std.specs.Prelude.{IfOk, OnOk}
 use Rattle.line_model.specs.basics.Bounds.{IsPiece}
 use Rattle.line_model.specs.pieces.Plans.{value}
@@ -8,22 +8,22 @@ use Rattle.live_report.specs.Lanes.{item}
 use Rattle.live_report.specs.Turns.{FindsAt, HasEvents, MayTurn}
 use Rattle.live_report.proofs.StandLemmas.{lanes_same}
 use Rattle.live_report.proofs.TakeLemmas.{lanes_ended, on_any}
-use Rattle.live_report.proofs.live_pieces.LivePieces.turn.Goals as goal
+use Rattle.live_report.proofs.observer.Observer.turn.Goals as goal
 
 pub step_channel-requires : goal.step_channel-requires
 step_channel-requires g c =
     let room = c.requires.room in
-    record { room = (room.0, room.2.0, subst (λ t. MayTurn t c.args.walk.now.interface (item c.args.row.now c.args.packet.now) room.0) c.in-ToChannel.is room.4) }
+    record { room = (room.0, room.2.0, subst (λ t. MayTurn t c.args.self.now.walk.interface (item c.args.row.now c.args.packet.now) room.0) c.in-ToChannel.is room.4) }
 
 pub end_channels-requires-clause-room : goal.end_channels-requires-clause-room
 end_channels-requires-clause-room g c =
     let room = c.requires.room in
-    (c.args.walk.now.interface, c.args.walk.now.epoch, room.0, room.1, room.2.0, room.2.1, room.3)
+    (c.args.self.now.walk.interface, c.args.self.now.walk.epoch, room.0, room.1, room.2.0, room.2.1, room.3)
 
 pub returns-in-ToChannel-clause-lanes : goal.returns-in-ToChannel-clause-lanes
 returns-in-ToChannel-clause-lanes g c rows stands after may turned =
     let one = item c.args.row.now c.args.packet.now in
-    let i = c.args.walk.now.interface in
+    let i = c.args.self.now.walk.interface in
     let more = subst (λ t. HasTurned t one rows after) c.in-ToChannel.is turned in
     c.step_channel.ensures.stands rows after stands.0 more (subst (IsPiece i c.in-ToChannel.channel) (sym more.row) (subst (λ t. MayTurn t i one rows) c.in-ToChannel.is may))
 
@@ -31,24 +31,24 @@ pub returns-in-ToChannel-clause-ended : goal.returns-in-ToChannel-clause-ended
 returns-in-ToChannel-clause-ended g c rows stands reports was =
     on_any c.step_channel.result _
     (was ∙ ap gathered (sym (append-nil reports))
-    ∙ ap (λ t. gathered (reports ++ map value (ended_by t c.args.walk.now.interface c.args.walk.now.epoch c.args.row.now.number (length reports) rows))) (sym c.in-ToChannel.is))
+    ∙ ap (λ t. gathered (reports ++ map value (ended_by t c.args.self.now.walk.interface c.args.self.now.walk.epoch c.args.row.now.number (length reports) rows))) (sym c.in-ToChannel.is))
 
 pub returns-in-ToChannel-clause-finding : goal.returns-in-ToChannel-clause-finding
 returns-in-ToChannel-clause-finding g c rows stands =
-    subst (λ t. IfOk c.step_channel.result (FindsAt t c.args.step.now.finding c.args.walk.now rows c.args.row.now)) (sym c.in-ToChannel.is) (c.step_channel.ensures.finding rows stands.0)
+    subst (λ t. IfOk c.step_channel.result (FindsAt t c.args.step.now.finding c.args.self.now.walk rows c.args.row.now)) (sym c.in-ToChannel.is) (c.step_channel.ensures.finding rows stands.0)
 
 pub returns-in-ToChannel-clause-events : goal.returns-in-ToChannel-clause-events
 returns-in-ToChannel-clause-events g c rows stands =
-    subst (λ t. OnOk c.step_channel.result (HasEvents t c.args.walk.now rows c.args.row.now c.step_channel.new.events.items)) (sym c.in-ToChannel.is) (c.step_channel.ensures.events rows stands.0)
+    subst (λ t. OnOk c.step_channel.result (HasEvents t c.args.self.now.walk rows c.args.row.now c.step_channel.new.events.items)) (sym c.in-ToChannel.is) (c.step_channel.ensures.events rows stands.0)
 
 pub returns-in_ok-end_channels-in-Ends-clause-lanes : goal.returns-in_ok-end_channels-in-Ends-clause-lanes
 returns-in_ok-end_channels-in-Ends-clause-lanes g c rows stands after may turned =
-    let walk = c.args.walk.now in
+    let walk = c.args.self.now.walk in
     lanes_ended g.C.Channel.interface_of g.C.Channel.number_of g.C.Channel.stands_for walk.interface walk.epoch rows after (item c.args.row.now c.args.packet.now) c.end_channels.new.lanes stands.1
     (subst (λ t. HasTurned t (item c.args.row.now c.args.packet.now) rows after) c.in-Ends.is turned) (c.in_ok-end_channels-in-Ends.ensures.emptied walk.interface walk.epoch rows stands.0 stands.1)
 
 pub returns-in-Stays-clause-lanes : goal.returns-in-Stays-clause-lanes
 returns-in-Stays-clause-lanes g c rows stands after may turned =
-    let walk = c.args.walk.now in
+    let walk = c.args.self.now.walk in
     lanes_same g.C.Channel.interface_of g.C.Channel.number_of g.C.Channel.stands_for walk.interface walk.interface walk.epoch walk.epoch rows after c.args.self.now.lanes stands.0 refl refl
     (subst (λ t. HasTurned t (item c.args.row.now c.args.packet.now) rows after) c.in-Stays.is turned)
