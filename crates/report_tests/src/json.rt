@@ -1,23 +1,14 @@
 //! Lines of reports as JSON lines that were written by hand, over sinks that cut and fail.
 
-ghost use Rattle.std.specs.Prelude.{◌≡◌, ◌<◌};
+ghost use Rattle.std.specs.Prelude.{◌≡◌};
 
 use json_lines::sink::{JsonSink, Lent, Origin, Returned};
-use line_model::count::Count;
 use line_model::device::Sink;
 use line_model::fault::Fault;
 use std::alloc::Global;
 use std::marker::Brand;
 use std::process::Abort;
-use std::sync::ledger::{Blank, Ledger};
-use test_devices::CutSink;
-
-/// How a sink of the tests takes: at most so many bytes a call, and so many good calls.
-#[derive(Clone, Copy)]
-struct Takes {
-    step: usize,
-    good_calls: usize,
-}
+use test_devices::{CutSink, Cuts};
 
 /// What was answered, how many calls were good, and the bytes that were taken.
 #[derive(Drop)]
@@ -56,42 +47,22 @@ fn convert<'a, K: Sink, B: Origin>(text: &[u8], size: usize, to: Lent<'a, K>) ->
 }
 
 /// What becomes of a text that comes in parts of some size.
-fn outcome<L: Ledger>(
-    blank: Blank,
-    alloc: Global,
-    text: &[u8],
-    size: usize,
-    takes: Takes,
-) -> Conversion
-    requires name { blank.name ≡ L.name }
-    requires parts { blank.parts ≡ L.parts }
-    requires some { 0 < L.parts }
-{
-    let mut sink: CutSink<L> = CutSink {
-        taken: Vec::new(alloc),
-        step: takes.step,
-        good_calls: takes.good_calls,
-        failures: Count::open(blank),
-    };
+fn converted(alloc: Global, text: &[u8], size: usize, cuts: Cuts) -> Conversion {
+    let mut sink = CutSink::new(alloc, cuts);
     let answer = {
-        let Returned { answer, .. } = convert::<CutSink<L>, Brand>(
+        let Returned { answer, .. } = convert::<CutSink, Brand>(
             text,
             size,
             Lent { sink: &mut sink },
         );
         answer
     };
-    let calls = takes.good_calls.saturating_sub(sink.good_calls);
+    let calls = cuts.good_writes.saturating_sub(sink.good_calls);
     Conversion {
         answer,
         calls,
         bytes: sink.taken,
     }
-}
-
-/// What becomes of a text in parts of some size.
-fn converted(alloc: Global, text: &[u8], size: usize, takes: Takes) -> Conversion {
-    outcome::<Brand>(Blank::new(1), alloc, text, size, takes)
 }
 
 const REPORT: &[u8] = b"F 5 T d1 1\n\
@@ -125,30 +96,18 @@ fn agree(rt: &impl Abort, told: &Conversion, objects: &[u8]) {
     assert!(rt; told.bytes.as_slice() == objects);
 }
 
-/// Takes all.
-const WHOLE: Takes = Takes {
-    step: usize::MAX,
-    good_calls: usize::MAX,
-};
-
-/// Takes a byte a call.
-const SLOW: Takes = Takes {
-    step: 1,
-    good_calls: usize::MAX,
-};
-
 #[test]
 fn a_sink_that_takes_one_byte_a_call_takes_the_same(rt: HostRuntime) {
-    let told = converted(rt.alloc(), REPORT, 7, SLOW);
+    let told = converted(rt.alloc(), REPORT, 7, Cuts::of_steps(1, 1));
     agree(&rt, &told, OBJECTS);
     assert!(rt; told.calls == OBJECTS.len());
 }
 
 #[test]
 fn each_part_is_one_write(rt: HostRuntime) {
-    let by_byte = converted(rt.alloc(), REPORT, 1, WHOLE);
+    let by_byte = converted(rt.alloc(), REPORT, 1, Cuts::none());
     assert!(rt; by_byte.calls == 11);
-    let at_once = converted(rt.alloc(), REPORT, 65536, WHOLE);
+    let at_once = converted(rt.alloc(), REPORT, 65536, Cuts::none());
     assert!(rt; at_once.calls == 1);
 }
 
@@ -161,11 +120,12 @@ fn agree_on_failure(rt: &impl Abort, told: &Conversion, good_calls: usize) {
 
 /// Writes the report in parts of some size to a sink that fails after so many good calls.
 fn check_failure(rt: &impl Abort, alloc: Global, size: usize, good_calls: usize) {
-    let takes = Takes {
-        step: 90,
-        good_calls,
+    let cuts = Cuts {
+        write_step: 90,
+        good_writes: good_calls,
+        ..Cuts::none()
     };
-    let told = converted(alloc, REPORT, size, takes);
+    let told = converted(alloc, REPORT, size, cuts);
     agree_on_failure(rt, &told, good_calls);
 }
 
