@@ -1,6 +1,5 @@
 //! Reports of traces that grow.
 
-ghost use Rattle.std.specs.Prelude.{◌≡◌, ◌<◌};
 ghost use Rattle.live_report.specs.Lives.{IsFed};
 
 mod follows;
@@ -8,14 +7,11 @@ mod wanting;
 
 use channel_machine::channel::PlainChannel;
 use channel_run::run::Channel;
-use line_model::count::Count;
 use line_model::fault::Fault;
 use live_report::live::Live;
 use std::alloc::{Allocator, Global};
-use std::marker::Brand;
 use std::process::Abort;
-use std::sync::ledger::{Blank, Ledger};
-use test_devices::CutSink;
+use test_devices::{CutSink, Cuts};
 
 /// Why a report was refused, if it was, and what it wrote.
 #[derive(Drop)]
@@ -36,57 +32,12 @@ enum Step {
     Report(Wanted),
 }
 
-/// A sink that has its room.
-fn open_sink<L: Ledger>(blank: Blank, alloc: Global) -> CutSink<L>
-    requires name { blank.name ≡ L.name }
-    requires parts { blank.parts ≡ L.parts }
-    requires some { 0 < L.parts }
-{
-    CutSink {
-        taken: Vec::new(alloc),
-        step: usize::MAX,
-        good_calls: usize::MAX,
-        failures: Count::open(blank),
-    }
-}
-
-fn told_on<A: Allocator + Copy, C: Channel<A>, L: Ledger>(
-    blank: Blank,
-    alloc: Global,
-    trace: &Live<A, C>,
-) -> Answer
-    requires name { blank.name ≡ L.name }
-    requires parts { blank.parts ≡ L.parts }
-    requires some { 0 < L.parts }
-    requires fed { IsFed C.interface_of C.number_of C.stands_for trace.now }
-{
-    let mut sink = open_sink::<L>(blank, alloc);
-    let fault = trace.report(&mut sink).err();
-    Answer {
-        fault,
-        bytes: sink.taken,
-    }
-}
-
 /// The report of a trace so far.
 fn told<A: Allocator + Copy, C: Channel<A>>(alloc: Global, trace: &Live<A, C>) -> Answer
     requires fed { IsFed C.interface_of C.number_of C.stands_for trace.now }
 {
-    told_on::<A, C, Brand>(Blank::new(1), alloc, trace)
-}
-
-fn ended_on<A: Allocator + Copy, C: Channel<A>, L: Ledger>(
-    blank: Blank,
-    alloc: Global,
-    trace: Live<A, C>,
-) -> Answer
-    requires name { blank.name ≡ L.name }
-    requires parts { blank.parts ≡ L.parts }
-    requires some { 0 < L.parts }
-    requires fed { IsFed C.interface_of C.number_of C.stands_for trace }
-{
-    let mut sink = open_sink::<L>(blank, alloc);
-    let fault = trace.end(&mut sink).err();
+    let mut sink = CutSink::new(alloc, Cuts::none());
+    let fault = trace.report(&mut sink).err();
     Answer {
         fault,
         bytes: sink.taken,
@@ -97,7 +48,12 @@ fn ended_on<A: Allocator + Copy, C: Channel<A>, L: Ledger>(
 fn ended<A: Allocator + Copy, C: Channel<A>>(alloc: Global, trace: Live<A, C>) -> Answer
     requires fed { IsFed C.interface_of C.number_of C.stands_for trace }
 {
-    ended_on::<A, C, Brand>(Blank::new(1), alloc, trace)
+    let mut sink = CutSink::new(alloc, Cuts::none());
+    let fault = trace.end(&mut sink).err();
+    Answer {
+        fault,
+        bytes: sink.taken,
+    }
 }
 
 /// Sees that a fault is the one that is wanted, if any is.

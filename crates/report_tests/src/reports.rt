@@ -1,55 +1,44 @@
 //! Reports of recorded interfaces, merged from the reports of their pieces, against reports that were made elsewhere.
 
-ghost use Rattle.std.specs.Prelude.{◌≡◌, ◌<◌, None};
+ghost use Rattle.std.specs.Prelude.{None};
 
 mod refused;
 
-use line_model::count::Count;
 use line_model::device::{Sink, VecSink};
 use line_model::fault::Fault;
 use line_model::finding::{Code, Finding};
+use line_model::history::Count;
 use line_model::piece::PieceReport;
 use line_model::report::Report;
 use line_model::state::{Side, StateName};
 use report_merge::merging::merge;
 use report_merge::text::write_report;
 use std::alloc::{AllocError, Global};
-use std::marker::Brand;
 use std::process::Abort;
-use std::sync::ledger::{Blank, Ledger};
 use std::test::Fail;
 
 /// Whether these bytes are written of a report.
-fn writes<L: Ledger>(
-    blank: Blank,
-    alloc: Global,
-    report: &Report,
-    expected: &[u8],
-) -> Result<bool, Fault>
-    requires name { blank.name ≡ L.name }
-    requires parts { blank.parts ≡ L.parts }
-    requires some { 0 < L.parts }
-{
-    let mut sink: VecSink<Global, L> = VecSink::new(Vec::new(alloc), Count::open(blank));
+fn writes(alloc: Global, report: &Report, expected: &[u8]) -> Result<bool, Fault> {
+    let mut sink = VecSink::new(Vec::new(alloc));
     write_report(report, &mut sink)?;
     Ok(sink.as_slice() == expected)
 }
 
 /// Sees that the text of a report is the one that is expected.
 fn check(rt: &impl Abort, alloc: Global, report: &Report, expected: &[u8]) -> Result<(), Fault> {
-    let same = writes::<Brand>(Blank::new(1), alloc, report, expected)?;
+    let same = writes(alloc, report, expected)?;
     assert!(rt; same);
     Ok(())
 }
 
 /// A sink with room for so many bytes, which fails once it is full.
 #[derive(Drop)]
-struct Narrow<L: Ledger> {
+struct Narrow {
     room: usize,
-    failures: Count<L>,
+    failures: Count,
 }
 
-impl<L: Ledger> Sink for Narrow<L> {
+impl Sink for Narrow {
     ghost taken = { λ s. None };
 
     ghost failures = { λ s. s.failures };
@@ -66,14 +55,10 @@ impl<L: Ledger> Sink for Narrow<L> {
 }
 
 /// What is answered where a sink has room for so many bytes.
-fn answered<L: Ledger>(blank: Blank, room: usize, report: &Report) -> Result<(), Fault>
-    requires name { blank.name ≡ L.name }
-    requires parts { blank.parts ≡ L.parts }
-    requires some { 0 < L.parts }
-{
-    let mut sink: Narrow<L> = Narrow {
+fn answered(room: usize, report: &Report) -> Result<(), Fault> {
+    let mut sink = Narrow {
         room,
-        failures: Count::open(blank),
+        failures: Count::new(),
     };
     write_report(report, &mut sink)
 }
@@ -202,7 +187,7 @@ fn reports_that_are_not_the_plans_are_refused(rt: HostRuntime) -> Result<(), Fai
 
 /// Sees what is answered where a sink has room for so many bytes.
 fn check_room(rt: &impl Abort, room: usize, report: &Report, wanted: Result<(), Fault>) {
-    assert!(rt; answered::<Brand>(Blank::new(1), room, report) == wanted);
+    assert!(rt; answered(room, report) == wanted);
 }
 
 #[test]

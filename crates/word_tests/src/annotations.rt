@@ -2,7 +2,7 @@
 
 mod closing;
 
-ghost use Rattle.std.specs.Prelude.{◌≡◌, ◌<◌, ⊤};
+ghost use Rattle.std.specs.Prelude.{⊤};
 ghost use Rattle.annotated_trace.specs.declared.rows.Rows.TheVariants.{All};
 
 use annotated_trace::annotating::annotate;
@@ -11,16 +11,13 @@ use annotated_trace::notes::{Notes, Words};
 use annotated_trace::page::ClosingPage;
 use annotated_trace::rows::Rows;
 use channel_machine::channel::{PackedChannel, PlainChannel};
-use line_model::count::Count;
 use line_model::fault::Fault;
 use line_model::finding::Finding;
 use line_model::lending::LentSink;
 use line_model::report::Report;
 use live_report::live::Live;
 use std::alloc::{AllocError, Allocator, Global};
-use std::marker::Brand;
 use std::process::Abort;
-use std::sync::ledger::{Blank, Ledger};
 use test_devices::{CutSink, CutSource, Cuts};
 use trace_text::watcher::Watcher;
 
@@ -74,66 +71,20 @@ struct Answer {
     bytes: Vec<u8>,
 }
 
-fn annotated_on<A, D, C: Ledger, F: Ledger, L: Ledger>(
-    heap: A,
-    alloc: Global,
-    text: &[u8],
-    cuts: Cuts,
-    describer: D,
-    calls: Blank,
-    read_failures: Blank,
-    write_failures: Blank,
-) -> Answer
-where
-    A: Allocator + Copy,
-    D: Describer<A, Live<A, PackedChannel<A>>>,
-    requires calls_name { calls.name ≡ C.name }
-    requires calls_parts { calls.parts ≡ C.parts }
-    requires calls_shared { 0 < C.parts }
-    requires read_name { read_failures.name ≡ F.name }
-    requires read_parts { read_failures.parts ≡ F.parts }
-    requires read_shared { 0 < F.parts }
-    requires write_name { write_failures.name ≡ L.name }
-    requires write_parts { write_failures.parts ≡ L.parts }
-    requires write_shared { 0 < L.parts }
-{
-    let mut source = CutSource {
-        rest: text,
-        step: cuts.read_step,
-        good: cuts.good_bytes,
-        calls: Count::<C>::open(calls),
-        failures: Count::<F>::open(read_failures),
-    };
-    let mut sink = CutSink {
-        taken: Vec::new(alloc),
-        step: cuts.write_step,
-        good_calls: cuts.good_writes,
-        failures: Count::<L>::open(write_failures),
-    };
-    let trace = Live::<A, PackedChannel<A>>::new(heap);
-    let fault = annotate(heap, trace, describer, &mut source, &mut sink).err();
-    Answer {
-        fault,
-        bytes: sink.taken,
-    }
-}
-
 /// The annotation of a trace by a describer, from a source and to a sink that cut and fail so.
 fn annotated_by<A, D>(heap: A, alloc: Global, text: &[u8], cuts: Cuts, describer: D) -> Answer
 where
     A: Allocator + Copy,
     D: Describer<A, Live<A, PackedChannel<A>>>,
 {
-    annotated_on::<A, D, Brand, Brand, Brand>(
-        heap,
-        alloc,
-        text,
-        cuts,
-        describer,
-        Blank::new(1),
-        Blank::new(1),
-        Blank::new(1),
-    )
+    let mut source = CutSource::new(text, cuts);
+    let mut sink = CutSink::new(alloc, cuts);
+    let trace = Live::<A, PackedChannel<A>>::new(heap);
+    let fault = annotate(heap, trace, describer, &mut source, &mut sink).err();
+    Answer {
+        fault,
+        bytes: sink.taken,
+    }
 }
 
 /// The annotation of a trace that comes in pieces of so many bytes, with the numbers of its lines.
@@ -143,17 +94,9 @@ fn annotated(alloc: Global, text: &[u8], step: usize, first: u64) -> Answer {
     annotated_by(alloc, alloc, text, cuts, describer)
 }
 
-fn report_on<L: Ledger>(blank: Blank, alloc: Global, text: &[u8]) -> Answer
-    requires name { blank.name ≡ L.name }
-    requires parts { blank.parts ≡ L.parts }
-    requires some { 0 < L.parts }
-{
-    let mut sink = CutSink {
-        taken: Vec::new(alloc),
-        step: usize::MAX,
-        good_calls: usize::MAX,
-        failures: Count::<L>::open(blank),
-    };
+/// The report of a trace.
+fn report(alloc: Global, text: &[u8]) -> Answer {
+    let mut sink = CutSink::new(alloc, Cuts::none());
     let mut trace = Live::<Global, PlainChannel<Global>>::new(alloc);
     let fault = match trace.feed(text) {
         Ok(()) => trace.end(&mut sink).err(),
@@ -163,11 +106,6 @@ fn report_on<L: Ledger>(blank: Blank, alloc: Global, text: &[u8]) -> Answer
         fault,
         bytes: sink.taken,
     }
-}
-
-/// The report of a trace.
-fn report(alloc: Global, text: &[u8]) -> Answer {
-    report_on::<Brand>(Blank::new(1), alloc, text)
 }
 
 /// Sees what was answered.

@@ -1,55 +1,31 @@
 //! Reads the recorded packets of an X.25 interface, and reports what an observer of it finds.
 #![tactic(auto)]
 
-ghost use Rattle.std.specs.Prelude.{◌≡◌, ◌<◌};
-
 use command_line::program::{OTHER_FAULT, USAGE, program};
-use line_model::count::Count;
 use std::env;
 use std::io::{ErrorKind, IsTerminal};
-use std::marker::Brand;
 use std::process::ExitCode;
 use std::sync::Wait;
-use std::sync::ledger::{Blank, Ledger};
 use std::thread::Threads;
 use std::time::Clock;
 use streams::io::{FileInput, WriteSink};
 use streams::progress::Progress;
 
 /// Runs the program over the streams of the process.
-fn run_streams<C: Ledger, F: Ledger, K: Ledger, E: Ledger, R: Threads + Wait + Clock + Sync>(
+fn run_streams<R: Threads + Wait + Clock + Sync>(
     rt: &HostRuntime,
     threads: &R,
     words: &[&str],
-    calls: Blank,
-    read_failures: Blank,
-    write_failures: Blank,
-    tell_failures: Blank,
-) -> u8
-    requires calls_name { calls.name ≡ C.name }
-    requires calls_parts { calls.parts ≡ C.parts }
-    requires calls_shared { 0 < C.parts }
-    requires read_name { read_failures.name ≡ F.name }
-    requires read_parts { read_failures.parts ≡ F.parts }
-    requires read_shared { 0 < F.parts }
-    requires write_name { write_failures.name ≡ K.name }
-    requires write_parts { write_failures.parts ≡ K.parts }
-    requires write_shared { 0 < K.parts }
-    requires tell_name { tell_failures.name ≡ E.name }
-    requires tell_parts { tell_failures.parts ≡ E.parts }
-    requires tell_shared { 0 < E.parts }
-{
+) -> u8 {
     let mut source = FileInput::new(
         rt.alloc(),
         rt,
         rt.stdin(),
         rt.stdin().is_terminal(),
         Progress::new(rt.stderr(), rt.stderr().is_terminal()),
-        Count::<C>::open(calls),
-        Count::<F>::open(read_failures),
     );
-    let mut sink = WriteSink::new(rt.stdout(), Count::<K>::open(write_failures));
-    let mut errors = WriteSink::new(rt.stderr(), Count::<E>::open(tell_failures));
+    let mut sink = WriteSink::new(rt.stdout());
+    let mut errors = WriteSink::new(rt.stderr());
     program(
         threads,
         rt.alloc(),
@@ -77,15 +53,7 @@ fn run_process<R: Threads + Wait + Clock + Sync>(rt: &HostRuntime, threads: &R) 
         .map(|word| word.as_str())
         .collect(rt.alloc())
         .map_err(|_| OTHER_FAULT)?;
-    Ok(run_streams::<Brand, Brand, Brand, Brand, R>(
-        rt,
-        threads,
-        names.as_slice(),
-        Blank::new(1),
-        Blank::new(1),
-        Blank::new(1),
-        Blank::new(1),
-    ))
+    Ok(run_streams(rt, threads, names.as_slice()))
 }
 
 fn main(rt: HostRuntime) -> ExitCode {

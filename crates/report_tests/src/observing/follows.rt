@@ -1,9 +1,8 @@
 //! Findings that are written as a trace grows.
 
-ghost use Rattle.std.specs.Prelude.{◌≡◌, ◌<◌};
 ghost use Rattle.live_report.specs.Follows.{IsFed};
 
-use crate::observing::{open_sink, same_bytes, same_fault};
+use crate::observing::{same_bytes, same_fault};
 use channel_machine::channel::PlainChannel;
 use channel_run::run::Channel;
 use line_model::device::Sink;
@@ -11,19 +10,17 @@ use line_model::fault::Fault;
 use line_model::totals::Summary;
 use live_report::follow::Follower;
 use std::alloc::{Allocator, Global};
-use std::marker::Brand;
 use std::process::Abort;
-use std::sync::ledger::{Blank, Ledger};
-use test_devices::CutSink;
+use test_devices::{CutSink, Cuts};
 
 /// Takes what a sink takes, and counts how often it was asked.
 #[derive(Drop)]
-struct Counted<L: Ledger> {
-    sink: CutSink<L>,
+struct Counted {
+    sink: CutSink,
     asked: usize,
 }
 
-impl<L: Ledger> Sink for Counted<L> {
+impl Sink for Counted {
     ghost use Rattle.std.specs.Prelude.{Some};
 
     ghost taken = { λ s. Some s.sink.taken.items };
@@ -58,7 +55,7 @@ struct End {
 }
 
 /// Sees what a sink took, or how often it was asked.
-fn look<L: Ledger>(rt: &impl Abort, sink: &Counted<L>, seen: Seen) {
+fn look(rt: &impl Abort, sink: &Counted, seen: Seen) {
     match seen {
         Seen::Taken(bytes) => same_bytes(rt, sink.sink.taken.as_slice(), bytes),
         Seen::Asked(times) => assert!(rt; sink.asked == times),
@@ -80,10 +77,10 @@ fn check_fed<A: Allocator + Copy, C: Channel<A>, K: Sink>(
 }
 
 /// Plays steps with a follower.
-fn play_steps<A: Allocator + Copy, C: Channel<A>, L: Ledger>(
+fn play_steps<A: Allocator + Copy, C: Channel<A>>(
     rt: &impl Abort,
     trace: &mut Follower<A, C>,
-    sink: &mut Counted<L>,
+    sink: &mut Counted,
     steps: &[Step],
 )
     requires fed { IsFed C.interface_of C.number_of C.stands_for trace.old }
@@ -104,10 +101,10 @@ fn check_ended(rt: &impl Abort, answer: Result<Summary, Fault>, end: &End) {
 }
 
 /// Plays steps with a follower of which nothing was fed, and ends it.
-fn play_into<L: Ledger>(
+fn play_into(
     rt: &impl Abort,
     alloc: Global,
-    sink: &mut Counted<L>,
+    sink: &mut Counted,
     steps: &[Step],
 ) -> Result<Summary, Fault> {
     let mut trace = Follower::<Global, PlainChannel<Global>>::new(alloc);
@@ -115,33 +112,19 @@ fn play_into<L: Ledger>(
     trace.end(sink)
 }
 
-fn play_on<L: Ledger>(
-    blank: Blank,
-    rt: &impl Abort,
-    alloc: Global,
-    good_calls: usize,
-    steps: &[Step],
-    end: &End,
-)
-    requires name { blank.name ≡ L.name }
-    requires parts { blank.parts ≡ L.parts }
-    requires some { 0 < L.parts }
-{
+/// Plays steps with a follower of which nothing was fed, whose sink takes so many writes, and ends it.
+fn play(rt: &impl Abort, alloc: Global, good_writes: usize, steps: &[Step], end: &End) {
+    let cuts = Cuts {
+        good_writes,
+        ..Cuts::none()
+    };
     let mut sink = Counted {
-        sink: CutSink {
-            good_calls,
-            ..open_sink::<L>(blank, alloc)
-        },
+        sink: CutSink::new(alloc, cuts),
         asked: 0,
     };
     let answer = play_into(rt, alloc, &mut sink, steps);
     check_ended(rt, answer, end);
     look(rt, &sink, end.seen);
-}
-
-/// Plays steps with a follower of which nothing was fed, whose sink takes so many writes, and ends it.
-fn play(rt: &impl Abort, alloc: Global, good_calls: usize, steps: &[Step], end: &End) {
-    play_on::<Brand>(Blank::new(1), rt, alloc, good_calls, steps, end)
 }
 
 /// A header.

@@ -1,18 +1,14 @@
 //! Scans with workers that want memory before the source is asked.
 
-ghost use Rattle.std.specs.Prelude.{◌≡◌, ◌<◌};
-
 use crate::scans::NO_ROWS;
 use crate::scans::checks::same_number;
 use crate::scans::runs::{Outcome, Way, outcome_of, scan_from};
-use line_model::count::Count;
 use line_model::device::Source;
 use line_model::fault::Fault;
+use line_model::history::{Count, History};
 use std::alloc::Global;
-use std::marker::Brand;
 use std::process::Abort;
 use std::sync::Wait;
-use std::sync::ledger::{Blank, Ledger};
 use std::thread::Threads;
 use std::time::Clock;
 use test_devices::Cuts;
@@ -21,24 +17,28 @@ use trace_scan::gate::OpenGate;
 
 /// Gives a text, and notes how many growths were asked for before it was asked itself.
 #[derive(Drop)]
-struct NotingSource<'a, C: Ledger> {
+struct NotingSource<'a> {
     rest: &'a [u8],
-    calls: Count<C>,
+    before: History,
+    calls: Count,
     heap: &'a Scarce<Global>,
     /// None where it was not asked.
     growths_before: Option<u64>,
 }
 
-impl<C: Ledger> Source for NotingSource<'_, C> {
+impl Source for NotingSource<'_> {
     ghost use Rattle.std.specs.Prelude.{Some};
 
     ghost left = { λ s. Some s.rest.now };
+
+    ghost before = { λ s. Some s.before.bytes };
 
     ghost calls = { λ s. s.calls };
 
     ghost failures = { λ s. 0 };
 
     fn read(&mut self, buffer: &mut [u8]) -> Result<usize, ()> {
+        self.before = History::of(self.rest);
         self.calls.add_one();
         if self.growths_before.is_none() {
             self.growths_before = Some(self.heap.asked());
@@ -59,28 +59,20 @@ struct Noted {
 }
 
 /// Scans a text by so many workers.
-fn scan_on<C: Ledger, L: Ledger, R: Threads + Wait + Clock + Sync>(
+fn scan_noting<R: Threads + Wait + Clock + Sync>(
     rt: &R,
     heap: &Scarce<Global>,
     alloc: Global,
     workers: usize,
-    calls: Blank,
-    write_failures: Blank,
-) -> Noted
-    requires calls_name { calls.name ≡ C.name }
-    requires calls_parts { calls.parts ≡ C.parts }
-    requires calls_shared { 0 < C.parts }
-    requires write_name { write_failures.name ≡ L.name }
-    requires write_parts { write_failures.parts ≡ L.parts }
-    requires write_shared { 0 < L.parts }
-{
+) -> Noted {
     let mut source = NotingSource {
         rest: NO_ROWS.text,
-        calls: Count::<C>::open(calls),
+        before: History::new(),
+        calls: Count::new(),
         heap,
         growths_before: None,
     };
-    let scanned = scan_from::<&Scarce<Global>, L, NotingSource<'_, C>, OpenGate, R>(
+    let scanned = scan_from(
         rt,
         heap,
         alloc,
@@ -88,7 +80,6 @@ fn scan_on<C: Ledger, L: Ledger, R: Threads + Wait + Clock + Sync>(
         Way::Crew(workers, 64),
         &mut source,
         Cuts::of_steps(7, 7),
-        write_failures,
     );
     Noted {
         outcome: outcome_of(scanned),
@@ -105,7 +96,7 @@ fn scan_wanting<R: Threads + Wait + Clock + Sync>(
     good: u64,
 ) -> Noted {
     heap.refuse_one(good);
-    scan_on::<Brand, Brand, R>(rt, heap, alloc, workers, Blank::new(1), Blank::new(1))
+    scan_noting(rt, heap, alloc, workers)
 }
 
 /// Refuses a growth before the source is asked: it is not asked then, nothing is written and no block is kept.

@@ -1,6 +1,5 @@
 //! Reports of worked traces while they grow.
 
-ghost use Rattle.std.specs.Prelude.{◌≡◌, ◌<◌};
 ghost use Rattle.live_report.specs.Lives.{IsFed};
 
 use crate::scans::checks::{Test, check_tables, same_bytes};
@@ -8,33 +7,19 @@ use crate::scans::runs::{Outcome, Way, scan};
 use crate::scans::worked::Worked;
 use channel_machine::channel::PlainChannel;
 use channel_run::run::Channel;
-use line_model::count::Count;
 use live_report::live::Live;
 use std::alloc::{Allocator, Global};
-use std::marker::Brand;
 use std::process::Abort;
 use std::sync::Wait;
-use std::sync::ledger::{Blank, Ledger};
 use std::thread::Threads;
 use std::time::Clock;
 use test_devices::{CutSink, Cuts};
 
-fn told_on<A: Allocator + Copy, C: Channel<A>, L: Ledger>(
-    alloc: Global,
-    trace: &Live<A, C>,
-    blank: Blank,
-) -> Outcome
+/// The report of a trace so far.
+fn told<A: Allocator + Copy, C: Channel<A>>(alloc: Global, trace: &Live<A, C>) -> Outcome
     requires fed { IsFed C.interface_of C.number_of C.stands_for trace.now }
-    requires name { blank.name ≡ L.name }
-    requires parts { blank.parts ≡ L.parts }
-    requires shared { 0 < L.parts }
 {
-    let mut sink = CutSink {
-        taken: Vec::new(alloc),
-        step: usize::MAX,
-        good_calls: usize::MAX,
-        failures: Count::<L>::open(blank),
-    };
+    let mut sink = CutSink::new(alloc, Cuts::none());
     let answer = trace.report(&mut sink);
     Outcome {
         answer,
@@ -42,18 +27,11 @@ fn told_on<A: Allocator + Copy, C: Channel<A>, L: Ledger>(
     }
 }
 
-/// The report of a trace so far.
-fn told<A: Allocator + Copy, C: Channel<A>>(alloc: Global, trace: &Live<A, C>) -> Outcome
-    requires fed { IsFed C.interface_of C.number_of C.stands_for trace.now }
-{
-    told_on::<A, C, Brand>(alloc, trace, Blank::new(1))
-}
-
 /// Sees that two outcomes are the same.
 fn agree(rt: &impl Abort, told: &Outcome, scanned: &Outcome, name: &str, bytes: usize) {
     let cuts = Cuts {
         good_bytes: bytes,
-        ..Cuts::of_steps(usize::MAX, usize::MAX)
+        ..Cuts::none()
     };
     assert_eq!(rt; told.answer, scanned.answer, "{name} after {bytes} bytes");
     same_bytes(
@@ -76,8 +54,7 @@ fn check_told<A: Allocator + Copy, C: Channel<A>, R: Threads + Wait + Clock + Sy
     requires fed { IsFed C.interface_of C.number_of C.stands_for trace.now }
 {
     let told = told(alloc, trace);
-    let whole = Cuts::of_steps(usize::MAX, usize::MAX);
-    let scanned = scan(rt, alloc, Way::Alone, lines, whole);
+    let scanned = scan(rt, alloc, Way::Alone, lines, Cuts::none());
     agree(rt, &told, &scanned, name, lines.len());
 }
 

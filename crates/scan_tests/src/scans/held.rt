@@ -1,13 +1,11 @@
 //! Scans whose workers are held until others came, and whose reader waits for the workers.
 
-ghost use Rattle.std.specs.Prelude.{◌≡◌, ◌<◌};
-
 use crate::scans::crews::{Work, agree, findings};
 use crate::scans::runs::{NONE, Scanned, Way, scan_from, scan_through};
 use crate::scans::worked::{Table, trace};
-use line_model::count::Count;
 use line_model::device::Source;
 use line_model::fault::Fault;
+use line_model::history::{Count, History};
 use line_model::piece::{Piece, PieceReport};
 use std::alloc::{Allocator, Global};
 use std::marker::Brand;
@@ -15,7 +13,6 @@ use std::process::Abort;
 use std::sync::Wait;
 use std::sync::atomic::Ordering::SeqCst;
 use std::sync::atomic::{AtomicBool, AtomicU64};
-use std::sync::ledger::{Blank, Ledger};
 use std::thread::Threads;
 use std::time::Clock;
 use std::{array, thread};
@@ -187,9 +184,10 @@ fn line_length(text: &[u8]) -> usize {
 
 /// Gives three epochs, a line a call. Before row 7 it waits until the pieces of the first epoch were entered.
 #[derive(Drop)]
-struct WaitingSource<'a, C: Ledger> {
+struct WaitingSource<'a> {
     rest: &'a [u8],
-    calls: Count<C>,
+    before: History,
+    calls: Count,
     record: &'a Record,
     /// Whether no piece was entered when row 5 was asked for.
     none_at_row_5: bool,
@@ -197,16 +195,19 @@ struct WaitingSource<'a, C: Ledger> {
     four_at_row_7: bool,
 }
 
-impl<C: Ledger> Source for WaitingSource<'_, C> {
+impl Source for WaitingSource<'_> {
     ghost use Rattle.std.specs.Prelude.{Some};
 
     ghost left = { λ s. Some s.rest.now };
+
+    ghost before = { λ s. Some s.before.bytes };
 
     ghost calls = { λ s. s.calls };
 
     ghost failures = { λ s. 0 };
 
     fn read(&mut self, buffer: &mut [u8]) -> Result<usize, ()> {
+        self.before = History::of(self.rest);
         self.calls.add_one();
         if self.rest.starts_with(b"5 ") {
             self.none_at_row_5 = self.record.has_each(0);
@@ -224,21 +225,16 @@ impl<C: Ledger> Source for WaitingSource<'_, C> {
 }
 
 /// Scans what a source gives that waits, and sees what it saw of the pieces.
-fn check_waiting<C: Ledger, L: Ledger, R: Threads + Wait + Clock + Sync + Abort>(
+fn check_waiting<R: Threads + Wait + Clock + Sync + Abort>(
     rt: &R,
     alloc: Global,
-    source: &mut WaitingSource<'_, C>,
-    write_failures: Blank,
-) -> Scanned
-    requires write_name { write_failures.name ≡ L.name }
-    requires write_parts { write_failures.parts ≡ L.parts }
-    requires write_shared { 0 < L.parts }
-{
+    source: &mut WaitingSource<'_>,
+) -> Scanned {
     let gate = Holding {
         record: source.record,
         group: 1,
     };
-    let scanned = scan_from::<Global, L, WaitingSource<'_, C>, Holding<'_>, R>(
+    let scanned = scan_from(
         rt,
         alloc,
         alloc,
@@ -246,41 +242,32 @@ fn check_waiting<C: Ledger, L: Ledger, R: Threads + Wait + Clock + Sync + Abort>
         Way::Crew(2, 64),
         source,
         Cuts::of_steps(1, 7),
-        write_failures,
     );
     assert!(rt; source.none_at_row_5);
     assert!(rt; source.four_at_row_7);
     scanned
 }
 
-fn scan_waiting<C: Ledger, L: Ledger, R: Threads + Wait + Clock + Sync + Abort>(
+fn scan_waiting<R: Threads + Wait + Clock + Sync + Abort>(
     rt: &R,
     alloc: Global,
     record: &Record,
-    calls: Blank,
-    write_failures: Blank,
-) -> Scanned
-    requires calls_name { calls.name ≡ C.name }
-    requires calls_parts { calls.parts ≡ C.parts }
-    requires calls_shared { 0 < C.parts }
-    requires write_name { write_failures.name ≡ L.name }
-    requires write_parts { write_failures.parts ≡ L.parts }
-    requires write_shared { 0 < L.parts }
-{
+) -> Scanned {
     let mut source = WaitingSource {
         rest: trace(rt, Table::Epochs, "three-epochs").text,
-        calls: Count::<C>::open(calls),
+        before: History::new(),
+        calls: Count::new(),
         record,
         none_at_row_5: false,
         four_at_row_7: false,
     };
-    check_waiting::<C, L, R>(rt, alloc, &mut source, write_failures)
+    check_waiting(rt, alloc, &mut source)
 }
 
 /// Scans while the source waits for pieces.
 fn check_while_read<R: Threads + Wait + Clock + Sync + Abort>(rt: &R, alloc: Global) {
     let record = Record::new();
-    let scanned = scan_waiting::<Brand, Brand, R>(rt, alloc, &record, Blank::new(1), Blank::new(1));
+    let scanned = scan_waiting(rt, alloc, &record);
     let work = Work {
         workers: 2,
         totals: findings(12),

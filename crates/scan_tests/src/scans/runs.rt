@@ -1,15 +1,10 @@
 //! Scans over the devices of the tests.
 
-ghost use Rattle.std.specs.Prelude.{◌≡◌, ◌<◌};
-
-use line_model::count::Count;
 use line_model::device::{Sink, Source};
 use line_model::fault::Fault;
 use line_model::totals::{Summary, Totals};
 use std::alloc::{Allocator, Global};
-use std::marker::Brand;
 use std::sync::Wait;
-use std::sync::ledger::{Blank, Ledger};
 use std::thread::Threads;
 use std::time::Clock;
 use test_devices::{CutSink, CutSource, Cuts};
@@ -86,83 +81,16 @@ fn scan_by<
 /// Scans what a source gives.
 pub fn scan_from<
     A: Allocator + Copy + Send + Sync,
-    L: Ledger,
     S: Source,
     G: Gate,
     R: Threads + Wait + Clock + Sync,
->(
-    rt: &R,
-    heap: A,
-    alloc: Global,
-    gate: &G,
-    way: Way,
-    source: &mut S,
-    cuts: Cuts,
-    write_failures: Blank,
-) -> Scanned<A>
-    requires write_name { write_failures.name ≡ L.name }
-    requires write_parts { write_failures.parts ≡ L.parts }
-    requires write_shared { 0 < L.parts }
-{
-    let mut sink = CutSink {
-        taken: Vec::new(alloc),
-        step: cuts.write_step,
-        good_calls: cuts.good_writes,
-        failures: Count::<L>::open(write_failures),
-    };
+>(rt: &R, heap: A, alloc: Global, gate: &G, way: Way, source: &mut S, cuts: Cuts) -> Scanned<A> {
+    let mut sink = CutSink::new(alloc, cuts);
     let answer = scan_by(rt, heap, gate, way, source, &mut sink);
     Scanned {
         answer,
         taken: sink.taken,
     }
-}
-
-fn scan_on<
-    A: Allocator + Copy + Send + Sync,
-    C: Ledger,
-    F: Ledger,
-    L: Ledger,
-    G: Gate,
-    R: Threads + Wait + Clock + Sync,
->(
-    rt: &R,
-    heap: A,
-    alloc: Global,
-    gate: &G,
-    way: Way,
-    text: &[u8],
-    cuts: Cuts,
-    calls: Blank,
-    read_failures: Blank,
-    write_failures: Blank,
-) -> Scanned<A>
-    requires calls_name { calls.name ≡ C.name }
-    requires calls_parts { calls.parts ≡ C.parts }
-    requires calls_shared { 0 < C.parts }
-    requires read_name { read_failures.name ≡ F.name }
-    requires read_parts { read_failures.parts ≡ F.parts }
-    requires read_shared { 0 < F.parts }
-    requires write_name { write_failures.name ≡ L.name }
-    requires write_parts { write_failures.parts ≡ L.parts }
-    requires write_shared { 0 < L.parts }
-{
-    let mut source = CutSource {
-        rest: text,
-        step: cuts.read_step,
-        good: cuts.good_bytes,
-        calls: Count::<C>::open(calls),
-        failures: Count::<F>::open(read_failures),
-    };
-    scan_from::<A, L, CutSource<'_, C, F>, G, R>(
-        rt,
-        heap,
-        alloc,
-        gate,
-        way,
-        &mut source,
-        cuts,
-        write_failures,
-    )
 }
 
 /// Scans a text with a heap of its own and through any gate, into a sink of another heap.
@@ -175,18 +103,8 @@ pub fn scan_through<A: Allocator + Copy + Send + Sync, G: Gate, R: Threads + Wai
     text: &[u8],
     cuts: Cuts,
 ) -> Scanned<A> {
-    scan_on::<A, Brand, Brand, Brand, G, R>(
-        rt,
-        heap,
-        alloc,
-        gate,
-        way,
-        text,
-        cuts,
-        Blank::new(1),
-        Blank::new(1),
-        Blank::new(1),
-    )
+    let mut source = CutSource::new(text, cuts);
+    scan_from(rt, heap, alloc, gate, way, &mut source, cuts)
 }
 
 /// The outcome of a scan, without the shares.
