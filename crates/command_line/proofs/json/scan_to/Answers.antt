@@ -12,7 +12,7 @@ returns-in-Ok-clause-told g c text told =
     let taken = c.scan-scanned.new.sink.lines.told.bytes in
     let failures = length c.scan-scanned.new.sink.lines.refused.bytes in
     let back = c.give_back-in-Ok in
-    told_back c.args.options.follow text _ _ _ (g.K.Sink.taken c.finish-lent.result.0.sink.now) _ (g.K.Sink.failures c.finish-lent.result.0.sink.now) _ _ back.ensures.taken back.ensures.failures
+    told_back c.args.options.follow text _ _ _ (g.K.Sink.taken c.finish-lent.result.0.sink.now) _ (g.K.Sink.failures c.finish-lent.result.0.sink.now) _ _ _ back.ensures.taken back.ensures.failures
     (record {
       told = taken;
       failures = failures;
@@ -33,7 +33,7 @@ returns-in-Err-clause-told g c text told =
     let part = c.finish-lent.ensures.part taken refl in
     let failed = subst (λ r. IfErr r (λ fault. (fault ≡ Write) × (g.B.Origin.before.1 < g.K.Sink.failures c.finish-lent.result.0.sink.now))) c.in-Err.is c.finish-lent.ensures.failed in
     let back = c.give_back-in-Err in
-    told_back c.args.options.follow text _ _ _ (g.K.Sink.taken c.finish-lent.result.0.sink.now) _ (g.K.Sink.failures c.finish-lent.result.0.sink.now) _ _ back.ensures.taken back.ensures.failures
+    told_back c.args.options.follow text _ _ _ (g.K.Sink.taken c.finish-lent.result.0.sink.now) _ (g.K.Sink.failures c.finish-lent.result.0.sink.now) _ _ _ back.ensures.taken back.ensures.failures
     (record {
       told = taken;
       failures = failures;
@@ -50,12 +50,12 @@ returns-in-Err-2-clause-told g c text told =
     let part = c.finish-lent.ensures.part taken refl in
     let failed = subst (λ r. IfErr r (λ fault. (fault ≡ Write) × (g.B.Origin.before.1 < g.K.Sink.failures c.finish-lent.result.0.sink.now))) c.in-Err-2.is c.finish-lent.ensures.failed in
     let back = c.give_back-in-Err-2 in
-    told_back c.args.options.follow text _ _ _ (g.K.Sink.taken c.finish-lent.result.0.sink.now) _ (g.K.Sink.failures c.finish-lent.result.0.sink.now) _ _ back.ensures.taken back.ensures.failures
+    told_back c.args.options.follow text _ _ _ (g.K.Sink.taken c.finish-lent.result.0.sink.now) _ (g.K.Sink.failures c.finish-lent.result.0.sink.now) _ _ _ back.ensures.taken back.ensures.failures
     (record {
       told = taken;
       failures = failures;
       plain = c.scan-scanned.result;
       scanned = scanned_afresh c.args.options.follow text _ _ _ _ _ failures c.scan-scanned.result c.new-json.ensures.taken c.new-json.ensures.failures
           (λ plain. c.scan-scanned.ensures.status plain text told) (λ follow. c.scan-scanned.ensures.followed follow text told);
-      objects = inr (c.refuse_write.ensures ∙ ap fault_status failed.0, (λ well. omega (arith, failed.1, well)), record { front = part.0; rest = part.1; whole = part.2; taken = part.3 });
+      objects = inr (c.refuse_write-status.ensures ∙ ap fault_status failed.0, (λ well. omega (arith, failed.1, well)), record { front = part.0; rest = part.1; whole = part.2; taken = part.3 });
     })
