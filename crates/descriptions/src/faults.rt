@@ -6,20 +6,17 @@ use explanations::explanation::Explanation;
 use explanations::flow_codes::flow_codes;
 use explanations::messages::messages;
 use explanations::packet_codes::packet_codes;
-use explanations::table::row_of;
-use itoa::Buffer;
 use line_model::diagnostic::{
     CALL_ON_ONE_WAY_LOGICAL_CHANNEL, INCONSISTENT_Q_BIT_SETTING, INVALID_GENERAL_FORMAT_IDENTIFIER,
     INVALID_P_R, INVALID_P_S, PACKET_ON_UNASSIGNED_LOGICAL_CHANNEL, PACKET_TOO_LONG,
     PACKET_TOO_SHORT, UNIDENTIFIABLE_PACKET,
 };
-use line_model::finding::{Code, Finding};
+use line_model::finding::{Code, Finding, Xcode};
 use line_model::interface::Interface;
 use line_model::packet::{DataHeader, Packet, PacketKind};
 use line_model::state::{Side, StateName};
 use packet_decode::decode::logical_channel;
 use packet_decode::transfer::header_length;
-use report_merge::words::pad_word;
 use window_check::flow::SendWindow;
 
 /// What was known before a row, and the row's packet.
@@ -36,12 +33,33 @@ pub struct Before {
 /// The row of the table of explanations for a code.
 fn explanation(code: Code) -> Option<&'static Explanation> {
     match code {
-        Code::Number(number) => {
-            let mut digits = Buffer::new();
-            let word = digits.format(number).as_bytes();
-            row_of(flow_codes(), word).or(row_of(packet_codes(), word))
-        }
-        Code::Pad(code) => row_of(messages(), pad_word(code)),
+        Code::Number(number) => numbered(number),
+        Code::Pad(code) => messages().get(message_place(code)),
+    }
+}
+
+/// The place of a code among those of messages.
+fn message_place(code: Xcode) -> usize {
+    match code {
+        Xcode::X1 => 0,
+        Xcode::X2 => 1,
+        Xcode::X3 => 2,
+        Xcode::X4 => 3,
+        Xcode::XL => 4,
+    }
+}
+
+/// The row of the table of explanations for a diagnostic code.
+fn numbered(number: u8) -> Option<&'static Explanation> {
+    let place = usize::from(number);
+    match number {
+        1 | 2 => flow_codes().get(place - 1),
+        17..=29 => flow_codes().get(place - 15),
+        33..=41 => packet_codes().get(place - 33),
+        43 | 44 => packet_codes().get(place - 34),
+        66..=69 => packet_codes().get(place - 55),
+        83 => packet_codes().get(15),
+        _ => None,
     }
 }
 

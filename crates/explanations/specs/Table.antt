@@ -159,10 +159,6 @@ topic_name topic.TheVariants.Header = codes "header"
 abbrev pub of_topic : (topic word : List ℕ) → List ℕ
 of_topic topic word = topic ++ (codes " " ++ word)
 
--- whether a row has this word as its own
-abbrev pub has_word : List ℕ → Explanation → Bool
-has_word word e = bytes_eq e.word.now word
-
 -- whether a row explains a word: its own, its name, the name of its topic, or its own after that with a space between them
 abbrev pub is_of : List ℕ → Explanation → Bool
 is_of word e =

@@ -1,9 +1,7 @@
 //! The table of all words, and the explanations of one.
 
 ghost use Rattle.std.specs.Prelude.{◌≡◌, ◌++◌, IfOk, OnOk, map};
-ghost use Rattle.std.specs.List.{find};
-ghost use Rattle.std.specs.Option.{option_map};
-ghost use Rattle.explanations.specs.Table.{explanations_of, has_word, is_of, key, of_topic, rows, table_keys};
+ghost use Rattle.explanations.specs.Table.{explanations_of, is_of, key, of_topic, rows, table_keys};
 
 use crate::explanation::Explanation;
 use crate::fields::fields;
@@ -40,18 +38,6 @@ pub fn all() -> [&'static [Explanation]; SECTIONS]
         statuses(),
         parameters(),
     ]
-}
-
-/// The first row of a section whose own word this is; none where no row has it.
-pub fn row_of(section: &'static [Explanation], word: &[u8]) -> Option<&'static Explanation>
-    ensures { option_map (λ row. row.now) result ≡ find (has_word word.now) section.now }
-{
-    for row in section {
-        if row.word.as_bytes() == word {
-            return Some(row);
-        }
-    }
-    None
 }
 
 /// Whether a row explains a word: it is the row's own, its name, the name of its topic, or that and the row's own with a
