@@ -28,7 +28,7 @@ def table(rule, edit="restart_is_taken_in_r2"):
 
 def number(function, edit):
     """A code of windows and interrupts."""
-    return Proof("Windows and interrupts", "crates/window_check/src/flow.rt", function, f"crates/window_check/must-fail/{edit}.edit", f"crates/window_check/proofs/flow/Flow/{function}/Answers.antt")
+    return Proof("Windows and interrupts", "crates/data_transfer/src/flow.rt", function, f"crates/data_transfer/must-fail/{edit}.edit", f"crates/data_transfer/proofs/flow/Flow/{function}/Answers.antt")
 
 
 def field(function, edit):
@@ -48,12 +48,12 @@ def packet_class(edit):
 
 def message(edit):
     """A code of a PAD message's form."""
-    return Proof("Sequences and PAD messages", "crates/x29_messages/src/message.rt", "read_message", f"crates/x29_messages/{edit}.edit", "crates/x29_messages/proofs/message/read_message/Answers.antt")
+    return Proof("Sequences and PAD messages", "crates/pad/src/message.rt", "read_message", f"crates/pad/{edit}.edit", "crates/pad/proofs/message/read_message/Answers.antt")
 
 
 def setting(edit):
     """A code of what a PAD message asks or says."""
-    return Proof("Sequences and PAD messages", "crates/x3_parameters/src/settings.rt", "apply", f"crates/x3_parameters/must-fail/{edit}.edit", "crates/x3_parameters/proofs/Applied.antt")
+    return Proof("Sequences and PAD messages", "crates/pad/src/settings.rt", "apply", f"crates/pad/must-fail/{edit}.edit", "crates/pad/proofs/Applied.antt")
 
 
 RESTART, CALL, TRANSFER = "The restart tables", "The call tables", "The data transfer tables"
@@ -82,8 +82,8 @@ PROOFS = {
     "68": field("read_addresses", "calling_digits_are_judged_first"),
     "69": field("read_tail", "facility_field_of_110_octets_passes"),
     "83": Proof(
-        "Sequences and PAD messages", "crates/mbit_assembly/src/assembler.rt", "put",
-        "crates/mbit_assembly/must-fail/mixed_qualifier_passes.edit", "crates/mbit_assembly/proofs/SequenceLemmas.antt"),
+        "Sequences and PAD messages", "crates/data_transfer/src/assembler.rt", "put",
+        "crates/data_transfer/must-fail/mixed_qualifier_passes.edit", "crates/data_transfer/proofs/SequenceLemmas.antt"),
     "X1": message("must-fail-more/high_bits_of_the_code_are_ignored"),
     "X2": message("must-fail/break_with_any_pair_passes"),
     "X3": setting("value_127_is_refused"),

@@ -58,7 +58,7 @@ definition, the file of the function's proof, an edit that the prover refuses, a
 named the prover finds the proof of the contract by itself.
 
 The scans keep the windows and interrupts of a channel in one word: `FlowWord` of
-[packed.rt](../crates/window_check/src/packed.rt) judges P(S) and P(R) there, and its contract says what that of `Flow`
+[packed.rt](../crates/data_transfer/src/packed.rt) judges P(S) and P(R) there, and its contract says what that of `Flow`
 says. `Flow` judges for `PlainChannel`, which only tests and users of the library run.
 
 | code | rule | definition | function | proof | edit | trace |

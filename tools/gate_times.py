@@ -115,7 +115,7 @@ def kind_of(process):
             return "tests", crate
         return ("programs" if "--crate-checked" in words else "libraries"), crate
     if "/rt-run-" in (words[0] if words else ""):
-        return "tests" if process.name.endswith("_tests") else "programs", f"{process.name} (run)"
+        return "tests" if process.name.startswith("tests_") else "programs", f"{process.name} (run)"
     if words[1:2] and words[1].endswith(tuple(f"{suite}/compare" for suite in SUITES)):
         return words[1].split("/")[-2], "all"
     return None

@@ -1,7 +1,7 @@
 #!/usr/bin/env python3
 """manual_page.py [--check]: writes docs/x25scan.1 and docs/x25trace.1.
 
-That of x25scan is made of the words of crates/command_options and the table of crates/explanations, that of x25trace of
+That of x25scan is made of the words of crates/command_line and the table of crates/explanations, that of x25trace of
 its help. With --check it writes nothing, and says where a page is another one, where the help has other exit statuses
 than the table, and where the version names another kit than `rt version`. The last line is 'N passed, M failed'.
 """
@@ -87,7 +87,7 @@ def statuses(pairs):
 def scan_page():
     """The page of x25scan."""
     told, table = texts_of_scan(), rows()
-    text = '.\\" Written by tools/manual_page.py from crates/command_options and crates/explanations.\n'
+    text = '.\\" Written by tools/manual_page.py from crates/command_line and crates/explanations.\n'
     text += beginning("x25scan", "what an observer of an X.25 interface finds in a trace", told["ABOUT"] + ".")
     text += examples(section(told["AFTER_HELP"], "Examples"))
     text += statuses((it["word"], it["meaning"]) for it in table if it["topic"] == "Status")

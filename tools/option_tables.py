@@ -1,6 +1,6 @@
 """The options of the programs that a package installs, as their help has them.
 
-Those of x25scan are read from crates/command_options, and those of x25trace from the parser of its words. The manual
+Those of x25scan are read from crates/command_line, and those of x25trace from the parser of its words. The manual
 pages (manual_page.py) and the completions (completions.py) are written from these tables.
 """
 import pathlib
@@ -10,7 +10,7 @@ from dataclasses import dataclass
 from x25trace_lib.words import parser
 
 ROOT = pathlib.Path(__file__).resolve().parent.parent
-WORDS = ROOT / "crates" / "command_options" / "src"
+WORDS = ROOT / "crates" / "command_line" / "src"
 TEXT = r'"((?:[^"\\]|\\.)*)"'
 CONSTANT = re.compile(r"pub const (\w+): &str =\s+" + TEXT + ";", re.DOTALL)
 FLAG = re.compile(r"flag\(\s*alloc,\s*" + TEXT + r",\s*" + TEXT + r",?\s*\)")

@@ -1,8 +1,8 @@
 #!/usr/bin/env python3
 """worked_tests.py [--check]: writes the worked traces of tests/traces/worked, but those with long lines, as constants of
-scan_tests.
+tests_scans.
 
-They are crates/scan_tests/src/scans/worked/TOPIC.rt. Run it after a change of those traces.
+They are crates/tests_scans/src/scans/worked/TOPIC.rt. Run it after a change of those traces.
 With --check it writes nothing, and names each file that is another one. The last line is 'N passed, M failed'.
 """
 import re
@@ -11,7 +11,7 @@ import sys
 sys.dont_write_bytecode = True
 from worked_traces import ROOT, content, refusal, report, traces, write_or_check
 
-TESTS = ROOT / "crates/scan_tests/src/scans/worked"
+TESTS = ROOT / "crates/tests_scans/src/scans/worked"
 LONGEST = 400
 INDENT = 12 * " "
 TOPICS = {

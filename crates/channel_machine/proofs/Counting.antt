@@ -7,8 +7,8 @@ use Rattle.line_model.specs.declared.state.Side.TheVariants.{T, N}
 use Rattle.line_model.specs.channels.Channels.{Channel, AcceptedData, of_side, with_side, other}
 use Rattle.line_model.specs.channels.FlowControl.{Counts, is_side, packets_of, sent, sent_by, is_send_valid, count_acknowledged, count_data, count_receive, count_interrupt, count_confirm}
 use Rattle.line_model.specs.channels.ChannelStep.{counts_of}
-use Rattle.window_check.specs.FlowResidues.{FlowResidues, Stands, Answers}
-use Rattle.mbit_assembly.proofs.SequenceLemmas.{packets_of-same, packets_of-other}
+use Rattle.data_transfer.specs.FlowResidues.{FlowResidues, Stands, Answers}
+use Rattle.data_transfer.proofs.SequenceLemmas.{packets_of-same, packets_of-other}
 use Rattle.channel_machine.specs.Transfers.{Transfer, StandsFor, IsCounted}
 
 -- an answer tells what the counts answer

@@ -9,10 +9,10 @@ use Rattle.line_model.specs.declared.finding.Xcode.TheVariants.{X3, X4}
 use Rattle.line_model.specs.channels.Channels.{Told}
 use Rattle.line_model.specs.packets.Formats.{or_other}
 use Rattle.line_model.specs.channels.Pad.{form_fault, was_asked, is_indication, is_set, message_fault, is_refusable, standard_pairs}
-use Rattle.x29_messages.specs.Codes.{octets_of}
-use Rattle.x29_messages.specs.declared.message.MessageCode.{MessageCode}
-use Rattle.x29_messages.specs.declared.message.MessageCode.TheVariants.{Indication, InvitationToClear, Set, Break, Read, Error, SetAndRead, Reselection, ReselectionWithAddress}
-use Rattle.x3_parameters.specs.Effects.{own_fault}
+use Rattle.pad.specs.Codes.{octets_of}
+use Rattle.pad.specs.declared.message.MessageCode.{MessageCode}
+use Rattle.pad.specs.declared.message.MessageCode.TheVariants.{Indication, InvitationToClear, Set, Break, Read, Error, SetAndRead, Reselection, ReselectionWithAddress}
+use Rattle.pad.specs.Effects.{own_fault}
 
 -- a message that is neither an indication nor a set has none
 no_fault : (x : Side) (ts : List Told) (c : MessageCode) (ps : List ℕ) → form_fault (octets_of c ps) ≡ None → is_indication (octets_of c ps) ≡ false →

@@ -11,8 +11,8 @@ use Rattle.line_model.specs.channels.FlowControl.{Counts, sent_by, count_data}
 use Rattle.line_model.specs.channels.Sequences.{is_alike, begun, is_category_a, sequence_octets}
 use Rattle.line_model.specs.packets.Formats.{window_in_force, size_in_force, is_pad_call}
 use Rattle.line_model.specs.channels.ChannelStep.{counts_of, data_counted, data_alike, hearing, completed_message, told_after}
-use Rattle.window_check.specs.FlowResidues.{FlowResidues, Stands, Answers}
-use Rattle.mbit_assembly.specs.Assembler as assembly
+use Rattle.data_transfer.specs.FlowResidues.{FlowResidues, Stands, Answers}
+use Rattle.data_transfer.specs.Assembler as assembly
 use Rattle.channel_machine.specs.declared.events.EventOrigin.{EventOrigin}
 use Rattle.channel_machine.specs.Events.{Reports}
 use Rattle.channel_machine.specs.Messages.{SettingsStand}

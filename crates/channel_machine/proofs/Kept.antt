@@ -9,14 +9,14 @@ use Rattle.line_model.specs.declared.finding.Xcode.TheVariants.{X1, X2, X3, X4, 
 use Rattle.line_model.specs.basics.Octets.{bits}
 use Rattle.line_model.specs.channels.Channels.{Told, other}
 use Rattle.line_model.specs.channels.Pad.{form_fault, set_told, asked, is_unknown_message, is_too_long, is_badly_formed, settings_of, settings_after, message_fault, is_indication, is_set, was_asked, is_refusable, standard_pairs, is_parameter}
-use Rattle.x29_messages.specs.Codes.{octets_of}
-use Rattle.x29_messages.specs.declared.message.MessageCode.{MessageCode}
-use Rattle.x29_messages.specs.declared.message.MessageCode.TheVariants.{Indication, Set, SetAndRead}
-use Rattle.x3_parameters.specs.Effects.{all_indicated}
-use Rattle.x3_parameters.specs.Told.{set_events, set_events_by}
+use Rattle.pad.specs.Codes.{octets_of}
+use Rattle.pad.specs.declared.message.MessageCode.{MessageCode}
+use Rattle.pad.specs.declared.message.MessageCode.TheVariants.{Indication, Set, SetAndRead}
+use Rattle.pad.specs.Effects.{all_indicated}
+use Rattle.pad.specs.Told.{set_events, set_events_by}
 use Rattle.std.specs.List.{list_any}
-use Rattle.x29_messages.specs.Pairs.{pairs_before}
-use Rattle.x3_parameters.proofs.Applied.{one_octet}
+use Rattle.pad.specs.Pairs.{pairs_before}
+use Rattle.pad.proofs.Applied.{one_octet}
 
 -- the fault of a message that is too long, by its first octet
 long_fault : (x : ℕ) (xs : List ℕ) → nat_lt 1024 (length (x ∷ xs)) ≡ true → (length (x ∷ xs) == 0) ≡ false →

@@ -1,9 +1,9 @@
 -- The fields of a status in a word.
 use Rattle.std.proofs.Common.{◌≡◌, ◌<◌, ◌+◌, ◌*◌, ◌/◌, ◌%◌, ◌^◌, ◌==◌, ℕ, Bool, true, false, refl, sym, ◌∙◌, ap, subst, arith}
 use mir.Val.{bool_byte}
-use Rattle.window_check.specs.FlowResidues.{FlowResidues}
+use Rattle.data_transfer.specs.FlowResidues.{FlowResidues}
 use Rattle.line_model.specs.declared.interface.Interface.{Interface}
-use Rattle.window_check.specs.Packed.{Packed}
+use Rattle.data_transfer.specs.Packed.{Packed}
 use Rattle.channel_machine.specs.declared.terms.Values.{Values}
 use Rattle.channel_machine.specs.Terms.{AreUsable}
 use Rattle.channel_machine.specs.Status.{CountsAlone}

@@ -3,7 +3,7 @@ use Rattle.std.proofs.Common.{◌≡◌, ◌≤◌, ◌+◌, ℕ, Bool, true, fa
 use Rattle.std.specs.Prelude.{not, take_while}
 use Rattle.std.proofs.lemmas.List.Sums.{take_while-cons}
 use Rattle.line_model.specs.channels.Pad.{Pair, pairs_of, is_separator}
-use Rattle.x29_messages.specs.Pairs.{pairs_before}
+use Rattle.pad.specs.Pairs.{pairs_before}
 
 -- two octets a pair
 pairs_half : (xs : List ℕ) → length (pairs_of xs) + length (pairs_of xs) ≤ length xs

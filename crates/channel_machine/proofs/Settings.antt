@@ -4,9 +4,9 @@ use Rattle.std.specs.Prelude.{flat_map}
 use Rattle.line_model.specs.declared.state.Side.{Side}
 use Rattle.line_model.specs.basics.Octets.{bits}
 use Rattle.line_model.specs.channels.Pad.{Pair, is_parameter, indicated, asked}
-use Rattle.x29_messages.specs.Pairs.{pairs_before}
-use Rattle.x3_parameters.specs.Effects.{indicated_one, asked_one, all_indicated, all_asked}
-use Rattle.x3_parameters.proofs.Walked.{passed}
+use Rattle.pad.specs.Pairs.{pairs_before}
+use Rattle.pad.specs.Effects.{indicated_one, asked_one, all_indicated, all_asked}
+use Rattle.pad.proofs.Walked.{passed}
 
 pub indicated_all : (pad : Side) (octets : List ℕ) (ps : List Pair) → ps ≡ pairs_before true octets → flat_map (indicated_one pad) ps ≡ all_indicated pad octets
 indicated_all pad octets ps e =

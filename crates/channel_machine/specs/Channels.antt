@@ -7,7 +7,7 @@ use Rattle.line_model.specs.declared.fault.Fault.{Fault}
 use Rattle.line_model.specs.declared.fault.Fault.TheVariants.{Memory}
 use Rattle.line_model.specs.channels.ChannelStep.{Outcome}
 use Rattle.line_model.specs.channels.Channels.{Channel}
-use Rattle.mbit_assembly.specs.Sequences.{Assembly}
+use Rattle.data_transfer.specs.Sequences.{Assembly}
 use Rattle.channel_machine.specs.declared.messages.BothSettings.{BothSettings}
 use Rattle.channel_machine.specs.declared.events.EventOrigin.{EventOrigin}
 use Rattle.channel_machine.specs.Events.{Reports}

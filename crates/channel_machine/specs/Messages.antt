@@ -7,7 +7,7 @@ use Rattle.line_model.specs.declared.event.What.TheVariants.{Data}
 use Rattle.line_model.specs.channels.ChannelStep.{option_found}
 use Rattle.line_model.specs.channels.Pad.{message_fault, settings_after}
 use Rattle.line_model.specs.channels.Channels.{Told}
-use Rattle.x3_parameters.specs.Stands as settings
+use Rattle.pad.specs.Stands as settings
 use Rattle.channel_machine.specs.declared.messages.BothSettings.{BothSettings}
 
 -- the settings of both PADs stand for the messages of the call

@@ -5,7 +5,7 @@ use Rattle.line_model.specs.declared.state.ChannelState.{ChannelState}
 use Rattle.line_model.specs.declared.state.ChannelState.TheVariants.{Setup, Transfer, Unknown}
 use Rattle.line_model.specs.declared.state.PState.TheVariants.{P1, P2, P3, P4, P5, P6, P7}
 use Rattle.line_model.specs.declared.state.DState.TheVariants.{D1, D2, D3}
-use Rattle.window_check.specs.Packed.{Packed}
+use Rattle.data_transfer.specs.Packed.{Packed}
 use Rattle.channel_machine.specs.declared.terms.Opened.{Opened}
 use Rattle.channel_machine.specs.declared.terms.Values.{Values}
 use Rattle.channel_machine.specs.Status.{Status}

@@ -3,7 +3,7 @@ use Rattle.std.specs.Prelude.{Bool, ◌≡◌, ℕ}
 use Rattle.line_model.specs.declared.state.ChannelState.{ChannelState}
 use Rattle.line_model.specs.channels.Channels.{Sides}
 use Rattle.line_model.specs.channels.FlowControl.{no_counts}
-use Rattle.window_check.specs.FlowResidues.{FlowResidues, Stands}
+use Rattle.data_transfer.specs.FlowResidues.{FlowResidues, Stands}
 use Rattle.channel_machine.specs.TermsStand.{Agreed}
 
 -- the state, whether an indication is owed, what was agreed, and the windows and interrupts

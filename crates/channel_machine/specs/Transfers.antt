@@ -10,9 +10,9 @@ use Rattle.line_model.specs.channels.Channels.{Channel, AcceptedData}
 use Rattle.line_model.specs.channels.FlowControl.{Counts, count_data}
 use Rattle.line_model.specs.packets.Formats.{window_in_force, size_in_force}
 use Rattle.line_model.specs.channels.ChannelStep.{counts_of, data_counted, failing, hearing}
-use Rattle.window_check.specs.FlowResidues.{FlowResidues, Stands}
-use Rattle.mbit_assembly.specs.Sequences.{Assembly}
-use Rattle.mbit_assembly.specs.Assembler as assembly
+use Rattle.data_transfer.specs.FlowResidues.{FlowResidues, Stands}
+use Rattle.data_transfer.specs.Sequences.{Assembly}
+use Rattle.data_transfer.specs.Assembler as assembly
 use Rattle.channel_machine.specs.declared.messages.BothSettings.{BothSettings}
 use Rattle.channel_machine.specs.Messages.{SettingsStand}
 use Rattle.channel_machine.specs.Events.{Reports}

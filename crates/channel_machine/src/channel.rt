@@ -14,11 +14,11 @@ use crate::packed::PackedStatus;
 use crate::plain::PlainStatus;
 use crate::status::StatusStore;
 use crate::terms::{Terms, Values};
+use data_transfer::assembler::Assembler;
 use line_model::event::{Event, How, What};
 use line_model::fault::Fault;
 use line_model::finding::Code;
 use line_model::state::{Side, StateName};
-use mbit_assembly::assembler::Assembler;
 use std::alloc::{Allocator, Global};
 use std::marker::Model;
 

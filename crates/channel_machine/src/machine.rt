@@ -8,12 +8,12 @@ use crate::messages::BothSettings;
 use crate::status::StatusStore;
 use crate::terms::{Terms, is_pad_call, was_fast};
 use channel_run::run::{Channel, View};
+use data_transfer::assembler::Assembler;
 use line_model::event::Event;
 use line_model::fault::Fault;
 use line_model::interface::Interface;
 use line_model::items::ItemRef;
 use line_model::state::{ChannelState, Side};
-use mbit_assembly::assembler::Assembler;
 use std::alloc::Allocator;
 
 impl<A: Allocator + Clone, S: StatusStore + Drop> Channel<A> for StatusChannel<A, S> {

@@ -4,20 +4,20 @@ ghost use Rattle.std.specs.Prelude.{◌≡◌, ◌+◌, ◌<◌, ◌≤◌, ◌+
 ghost use Rattle.line_model.specs.channels.Channels.{Told};
 ghost use Rattle.line_model.specs.channels.Pad.{is_parameter, settings_of, settings_after, message_fault};
 ghost use Rattle.line_model.specs.channels.ChannelStep.{option_found, telling};
-ghost use Rattle.x29_messages.specs.Codes.{octets_of};
-ghost use Rattle.x29_messages.specs.Pairs.{shown};
-ghost use Rattle.x3_parameters.specs.Effects.{indicated_one, asked_one};
-ghost use Rattle.x3_parameters.specs.Told.{set_events, told};
+ghost use Rattle.pad.specs.Codes.{octets_of};
+ghost use Rattle.pad.specs.Pairs.{shown};
+ghost use Rattle.pad.specs.Effects.{indicated_one, asked_one};
+ghost use Rattle.pad.specs.Told.{set_events, told};
 ghost use Rattle.channel_machine.specs.Events.{Reports};
 
 use crate::events::EventOrigin;
 use line_model::event::{Entry, Event, What};
 use line_model::finding::{Code, Xcode};
 use line_model::state::{Side, StateName};
+use pad::message::{Message, MessageCode, read_message};
+use pad::pairs::{Pair, Pairs};
+use pad::settings::Settings;
 use std::alloc::Allocator;
-use x3_parameters::settings::Settings;
-use x29_messages::message::{Message, MessageCode, read_message};
-use x29_messages::pairs::{Pair, Pairs};
 
 /// Room for the events of a packet that completes a message: the finding, the data, and a setting for each pair of a
 /// message, or the return to initial values.

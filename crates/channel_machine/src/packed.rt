@@ -7,10 +7,10 @@ ghost use Rattle.channel_machine.specs.PackedStatus.{state_by, setup_by, call_by
 
 use crate::status::StatusStore;
 use crate::terms::{Opened, Terms, Values};
+use data_transfer::flow::Flow;
+use data_transfer::packed::FlowWord;
 use line_model::interface::Interface;
 use line_model::state::{ChannelState, DState, PState, Side};
-use window_check::flow::Flow;
-use window_check::packed::FlowWord;
 
 /// The status of a channel in one word, beside its interface (profile). Bits 0 to 44 are the word of the windows and
 /// interrupts, as `Flow::pack` makes it; above them stand

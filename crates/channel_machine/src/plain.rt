@@ -4,9 +4,9 @@ ghost use Rattle.channel_machine.specs.Agreed.{agreed_of};
 
 use crate::status::StatusStore;
 use crate::terms::{Opened, Terms};
+use data_transfer::flow::Flow;
 use line_model::interface::Interface;
 use line_model::state::{ChannelState, Side};
-use window_check::flow::Flow;
 
 /// The parts of a status, as they are.
 #[derive(Clone, Copy)]

@@ -3,15 +3,15 @@
 ghost use Rattle.std.specs.Prelude.{◌≡◌, OnErr, false};
 ghost use Rattle.line_model.specs.channels.Channels.{of_side};
 ghost use Rattle.line_model.specs.channels.FlowControl.{Counts, count_interrupt, count_receive, count_confirm, count_data};
-ghost use Rattle.window_check.specs.FlowResidues as windows;
+ghost use Rattle.data_transfer.specs.FlowResidues as windows;
 ghost use Rattle.channel_machine.specs.Status.{Status, IsEntered, CountsAlone};
 ghost use Rattle.channel_machine.specs.Agreed.{agreed_of};
 ghost use Rattle.channel_machine.specs.TermsStand.{size_of};
 
 use crate::terms::{Opened, Terms};
+use data_transfer::flow::Flow;
 use line_model::interface::Interface;
 use line_model::state::{ChannelState, Side};
-use window_check::flow::Flow;
 
 /// A way to keep the status of a channel: its state, whether an indication of the DCE is owed, what was agreed for its
 /// call, and its windows and interrupts.

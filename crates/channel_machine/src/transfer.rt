@@ -12,12 +12,12 @@ use crate::events::EventOrigin;
 use crate::messages::{ROOM, heard};
 use crate::status::StatusStore;
 use crate::terms::is_pad_call;
+use data_transfer::sequence::{DataField, Put};
 use line_model::diagnostic::INCONSISTENT_Q_BIT_SETTING;
 use line_model::event::Event;
 use line_model::fault::Fault;
 use line_model::packet::DataHeader;
 use line_model::state::Side;
-use mbit_assembly::sequence::{DataField, Put};
 use std::alloc::Allocator;
 
 impl<A: Allocator + Clone, S: StatusStore> StatusChannel<A, S> {

@@ -5,7 +5,7 @@ use Rattle.line_model.specs.declared.state.Side.TheVariants.{T, N}
 use Rattle.line_model.specs.channels.Channels.{Channel}
 use Rattle.line_model.specs.channels.ChannelStep.{counts_of}
 use Rattle.line_model.specs.packets.Formats.{is_pad_call, size_in_force, was_fast}
-use Rattle.window_check.specs.FlowResidues.{Stands}
+use Rattle.data_transfer.specs.FlowResidues.{Stands}
 use Rattle.channel_run.specs.declared.run.View.{View}
 
 -- the state of a channel, whether an indication is owed, whether its call is a PAD call and asked fast select, the sizes in

@@ -11,6 +11,7 @@ ghost use Rattle.channel_run.specs.Run.{row_events};
 ghost use Rattle.channel_run.specs.Views.{IsViewOf};
 
 use crate::live::LiveChannel;
+use data_transfer::flow::Flow;
 use line_model::event::Event;
 use line_model::fault::Fault;
 use line_model::interface::Interface;
@@ -18,7 +19,6 @@ use line_model::items::ItemRef;
 use line_model::piece::{Piece, PieceReport};
 use line_model::state::ChannelState;
 use std::alloc::Allocator;
-use window_check::flow::Flow;
 
 /// What is known of a logical channel at one moment.
 #[derive(Clone, Copy)]

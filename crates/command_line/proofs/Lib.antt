@@ -1,3 +1,4 @@
+mod WorkedWords
 pub mod JsonLemmas
 pub mod PastedLemmas
 pub mod StatusLemmas

@@ -7,7 +7,7 @@ use Rattle.line_model.specs.declared.fault.Fault.{Fault}
 use Rattle.line_model.specs.declared.fault.Fault.TheVariants.{Memory, Trace, Read, Write, Start, Double, Stranger, Missing}
 use Rattle.command_line.specs.Program.{IsCutShort, IsFollowStatus, IsStatus, fault_status, summary_status}
 use Rattle.trace_text.specs.Sources.{IsRefusedBy}
-use Rattle.piece_feed.specs.Readings.{IsRefusal}
+use Rattle.trace_scan.specs.Readings.{IsRefusal}
 use Rattle.live_report.specs.Reports.{IsReported, IsTaken}
 use Rattle.trace_scan.specs.Follow.{IsFollowRefusal, IsToldOf}
 use Rattle.line_model.specs.traces.Traces.{trace_report, trace_summary}

@@ -1,3 +1,4 @@
+pub mod Options
 pub mod Pasted
 pub mod Explaining
 pub mod Program

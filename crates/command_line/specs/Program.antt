@@ -10,7 +10,7 @@ use Rattle.line_model.specs.declared.fault.Fault.{Fault}
 use Rattle.line_model.specs.declared.fault.Fault.TheVariants.{Trace, Write}
 use Rattle.line_model.specs.declared.totals.Summary.{Summary}
 use Rattle.trace_text.specs.Sources.{IsRefusedBy}
-use Rattle.piece_feed.specs.Readings.{IsRefusal}
+use Rattle.trace_scan.specs.Readings.{IsRefusal}
 use Rattle.live_report.specs.Reports.{IsReported}
 use Rattle.trace_scan.specs.Follow.{IsFollowRefusal, IsToldOf}
 use Rattle.json_lines.specs.Json.{json_text}

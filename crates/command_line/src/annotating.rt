@@ -5,11 +5,11 @@ ghost use Rattle.command_line.specs.Annotating.{IsAnnotateAnswer, IsAnnotateStat
 ghost use Rattle.command_line.specs.Program.{IsUnread, trace_of};
 
 use crate::annotated_scan::annotate;
+use crate::options::Options;
 use crate::program::{USAGE, summary_status};
 use crate::refusing::{refuse_scan, refuse_trace};
-use advice::channels::last_channel;
 use annotated_trace::rows::Rows;
-use command_options::options::Options;
+use explanations::advice::channels::last_channel;
 use line_model::device::Sink;
 use line_model::totals::Summary;
 use line_model::write_buffer::write_all;

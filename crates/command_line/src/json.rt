@@ -3,9 +3,9 @@
 ghost use Rattle.std.specs.Prelude.{◌≡◌, ℕ, ◌<◌, ◌≤◌, ◌+◌, ◌^◌, List, Some};
 ghost use Rattle.command_line.specs.Program.{IsScannedAsJson};
 
+use crate::options::Options;
 use crate::program::{OTHER_FAULT, scan};
 use crate::refusing::refuse_write;
-use command_options::options::Options;
 use json_lines::sink::JsonSink;
 use line_model::device::Sink;
 use line_model::lending::{Borrowed, Origin, take_back};

@@ -5,7 +5,9 @@
 pub mod annotated_scan;
 mod annotating;
 mod explaining;
+mod help;
 mod json;
+pub mod options;
 mod pasted;
 pub mod program;
 mod refusing;

@@ -2,7 +2,7 @@
 
 ghost use Rattle.std.specs.Prelude.{◌≡◌, ◌≢◌, ℕ, ◌<◌, ◌≤◌, ◌+◌, ◌^◌, ◌⊎◌, IfSome, List, [], None, Some, false, map, option_map, true};
 ghost use Rattle.clap.specs.Words.{kind_of};
-ghost use Rattle.command_options.specs.Options.{AreAskedRows, annotates, as_json, asked_word, follows, named_trace, words_fault};
+ghost use Rattle.command_line.specs.Options.{AreAskedRows, annotates, as_json, asked_word, follows, named_trace, words_fault};
 ghost use Rattle.command_line.specs.Explaining.{IsAnswered};
 ghost use Rattle.annotated_trace.specs.declared.rows.Rows.{Rows};
 ghost use Rattle.command_line.specs.Annotating.{IsAnnotateAnswer};
@@ -11,10 +11,10 @@ ghost use Rattle.command_line.specs.Program.{IsFollowStatus, IsStatus, IsUnread,
 use crate::annotating::annotate_trace;
 use crate::explaining::explain_word;
 use crate::json::scan_json;
+use crate::options::{Options, parse};
 use crate::refusing::{refuse, refuse_scan, refuse_trace};
 use clap::Error;
 use clap::error::ErrorKind;
-use command_options::options::{Options, parse};
 use line_model::device::Sink;
 use line_model::fault::Fault;
 use line_model::totals::Summary;

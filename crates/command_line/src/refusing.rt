@@ -6,7 +6,7 @@ ghost use Rattle.std.specs.Prelude.{◌≡◌};
 ghost use Rattle.command_line.specs.Program.{fault_status};
 
 use crate::program::{OTHER_FAULT, fault_status};
-use advice::advice::advice;
+use explanations::advice::advice;
 use line_model::device::Sink;
 use line_model::fault::{Fault, Kind};
 use line_model::write_buffer::write_all;

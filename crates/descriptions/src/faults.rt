@@ -2,6 +2,7 @@
 
 use crate::prose::{Prose, count, say_number};
 use channel_run::run::View;
+use data_transfer::flow::SendWindow;
 use explanations::explanation::Explanation;
 use explanations::flow_codes::flow_codes;
 use explanations::messages::messages;
@@ -17,7 +18,6 @@ use line_model::packet::{DataHeader, Packet, PacketKind};
 use line_model::state::{Side, StateName};
 use packet_decode::decode::logical_channel;
 use packet_decode::transfer::header_length;
-use window_check::flow::SendWindow;
 
 /// What was known before a row, and the row's packet.
 #[derive(Clone, Copy)]

@@ -2,7 +2,7 @@
 
 use crate::parameters::parameter;
 use crate::prose::{Prose, say_number};
-use x29_messages::message::{Message, MessageCode, read_message};
+use pad::message::{Message, MessageCode, read_message};
 
 /// What a message is for (X.29 Table 3).
 fn name(code: MessageCode) -> &'static str {

@@ -1,6 +1,8 @@
-//! The words of the report, of a header and of the refusals, and what each of them means.
+//! The words of the report, of a header and of the refusals, and what each of them means; and what is wrong with a faulty
+//! line, in a sentence.
 #![tactic(auto)]
 
+pub mod advice;
 pub mod explanation;
 mod fields;
 pub mod flow_codes;

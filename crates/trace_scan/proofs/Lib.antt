@@ -1,3 +1,10 @@
+pub mod Rows
+pub mod Heads
+pub mod Cuts
+pub mod Nexts
+pub mod Texts
+pub mod Firsts
+pub mod Courses
 pub mod ScanLemmas
 pub mod ThreadedLemmas
 pub mod FollowLemmas

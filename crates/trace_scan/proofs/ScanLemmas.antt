@@ -14,7 +14,7 @@ use Rattle.trace_text.specs.Watched.{IsReportOf}
 use Rattle.trace_text.specs.Sources.{HasFailed, IsFedAll, IsFedUpTo, IsRefusedBy}
 use Rattle.trace_text.specs.StandsFor.{IsFaultOf, IsTextFault}
 use Rattle.live_report.proofs.LawLemmas.{no_fault_so_far}
-use Rattle.piece_feed.specs.Readings.{IsRefusal}
+use Rattle.trace_scan.specs.Readings.{IsRefusal}
 use Rattle.trace_scan.specs.Scan.{IsPartTaken, IsScanFault}
 
 pub report_is : (text : List ℕ) (i : Interface) (made : Report) → fault text ≡ None → head text ≡ Some i → made ≡ report_of i (rows text) → IsReportOf text made

@@ -3,8 +3,8 @@ use Rattle.std.proofs.Common.{◌≡◌, ◌∙◌, sym, ap, subst, refl, ℕ, t
 use Rattle.std.specs.Prelude.{IfErr, IfOk, IfSome, MatchResult, is_some, is_ok}
 use Rattle.line_model.specs.declared.fault.Fault.{Fault}
 use Rattle.line_model.specs.declared.fault.Fault.TheVariants.{Memory, Trace, Read as ReadFailed, Write, Start}
-use Rattle.piece_feed.specs.declared.reading.Read.{Read}
-use Rattle.piece_feed.specs.Readings.{IsOutcome, IsReadingFault, IsRefusal}
+use Rattle.trace_scan.specs.declared.feeding.Read.{Read}
+use Rattle.trace_scan.specs.Readings.{IsOutcome, IsReadingFault, IsRefusal}
 use Rattle.live_report.specs.Reports.{IsTaken}
 use Rattle.trace_scan.specs.Scan.{IsPartTaken}
 use Rattle.trace_scan.specs.declared.threaded.ScanParts.{ScanParts}
@@ -23,7 +23,7 @@ use Rattle.report_merge.specs.Merged.{IsOfWalk}
 use Rattle.report_merge.proofs.Posted.{permuted_posts}
 use Rattle.workers.specs.declared.gathering.Gathered.{Gathered}
 use Rattle.workers.specs.Gathers.{IsWhole}
-use Rattle.piece_feed.specs.Readings.{IsReadOf}
+use Rattle.trace_scan.specs.Readings.{IsReadOf}
 use Rattle.trace_scan.specs.Threaded.{trace_totals}
 use Rattle.trace_scan.proofs.ScanLemmas.{memory_refused}
 

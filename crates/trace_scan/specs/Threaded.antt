@@ -9,7 +9,7 @@ use Rattle.line_model.specs.text.Text.{head, rows}
 use Rattle.line_model.specs.declared.totals.Totals.{Totals}
 use Rattle.workers.specs.Gathers.{IsWhole}
 use Rattle.trace_text.specs.Sources.{IsRefusedBy}
-use Rattle.piece_feed.specs.Readings.{IsReadOf, IsRefusal}
+use Rattle.trace_scan.specs.Readings.{IsReadOf, IsRefusal}
 use Rattle.trace_scan.specs.declared.threaded.ScanParts.{ScanParts}
 
 -- the totals over the channels of a text, those of nothing where it has no header

@@ -1,8 +1,10 @@
 //! The scan of a trace, in one thread or with workers: from a source's bytes to the report that a sink takes.
 #![tactic(auto)]
 
+pub mod feeding;
 pub mod following;
 pub mod gate;
 mod reading;
 pub mod scan;
+pub mod text_cutter;
 pub mod threaded;

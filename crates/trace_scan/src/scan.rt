@@ -2,7 +2,7 @@
 
 ghost use Rattle.std.specs.Prelude.{◌≡◌, ◌≢◌, ℕ, ◌+◌, ◌<◌, ◌≤◌, ◌^◌, List, Some, Err, IfOk, IfErr};
 ghost use Rattle.trace_text.specs.Sources.{IsRefusedBy};
-ghost use Rattle.piece_feed.specs.Readings.{IsRefusal};
+ghost use Rattle.trace_scan.specs.Readings.{IsRefusal};
 ghost use Rattle.live_report.specs.Reports.{IsReported, IsTaken};
 ghost use Rattle.trace_scan.specs.Scan.{IsPartTaken, IsScanFault};
 ghost use Rattle.line_model.specs.traces.Traces.{trace_report};

@@ -6,16 +6,16 @@ ghost use Rattle.line_model.specs.traces.Traces.{trace_plan, trace_report};
 ghost use Rattle.line_model.specs.work.Book.{sum_of};
 ghost use Rattle.live_report.specs.Reports.{IsReported, IsTaken};
 ghost use Rattle.trace_text.specs.Sources.{IsRefusedBy};
-ghost use Rattle.piece_feed.specs.Readings.{IsRefusal};
+ghost use Rattle.trace_scan.specs.Readings.{IsRefusal};
 ghost use Rattle.trace_scan.specs.Scan.{IsPartTaken};
 ghost use Rattle.trace_scan.specs.Threaded.{AreScanParts, IsStopped, IsWorkedFault, trace_totals};
 
+use crate::feeding::{Read, Reading};
 use line_model::device::{Sink, Source};
 use line_model::fault::Fault;
 use line_model::lending::take_back;
 use line_model::piece::Plan;
 use line_model::totals::{Summary, Totals};
-use piece_feed::{Read, Reading};
 use report_merge::merging::merge;
 use report_merge::text::write_report;
 use std::alloc::{Allocator, Global};

@@ -4,8 +4,8 @@ use Rattle.std.specs.Prelude.{MatchOption, sum_by, vec_len}
 use Rattle.line_model.proofs.Counting.{length-once}
 use Rattle.line_model.specs.declared.fault.Fault.TheVariants.{Memory}
 use Rattle.line_model.specs.declared.totals.Totals.{Totals}
-use Rattle.piece_queue.specs.Passes.{QueueId}
-use Rattle.piece_queue.specs.declared.rule.Record.{Record}
+use Rattle.shared_work.specs.queue.Passes.{QueueId}
+use Rattle.shared_work.specs.declared.queue.rule.Record.{Record}
 use Rattle.workers.specs.declared.joining.Joined.{Joined}
 use Rattle.workers.specs.Runs.{IsJoined}
 

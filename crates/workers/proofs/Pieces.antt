@@ -5,7 +5,7 @@ use Rattle.line_model.specs.basics.Records.{Piece}
 use Rattle.line_model.specs.work.Book.{KnownPlan, IsPlanned, IsValue}
 use Rattle.line_model.specs.basics.Records.{PieceReport}
 use Rattle.line_model.proofs.Posts.{value_is}
-use Rattle.piece_queue.specs.Known.{IsFed}
+use Rattle.shared_work.specs.queue.Known.{IsFed}
 use Rattle.workers.specs.Vouching.{HasPiece, IsValueOfOne}
 use Rattle.workers.specs.Workers.{ArePlanned}
 

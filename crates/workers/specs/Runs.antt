@@ -3,9 +3,9 @@ use Rattle.std.specs.Prelude.{◌≡◌, ℕ, ◌-◌, ◌<◌, List, length, su
 use Rattle.line_model.specs.declared.fault.Fault.TheVariants.{Memory}
 use Rattle.line_model.specs.declared.totals.Totals.{Totals}
 use Rattle.line_model.specs.basics.Records.{Piece}
-use Rattle.piece_queue.specs.Passes.{QueueId}
-use Rattle.piece_queue.specs.Rule.{IsAccounted}
-use Rattle.piece_queue.specs.declared.rule.Record.{Record}
+use Rattle.shared_work.specs.queue.Passes.{QueueId}
+use Rattle.shared_work.specs.queue.Rule.{IsAccounted}
+use Rattle.shared_work.specs.declared.queue.rule.Record.{Record}
 use Rattle.workers.specs.declared.joining.Joined.{Joined}
 use Rattle.workers.specs.declared.run.RunOutcome.{RunOutcome}
 

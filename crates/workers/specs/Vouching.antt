@@ -2,7 +2,7 @@
 use Rattle.std.specs.Prelude.{◌≡◌, ℕ, List, [], Some, slice_get}
 use Rattle.line_model.specs.basics.Records.{Piece, PieceReport}
 use Rattle.line_model.specs.pieces.Plans.{value}
-use Rattle.piece_queue.specs.Passes.{QueueId}
+use Rattle.shared_work.specs.queue.Passes.{QueueId}
 
 -- the name of no queue
 abbrev pub no_queue : QueueId

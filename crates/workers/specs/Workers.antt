@@ -1,8 +1,8 @@
 -- What a worker starts with, and what it hands back.
 use Rattle.std.specs.Prelude.{◌≡◌, ℕ, ◌+◌, List, Some, slice_get, length, true, false, [], MatchOption}
-use Rattle.piece_queue.specs.Passes.{QueueId}
-use Rattle.piece_queue.specs.Rule.{worker}
-use Rattle.piece_queue.specs.declared.rule.Record.{Record}
+use Rattle.shared_work.specs.queue.Passes.{QueueId}
+use Rattle.shared_work.specs.queue.Rule.{worker}
+use Rattle.shared_work.specs.declared.queue.rule.Record.{Record}
 use Rattle.line_model.specs.basics.Records.{Piece}
 use Rattle.line_model.specs.work.Book.{KnownPlan, IsPlanned}
 use Rattle.line_model.specs.declared.fault.Fault.TheVariants.{Memory}

@@ -2,12 +2,12 @@
 
 ghost use Rattle.std.specs.Prelude.{◌≡◌, ◌+◌, ◌++◌, ◌∷◌, [], vec_len};
 ghost use Rattle.line_model.specs.work.Book.{IsPlanned};
-ghost use Rattle.piece_queue.specs.Rule.{feeder};
+ghost use Rattle.shared_work.specs.queue.Rule.{feeder};
 ghost use Rattle.workers.specs.Workers.{ArePlanned, HasFed};
 
 use crate::waiting::Backoff;
 use line_model::piece::{Piece, Plan};
-use piece_queue::{FeederPass, Work};
+use shared_work::queue::{FeederPass, Work};
 use std::alloc::Allocator;
 use std::sync::Wait;
 use std::time::Clock;

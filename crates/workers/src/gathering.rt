@@ -5,11 +5,11 @@ ghost use Rattle.workers.specs.Gathers.{IsWhole};
 ghost use Rattle.line_model.specs.work.Book.{AreOf, totals_of, sum_of};
 
 use crate::witness::{PieceWitness, QueueName};
-use findings_book::{Book, Ledgers, Share, Witness};
 use line_model::fault::Fault;
 use line_model::piece::{PieceReport, Plan};
 use line_model::totals::Totals;
-use piece_queue::FeederPass;
+use shared_work::findings::{Book, Ledgers, Share, Witness};
+use shared_work::queue::FeederPass;
 use std::alloc::{Allocator, Global};
 
 /// The totals of the book, those of each worker's share, and the reports in the order in which they were posted.

@@ -6,17 +6,17 @@ ghost use Rattle.workers.specs.Vouching.{HasPiece};
 
 use crate::gate::Gate;
 use crate::witness::{PieceWitness, QueueName};
-use findings_book::{Ledgers, LockedPosts, Share};
 use line_model::fault::Fault;
 use line_model::piece::{Piece, Plan};
-use piece_queue::{Work, WorkerPass};
+use shared_work::findings::{Ledgers, LockedPosts, Share};
+use shared_work::queue::{Work, WorkerPass};
 use std::alloc::{Allocator, Global};
 use std::marker::PhantomData;
 use std::sync::Wait;
 
 /// Handles the pieces of all workers, each with a share of its own.
 pub trait Handler<P: Plan, A: Allocator, L: Ledgers> {
-    ghost use Rattle.piece_queue.specs.Passes.{QueueId};
+    ghost use Rattle.shared_work.specs.queue.Passes.{QueueId};
 
     /// It handles pieces of this queue.
     ghost handles: { Self → QueueId → Type 0 };

@@ -4,10 +4,10 @@ ghost use Rattle.std.specs.Prelude.{◌≡◌, ◌≤◌, All, length, vec_len, 
 ghost use Rattle.workers.specs.Runs.{IsJoined};
 
 use crate::starting::Running;
-use findings_book::{Ledgers, Share};
 use line_model::fault::Fault;
 use line_model::piece::Plan;
-use piece_queue::{FeederPass, Work};
+use shared_work::findings::{Ledgers, Share};
+use shared_work::queue::{FeederPass, Work};
 use std::alloc::{Allocator, Global};
 use std::thread::Threads;
 

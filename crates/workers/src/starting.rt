@@ -1,15 +1,15 @@
 //! How the workers are started.
 
 ghost use Rattle.std.specs.Prelude.{◌≡◌, ◌≤◌, [], false, All, IsTrue, IfOk, IfErr, IfSome, vec_len, vec_capacity};
-ghost use Rattle.piece_queue.specs.Rule.{feeder, worker};
+ghost use Rattle.shared_work.specs.queue.Rule.{feeder, worker};
 ghost use Rattle.workers.specs.Workers.{IsWorkerOutcome, IsWorkerStart};
 
 use crate::handler::Handler;
 use crate::worker::{Finishes, WorkerOutcome, work_on};
-use findings_book::{Book, Ledgers, Share, Witness};
 use line_model::fault::Fault;
 use line_model::piece::Plan;
-use piece_queue::{FeederPass, Work, WorkerPass};
+use shared_work::findings::{Book, Ledgers, Share, Witness};
+use shared_work::queue::{FeederPass, Work, WorkerPass};
 use std::alloc::{Allocator, Global};
 use std::marker::Model;
 use std::sync::Wait;
@@ -37,7 +37,7 @@ pub struct ReadyWorkers<'w, P: Plan, L: Ledgers, A: Allocator = Global> {
 
 impl<'w, P: Plan, L: Ledgers, A: Allocator> Model for ReadyWorkers<'w, P, L, A> {
     ghost use Rattle.std.specs.Prelude.{◌≡◌, [], All, vec_len};
-    ghost use Rattle.piece_queue.specs.Rule.{feeder};
+    ghost use Rattle.shared_work.specs.queue.Rule.{feeder};
     ghost use Rattle.workers.specs.Workers.{IsWorkerStart};
     ghost use Rattle.workers.specs.Ready.{ReadyView};
 

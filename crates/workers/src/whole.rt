@@ -1,7 +1,7 @@
 //! A plan that is fed by one thread and worked through by others.
 
 ghost use Rattle.std.specs.Prelude.{◌≡◌, ◌<◌, ◌≤◌, ◌⊎◌, [], None, IfOk, IfErr, MatchOption, sum_by, vec_len};
-ghost use Rattle.piece_queue.specs.Rule.{feeder};
+ghost use Rattle.shared_work.specs.queue.Rule.{feeder};
 ghost use Rattle.workers.specs.Gathers.{HasWorked, IsWhole};
 
 use crate::feeding::Feed;
@@ -11,10 +11,10 @@ use crate::handler::Posting;
 use crate::run::{RunOutcome, run_scoped};
 use crate::starting::ready_workers;
 use crate::witness::{PieceWitness, QueueName};
-use findings_book::{Blanks, Book, Ledgers, Share};
 use line_model::fault::Fault;
 use line_model::piece::Plan;
-use piece_queue::{FeederPass, Work};
+use shared_work::findings::{Blanks, Book, Ledgers, Share};
+use shared_work::queue::{FeederPass, Work};
 use std::alloc::{Allocator, Global};
 use std::marker::Brand;
 use std::sync::Wait;

@@ -6,13 +6,13 @@ ghost use Rattle.line_model.specs.work.Book.{IsValue};
 ghost use Rattle.workers.specs.Vouching.{IsValueOfOne};
 
 use line_model::piece::Plan;
-use piece_queue::{FeederPass, Work};
+use shared_work::queue::{FeederPass, Work};
 use std::alloc::Allocator;
 use std::marker::{Brand, Model, PhantomData};
 
 /// The queue of which the witnesses of a book are, which contracts alone see.
 pub trait QueueName {
-    ghost use Rattle.piece_queue.specs.Passes.{QueueId};
+    ghost use Rattle.shared_work.specs.queue.Passes.{QueueId};
 
     ghost queue: { QueueId };
 }
@@ -27,7 +27,7 @@ impl QueueName for Brand {
 #[derive(Drop)]
 pub struct PieceWitness<'a, P: Plan, N: QueueName, A: Allocator> {
     pub(crate) work: &'a Work<P, A>,
-    pub(crate) witness: piece_queue::Witness<A>,
+    pub(crate) witness: shared_work::queue::Witness<A>,
     pub(crate) name: PhantomData<N>,
 }
 
@@ -74,7 +74,8 @@ impl<'a, P: Plan, N: QueueName, A: Allocator> PieceWitness<'a, P, N, A> {
     }
 }
 
-impl<'a, P: Plan, N: QueueName, A: Allocator> findings_book::Witness for PieceWitness<'a, P, N, A> {
+impl<'a, P: Plan, N: QueueName, A: Allocator> shared_work::findings::Witness
+    for PieceWitness<'a, P, N, A> {
     ghost use Rattle.workers.specs.Vouching.{IsValueOfOne};
 
     ghost vouches = { λ pieces report. IsValueOfOne pieces report };

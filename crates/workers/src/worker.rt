@@ -2,16 +2,16 @@
 
 ghost use Rattle.std.specs.Prelude.{◌≡◌, ◌+◌, [], false, None, IfSome, IfNone};
 ghost use Rattle.line_model.specs.work.Book.{IsPlanned};
-ghost use Rattle.piece_queue.specs.Rule.{worker};
+ghost use Rattle.shared_work.specs.queue.Rule.{worker};
 ghost use Rattle.workers.specs.Vouching.{HasPiece};
 ghost use Rattle.workers.specs.Workers.{IsWorkerOutcome};
 
 use crate::handler::Handler;
 use crate::waiting::Backoff;
-use findings_book::{Ledgers, Share};
 use line_model::fault::Fault;
 use line_model::piece::{Piece, Plan};
-use piece_queue::{Taken, Work, WorkerPass};
+use shared_work::findings::{Ledgers, Share};
+use shared_work::queue::{Taken, Work, WorkerPass};
 use std::alloc::{Allocator, Global};
 use std::sync::Wait;
 use std::thread::Promise;

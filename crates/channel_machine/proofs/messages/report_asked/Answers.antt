@@ -1,6 +1,6 @@
 use Rattle.std.proofs.Common.{arith, ap, length}
-use Rattle.x29_messages.specs.Pairs.{shown}
-use Rattle.x3_parameters.specs.Effects.{asked_one}
+use Rattle.pad.specs.Pairs.{shown}
+use Rattle.pad.specs.Effects.{asked_one}
 use Rattle.channel_machine.proofs.Reporting.{reported_none, reported_one, reported_all}
 use Rattle.channel_machine.proofs.messages.report_asked.Goals as goal
 

@@ -1,5 +1,5 @@
 use Rattle.std.proofs.Common.{◌≤◌, ◌+◌, length, vec_len, vec_capacity}
-use Rattle.x3_parameters.specs.Effects.{indicated_one}
+use Rattle.pad.specs.Effects.{indicated_one}
 use Rattle.channel_machine.proofs.Reporting.{IsReported}
 use Rattle.channel_machine.proofs.messages.report_indicated.Given as goal
 

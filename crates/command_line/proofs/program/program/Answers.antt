@@ -3,7 +3,7 @@ use Rattle.std.specs.Prelude.{MatchOption}
 use Rattle.annotated_trace.specs.declared.rows.Rows.{Rows}
 use Rattle.command_line.specs.Annotating.{IsAnnotateAnswer}
 use Rattle.command_line.specs.Explaining.{IsAnswered}
-use Rattle.command_options.specs.Options.{AreAskedRows, annotates, follows, named_trace}
+use Rattle.command_line.specs.Options.{AreAskedRows, annotates, follows, named_trace}
 use Rattle.command_line.specs.Program.{IsTold, IsUnread, trace_of}
 use Rattle.command_line.proofs.program.program.Given.{Over}
 use Rattle.command_line.proofs.program.program.Goals as goal

@@ -3,7 +3,7 @@ use Rattle.std.specs.Prelude.{IfSome}
 use Rattle.std.proofs.lemmas.Result.{IfOk-from_err}
 use Rattle.trace_text.specs.StandsFor.{IsTextFault}
 use Rattle.trace_text.proofs.SourceLemmas.{passed_on, same_fault}
-use Rattle.piece_feed.proofs.Courses.{refused_by}
+use Rattle.trace_scan.proofs.Courses.{refused_by}
 use Rattle.line_model.specs.traces.Traces.{trace_report}
 use Rattle.live_report.specs.Reports.{IsTaken}
 use Rattle.line_model.specs.declared.fault.Fault.TheVariants.{Write}

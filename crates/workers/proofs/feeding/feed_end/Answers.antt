@@ -1,5 +1,5 @@
 use Rattle.std.proofs.Common.{◌+◌, ◌∙◌, ap, refl}
-use Rattle.piece_queue.specs.Rule.{feeder}
+use Rattle.shared_work.specs.queue.Rule.{feeder}
 use Rattle.workers.proofs.feeding.feed_end.Goals as goal
 
 pub loop-init : goal.loop-init

@@ -1,6 +1,6 @@
 use Rattle.std.proofs.Common.{◌+◌, ◌++◌, ◌∷◌, [], ◌∙◌, ap, refl, subst, sym}
 use Rattle.line_model.specs.work.Book.{IsPlanned}
-use Rattle.piece_queue.specs.Rule.{feeder}
+use Rattle.shared_work.specs.queue.Rule.{feeder}
 use Rattle.workers.proofs.feeding.feed_piece.Goals as goal
 
 pub loop-init : goal.loop-init

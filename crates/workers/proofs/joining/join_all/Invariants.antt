@@ -1,7 +1,7 @@
 use Rattle.std.specs.Prelude.{◌≡◌, ◌+◌, ◌-◌, ◌≤◌, ◌<◌, length, All, sum_by, vec_len, vec_capacity, MatchOption}
 use Rattle.std.specs.Vec.Iter.{into_iter_items, into_iter_len}
 use Rattle.line_model.specs.declared.fault.Fault.TheVariants.{Memory}
-use Rattle.piece_queue.specs.Rule.{IsAccounted}
+use Rattle.shared_work.specs.queue.Rule.{IsAccounted}
 use Rattle.line_model.specs.declared.totals.Totals.{Totals}
 use Rattle.workers.proofs.joining.join_all.Given as goal
 

@@ -1,5 +1,5 @@
 use Rattle.std.specs.Prelude.{◌≡◌, [], All, vec_len}
-use Rattle.piece_queue.specs.Rule.{feeder}
+use Rattle.shared_work.specs.queue.Rule.{feeder}
 use Rattle.workers.specs.Workers.{IsWorkerStart}
 use Rattle.workers.proofs.starting.ready_workers.Given as goal
 

@@ -1,5 +1,5 @@
 use Rattle.std.proofs.Common.{[], ◌≡◌, ◌∙◌, ap, arith, rules, subst, sym}
-use Rattle.piece_queue.specs.Rule.{feeder}
+use Rattle.shared_work.specs.queue.Rule.{feeder}
 use Rattle.std.specs.Prelude.{All}
 use Rattle.workers.specs.Workers.{IsWorkerStart}
 use Rattle.workers.proofs.Lists.{All-rest}

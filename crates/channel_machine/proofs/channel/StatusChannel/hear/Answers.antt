@@ -6,9 +6,9 @@ use Rattle.line_model.specs.channels.Channels.{AcceptedData}
 use Rattle.line_model.specs.channels.Sequences.{sequence_octets}
 use Rattle.line_model.specs.packets.Formats.{is_pad_call}
 use Rattle.line_model.specs.channels.ChannelStep.{counts_of}
-use Rattle.mbit_assembly.specs.Assembler.{IsPut, begun_by}
-use Rattle.mbit_assembly.specs.Assembly.{OnMixed}
-use Rattle.mbit_assembly.specs.declared.sequence.Put.TheVariants.{Going, Complete, Mixed}
+use Rattle.data_transfer.specs.Assembler.{IsPut, begun_by}
+use Rattle.data_transfer.specs.Assembly.{OnMixed}
+use Rattle.data_transfer.specs.declared.sequence.Put.TheVariants.{Going, Complete, Mixed}
 use Rattle.channel_machine.specs.Events.{event_at}
 use Rattle.channel_machine.specs.Messages.{told_reports}
 use Rattle.channel_machine.specs.TermsStand.{is_pad}

@@ -2,8 +2,8 @@ use Rattle.std.proofs.Common.{sym, ◌∙◌, ap}
 use Rattle.line_model.specs.channels.Channels.{Told}
 use Rattle.line_model.specs.declared.state.Side.TheVariants.{N}
 use Rattle.line_model.specs.packets.Formats.{or_other}
-use Rattle.x3_parameters.specs.Effects.{own_fault}
-use Rattle.x3_parameters.specs.Told.{told}
+use Rattle.pad.specs.Effects.{own_fault}
+use Rattle.pad.specs.Told.{told}
 use Rattle.channel_machine.proofs.Faults.{both}
 use Rattle.channel_machine.proofs.messages.BothSettings.read.Goals as goal
 

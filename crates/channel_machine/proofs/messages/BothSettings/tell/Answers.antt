@@ -5,7 +5,7 @@ use Rattle.line_model.specs.declared.event.What.TheVariants.{Data}
 use Rattle.line_model.specs.declared.finding.Xcode.{Xcode}
 use Rattle.line_model.specs.channels.ChannelStep.{option_found}
 use Rattle.line_model.specs.channels.Pad.{form_fault, message_fault, settings_after}
-use Rattle.x3_parameters.proofs.Applied.{faulty}
+use Rattle.pad.proofs.Applied.{faulty}
 use Rattle.channel_machine.specs.Events.{Reports, event_at}
 use Rattle.channel_machine.specs.Messages.{SettingsStand, told_reports}
 use Rattle.channel_machine.proofs.Kept.{kept_fault, kept_whole, own_message_fault, faulted_settings, unfaulted_short}

@@ -1,6 +1,6 @@
 use Rattle.std.proofs.Common.{subst}
 use Rattle.std.specs.Prelude.{All}
-use Rattle.piece_queue.specs.Known.{IsFed}
+use Rattle.shared_work.specs.queue.Known.{IsFed}
 use Rattle.workers.proofs.Pieces.{value-of-fed}
 use Rattle.workers.proofs.witness.PieceWitness.confirm.Goals as goal
 

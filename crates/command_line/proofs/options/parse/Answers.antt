@@ -1,0 +1,64 @@
+use Rattle.std.proofs.Common.{◌≡◌, ◌∙◌, ap, refl, subst, sym, true, map, codes, ℕ, List}
+use Rattle.clap.specs.Words.{HasKind, app_of, fault_of, found_of, first_value, is_simple, is_simple_and_free, matches_of, first_of}
+use Rattle.clap.proofs.OnLiterals.{clap_on_literals}
+use Rattle.clap.proofs.WalkLemmas.{first_value-rows}
+use Rattle.command_line.specs.Options.{AskFor, command, is_given, named_by}
+use Rattle.command_line.proofs.options.parse.Goals as goal
+use Rattle.command_line.proofs.options.parse.Goals.{Joined-matches}
+
+is_free : is_simple_and_free command ≡ true
+unfolding clap_on_literals
+is_free = refl
+
+is_plain : is_simple command ≡ true
+unfolding clap_on_literals
+is_plain = refl
+
+pub returns-in-Ok-clause-kinds : goal.returns-in-Ok-clause-kinds
+returns-in-Ok-clause-kinds c =
+    let told : app_of c.in_ok-command.command ≡ command = c.in_ok-command.ensures in
+    sym (ap (λ app. fault_of app (map (λ word. word.now) c.args.words.now)) told) ∙ c.in-Ok.ensures.kinds (ap is_simple_and_free told ∙ is_free)
+
+pub returns-in-Err-clause-kinds : goal.returns-in-Err-clause-kinds
+returns-in-Err-clause-kinds c =
+    let told : app_of c.in_ok-command.command ≡ command = c.in_ok-command.ensures in
+    subst (λ app. HasKind (fault_of app (map (λ word. word.now) c.args.words.now)) c.in-Err.error) told (c.in-Err.ensures.kinds (ap is_simple_and_free told ∙ is_free))
+
+-- the first value of an argument is that of the words
+value_of : (c : Joined-matches) → (id : List ℕ) → first_value (found_of c.in-Ok.matches) id ≡ first_of id (matches_of command (map (λ word. word.now) c.args.words.now))
+value_of c id =
+    let told : app_of c.in_ok-command.command ≡ command = c.in_ok-command.ensures in
+    let rows = (c.in-Ok.ensures.matches (ap is_simple told ∙ is_plain)).0 in
+    first_value-rows (found_of c.in-Ok.matches) id
+    ∙ ap (first_of id) (rows ∙ ap (λ app. matches_of app (map (λ word. word.now) c.args.words.now)) told)
+
+pub returns-in-Ok-clause-workers : goal.returns-in-Ok-clause-workers
+returns-in-Ok-clause-workers c = λ text n asked is. c.options_in.ensures.workers text n (value_of c (codes "workers") ∙ asked) is
+
+pub returns-in-Ok-clause-alone : goal.returns-in-Ok-clause-alone
+returns-in-Ok-clause-alone c = c.options_in.ensures.alone ∙ ap is_given (value_of c (codes "alone"))
+
+pub returns-in-Ok-clause-progress : goal.returns-in-Ok-clause-progress
+returns-in-Ok-clause-progress c = c.options_in.ensures.progress ∙ ap is_given (value_of c (codes "progress"))
+
+pub returns-in-Ok-clause-follow : goal.returns-in-Ok-clause-follow
+returns-in-Ok-clause-follow c = c.options_in.ensures.follow ∙ ap is_given (value_of c (codes "follow"))
+
+pub returns-in-Ok-clause-json : goal.returns-in-Ok-clause-json
+returns-in-Ok-clause-json c = c.options_in.ensures.json ∙ ap is_given (value_of c (codes "json"))
+
+pub returns-in-Ok-clause-annotate : goal.returns-in-Ok-clause-annotate
+returns-in-Ok-clause-annotate c =
+    let words : List (List ℕ) = map (λ word. word.now) c.args.words.now in
+    let channel = first_of (codes "channel") (matches_of command words) in
+    let call = first_of (codes "call") (matches_of command words) in
+    let found = found_of c.in-Ok.matches in
+    subst (λ flag. AskFor flag channel call c.options_in.result.annotate) (value_of c (codes "annotate"))
+    (subst (λ named. AskFor (first_value found (codes "annotate")) named call c.options_in.result.annotate) (value_of c (codes "channel"))
+    (subst (λ named. AskFor (first_value found (codes "annotate")) (first_value found (codes "channel")) named c.options_in.result.annotate) (value_of c (codes "call")) c.options_in.ensures.annotate))
+
+pub returns-in-Ok-clause-explain : goal.returns-in-Ok-clause-explain
+returns-in-Ok-clause-explain c = c.options_in.ensures.explain ∙ value_of c (codes "explain")
+
+pub returns-in-Ok-clause-trace : goal.returns-in-Ok-clause-trace
+returns-in-Ok-clause-trace c = c.options_in.ensures.trace ∙ ap named_by (value_of c (codes "trace"))

@@ -1,0 +1,313 @@
+//! The command line.
+
+ghost use Rattle.std.specs.Prelude.{◌≡◌, ◌≤◌, IfOk, MatchOption, codes, false, map, option_map, true};
+ghost use Rattle.clap.specs.Words.{FailsBy, app_of, first_value, found_of, rule_of};
+ghost use Rattle.command_line.specs.Options.{AreAskedRows, AskFor, HasNumber, HasWorkers, alone, annotates, as_json, asked_word, asked_workers, call_rule, channel_rule, command, explain_rule, flag_rule, follows, is_given, named_by, named_trace, shows_progress, trace_rule, versioned, with_asking, with_scanning, with_telling, words_fault, workers_rule};
+
+use crate::help::{ABOUT, AFTER_HELP, VERSION};
+use annotated_trace::rows::Rows;
+use clap::{Arg, ArgAction, ArgMatches, Command, Error, value_parser};
+use std::alloc::{AllocError, Global};
+
+/// How many workers there are where the words don't say it.
+const WORKERS: u8 = 4;
+
+/// What the words ask for.
+#[derive(Clone, Copy)]
+pub struct Options<'a> {
+    /// The worker threads, 1 to 64 (profile).
+    pub workers: u8,
+    /// The scan of one thread is asked for.
+    pub alone: bool,
+    /// Each finding is asked for as soon as its packet is known, which one thread does.
+    pub follow: bool,
+    /// The report is asked for as JSON lines.
+    pub json: bool,
+    /// The trace is asked for once more in place of its report, with comments behind these rows.
+    pub annotate: Option<Rows>,
+    /// It is asked for that the errors are told how far the reading is, also where they are no terminal.
+    pub progress: bool,
+    /// The word whose explanation is asked for in place of a scan; empty where the list of all words is.
+    pub explain: Option<&'a str>,
+    /// The name of the trace; none where it is standard input.
+    pub trace: Option<&'a str>,
+    pub ghost some: { 1 ≤ workers },
+    pub ghost few: { workers ≤ 64 },
+}
+
+/// The option that says how many workers there are.
+fn workers<'a>(alloc: Global) -> Arg<'a>
+    ensures rule { rule_of result ≡ workers_rule }
+    ensures local { result.global ≡ false }
+{
+    Arg::new(alloc, "workers")
+        .long("workers")
+        .value_name("N")
+        .help("Scan with this many worker threads, 1 to 64")
+        .action(ArgAction::Set)
+        .default_value("4")
+        .value_parser(value_parser!(u8).range(1..=64))
+}
+
+/// A flag of this name.
+fn flag<'a>(alloc: Global, name: &'a str, help: &'a str) -> Arg<'a>
+    ensures rule { rule_of result ≡ flag_rule name.entry.now }
+    ensures local { result.global ≡ false }
+{
+    Arg::new(alloc, name)
+        .long(name)
+        .help(help)
+        .action(ArgAction::SetTrue)
+}
+
+/// The option that asks for the explanation of a word, or for the list of all words where none follows it.
+fn explain<'a>(alloc: Global) -> Arg<'a>
+    ensures rule { rule_of result ≡ explain_rule }
+    ensures local { result.global ≡ false }
+{
+    Arg::new(alloc, "explain")
+        .long("explain")
+        .value_name("WORD")
+        .help("Explain a word or a line that is printed, or list all words, and scan nothing")
+        .action(ArgAction::Set)
+        .num_args(0..=1)
+        .default_missing_value("")
+}
+
+/// The option that says of which logical channel rows are told.
+fn channel<'a>(alloc: Global) -> Arg<'a>
+    ensures rule { rule_of result ≡ channel_rule }
+    ensures local { result.global ≡ false }
+{
+    Arg::new(alloc, "channel")
+        .long("channel")
+        .value_name("N")
+        .help("As --annotate, with comments only on the rows of this logical channel")
+        .action(ArgAction::Set)
+        .value_parser(value_parser!(u16).range(1..=4095))
+}
+
+/// The option that says of which call rows are told.
+fn call<'a>(alloc: Global) -> Arg<'a>
+    ensures rule { rule_of result ≡ call_rule }
+    ensures local { result.global ≡ false }
+{
+    Arg::new(alloc, "call")
+        .long("call")
+        .value_name("N")
+        .help("As --annotate, with comments only on the rows of this call of the report")
+        .action(ArgAction::Set)
+        .value_parser(value_parser!(u32).range(1..=999_999_999))
+}
+
+/// The name of the trace.
+fn trace<'a>(alloc: Global) -> Arg<'a>
+    ensures rule { rule_of result ≡ trace_rule }
+    ensures local { result.global ≡ false }
+{
+    Arg::new(alloc, "trace")
+        .value_name("FILE")
+        .help("The trace; - or no file is standard input")
+        .action(ArgAction::Set)
+}
+
+/// Adds the options that say how the trace is scanned.
+fn with_scanning<'a>(alloc: Global, command: Command<'a>) -> Result<Command<'a>, AllocError>
+    ensures { IfOk result (λ told. app_of told ≡ with_scanning (app_of command.entry)) }
+{
+    command
+        .arg(workers(alloc))?
+        .arg(flag(alloc, "alone", "Scan in one thread"))?
+        .arg(flag(
+            alloc,
+            "follow",
+            "Print each finding as soon as its packet is known, in one thread",
+        ))
+}
+
+/// Adds the options that say what is written, and of which rows.
+fn with_telling<'a>(alloc: Global, command: Command<'a>) -> Result<Command<'a>, AllocError>
+    ensures { IfOk result (λ told. app_of told ≡ with_telling (app_of command.entry)) }
+{
+    command
+        .arg(flag(
+            alloc,
+            "json",
+            "Print the report as JSON lines, an object for each line",
+        ))?
+        .arg(flag(
+            alloc,
+            "annotate",
+            "Print the trace again, with comments that say what its rows are and did",
+        ))?
+        .arg(channel(alloc))?
+        .arg(call(alloc))
+}
+
+/// Adds the options that ask for more, and the name of the trace.
+fn with_asking<'a>(alloc: Global, command: Command<'a>) -> Result<Command<'a>, AllocError>
+    ensures { IfOk result (λ told. app_of told ≡ with_asking (app_of command.entry)) }
+{
+    command
+        .arg(flag(
+            alloc,
+            "progress",
+            "Print each second on standard error how far the reading is",
+        ))?
+        .arg(explain(alloc))?
+        .arg(trace(alloc))
+}
+
+/// The program with its version, without options.
+fn plain<'a>(alloc: Global) -> Command<'a>
+    ensures { app_of result ≡ versioned }
+{
+    Command::new(alloc, "x25scan")
+        .version(VERSION)
+        .about(ABOUT)
+        .after_help(AFTER_HELP)
+}
+
+/// The command as its reader is told it.
+fn command<'a>(alloc: Global) -> Result<Command<'a>, AllocError>
+    ensures { IfOk result (λ told. app_of told ≡ command) }
+{
+    let scanning = with_scanning(alloc, plain(alloc))?;
+    let telling = with_telling(alloc, scanning)?;
+    with_asking(alloc, telling)
+}
+
+/// Whether a flag was given.
+fn is_given(matches: &ArgMatches<'_>, id: &str) -> bool
+    ensures { result ≡ is_given (first_value (found_of matches.now) id.now) }
+{
+    match matches.get_str(id) {
+        Some(text) => text == "true",
+        None => false,
+    }
+}
+
+/// The name of the trace, which `-` is not.
+fn trace_in<'a>(matches: &ArgMatches<'a>) -> Option<&'a str>
+    ensures { option_map (λ name. name.now) result
+        ≡ named_by (first_value (found_of matches.now) (codes "trace")) }
+{
+    match matches.get_str("trace") {
+        Some(name) if name != "-" => Some(name),
+        _ => None,
+    }
+}
+
+/// The logical channel that is named. `clap` has seen to it that the text is a number from 1 to 4095.
+fn channel_in(matches: &ArgMatches<'_>) -> Option<u16>
+    ensures { HasNumber 4095 (first_value (found_of matches.now) (codes "channel")) result }
+{
+    let text = matches.get_str("channel")?;
+    text.parse::<u16>().ok()
+}
+
+/// The call that is named. `clap` has seen to it that the text is a number from 1 to 999999999.
+fn call_in(matches: &ArgMatches<'_>) -> Option<u32>
+    ensures { HasNumber 999999999 (first_value (found_of matches.now) (codes "call")) result }
+{
+    let text = matches.get_str("call")?;
+    text.parse::<u32>().ok()
+}
+
+/// Which rows comments are asked for, if they are: a choice of rows asks for them too.
+fn rows_in(matches: &ArgMatches<'_>) -> Option<Rows>
+    ensures { AskFor (first_value (found_of matches.now) (codes "annotate"))
+        (first_value (found_of matches.now) (codes "channel"))
+        (first_value (found_of matches.now) (codes "call")) result }
+{
+    match (matches.get_str("channel"), matches.get_str("call")) {
+        (None, None) => {
+            if is_given(matches, "annotate") {
+                Some(Rows::All)
+            } else {
+                None
+            }
+        }
+        _ => Some(Rows::Chosen {
+            channel: channel_in(matches),
+            call: call_in(matches),
+        }),
+    }
+}
+
+/// How many workers are asked for: `clap` has seen to it that the text is a number from 1 to 64.
+fn workers_in(matches: &ArgMatches<'_>) -> u8
+    ensures asked { HasWorkers (first_value (found_of matches.now) (codes "workers")) result }
+    ensures some { 1 ≤ result }
+    ensures few { result ≤ 64 }
+{
+    let Some(text) = matches.get_str("workers") else {
+        return WORKERS;
+    };
+    match text.parse::<u8>() {
+        Ok(workers) => workers.clamp(1, 64),
+        Err(_) => WORKERS,
+    }
+}
+
+/// What the matches of the command ask for.
+fn options_in<'a>(matches: &ArgMatches<'a>) -> Options<'a>
+    ensures workers { HasWorkers (first_value (found_of matches.now) (codes "workers")) result.workers }
+    ensures alone { result.alone ≡ is_given
+        (first_value (found_of matches.now) (codes "alone")) }
+    ensures progress { result.progress ≡ is_given
+        (first_value (found_of matches.now) (codes "progress")) }
+    ensures follow { result.follow ≡ is_given
+        (first_value (found_of matches.now) (codes "follow")) }
+    ensures json { result.json ≡ is_given (first_value (found_of matches.now) (codes "json")) }
+    ensures annotate { AskFor (first_value (found_of matches.now) (codes "annotate"))
+        (first_value (found_of matches.now) (codes "channel"))
+        (first_value (found_of matches.now) (codes "call")) result.annotate }
+    ensures explain { option_map (λ word. word.now) result.explain
+        ≡ first_value (found_of matches.now) (codes "explain") }
+    ensures trace { option_map (λ name. name.now) result.trace
+        ≡ named_by (first_value (found_of matches.now) (codes "trace")) }
+{
+    let alone = is_given(matches, "alone");
+    let follow = is_given(matches, "follow");
+    let json = is_given(matches, "json");
+    let progress = is_given(matches, "progress");
+    Options {
+        workers: workers_in(matches),
+        alone,
+        follow,
+        json,
+        annotate: rows_in(matches),
+        progress,
+        explain: matches.get_str("explain"),
+        trace: trace_in(matches),
+    }
+}
+
+/// Reads the program's name and its arguments. An error is of a kind that the words have, or memory ran out.
+pub fn parse<'a>(alloc: Global, words: &'a [&'a str]) -> Result<Options<'a>, Error>
+    ensures kinds { FailsBy (words_fault (map (λ word. word.now) words.entry.now)) result }
+    ensures workers { IfOk result (λ options.
+        HasWorkers (asked_workers (map (λ word. word.now) words.entry.now)) options.workers) }
+    ensures alone { IfOk result (λ options. options.alone
+        ≡ alone (map (λ word. word.now) words.entry.now)) }
+    ensures progress { IfOk result (λ options. options.progress
+        ≡ shows_progress (map (λ word. word.now) words.entry.now)) }
+    ensures follow { IfOk result (λ options. options.follow
+        ≡ follows (map (λ word. word.now) words.entry.now)) }
+    ensures json { IfOk result (λ options. options.json
+        ≡ as_json (map (λ word. word.now) words.entry.now)) }
+    ensures annotate { let asked = map (λ word. word.now) words.entry.now in
+        IfOk result (λ options. MatchOption options.annotate (annotates asked ≡ false)
+        (λ rows. (annotates asked ≡ true) × AreAskedRows asked rows)) }
+    ensures explain { IfOk result (λ options. option_map (λ word. word.now) options.explain
+        ≡ asked_word (map (λ word. word.now) words.entry.now)) }
+    ensures trace { IfOk result (λ options. option_map (λ name. name.now) options.trace
+        ≡ named_trace (map (λ word. word.now) words.entry.now)) }
+{
+    let command = command(alloc)?;
+    match command.try_get_matches_from(words) {
+        Ok(matches) => Ok(options_in(&matches)),
+        Err(error) => Err(error),
+    }
+}

@@ -1,0 +1,13 @@
+-- What the packets begun of a side show.
+use Rattle.std.specs.Prelude.{ℕ, Bool, List, [], Option, Some, None}
+use Rattle.data_transfer.specs.declared.begun.Joined.{Joined}
+
+-- their Q bit, if there are any
+abbrev pub joined_qualified : {A : Type 0} → Option (Joined A) → Option Bool
+joined_qualified None = None
+joined_qualified (Some j) = Some j.qualified
+
+-- their octets
+abbrev pub joined_octets : {A : Type 0} → Option (Joined A) → List ℕ
+joined_octets None = []
+joined_octets (Some j) = j.octets.items

@@ -1,0 +1,11 @@
+pub mod Sequences
+pub mod Joined
+pub mod UserOctets
+pub mod Assembly
+pub mod Assembler
+pub mod FlowResidues
+pub mod Directions
+pub mod FlowFields
+pub mod Packed
+pub mod PackedLaw
+pub mod PackedFields

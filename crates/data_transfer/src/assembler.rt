@@ -1,0 +1,80 @@
+//! The sequences of both sides of a channel.
+
+ghost use Rattle.std.specs.Prelude.{◌≡◌, List, [], IfOk, IfErr, OnErr};
+ghost use Rattle.line_model.specs.channels.Channels.{AcceptedData};
+ghost use Rattle.line_model.specs.declared.fault.Fault.TheVariants.{Memory};
+ghost use Rattle.data_transfer.specs.Assembly.{heard, OnMixed};
+ghost use Rattle.data_transfer.specs.Assembler.{StandsFor, IsPut, sizes};
+
+use crate::begun::Begun;
+use crate::sequence::{DataField, Put};
+use line_model::fault::Fault;
+use line_model::state::Side;
+use std::alloc::{Allocator, Global};
+use std::marker::Model;
+
+/// Joins the data packets of a channel to complete sequences, for each side by its packet size in force (X.25 clause
+/// 4.3.5). A contract speaks of the list of packets that were accepted since nothing was begun, which nothing stores.
+#[derive(Drop)]
+pub struct Assembler<A: Allocator = Global> {
+    of_t: Begun<A>,
+    of_n: Begun<A>,
+    alloc: A,
+}
+
+impl<A: Allocator> Model for Assembler<A> {
+    ghost use Rattle.data_transfer.specs.Sequences.{Assembly};
+
+    ghost Value = { Assembly };
+
+    ghost view = { λ a. record { of_t = a.of_t; of_n = a.of_n } };
+}
+
+impl<A: Allocator + Clone> Assembler<A> {
+    /// Nothing is begun; the packet sizes in force, in octets, for data from T and from N. It takes no memory.
+    pub fn new(alloc: A, size_t: u16, size_n: u16) -> Self
+        ensures sizes { sizes result ≡ record { of_t = size_t; of_n = size_n } }
+        ensures stands { StandsFor result [] }
+    {
+        Assembler {
+            of_t: Begun::new(size_t),
+            of_n: Begun::new(size_n),
+            alloc,
+        }
+    }
+
+    /// Takes a data packet of a side, whose numbers are valid. A packet with another Q bit than those begun, and a
+    /// refusal for memory, change nothing.
+    #[tactic(auto, using(crate::proofs::Sides::put_t, crate::proofs::Sides::put_n))]
+    pub fn put<'a>(&mut self, side: Side, field: &DataField<'a>) -> Result<Put<'a, A>, Fault>
+        ensures put { (hs : List AcceptedData) → StandsFor self.old hs
+            → IfOk result (λ p. IsPut p self.old self.new side (heard side field.now) hs) }
+        ensures sizes { sizes self.new ≡ sizes self.old }
+        ensures mixed { IfOk result (λ p. OnMixed p (self.new ≡ self.old)) }
+        ensures unchanged { OnErr result (self.new ≡ self.old) }
+        ensures memory { IfErr result (λ fault. fault ≡ Memory) }
+    {
+        match side {
+            Side::T => self.of_t.put(&self.alloc, side, field),
+            Side::N => self.of_n.put(&self.alloc, side, field),
+        }
+    }
+
+    /// Forgets what was begun, as leaving d1 does; the sizes stay.
+    pub fn reset(&mut self)
+        ensures sizes { sizes self.new ≡ sizes self.old }
+        ensures stands { StandsFor self.new [] }
+    {
+        self.of_t.reset();
+        self.of_n.reset();
+    }
+
+    /// Forgets what was begun, under other packet sizes, as a call that comes up or ends does.
+    pub fn renew(&mut self, size_t: u16, size_n: u16)
+        ensures sizes { sizes self.new ≡ record { of_t = size_t; of_n = size_n } }
+        ensures stands { StandsFor self.new [] }
+    {
+        self.of_t = Begun::new(size_t);
+        self.of_n = Begun::new(size_n);
+    }
+}

@@ -1,0 +1,154 @@
+//! The sequence that one side has begun.
+
+ghost use Rattle.std.specs.Prelude.{◌≡◌, ◌≤◌, List, [], IfOk, IfErr, OnOk, OnErr, true, Some, vec_len};
+ghost use Rattle.line_model.specs.channels.Channels.{AcceptedData};
+ghost use Rattle.line_model.specs.declared.fault.Fault.TheVariants.{Memory};
+
+use crate::sequence::{DataField, KEPT, Put, Sequence, UserData};
+use line_model::fault::Fault;
+use line_model::state::Side;
+use std::alloc::Allocator;
+use std::marker::Model;
+
+/// The packets of a sequence that is not complete: their Q bit and their first 1,025 octets.
+#[derive(Drop)]
+struct Joined<A: Allocator> {
+    qualified: bool,
+    octets: Vec<u8, A>,
+    ghost few: { vec_len octets ≤ 1025 },
+}
+
+/// The sequence that a side has begun, if any, and the packet size in force for it.
+#[derive(Drop)]
+pub(crate) struct Begun<A: Allocator> {
+    size: u16,
+    joined: Option<Joined<A>>,
+}
+
+impl<A: Allocator> Model for Begun<A> {
+    ghost use Rattle.data_transfer.specs.Sequences.{SequenceView};
+    ghost use Rattle.data_transfer.specs.Joined.{joined_qualified, joined_octets};
+
+    ghost Value = { SequenceView };
+
+    ghost view = { λ b. record { size = b.size; qualified = joined_qualified b.joined; octets = joined_octets b.joined } };
+}
+
+impl<A: Allocator> Joined<A> {
+    ghost use Rattle.data_transfer.specs.Assembly.{with_more};
+
+    /// Keeps octets, as far as there is room.
+    fn keep(&mut self, octets: &[u8]) -> Result<(), Fault>
+        ensures qualified { self.new.qualified ≡ self.old.qualified }
+        ensures kept { OnOk result (self.new.octets.items
+            ≡ with_more self.old.octets.items octets.now) }
+        ensures unchanged { OnErr result (self.new.octets.items ≡ self.old.octets.items) }
+        ensures memory { IfErr result (λ fault. fault ≡ Memory) }
+    {
+        let count = (KEPT - self.octets.len()).min(octets.len());
+        self.octets.extend_from_slice(&octets[..count])?;
+        Ok(())
+    }
+}
+
+impl<A: Allocator + Clone> Begun<A> {
+    ghost use Rattle.data_transfer.specs.Assembly.{Holds, IsPutOn, OnMixed, heard, is_like, with_more};
+    ghost use Rattle.data_transfer.specs.UserOctets.{octets_in};
+
+    /// Nothing is begun.
+    pub(crate) fn new(size: u16) -> Self
+        ensures size { result.size ≡ size }
+        ensures holds { Holds result [] }
+    {
+        Begun { size, joined: None }
+    }
+
+    /// Forgets what was begun.
+    pub(crate) fn reset(&mut self)
+        ensures size { self.new.size ≡ self.old.size }
+        ensures holds { Holds self.new [] }
+    {
+        self.joined = None;
+    }
+
+    /// Takes the next packet of the side.
+    #[tactic(auto, using(crate::proofs::Packets::alike_is, crate::proofs::Packets::holds_more))]
+    pub(crate) fn put<'a>(
+        &mut self,
+        alloc: &A,
+        side: Side,
+        field: &DataField<'a>,
+    ) -> Result<Put<'a, A>, Fault>
+        ensures put { (gs : List AcceptedData) → Holds self.old gs
+            → IfOk result (λ p. IsPutOn p self.old self.new side (heard side field.now) gs) }
+        ensures size { self.new.size ≡ self.old.size }
+        ensures mixed { IfOk result (λ p. OnMixed p (self.new ≡ self.old)) }
+        ensures unchanged { OnErr result (self.new ≡ self.old) }
+        ensures memory { IfErr result (λ fault. fault ≡ Memory) }
+    {
+        if !self.is_alike(field.qualified) {
+            return Ok(Put::Mixed);
+        }
+        if field.is_category_a(self.size) {
+            self.join(alloc, field)?;
+            return Ok(Put::Going);
+        }
+        let octets = self.finish(field.octets)?;
+        Ok(Put::Complete(Sequence {
+            side,
+            qualified: field.qualified,
+            octets,
+        }))
+    }
+
+    /// Whether a Q bit is that of the packets begun.
+    fn is_alike(&self, qualified: bool) -> bool
+        ensures { result ≡ is_like self.now.qualified qualified }
+    {
+        match &self.joined {
+            Some(joined) => joined.qualified == qualified,
+            None => true,
+        }
+    }
+
+    /// Keeps a packet with those begun.
+    fn join(&mut self, alloc: &A, field: &DataField<'_>) -> Result<(), Fault>
+        requires { is_like self.old.qualified field.now.qualified ≡ true }
+        ensures size { self.new.size ≡ self.old.size }
+        ensures qualified { OnOk result (self.new.qualified ≡ Some field.now.qualified) }
+        ensures kept { OnOk result (self.new.octets
+            ≡ with_more self.old.octets field.now.octets.now) }
+        ensures unchanged { OnErr result (self.new ≡ self.old) }
+        ensures memory { IfErr result (λ fault. fault ≡ Memory) }
+    {
+        if let Some(joined) = &mut self.joined {
+            return joined.keep(field.octets);
+        }
+        let mut joined = Joined {
+            qualified: field.qualified,
+            octets: Vec::new(alloc.clone()?),
+        };
+        joined.keep(field.octets)?;
+        self.joined = Some(joined);
+        Ok(())
+    }
+
+    /// Moves out what was begun, with the octets of the last packet; nothing is begun then.
+    fn finish<'a>(&mut self, octets: &'a [u8]) -> Result<UserData<'a, A>, Fault>
+        ensures size { self.new.size ≡ self.old.size }
+        ensures holds { OnOk result (Holds self.new []) }
+        ensures octets { IfOk result (λ u. octets_in u ≡ with_more self.old.octets octets.now) }
+        ensures unchanged { OnErr result (self.new ≡ self.old) }
+        ensures memory { IfErr result (λ fault. fault ≡ Memory) }
+    {
+        let Some(mut joined) = self.joined.take() else {
+            return Ok(UserData::OfOne(&octets[..octets.len().min(KEPT)]));
+        };
+        if let Err(fault) = joined.keep(octets) {
+            self.joined = Some(joined);
+            return Err(fault);
+        }
+        let Joined { octets, .. } = joined;
+        Ok(UserData::OfSeveral(octets))
+    }
+}

@@ -1,0 +1,10 @@
+//! One logical channel in data transfer: complete packet sequences; sequence numbers, windows and interrupts.
+#![tactic(auto)]
+
+pub mod assembler;
+mod begun;
+mod direction;
+pub mod flow;
+pub mod packed;
+pub mod sequence;
+mod word;

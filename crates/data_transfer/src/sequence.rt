@@ -1,0 +1,80 @@
+//! Data packets, and the sequences that they complete.
+
+ghost use Rattle.std.specs.Prelude.{◌≡◌};
+
+use line_model::state::Side;
+use std::alloc::{Allocator, Global};
+
+/// How many octets of a sequence are kept: one more than a PAD message may have.
+pub const KEPT: usize = 1025;
+
+/// A data packet without its sequence numbers: the Q, M and D bits and the user data (X.25 clause 5.3.1).
+#[derive(Clone, Copy)]
+pub struct DataField<'a> {
+    /// The Q bit.
+    pub qualified: bool,
+    /// The M bit.
+    pub more: bool,
+    /// The D bit.
+    pub delivery: bool,
+    /// The user data.
+    pub octets: &'a [u8],
+}
+
+impl DataField<'_> {
+    ghost use Rattle.line_model.specs.channels.Sequences.{is_category_a};
+    ghost use Rattle.line_model.specs.declared.state.Side.{Side};
+    ghost use Rattle.data_transfer.specs.Assembly.{heard};
+
+    /// Whether more of the sequence follows: M 1, D 0 and the full size in force, category A (X.25 clause 4.3.4).
+    pub(crate) fn is_category_a(&self, size: u16) -> bool
+        ensures { (x : Side) → result ≡ is_category_a size (heard x self.now) }
+    {
+        self.more && !self.delivery && self.octets.len() == usize::from(size)
+    }
+}
+
+/// The octets of a sequence, its first 1,025.
+#[derive(Drop)]
+pub enum UserData<'a, A: Allocator = Global> {
+    /// Those of the only packet.
+    OfOne(&'a [u8]),
+    /// Those of several packets, joined.
+    OfSeveral(Vec<u8, A>),
+}
+
+impl<A: Allocator> UserData<'_, A> {
+    ghost use Rattle.data_transfer.specs.UserOctets.{octets_in};
+
+    /// The octets.
+    pub fn as_slice(&self) -> &[u8]
+        ensures { result.now ≡ octets_in self.now }
+    {
+        match self {
+            UserData::OfOne(octets) => octets,
+            UserData::OfSeveral(octets) => octets,
+        }
+    }
+}
+
+/// A complete sequence of a side (X.25 clause 4.3.5).
+#[derive(Drop)]
+pub struct Sequence<'a, A: Allocator = Global> {
+    /// The side that sent it.
+    pub side: Side,
+    /// The Q bit of all its packets.
+    pub qualified: bool,
+    /// Its user data, the first 1,025 octets.
+    pub octets: UserData<'a, A>,
+}
+
+/// What a data packet does to the sequence of its side.
+#[derive(Drop)]
+pub enum Put<'a, A: Allocator = Global> {
+    /// More of the sequence follows.
+    Going,
+    /// The packet completes the sequence.
+    Complete(Sequence<'a, A>),
+    /// The packet has another Q bit than those begun (`INCONSISTENT_Q_BIT_SETTING`).
+    Mixed,
+}

@@ -1,0 +1,67 @@
+//! What is wrong with a faulty line of a trace, in words, by the line itself where that tells more than its kind; and the
+//! logical channels of a header.
+
+pub mod channels;
+mod files;
+mod header;
+mod line;
+mod quoted;
+mod ranges;
+mod rows;
+mod told;
+
+use crate::advice::files::file_advice;
+use crate::advice::header::headers_advice;
+use crate::advice::rows::rows_advice;
+use crate::advice::told::tell;
+use crate::explanation::{Explanation, Topic};
+use crate::table::{all, explain};
+use line_model::fault::Kind;
+use std::alloc::{AllocError, Global};
+
+/// What is told of a text that is too large.
+const TOO_LARGE: &str =
+    "The text has more than 2^30 bytes: cut it after a restart confirmation, and begin each part with the header (/usr/share/doc/x25scan/GUIDE.md has the command).";
+
+/// What the lines themselves tell, if they do.
+fn lines_advice(
+    alloc: Global,
+    kind: Kind,
+    text: &[u8],
+    whole: bool,
+) -> Result<Option<String>, AllocError> {
+    match kind {
+        Kind::HeaderMissing if whole && text.is_empty() => tell(alloc, "The text is empty."),
+        Kind::HeaderForm | Kind::HeaderRange => headers_advice(alloc, text, whole),
+        Kind::LineForm | Kind::Number | Kind::Side | Kind::Hex => {
+            rows_advice(alloc, kind, text, whole)
+        }
+        Kind::TextLarge => tell(alloc, TOO_LARGE),
+        _ => Ok(None),
+    }
+}
+
+/// The meaning of a kind of faulty line, as the table of explanations has it.
+fn meaning(alloc: Global, kind: Kind) -> Result<String, AllocError> {
+    let word = format!(in alloc; "{}", kind.number())?;
+    let found = explain(alloc, all().as_slice(), word.as_str())?;
+    match found.iter().find(|row| row.topic == Topic::Kind) {
+        Some(Explanation { meaning, .. }) => String::from_str(alloc, meaning),
+        None => Ok(word),
+    }
+}
+
+/// What is wrong with a trace that was refused by a rule, in a sentence: by the lines themselves where they tell more,
+/// else the meaning of the rule. The lines are the last that were read, with the faulty one and none after it that is
+/// judged; they begin with the text where `whole` is true, else in the midst of a line.
+pub fn advice(alloc: Global, kind: Kind, text: &[u8], whole: bool) -> Result<String, AllocError> {
+    if whole {
+        if let Some(told) = file_advice(text) {
+            return String::from_str(alloc, told);
+        }
+    }
+    match lines_advice(alloc, kind, text, whole)? {
+        Some(told) => Ok(told),
+        None => meaning(alloc, kind),
+    }
+}

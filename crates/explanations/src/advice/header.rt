@@ -1,0 +1,222 @@
+//! What is wrong with the form of a header.
+
+use crate::advice::line::{number_in, space_advice};
+use crate::advice::quoted::quoted;
+use crate::advice::ranges::{Numbers, range_advice};
+use crate::advice::told::{tell, tell_word, told};
+use std::alloc::{AllocError, Global};
+
+/// A header of the first form, as an example.
+const HEADER: &str = "X25 1 MOD 8 WIN 2 SIZE 128 PVC 0 SVC 4";
+
+/// The names of the numbers in a header of the first form.
+pub const FIRST_FORM: [&str; 5] = ["MOD", "WIN", "SIZE", "PVC", "SVC"];
+
+/// The names of the numbers in a header of the second form.
+pub const SECOND_FORM: [&str; 7] = ["MOD", "WIN", "SIZE", "PVC", "IN", "TWO", "OUT"];
+
+/// The words of a line that are left.
+#[derive(Drop)]
+struct WordsLeft<'a> {
+    line: Option<&'a [u8]>,
+}
+
+impl<'a> WordsLeft<'a> {
+    /// The next word; none at the end.
+    fn next(&mut self) -> Option<&'a [u8]> {
+        let line = self.line?;
+        let mut parts = line.splitn(2, |byte| *byte == b' ');
+        let word = parts.next();
+        self.line = parts.next();
+        word
+    }
+}
+
+/// What is wrong with a word where a name belongs, if it is another.
+fn name_advice(
+    alloc: Global,
+    word: Option<&[u8]>,
+    name: &str,
+) -> Result<Option<String>, AllocError> {
+    match word {
+        None => told(format!(in alloc; "The header ends where {name} belongs.")),
+        Some(word) if word == name.as_bytes() => Ok(None),
+        Some(word) => other_name_advice(alloc, word, name),
+    }
+}
+
+/// What is wrong with another word where a name belongs.
+fn other_name_advice(alloc: Global, word: &[u8], name: &str) -> Result<Option<String>, AllocError> {
+    let is_same = word.eq_ignore_ascii_case(name.as_bytes());
+    let word = quoted(alloc, word)?;
+    told(if is_same {
+        format!(in alloc; "The header's words are in capitals: {word} is written {name}.")
+    } else {
+        format!(in alloc; "In the header stands {word} where {name} belongs.")
+    })
+}
+
+/// The number after a name, or what is wrong there.
+fn number_after(
+    alloc: Global,
+    word: Option<&[u8]>,
+    name: &str,
+) -> Result<Result<u32, String>, AllocError> {
+    let Some(word) = word else {
+        return refused(format!(in alloc; "The header ends where the number of {name} belongs."));
+    };
+    match number_in(word) {
+        Some(number) => Ok(Ok(number)),
+        None => refused(no_number_advice(alloc, word, name)),
+    }
+}
+
+/// No number, and what is told in its place.
+fn refused(told: Result<String, AllocError>) -> Result<Result<u32, String>, AllocError> {
+    match told {
+        Ok(told) => Ok(Err(told)),
+        Err(refused) => Err(refused),
+    }
+}
+
+/// What is wrong with a word after a name that is no number.
+fn no_number_advice(alloc: Global, word: &[u8], name: &str) -> Result<String, AllocError> {
+    let word = quoted(alloc, word)?;
+    format!(in alloc;
+        "{word} stands after {name}, where a number of 1 to 9 digits without a leading zero belongs."
+    )
+}
+
+/// Takes a name and its number off the words, or tells what is wrong there.
+fn next_number(
+    alloc: Global,
+    words: &mut WordsLeft<'_>,
+    name: &str,
+) -> Result<Result<u32, String>, AllocError> {
+    match name_advice(alloc, words.next(), name)? {
+        Some(told) => Ok(Err(told)),
+        None => number_after(alloc, words.next(), name),
+    }
+}
+
+/// Takes the names and their numbers off the words, or tells what is wrong with the first that is wrong.
+fn next_numbers(
+    alloc: Global,
+    words: &mut WordsLeft<'_>,
+    names: &[&str],
+) -> Result<Result<Numbers, String>, AllocError> {
+    let mut numbers = Numbers::none();
+    for name in names {
+        match next_number(alloc, words, name) {
+            Ok(Ok(number)) => numbers.put(name, number),
+            Ok(Err(told)) => return Ok(Err(told)),
+            Err(refused) => return Err(refused),
+        }
+    }
+    Ok(Ok(numbers))
+}
+
+/// What is wrong after the last number, if something is.
+fn end_advice(
+    alloc: Global,
+    words: &mut WordsLeft<'_>,
+    may_join: bool,
+) -> Result<Option<String>, AllocError> {
+    match words.next() {
+        None => Ok(None),
+        Some(word) if may_join => join_advice(alloc, word, words),
+        Some(word) => tell_word(alloc, "", word, " stands after the header's last number."),
+    }
+}
+
+/// What is wrong with a word where JOIN may stand and with those after it, if something is.
+fn join_advice(
+    alloc: Global,
+    word: &[u8],
+    words: &mut WordsLeft<'_>,
+) -> Result<Option<String>, AllocError> {
+    match name_advice(alloc, Some(word), "JOIN") {
+        Ok(None) => end_advice_after(alloc, words),
+        told => told,
+    }
+}
+
+/// What is wrong after JOIN, if something is.
+fn end_advice_after(
+    alloc: Global,
+    words: &mut WordsLeft<'_>,
+) -> Result<Option<String>, AllocError> {
+    match words.next() {
+        None => Ok(None),
+        Some(word) => tell_word(alloc, "", word, " stands after the header's JOIN."),
+    }
+}
+
+/// What is wrong with a header of one of the forms, after its number, if something is.
+fn numbers_advice(
+    alloc: Global,
+    words: &mut WordsLeft<'_>,
+    names: &[&str],
+    may_join: bool,
+) -> Result<Option<String>, AllocError> {
+    match next_numbers(alloc, words, names)? {
+        Err(told) => Ok(Some(told)),
+        Ok(numbers) => match end_advice(alloc, words, may_join) {
+            Ok(None) => range_advice(alloc, &numbers, may_join),
+            told => told,
+        },
+    }
+}
+
+/// What is wrong with the words of a header, if something is.
+fn words_advice(alloc: Global, line: &[u8]) -> Result<Option<String>, AllocError> {
+    let mut words = WordsLeft { line: Some(line) };
+    match name_advice(alloc, words.next(), "X25") {
+        Ok(None) => form_advice(alloc, &mut words),
+        told => told,
+    }
+}
+
+/// What is wrong with the words of a header after its name, if something is.
+fn form_advice(alloc: Global, words: &mut WordsLeft<'_>) -> Result<Option<String>, AllocError> {
+    match words.next() {
+        Some([b'1']) => numbers_advice(alloc, words, FIRST_FORM.as_slice(), false),
+        Some([b'2']) => numbers_advice(alloc, words, SECOND_FORM.as_slice(), true),
+        _ => tell(alloc, "After X25 comes the form of the header: 1 or 2."),
+    }
+}
+
+/// What is wrong with a header, if something is.
+fn header_advice(alloc: Global, line: &[u8]) -> Result<Option<String>, AllocError> {
+    match space_advice(alloc, line) {
+        Ok(None) => first_line_advice(alloc, line),
+        told => told,
+    }
+}
+
+/// What is wrong with a header whose words are parted, if something is.
+fn first_line_advice(alloc: Global, line: &[u8]) -> Result<Option<String>, AllocError> {
+    match line.first() {
+        Some(byte) if byte.is_ascii_digit() => told(format!(in alloc;
+            "A row stands before the header, which comes first, as {HEADER}."
+        )),
+        _ => words_advice(alloc, line),
+    }
+}
+
+/// What is wrong with the header among some lines, its first that is no comment. The lines begin with the text where
+/// `whole` is true, else in the midst of a line.
+pub fn headers_advice(
+    alloc: Global,
+    text: &[u8],
+    whole: bool,
+) -> Result<Option<String>, AllocError> {
+    let mut line_began = whole;
+    for line in text.split(|byte| *byte == b'\n') {
+        if line_began && !line.starts_with(b"#") {
+            return header_advice(alloc, line);
+        }
+        line_began = true;
+    }
+    Ok(None)
+}

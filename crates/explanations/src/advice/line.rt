@@ -1,0 +1,86 @@
+//! A line, its words and the spaces between them.
+
+use crate::advice::told::{tell, told};
+use memchr::{memchr, memmem};
+use std::alloc::{AllocError, Global};
+
+/// The column of a place in a line.
+fn column(place: usize) -> usize {
+    place.saturating_add(1)
+}
+
+/// Whether a line ends in a carriage return.
+pub fn ends_in_return(line: &[u8]) -> bool {
+    line.ends_with(b"\r")
+}
+
+/// What is told of a line that ends in a carriage return.
+pub const RETURN: &str =
+    "The line ends in a carriage return, and a line feed alone ends a line: tr -d '\\r' < FILE | x25scan reads the text.";
+
+/// What is told of an empty line.
+const EMPTY: &str =
+    "The line is empty: sed '/^$/d' FILE | x25scan reads the text without empty lines.";
+
+/// What is told of an empty line that no other follows.
+const LAST_EMPTY: &str =
+    "The last line that was read is empty: sed '/^$/d' FILE | x25scan reads the text without empty lines.";
+
+/// What is told of an empty line; these bytes were read after it.
+pub fn empty_advice(alloc: Global, after: &[u8]) -> Result<Option<String>, AllocError> {
+    if after.iter().all(|byte| *byte == b'\n') {
+        tell(alloc, LAST_EMPTY)
+    } else {
+        tell(alloc, EMPTY)
+    }
+}
+
+/// What is wrong with the bytes between the words of a line, if it is that.
+pub fn space_advice(alloc: Global, line: &[u8]) -> Result<Option<String>, AllocError> {
+    if line.is_empty() {
+        return tell(alloc, EMPTY);
+    }
+    if ends_in_return(line) {
+        return tell(alloc, RETURN);
+    }
+    if let Some(place) = memchr(b'\t', line) {
+        let column = column(place);
+        return told(format!(in alloc;
+            "There is a tab at column {column}: single spaces part the words."
+        ));
+    }
+    parting_advice(alloc, line)
+}
+
+/// What is wrong with the spaces of a line, if it is that.
+fn parting_advice(alloc: Global, line: &[u8]) -> Result<Option<String>, AllocError> {
+    if line.starts_with(b" ") {
+        return tell(alloc, "The line begins with a space.");
+    }
+    if let Some(place) = memmem::find(line, b"  ") {
+        let column = column(place);
+        return told(format!(in alloc;
+            "There are two spaces at column {column}: single spaces part the words."
+        ));
+    }
+    if line.ends_with(b" ") {
+        return tell(alloc, "The line ends in a space.");
+    }
+    Ok(None)
+}
+
+/// The number that a word is: 1 to 9 digits without a leading zero, but for 0 itself.
+pub fn number_in(word: &[u8]) -> Option<u32> {
+    if word.is_empty() || word.len() > 9 || (word.len() > 1 && word.starts_with(b"0")) {
+        return None;
+    }
+    let mut value: u32 = 0;
+    for digit in word {
+        if !digit.is_ascii_digit() {
+            return None;
+        }
+        let digit = u32::from(digit.wrapping_sub(b'0'));
+        value = value.saturating_mul(10).saturating_add(digit);
+    }
+    Some(value)
+}

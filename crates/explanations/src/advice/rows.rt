@@ -1,0 +1,272 @@
+//! What is wrong with a row.
+
+use crate::advice::line::{RETURN, empty_advice, ends_in_return, number_in, space_advice};
+use crate::advice::quoted::quoted;
+use crate::advice::told::{tell, tell_word, told};
+use line_model::fault::Kind;
+use std::alloc::{AllocError, Global};
+
+/// The octets that a row may have.
+const OCTET_LIMIT: usize = 4200;
+
+/// The three words of a row.
+#[derive(Clone, Copy)]
+struct RowWords<'a> {
+    number: &'a [u8],
+    side: &'a [u8],
+    octets: &'a [u8],
+}
+
+fn row_words(line: &[u8]) -> Option<RowWords<'_>> {
+    let mut words = line.split(|byte| *byte == b' ');
+    let number = words.next()?;
+    let side = words.next()?;
+    let octets = words.next()?;
+    match words.next() {
+        None if !number.is_empty() && !side.is_empty() && !octets.is_empty() => Some(RowWords {
+            number,
+            side,
+            octets,
+        }),
+        _ => None,
+    }
+}
+
+/// What is told of a header among the rows.
+const SECOND_HEADER: &str =
+    "A second header stands here, as in joined traces. Where the row numbers go on, awk '!/^X25 / || !n++' FILE.. | x25scan reads them as one trace.";
+
+/// Whether a line is one of a header's, by its beginning.
+fn is_like_header(line: &[u8]) -> bool {
+    line.starts_with(b"X25 ")
+}
+
+/// What is wrong with the form of a row; these bytes were read after it.
+fn form_advice(alloc: Global, line: &[u8], after: &[u8]) -> Result<Option<String>, AllocError> {
+    if line.is_empty() {
+        return empty_advice(alloc, after);
+    }
+    if is_like_header(line) {
+        return tell(alloc, SECOND_HEADER);
+    }
+    match space_advice(alloc, line) {
+        Ok(None) => word_count_advice(alloc, line),
+        told => told,
+    }
+}
+
+/// What is told of a row by how many words it has.
+fn word_count_advice(alloc: Global, line: &[u8]) -> Result<Option<String>, AllocError> {
+    let count = line.split(|byte| *byte == b' ').count();
+    let words = if count == 1 { "word" } else { "words" };
+    told(format!(in alloc;
+        "The line has {count} {words}, and a row has three: its number, its side and its octets."
+    ))
+}
+
+/// What is wrong with a number after that of the row before, if it is wrong.
+fn number_advice(
+    alloc: Global,
+    word: &[u8],
+    before: Option<u32>,
+) -> Result<Option<String>, AllocError> {
+    match number_in(word) {
+        None => tell_word(
+            alloc,
+            "The row's number is ",
+            word,
+            ": 1 to 999999999 without a leading zero belongs there.",
+        ),
+        Some(0) => tell(alloc, "The row's number is 0: rows are numbered from 1."),
+        Some(number) => rise_advice(alloc, number, before),
+    }
+}
+
+/// What is wrong with a number that does not rise above that of the row before.
+fn rise_advice(
+    alloc: Global,
+    number: u32,
+    before: Option<u32>,
+) -> Result<Option<String>, AllocError> {
+    match before {
+        Some(before) if number <= before => told(format!(in alloc;
+            "The row's number is {number}, and that of the row before is {before}: numbers rise."
+        )),
+        _ => Ok(None),
+    }
+}
+
+fn side_advice(alloc: Global, word: &[u8]) -> Result<Option<String>, AllocError> {
+    match word {
+        [b'T'] | [b'N'] => Ok(None),
+        [b't'] => tell(alloc, "The side t is written T."),
+        [b'n'] => tell(alloc, "The side n is written N."),
+        _ => tell_word(
+            alloc,
+            "The side is ",
+            word,
+            ": T for the DTE or N for the DCE belongs there.",
+        ),
+    }
+}
+
+/// What is wrong with octets that begin after so many bytes of their line, if they are wrong.
+fn octets_advice(alloc: Global, word: &[u8], front: usize) -> Result<Option<String>, AllocError> {
+    if word == b"-".as_slice() {
+        return Ok(None);
+    }
+    if ends_in_return(word) {
+        return tell(alloc, RETURN);
+    }
+    match word.iter().position(|byte| !byte.is_ascii_hexdigit()) {
+        Some(place) => digit_advice(alloc, word, place, front),
+        None => count_advice(alloc, word.len(), front),
+    }
+}
+
+/// What is told of a place among the octets that holds no hex digit.
+fn digit_advice(
+    alloc: Global,
+    word: &[u8],
+    place: usize,
+    front: usize,
+) -> Result<Option<String>, AllocError> {
+    let column = front.saturating_add(place).saturating_add(1);
+    let byte = word.get(place..place.saturating_add(1)).unwrap_or(b"");
+    let byte = quoted(alloc, byte)?;
+    told(format!(in alloc; "At column {column} stands {byte}, which is no hex digit."))
+}
+
+/// What is wrong with the number of hex digits, if it is wrong.
+fn count_advice(alloc: Global, count: usize, front: usize) -> Result<Option<String>, AllocError> {
+    let octets = count / 2;
+    if octets > OCTET_LIMIT {
+        return told(format!(in alloc;
+            "The row has {octets} octets, and {OCTET_LIMIT} are the most."
+        ));
+    }
+    if count % 2 == 1 {
+        let column = front.saturating_add(count);
+        return told(format!(in alloc;
+            "The octets have {count} hex digits, an odd number: the last one, at column {column}, stands alone."
+        ));
+    }
+    Ok(None)
+}
+
+/// What is wrong with the words of a row by a rule, if it breaks that rule.
+fn words_advice(
+    alloc: Global,
+    kind: Kind,
+    row: RowWords<'_>,
+    before: Option<u32>,
+) -> Result<Option<String>, AllocError> {
+    match kind {
+        Kind::Number => number_advice(alloc, row.number, before),
+        Kind::Side => side_advice(alloc, row.side),
+        Kind::Hex => {
+            let front = row.number.len().saturating_add(row.side.len());
+            octets_advice(alloc, row.octets, front.saturating_add(2))
+        }
+        _ => Ok(None),
+    }
+}
+
+/// A row, and what was read on both sides of it.
+#[derive(Clone, Copy)]
+struct Place<'a> {
+    line: &'a [u8],
+    /// The number of the row before, where it is known.
+    before: Option<u32>,
+    /// The bytes after it.
+    after: &'a [u8],
+}
+
+/// What is wrong with a row by a rule, if it breaks that rule.
+fn row_advice(alloc: Global, kind: Kind, place: Place<'_>) -> Result<Option<String>, AllocError> {
+    match row_words(place.line) {
+        Some(row) => words_advice(alloc, kind, row, place.before),
+        None if kind == Kind::LineForm => form_advice(alloc, place.line, place.after),
+        None => Ok(None),
+    }
+}
+
+/// The number of a row.
+fn row_number(line: &[u8]) -> Option<u32> {
+    match row_words(line) {
+        Some(row) => number_in(row.number),
+        None => None,
+    }
+}
+
+/// What was seen of some lines, up to one of them. Lines that don't begin with the text may have its header among them,
+/// before all rows.
+#[derive(Drop)]
+struct LinesSeen {
+    header_came: bool,
+    /// The next line is whole.
+    line_began: bool,
+    row_came: bool,
+    /// A line like a header came before all rows.
+    may_have_header: bool,
+}
+
+impl LinesSeen {
+    /// No line was seen. They begin with the text where `whole` is true, else in the midst of a line.
+    fn none(whole: bool) -> Self {
+        LinesSeen {
+            header_came: !whole,
+            line_began: whole,
+            row_came: whole,
+            may_have_header: false,
+        }
+    }
+
+    /// Whether the next line is a row.
+    fn see(&mut self, line: &[u8]) -> bool {
+        let may_be_header = self.line_began && !self.row_came && is_like_header(line);
+        let is_other = line.starts_with(b"#") || may_be_header;
+        let is_row = self.line_began && self.header_came && !is_other;
+        self.header_came = self.header_came || !is_other;
+        self.line_began = true;
+        self.row_came = self.row_came || is_row;
+        self.may_have_header = self.may_have_header || may_be_header;
+        is_row
+    }
+}
+
+/// What is wrong with the first row of some lines that breaks a rule, if one does. The lines begin with the text where
+/// `whole` is true, else in the midst of a line. A line like a header is a faulty row where a row came before it, or where
+/// no other line breaks the rule.
+pub fn rows_advice(
+    alloc: Global,
+    kind: Kind,
+    text: &[u8],
+    whole: bool,
+) -> Result<Option<String>, AllocError> {
+    let mut seen = LinesSeen::none(whole);
+    let mut before = if whole { Some(0) } else { None };
+    let mut end: usize = 0;
+    // No line begins after the line feed at the end.
+    let lines = text.strip_suffix(b"\n").unwrap_or(text);
+    for line in lines.split(|byte| *byte == b'\n') {
+        end = end.saturating_add(line.len());
+        if seen.see(line) {
+            let after = text.get(end..).unwrap_or(b"");
+            let place = Place {
+                line,
+                before,
+                after,
+            };
+            match row_advice(alloc, kind, place) {
+                Ok(None) => before = row_number(line),
+                told => return told,
+            }
+        }
+        end = end.saturating_add(1);
+    }
+    if seen.may_have_header && kind == Kind::LineForm {
+        return tell(alloc, SECOND_HEADER);
+    }
+    Ok(None)
+}

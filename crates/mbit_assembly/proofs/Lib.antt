@@ -1,3 +1,0 @@
-pub mod Packets
-pub mod SequenceLemmas
-pub mod Sides

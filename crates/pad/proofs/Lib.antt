@@ -1,0 +1,4 @@
+pub mod PairLemmas
+pub mod MessageLemmas
+pub mod Walked
+pub mod Applied

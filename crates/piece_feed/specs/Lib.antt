@@ -1,2 +1,0 @@
-pub mod TextCuts
-pub mod Readings

@@ -1,5 +1,0 @@
-use Rattle.piece_queue.proofs.Noted.{noted_witness}
-use Rattle.piece_queue.proofs.work.Work.witness.Goals as goal
-
-pub another-pass-requires-clause-rule : goal.another-pass-requires-clause-rule
-another-pass-requires-clause-rule g c = noted_witness g.P.Plan.pieces _ _

@@ -1,5 +1,0 @@
-use Rattle.std.specs.Prelude.{Some}
-use Rattle.report_tests.proofs.json.converted.Given as goal
-
-abbrev pub ghosts-convert : goal.ghosts-convert
-ghosts-convert g a = record { name = a.sink.ghost_name; before = (Some a.sink.now.taken.items, a.sink.now.failures) }

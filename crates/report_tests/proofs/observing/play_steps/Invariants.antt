@@ -1,5 +1,0 @@
-use Rattle.live_report.specs.Lives.{IsFed}
-use Rattle.report_tests.proofs.observing.play_steps.Given as goal
-
-abbrev pub invariant-loop-step : goal.invariant-loop-step
-invariant-loop-step g l = IsFed g.C.Channel.interface_of g.C.Channel.number_of g.C.Channel.stands_for l.trace

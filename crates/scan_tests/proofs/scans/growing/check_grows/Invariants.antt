@@ -1,5 +1,0 @@
-use Rattle.live_report.specs.Lives.{IsFed}
-use Rattle.scan_tests.proofs.scans.growing.check_grows.Given as goal
-
-abbrev pub invariant-loop-index : goal.invariant-loop-index
-invariant-loop-index g l = IsFed g.C.Channel.interface_of g.C.Channel.number_of g.C.Channel.stands_for l.trace

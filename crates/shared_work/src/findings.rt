@@ -1,0 +1,16 @@
+//! The reports of all pieces under one lock, and what each worker has posted.
+
+mod book;
+mod ledgers;
+mod posts;
+mod room;
+mod share;
+mod spares;
+mod sums;
+mod tally;
+mod witness;
+
+pub use book::{Book, LockedPosts};
+pub use ledgers::{Blanks, Ledgers};
+pub use share::Share;
+pub use witness::{AnyReport, Witness};

@@ -1,0 +1,140 @@
+//! The lock round the posts, and the shares.
+ghost use Rattle.std.specs.Prelude.{◌≡◌, ℕ, ◌+◌, ◌^◌, ◌<◌, ◌≤◌, ◌⊎◌, OnOk, IfErr, vec_len, List, All};
+ghost use Rattle.line_model.specs.basics.Records as records;
+ghost use Rattle.line_model.specs.work.Book.{IsValue, totals_of, AreOf, IsWithin, sum_of};
+ghost use Rattle.shared_work.specs.findings.Sums.{with_report};
+
+use crate::findings::ledgers::{Blanks, Ledgers};
+use crate::findings::posts::Posts;
+use crate::findings::share::Share;
+use crate::findings::spares::Spares;
+use crate::findings::sums::Sums;
+use crate::findings::witness::{AnyReport, Witness};
+use line_model::fault::Fault;
+use line_model::piece::{PieceReport, Plan};
+use line_model::totals::Totals;
+use std::alloc::{Allocator, Global};
+use std::collections::BTreeSet;
+use std::marker::{Model, PhantomData};
+use std::sync::{Mutex, Wait};
+
+/// How many shares a book can give, and how many parts each of its ledgers has.
+pub const MOST_SHARES: u64 = 4096;
+
+/// The lock round the posts, which is all of a book that threads share.
+#[derive(Drop)]
+pub struct LockedPosts<P: Plan, L: Ledgers, A: Allocator = Global, W: Witness = AnyReport> {
+    locked: Mutex<Posts<P, L, A, W>>,
+}
+
+/// The posts under their lock, and the parts that were not given. Contracts see how many shares were given.
+#[derive(Drop)]
+pub struct Book<P: Plan, L: Ledgers, A: Allocator = Global, W: Witness = AnyReport> {
+    locked_posts: LockedPosts<P, L, A, W>,
+    spares: Spares<L>,
+    given: u64,
+}
+
+impl<P: Plan, L: Ledgers, A: Allocator, W: Witness> Model for Book<P, L, A, W> {
+    ghost Value = { ℕ };
+
+    ghost view = { λ s. s.given };
+
+    ghost invariant = { λ s. s.spares + s.given ≡ 4096 };
+}
+
+impl<P: Plan, L: Ledgers, A: Allocator, W: Witness> Book<P, L, A, W> {
+    /// A book without posts, over four ledgers of 4,096 parts, one part a share, with a witness who will vouch for them.
+    /// It takes no memory.
+    pub fn new(alloc: A, blanks: Blanks, witness: W) -> Book<P, L, A, W>
+    where
+        A: Copy,
+        requires names { blanks ≡ L.names }
+        ensures fresh { result ≡ 0 }
+    {
+        let (sums, spares) = Sums::<L>::open(blanks);
+        let empty = Posts {
+            witness,
+            reports: Vec::new(alloc),
+            ids: BTreeSet::new(alloc),
+            sums,
+            plan: PhantomData,
+        };
+        Book {
+            locked_posts: LockedPosts {
+                locked: Mutex::new(empty),
+            },
+            spares,
+            given: 0,
+        }
+    }
+
+    /// A share of nothing.
+    pub fn share(&mut self) -> Share<L>
+        requires room { self.old < 4096 }
+        ensures given { self.new ≡ self.old + 1 }
+        ensures nothing { result ≡ record { posts = 0; findings = 0; octets = 0; segments = 0 } }
+    {
+        self.given += 1;
+        self.spares.share()
+    }
+
+    /// What threads share.
+    pub fn locked_posts(&self) -> &LockedPosts<P, L, A, W> {
+        &self.locked_posts
+    }
+
+    /// The totals and the reports, once every share is back, and who vouches for the reports. Each total is the sum over
+    /// the shares.
+    pub fn gather(self, shares: Vec<Share<L>, A>) -> (Totals, Vec<PieceReport<A>, A>, W)
+        requires all { vec_len shares ≡ self }
+        ensures shares { result.0 ≡ sum_of shares.items }
+        ensures reports { AreOf P.pieces result.1.items }
+        ensures vouched { All (W.vouches result.2) result.1.items }
+        ensures totals { result.0 ≡ totals_of result.1.items }
+    {
+        let Book {
+            locked_posts,
+            spares,
+            given: _,
+        } = self;
+        let mut all = spares.into_returned();
+        for share in shares {
+            all.add(share);
+        }
+        let LockedPosts { locked } = locked_posts;
+        locked.into_inner().gathered(all)
+    }
+}
+
+impl<P: Plan, L: Ledgers, A: Allocator, W: Witness> LockedPosts<P, L, A, W> {
+    /// Adds a report for which a witness vouches to the posts by `Posts::add`, and to the share. It comes back where a
+    /// report of its id stands, or where memory ran out, and no number has changed then.
+    pub fn post<R: Wait>(
+        &self,
+        rt: &R,
+        report: PieceReport<A>,
+        share: &mut Share<L>,
+        witness: W,
+    ) -> Result<(), (PieceReport<A>, Fault)>
+    where
+        A: Clone,
+        requires value { IsValue P.pieces report }
+        requires vouched { W.vouches witness report }
+        ensures share { OnOk result (share.new ≡ with_report share.old report) }
+        ensures refused { IfErr result (λ e. (e.0 ≡ report) × (share.new ≡ share.old)) }
+        ensures faults { IfErr result (λ e. (e.1 ≡ Fault.Double report.id) ⊎ (e.1 ≡ Fault.Memory)) }
+    {
+        self.locked.lock(rt).add(report, share, witness)
+    }
+
+    /// The totals of some of the plan's pieces, each counted once. No number is below that of the share.
+    pub fn look<R: Wait>(&self, rt: &R, share: &mut Share<L>) -> Totals
+        ensures posts { (rs : List records.PieceReport) × AreOf P.pieces rs
+            × (result ≡ totals_of rs) }
+        ensures within { IsWithin share.old result }
+        ensures unchanged { share.new ≡ share.old }
+    {
+        self.locked.lock(rt).seen_by(share)
+    }
+}

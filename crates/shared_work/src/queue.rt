@@ -1,0 +1,12 @@
+//! A queue of numbered pieces between one feeder and many workers.
+
+mod entry;
+pub mod laws;
+mod rule;
+mod witness;
+mod work;
+
+pub use entry::Entry;
+pub use rule::{Notes, Record};
+pub use witness::Witness;
+pub use work::{FeederPass, Taken, Work, WorkerPass};

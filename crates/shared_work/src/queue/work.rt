@@ -1,0 +1,270 @@
+//! The queue with its passes.
+ghost use Rattle.std.specs.Prelude.{◌≡◌, ◌+◌, ◌<◌, ◌≤◌, [], ◌++◌, ◌∷◌, true, false, All, length, IfOk, OnOk, IfErr, OnErr, MatchResult};
+ghost use Rattle.crossbeam_queue.specs.Fifo.{Held};
+ghost use Rattle.line_model.specs.work.Book.{IsPlanned};
+ghost use Rattle.shared_work.specs.queue.Known.{IsFed};
+ghost use Rattle.shared_work.specs.queue.Rule.{feeder, worker, after_split, after_join, IsInQueue, IsAccounted, IsTold};
+
+use crate::queue::entry::Entry;
+use crate::queue::rule::{
+    Account, Confirmation, FeedsEnd, FeedsPiece, Notes, PlanOrder, Takes, Witnessing, Worker,
+};
+use crate::queue::witness::Witness;
+use crossbeam_queue::{ArrayQueue, Pass, RuledArrayQueue};
+use line_model::fault::Fault;
+use line_model::piece::{Piece, Plan};
+use std::alloc::{Allocator, Global};
+use std::marker::Model;
+use std::sync::Wait;
+
+/// No more pieces are freed in one call.
+const MOST_FREED: usize = 4096;
+
+/// A queue of pieces, and the way back of those that were run. Contracts see which queue it is and how much it holds.
+#[derive(Drop)]
+pub struct Work<P: Plan, A: Allocator = Global> {
+    queue: RuledArrayQueue<Entry<A>, Notes, PlanOrder<P>, A>,
+    used: ArrayQueue<Piece<A>, A>,
+}
+
+impl<P: Plan, A: Allocator> Model for Work<P, A> {
+    ghost use Rattle.shared_work.specs.queue.Passes.{QueueView};
+    ghost use Rattle.crossbeam_queue.specs.Passes.{ruled_capacity};
+
+    ghost Value = { QueueView };
+
+    ghost view = { λ s. record { queue = s.queue.table.shared.table_id; capacity = ruled_capacity s.queue } };
+}
+
+/// The pass of the thread that feeds. It has no bytes.
+#[derive(Drop)]
+pub struct FeederPass<A: Allocator = Global> {
+    pass: Pass<Entry<A>, Notes>,
+}
+
+impl<A: Allocator> Model for FeederPass<A> {
+    ghost use Rattle.std.specs.Prelude.{◌≡◌, [], true};
+    ghost use Rattle.shared_work.specs.queue.Passes.{PassView};
+    ghost use Rattle.crossbeam_queue.specs.Passes.{view as seen};
+
+    ghost Value = { PassView };
+
+    ghost view = { λ s. record { queue = s.pass.table_id; record_of = (seen s.pass).record_of; pieces = (seen s.pass).fed } };
+
+    ghost invariant = { λ s. (s.pass.me.1 ≡ []) × ((seen s.pass).record_of.feeds ≡ true) × ((seen s.pass).known ≡ []) };
+}
+
+/// The pass of a worker. It has no bytes.
+#[derive(Drop)]
+pub struct WorkerPass<A: Allocator = Global> {
+    pass: Pass<Entry<A>, Notes>,
+}
+
+impl<A: Allocator> Model for WorkerPass<A> {
+    ghost use Rattle.std.specs.Prelude.{◌≡◌, [], true};
+    ghost use Rattle.shared_work.specs.queue.Passes.{PassView};
+    ghost use Rattle.crossbeam_queue.specs.Passes.{view as seen};
+
+    ghost Value = { PassView };
+
+    ghost view = { λ s. record { queue = s.pass.table_id; record_of = (seen s.pass).record_of; pieces = (seen s.pass).known } };
+
+    ghost invariant = { λ s. (s.pass.me.1 ≡ []) × ((seen s.pass).record_of.works ≡ true) };
+}
+
+/// What a worker took.
+#[derive(Drop)]
+pub enum Taken<A: Allocator = Global> {
+    /// The plan's piece of its id.
+    Got(Piece<A>),
+    /// An end: the pass takes no more.
+    Finish,
+    /// The queue was empty at one moment of the call.
+    Empty,
+}
+
+impl<P: Plan, A: Allocator> Work<P, A> {
+    ghost use Rattle.shared_work.specs.queue.Takes.{AddsTaken, IsTaken, WasDrained};
+
+    /// An empty queue that holds so many entries, and the feeder's pass; or want of memory.
+    pub fn new(alloc: A, capacity: usize) -> Result<(Work<P, A>, FeederPass<A>), Fault>
+    where
+        A: Clone,
+        requires some { 0 < capacity }
+        requires few { capacity ≤ 4096 }
+        ensures ok { IfOk result (λ r. (r.0.capacity ≡ capacity) × (r.1.queue ≡ r.0.queue)
+            × (r.1.record_of ≡ feeder 0 0 0 0 [])) }
+        ensures none { IfOk result (λ r. r.1.pieces ≡ []) }
+        ensures refused { IfErr result (λ fault. fault ≡ Fault.Memory) }
+    {
+        let used = ArrayQueue::new(alloc.clone()?, capacity)?;
+        match RuledArrayQueue::ruled(alloc, capacity) {
+            Ok((queue, pass)) => Ok((Work { queue, used }, FeederPass { pass })),
+            Err(_) => Err(Fault::Memory),
+        }
+    }
+
+    /// Hands a piece that was run back to the thread that fed it. Where as many wait already as the queue holds, it is
+    /// freed at once.
+    pub fn give_back<R: Wait>(&self, rt: &R, piece: Piece<A>) {
+        drop(self.used.push(rt, piece));
+    }
+
+    /// Frees the pieces that were handed back, and says how many. The thread that made them does this: where one thread
+    /// takes memory and others free it, all of them wait for the lock of the allocator.
+    pub fn free_used<R: Wait>(&self, rt: &R) -> usize
+        ensures { result ≤ 4096 }
+    {
+        for freed in 0..MOST_FREED {
+            match self.used.pop(rt) {
+                Some(piece) => drop(piece),
+                None => return freed,
+            }
+        }
+        MOST_FREED
+    }
+
+    /// A worker's pass, which has taken nothing.
+    pub fn split(&self, pass: &mut FeederPass<A>) -> WorkerPass<A>
+        requires { pass.old.queue ≡ self.now.queue }
+        ensures queue { (pass.new.queue ≡ pass.old.queue) × (result.queue ≡ pass.old.queue) }
+        ensures counted { pass.new.record_of ≡ after_split pass.old.record_of }
+        ensures empty { result.record_of ≡ worker [] false 0 }
+        ensures pieces { (pass.new.pieces ≡ pass.old.pieces) × (result.pieces ≡ []) }
+    {
+        let pass = self.queue.another::<Worker>(&mut pass.pass);
+        WorkerPass { pass }
+    }
+
+    /// Feeds the plan's next piece. It comes back only if the queue was full at one moment of the call, and nothing
+    /// has changed then.
+    pub fn feed<R: Wait>(
+        &self,
+        rt: &R,
+        piece: Piece<A>,
+        pass: &mut FeederPass<A>,
+    ) -> Result<(), Piece<A>>
+        requires queue { pass.old.queue ≡ self.now.queue }
+        requires next { IsPlanned P.pieces pass.old.record_of.fed piece }
+        requires open { pass.old.record_of.ends ≡ 0 }
+        ensures queue { pass.new.queue ≡ pass.old.queue }
+        ensures ok { OnOk result (pass.new.record_of
+            ≡ feeder (pass.old.record_of.fed + 1) pass.old.record_of.ends pass.old.record_of.pending
+            pass.old.record_of.done pass.old.record_of.taken) }
+        ensures err { IfErr result (λ back. (back ≡ piece)
+            × (pass.new.record_of ≡ pass.old.record_of)) }
+        ensures pieces { MatchResult result
+            (λ _. pass.new.pieces ≡ pass.old.pieces ++ piece ∷ [])
+            (λ _. pass.new.pieces ≡ pass.old.pieces) }
+        ensures full { OnErr result (Held self.now.capacity
+            (IsInQueue P.pieces pass.old.record_of)) }
+    {
+        match self
+            .queue
+            .push_as::<FeedsPiece<P>, R>(rt, &mut pass.pass, Entry { piece: Some(piece) })
+        {
+            Ok(()) => Ok(()),
+            Err(Entry { piece: Some(piece) }) => Err(piece),
+            Err(Entry { piece: None }) => unreachable!(),
+        }
+    }
+
+    /// Feeds an end, of which each worker needs one. Refused only if the queue was full at one moment of the call.
+    pub fn feed_end<R: Wait>(&self, rt: &R, pass: &mut FeederPass<A>) -> Result<(), ()>
+        requires queue { pass.old.queue ≡ self.now.queue }
+        ensures queue { pass.new.queue ≡ pass.old.queue }
+        ensures ok { OnOk result (pass.new.record_of
+            ≡ feeder pass.old.record_of.fed (pass.old.record_of.ends + 1) pass.old.record_of.pending
+            pass.old.record_of.done pass.old.record_of.taken) }
+        ensures err { OnErr result (pass.new.record_of ≡ pass.old.record_of) }
+        ensures pieces { pass.new.pieces ≡ pass.old.pieces }
+        ensures full { OnErr result (Held self.now.capacity
+            (IsInQueue P.pieces pass.old.record_of)) }
+    {
+        match self
+            .queue
+            .push_as::<FeedsEnd<P>, R>(rt, &mut pass.pass, Entry { piece: None })
+        {
+            Ok(()) => Ok(()),
+            Err(_) => Err(()),
+        }
+    }
+
+    /// Takes what stands at the front: the plan's piece of its id, which goes into the record of the pass, or an end,
+    /// after which the pass takes no more. `Finish` only if at one moment of the call each piece that had been fed was
+    /// taken, and ends alone stood in the queue; the record then has how many were fed. `Empty` only if the queue was
+    /// empty at one moment of the call.
+    pub fn take<R: Wait>(&self, rt: &R, pass: &mut WorkerPass<A>) -> Taken<A>
+        requires queue { pass.old.queue ≡ self.now.queue }
+        requires unfinished { pass.old.record_of.finished ≡ false }
+        ensures queue { pass.new.queue ≡ pass.old.queue }
+        ensures taken { IsTaken P.pieces pass.old.record_of result pass.new.record_of }
+        ensures pieces { AddsTaken pass.old.pieces result pass.new.pieces }
+        ensures drained { WasDrained P.pieces pass.old.record_of result pass.new.record_of.fed }
+    {
+        match self.queue.pop_as::<Takes<P>, R>(rt, &mut pass.pass) {
+            Some(Entry { piece: Some(piece) }) => Taken::Got(piece),
+            Some(Entry { piece: None }) => Taken::Finish,
+            None => Taken::Empty,
+        }
+    }
+
+    /// Takes in what a worker took. A worker that had its end knows how many pieces the feeder has fed. Where no pass is
+    /// out any more, and one had its end, each piece that was fed was taken, once.
+    pub fn join(&self, pass: &mut FeederPass<A>, other: WorkerPass<A>)
+        requires { (pass.old.queue ≡ self.now.queue) × (other.queue ≡ self.now.queue) }
+        ensures queue { pass.new.queue ≡ pass.old.queue }
+        ensures joined { pass.new.record_of ≡ after_join pass.old.record_of other.record_of }
+        ensures told { IsTold pass.old.record_of other.record_of }
+        ensures all { IsAccounted pass.new.record_of }
+        ensures pieces { pass.new.pieces ≡ pass.old.pieces }
+    {
+        let WorkerPass { pass: other } = other;
+        self.queue.absorb::<Worker>(&mut pass.pass, other);
+        self.queue.learn_as::<Account>(&mut pass.pass);
+    }
+
+    /// A witness that knows of no piece.
+    pub fn witness(&self, pass: &mut FeederPass<A>) -> Witness<A>
+        requires { pass.old.queue ≡ self.now.queue }
+        ensures same { pass.new ≡ pass.old }
+        ensures witness { (result.queue ≡ self.now.queue) × (result.pieces ≡ []) }
+    {
+        let pass = self.queue.another::<Witnessing>(&mut pass.pass);
+        Witness { pass }
+    }
+
+    /// A witness of the pieces that a worker took.
+    pub fn witness_of(&self, pass: &mut WorkerPass<A>) -> Witness<A>
+        requires { pass.old.queue ≡ self.now.queue }
+        ensures same { pass.new ≡ pass.old }
+        ensures witness { (result.queue ≡ self.now.queue) × (result.pieces ≡ pass.old.pieces) }
+    {
+        Witness {
+            pass: self.queue.another::<Witnessing>(&mut pass.pass),
+        }
+    }
+
+    /// One witness takes in what another knows.
+    pub fn learn(&self, witness: &mut Witness<A>, other: Witness<A>)
+        requires { (witness.old.queue ≡ self.now.queue) × (other.queue ≡ self.now.queue) }
+        ensures queue { witness.new.queue ≡ witness.old.queue }
+        ensures pieces { witness.new.pieces ≡ witness.old.pieces ++ other.pieces }
+    {
+        let Witness { pass: other } = other;
+        self.queue.absorb::<Witnessing>(&mut witness.pass, other);
+    }
+
+    /// Each piece that a witness knows of was fed, and stands at its id among those that were. They are as many as the
+    /// record of the feeder says.
+    pub fn confirm(&self, pass: FeederPass<A>, witness: Witness<A>)
+        requires { (pass.queue ≡ self.now.queue) × (witness.queue ≡ self.now.queue) }
+        ensures fed { All (IsFed pass.pieces) witness.pieces }
+        ensures number { length pass.pieces ≡ pass.record_of.fed }
+    {
+        let FeederPass { mut pass } = pass;
+        let Witness { pass: witness } = witness;
+        self.queue.absorb::<Witnessing>(&mut pass, witness);
+        self.queue.learn_as::<Confirmation>(&mut pass);
+    }
+}

@@ -1,0 +1,47 @@
+use Rattle.std.proofs.Common.{◌≡◌, ◌∙◌, ◌++◌, ◌∷◌, [], refl, ap, sym, subst, append_assoc}
+use Rattle.line_model.specs.basics.Records.{Item}
+use Rattle.line_model.specs.basics.Bounds.{IsPiece}
+use Rattle.channel_run.specs.Live.{StandsFor}
+use Rattle.channel_run.proofs.LiveLemmas.{next_item}
+use Rattle.tests_channels.proofs.channels.live.followed.Goals as goal
+
+pub loop-item-init : goal.loop-item-init
+loop-item-init g c =
+    let is = c.piece.view_is in
+    record {
+      stands = c.in_ok-live.ensures.stands (record c.args.piece.now { items = [] }) (sym (ap (λ v. v.interface) is)) (sym (ap (λ v. v.channel) is)) (sym (ap (λ v. v.epoch) is)) refl;
+      left = ap (λ v. v.items) (sym is) ∙ sym c.iter-item-items.ensures ∙ sym c.into_iter-item-iterator.ensures.into_iter_gives;
+    }
+
+pub take-requires : goal.take-requires
+take-requires g c =
+    let p = c.args.piece.now in
+    let whole : IsPiece p.interface p.channel p.items = subst (λ q. IsPiece q.interface q.channel q.items) c.piece.view_is c.piece.invariant in
+    record { room = (record p { items = c.loop-item.yielded }, c.loop-item.invariant.stands, next_item p.interface p.channel p.items c.loop-item.yielded _ c.next.new.self c.in-Some.item _ whole c.loop-item.invariant.left c.in-Some.ensures.steps refl) }
+
+pub told_of-requires : goal.told_of-requires
+told_of-requires g c =
+    let p = c.args.piece.now in
+    let whole : IsPiece p.interface p.channel p.items = subst (λ q. IsPiece q.interface q.channel q.items) c.piece.view_is c.piece.invariant in
+    let room = next_item p.interface p.channel p.items c.loop-item.yielded _ c.next.new.self c.in-Some.item c.in-Some.item whole c.loop-item.invariant.left c.in-Some.ensures.steps refl in
+    record {
+      stands = (
+        record p { items = c.loop-item.yielded ++ c.in-Some.item ∷ [] },
+        c.in_ok-finding.ensures.stands (record p { items = c.loop-item.yielded }) c.loop-item.invariant.stands room,
+      );
+    }
+
+pub loop-item-preserved : goal.loop-item-preserved
+loop-item-preserved g c =
+    let p = c.args.piece.now in
+    let whole : IsPiece p.interface p.channel p.items = subst (λ q. IsPiece q.interface q.channel q.items) c.piece.view_is c.piece.invariant in
+    let room = next_item p.interface p.channel p.items c.loop-item.yielded _ c.next.new.self c.in-Some.item _ whole c.loop-item.invariant.left c.in-Some.ensures.steps refl in
+    record {
+      stands = c.in_ok-finding.ensures.stands (record p { items = c.loop-item.yielded }) c.loop-item.invariant.stands room;
+      left = c.loop-item.invariant.left ∙ ap (λ l. c.loop-item.yielded ++ l) c.in-Some.ensures.steps ∙ sym (append_assoc c.loop-item.yielded (c.in-Some.item ∷ []) c.next.new.self);
+    }
+
+pub end-requires : goal.end-requires
+end-requires g c =
+    let p = c.args.piece.now in
+    record { stands = (record p { items = c.loop-item.yielded }, c.loop-item.invariant.stands) }

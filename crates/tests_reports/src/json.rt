@@ -1,0 +1,126 @@
+//! Lines of reports as JSON lines that were written by hand, over sinks that cut and fail.
+
+ghost use Rattle.std.specs.Prelude.{◌≡◌};
+
+use json_lines::sink::JsonSink;
+use line_model::device::Sink;
+use line_model::fault::Fault;
+use line_model::lending::{Borrowed, Origin};
+use std::alloc::Global;
+use std::marker::Brand;
+use std::process::Abort;
+use tests_devices::{CutSink, Cuts};
+
+/// What was answered, how many calls were good, and the bytes that were taken.
+#[derive(Drop)]
+struct Conversion {
+    answer: Result<(), Fault>,
+    calls: usize,
+    bytes: Vec<u8, Global>,
+}
+
+/// Gives a sink all of a text in parts of some size, until it refuses one.
+fn write_parts<K: Sink>(sink: &mut K, text: &[u8], size: usize) -> Result<(), Fault> {
+    for part in text.chunks(size.max(1)) {
+        match sink.write(part) {
+            Ok(_) => {}
+            Err(()) => return Err(Fault::Write),
+        }
+    }
+    Ok(())
+}
+
+/// Has a lent sink take the objects of a text that comes in parts.
+fn convert<'a, K: Sink, B: Origin>(text: &[u8], size: usize, sink: &'a mut K) -> Result<(), Fault>
+    requires name { sink.ghost_name ≡ B.name }
+    requires before { (K.taken sink.now, K.failures sink.now) ≡ B.before }
+{
+    let mut json = JsonSink::new(Borrowed::<K, B>::new(sink));
+    let written = write_parts(&mut json, text, size);
+    let (_, answer) = json.finish();
+    written.and(answer)
+}
+
+/// What becomes of a text that comes in parts of some size.
+fn converted(alloc: Global, text: &[u8], size: usize, cuts: Cuts) -> Conversion {
+    let mut sink = CutSink::new(alloc, cuts);
+    let answer = convert::<CutSink, Brand>(text, size, &mut sink);
+    let calls = cuts.good_writes.saturating_sub(sink.good_calls);
+    Conversion {
+        answer,
+        calls,
+        bytes: sink.taken,
+    }
+}
+
+const REPORT: &[u8] = b"F 5 T d1 1\n\
+F 7 N - X2\n\
+C 1 1 1 out 12 345 1 2 - open 3 129 0 0 3\n\
+C 2 1 1 in - 0345 1 - 2 collision 0 0 0 0 0\n\
+S 1 T 2 said 1\n\
+S 1 N 21 refused 5\n\
+A - 1 2\n\
+A 012 1 3\n\
+P 2 4\n\
+P 0 -\n\
+Z 5 1 1 2 2\n";
+
+const OBJECTS: &[u8] =
+    b"{\"line\":\"finding\",\"packet\":5,\"side\":\"T\",\"state\":\"d1\",\"code\":\"1\"}\n\
+{\"line\":\"finding\",\"packet\":7,\"side\":\"N\",\"state\":null,\"code\":\"X2\"}\n\
+{\"line\":\"call\",\"call\":1,\"epoch\":1,\"channel\":1,\"direction\":\"out\",\"called\":\"12\",\"calling\":\"345\",\"opened\":1,\"up\":2,\"ended\":null,\"how\":\"open\",\"data_t\":3,\"octets_t\":129,\"data_n\":0,\"octets_n\":0,\"segments\":3}\n\
+{\"line\":\"call\",\"call\":2,\"epoch\":1,\"channel\":1,\"direction\":\"in\",\"called\":null,\"calling\":\"0345\",\"opened\":1,\"up\":null,\"ended\":2,\"how\":\"collision\",\"data_t\":0,\"octets_t\":0,\"data_n\":0,\"octets_n\":0,\"segments\":0}\n\
+{\"line\":\"setting\",\"call\":1,\"side\":\"T\",\"parameter\":2,\"word\":\"said\",\"value\":1}\n\
+{\"line\":\"setting\",\"call\":1,\"side\":\"N\",\"parameter\":21,\"word\":\"refused\",\"value\":5}\n\
+{\"line\":\"account\",\"address\":null,\"calls\":1,\"segments\":2}\n\
+{\"line\":\"account\",\"address\":\"012\",\"calls\":1,\"segments\":3}\n\
+{\"line\":\"peak\",\"count\":2,\"packet\":4}\n\
+{\"line\":\"peak\",\"count\":0,\"packet\":null}\n\
+{\"line\":\"sums\",\"packets\":5,\"findings\":1,\"calls\":1,\"octets\":2,\"segments\":2}\n";
+
+/// Sees that a text was taken whole, and that these objects were written.
+fn agree(rt: &impl Abort, told: &Conversion, objects: &[u8]) {
+    assert!(rt; told.answer.is_ok());
+    assert!(rt; told.bytes.as_slice() == objects);
+}
+
+#[test]
+fn a_sink_that_takes_one_byte_a_call_takes_the_same(rt: HostRuntime) {
+    let told = converted(rt.alloc(), REPORT, 7, Cuts::of_steps(1, 1));
+    agree(&rt, &told, OBJECTS);
+    assert!(rt; told.calls == OBJECTS.len());
+}
+
+#[test]
+fn each_part_is_one_write(rt: HostRuntime) {
+    let by_byte = converted(rt.alloc(), REPORT, 1, Cuts::none());
+    assert!(rt; by_byte.calls == 11);
+    let at_once = converted(rt.alloc(), REPORT, 65536, Cuts::none());
+    assert!(rt; at_once.calls == 1);
+}
+
+/// Sees that a sink failed after so many good calls, and has a first part of the objects.
+fn agree_on_failure(rt: &impl Abort, told: &Conversion, good_calls: usize) {
+    assert!(rt; told.answer == Err(Fault::Write));
+    assert!(rt; told.calls == good_calls);
+    assert!(rt; OBJECTS.starts_with(told.bytes.as_slice()));
+}
+
+/// Writes the report in parts of some size to a sink that fails after so many good calls.
+fn check_failure(rt: &impl Abort, alloc: Global, size: usize, good_calls: usize) {
+    let cuts = Cuts {
+        write_step: 90,
+        good_writes: good_calls,
+        ..Cuts::none()
+    };
+    let told = converted(alloc, REPORT, size, cuts);
+    agree_on_failure(rt, &told, good_calls);
+}
+
+#[test]
+fn a_sink_that_fails_has_a_first_part_and_is_told(rt: HostRuntime) {
+    for good_calls in 0..11 {
+        check_failure(&rt, rt.alloc(), 1, good_calls);
+        check_failure(&rt, rt.alloc(), 65536, good_calls);
+    }
+}

@@ -1,0 +1,89 @@
+//! Worked traces by crews of several sizes, which count and write the same.
+
+use crate::scans::checks::{STEPS, agree_on_fault, agree_on_report, same_number};
+use crate::scans::runs::{Scanned, Way, outcome_of, scan_through};
+use crate::scans::worked::Worked;
+use line_model::totals::Totals;
+use std::alloc::Global;
+use std::process::Abort;
+use std::sync::Wait;
+use std::thread::Threads;
+use std::time::Clock;
+use tests_devices::Cuts;
+use trace_scan::gate::OpenGate;
+use trace_scan::threaded::Scan;
+
+/// How many workers, over a queue of how many pieces.
+const CREWS: [(usize, usize); 6] = [(1, 1), (1, 64), (2, 1), (2, 64), (64, 1), (64, 64)];
+
+/// How many findings of a report are of channels: their states are named p or d.
+fn channel_findings(report: &[u8]) -> u64 {
+    let mut findings = 0u64;
+    let mut before = b'\n';
+    let mut in_finding = false;
+    for byte in report {
+        if before == b'\n' {
+            in_finding = *byte == b'F';
+        }
+        if in_finding && (*byte == b'p' || *byte == b'd') {
+            findings = findings.saturating_add(1);
+        }
+        before = *byte;
+    }
+    findings
+}
+
+/// The totals of a scan by workers, which are those of its report.
+fn totals_of(rt: &impl Abort, scan: &Scan, worked: &Worked) -> Totals {
+    let totals = scan.totals;
+    same_number(rt, totals.octets, scan.summary.octets, worked.name);
+    same_number(rt, totals.segments, scan.summary.segments, worked.name);
+    same_number(
+        rt,
+        totals.findings,
+        channel_findings(worked.report),
+        worked.name,
+    );
+    totals
+}
+
+/// The totals of a scan by workers, if the trace is not refused. Sees what was answered and written.
+fn totals_told(rt: &impl Abort, scanned: Scanned, worked: &Worked, cuts: Cuts) -> Option<Totals> {
+    let totals = match &scanned.answer {
+        Ok(scan) => Some(totals_of(rt, scan, worked)),
+        Err(_) => None,
+    };
+    let outcome = outcome_of(scanned);
+    agree_on_fault(rt, &outcome, worked, cuts);
+    agree_on_report(rt, &outcome, worked, cuts);
+    totals
+}
+
+/// Scans a trace by a crew from a source that gives so many bytes at once, and sees what is answered and written.
+fn check_crew<R: Threads + Wait + Clock + Sync + Abort>(
+    rt: &R,
+    alloc: Global,
+    worked: &Worked,
+    crew: (usize, usize),
+    step: usize,
+) -> Option<Totals> {
+    let way = Way::Crew(crew.0, crew.1);
+    let cuts = Cuts::of_steps(step, step);
+    let scanned = scan_through(rt, alloc, alloc, &OpenGate, way, worked.text, cuts);
+    totals_told(rt, scanned, worked, cuts)
+}
+
+/// Scans a trace by each crew in steps of any size: all count the same.
+pub fn check_crews<R: Threads + Wait + Clock + Sync + Abort>(
+    rt: &R,
+    alloc: Global,
+    worked: &Worked,
+) {
+    let wanted = check_crew(rt, alloc, worked, (1, 1), usize::MAX);
+    for crew in CREWS {
+        for step in STEPS {
+            let totals = check_crew(rt, alloc, worked, crew, step);
+            assert!(rt; totals == wanted, "{} by {} workers", worked.name, crew.0);
+        }
+    }
+}

@@ -1,0 +1,105 @@
+//! Scans whose source or sink fails, in one thread and by two workers, which answer and write the same.
+
+use crate::scans::checks::{check, check_writes};
+use crate::scans::runs::Way;
+use crate::scans::worked::{Table, Worked, trace, traces};
+use line_model::fault::Fault;
+use std::alloc::Global;
+use std::process::Abort;
+use std::sync::Wait;
+use std::thread::Threads;
+use std::time::Clock;
+use tests_devices::Cuts;
+
+/// The bytes that a source gives at each call.
+const STEP: usize = 7;
+
+/// In one thread, and by two workers.
+const BOTH: [Way; 2] = [Way::Alone, Way::Crew(2, 64)];
+
+/// How many lines have ended.
+fn lines_in(bytes: &[u8]) -> usize {
+    let mut lines = 0usize;
+    for byte in bytes {
+        if *byte == b'\n' {
+            lines = lines.saturating_add(1);
+        }
+    }
+    lines
+}
+
+/// The fault of a text, if the line that has it has ended in the bytes that were given, else that of a source that
+/// fails.
+fn fault_of(worked: &Worked, given: usize) -> Fault {
+    let lines = lines_in(&worked.text[..given.min(worked.text.len())]);
+    match worked.fault {
+        Some(Fault::Trace(line, kind)) if line as usize <= lines => Fault::Trace(line, kind),
+        _ => Fault::Read,
+    }
+}
+
+/// Has the source fail after so many calls.
+fn check_call<R: Threads + Wait + Clock + Sync + Abort>(
+    rt: &R,
+    alloc: Global,
+    worked: &Worked,
+    calls: usize,
+) {
+    let good_bytes = calls.saturating_mul(STEP);
+    let cuts = Cuts {
+        good_bytes,
+        ..Cuts::of_steps(STEP, STEP)
+    };
+    let refused = Worked {
+        name: worked.name,
+        text: worked.text,
+        fault: Some(fault_of(worked, good_bytes)),
+        report: b"",
+    };
+    for way in BOTH {
+        check(rt, alloc, way, &refused, cuts);
+    }
+}
+
+/// Has the source fail at each of its calls in turn, the one that would tell the end too.
+fn check_source<R: Threads + Wait + Clock + Sync + Abort>(rt: &R, alloc: Global, worked: &Worked) {
+    for calls in 0..=worked.text.len() / STEP {
+        check_call(rt, alloc, worked, calls);
+    }
+}
+
+/// Worked traces whose devices fail.
+const TRACES: [(Table, &str); 6] = [
+    (Table::Messages, "pad-setting-said"),
+    (Table::Messages, "pad-pairs-cut"),
+    (Table::Messages, "reset-drops-begun-message"),
+    (Table::Epochs, "three-epochs"),
+    (Table::Channels, "call-formats"),
+    (Table::Channels, "addresses-reverse-charging"),
+];
+
+/// Has both devices fail.
+fn check_devices<R: Threads + Wait + Clock + Sync + Abort>(rt: &R, alloc: Global) {
+    for (table, name) in TRACES {
+        let worked = trace(rt, table, name);
+        check_source(rt, alloc, worked);
+        check_writes(rt, alloc, Way::Alone, worked, usize::MAX);
+        check_writes(rt, alloc, Way::Crew(2, 64), worked, usize::MAX);
+    }
+}
+
+#[test]
+fn devices_of_worked_traces_fail_at_any_call(rt: HostRuntime) {
+    check_devices(&rt, rt.alloc())
+}
+
+fn check_refused<R: Threads + Wait + Clock + Sync + Abort>(rt: &R, alloc: Global) {
+    for worked in traces(Table::Refused) {
+        check_source(rt, alloc, worked);
+    }
+}
+
+#[test]
+fn sources_of_faulty_texts_fail_at_any_call(rt: HostRuntime) {
+    check_refused(&rt, rt.alloc())
+}

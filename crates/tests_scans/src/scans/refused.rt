@@ -1,0 +1,119 @@
+//! Scans whose growths are refused.
+
+use crate::scans::checks::{same_bytes, same_number};
+use crate::scans::runs::{Outcome, Way, scan_in};
+use crate::scans::worked::long::LONG_TRACES;
+use crate::scans::worked::{Table, Worked, trace};
+use line_model::fault::Fault;
+use std::alloc::Global;
+use std::process::Abort;
+use std::sync::Wait;
+use std::thread::Threads;
+use std::time::Clock;
+use tests_devices::Cuts;
+use tests_devices::scarce::Scarce;
+
+/// The most growths that these tests look for.
+const GROWTHS: u64 = 10_000;
+
+/// Whether a scan may say so that a growth was refused. Where nothing was read yet, a thread of a crew may be told as
+/// refused.
+fn tells_want(way: Way, fault: Option<Fault>) -> bool {
+    match fault {
+        Some(Fault::Memory) => true,
+        Some(Fault::Start) => matches!(way, Way::Crew(_, _)),
+        _ => false,
+    }
+}
+
+/// Sees that a scan with a growth that was refused wrote nothing, and that another wrote the report.
+fn agree(rt: &impl Abort, way: Way, outcome: &Outcome, worked: &Worked, refused: bool, good: u64) {
+    if refused {
+        let told = tells_want(way, outcome.answer.err());
+        assert!(rt; told, "{} at {good}", worked.name);
+    }
+    let report = if refused { b"" } else { worked.report };
+    same_bytes(
+        rt,
+        outcome.taken.as_slice(),
+        report,
+        worked.name,
+        Cuts::of_steps(7, 7),
+    );
+}
+
+/// Refuses one growth of a scan, and sees that nothing is written and no block is kept: so all workers were joined.
+/// Answers whether there was such a growth.
+fn check_growth<R: Threads + Wait + Clock + Sync + Abort>(
+    rt: &R,
+    alloc: Global,
+    heap: &Scarce<Global>,
+    way: Way,
+    worked: &Worked,
+    good: u64,
+) -> bool {
+    heap.refuse_one(good);
+    let outcome = scan_in(rt, heap, alloc, way, worked.text, Cuts::of_steps(7, 7));
+    let refused = good < heap.asked();
+    agree(rt, way, &outcome, worked, refused, good);
+    refused
+}
+
+/// How many growths a scan has, each of which is refused in turn.
+fn growths_of<R: Threads + Wait + Clock + Sync + Abort>(
+    rt: &R,
+    alloc: Global,
+    heap: &Scarce<Global>,
+    way: Way,
+    worked: &Worked,
+) -> u64 {
+    for good in 0..GROWTHS {
+        let refused = check_growth(rt, alloc, heap, way, worked, good);
+        same_number(rt, heap.held(), 0, worked.name);
+        if !refused {
+            return good;
+        }
+    }
+    GROWTHS
+}
+
+/// Refuses each growth of a scan in turn, until it meets none.
+fn check<R: Threads + Wait + Clock + Sync + Abort>(
+    rt: &R,
+    alloc: Global,
+    way: Way,
+    worked: &Worked,
+) {
+    let heap = Scarce::new(alloc);
+    let growths = growths_of(rt, alloc, &heap, way, worked);
+    let all_refused = 0 < growths && growths < GROWTHS;
+    assert!(rt; all_refused, "{} has {growths} growths", worked.name);
+}
+
+/// Worked traces whose growths are refused.
+const TRACES: [(Table, &str); 5] = [
+    (Table::Messages, "pad-setting-said"),
+    (Table::Messages, "reset-drops-begun-message"),
+    (Table::Epochs, "three-epochs"),
+    (Table::Channels, "call-formats"),
+    (Table::Channels, "addresses-reverse-charging"),
+];
+
+/// Refuses each growth of scans of worked traces.
+pub fn check_traces<R: Threads + Wait + Clock + Sync + Abort>(rt: &R, alloc: Global, way: Way) {
+    for (table, name) in TRACES {
+        check(rt, alloc, way, trace(rt, table, name));
+    }
+}
+
+fn check_long<R: Threads + Wait + Clock + Sync + Abort>(rt: &R, alloc: Global) {
+    let long = &LONG_TRACES[3];
+    let text = long.text(rt, alloc);
+    check(rt, alloc, Way::Alone, &long.worked(text.as_slice()));
+}
+
+#[test]
+fn each_growth_of_a_scan_may_be_refused(rt: HostRuntime) {
+    check_traces(&rt, rt.alloc(), Way::Alone);
+    check_long(&rt, rt.alloc());
+}

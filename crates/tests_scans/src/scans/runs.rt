@@ -1,0 +1,146 @@
+//! Scans over the devices of the tests.
+
+use line_model::device::{Sink, Source};
+use line_model::fault::Fault;
+use line_model::totals::{Summary, Totals};
+use std::alloc::{Allocator, Global};
+use std::sync::Wait;
+use std::thread::Threads;
+use std::time::Clock;
+use tests_devices::{CutSink, CutSource, Cuts};
+use trace_scan::following::follow;
+use trace_scan::gate::OpenGate;
+use trace_scan::scan::scan_alone;
+use trace_scan::threaded::{Scan, scan_with};
+use workers::Gate;
+
+/// How a text is scanned: in one thread, as it grows, or by so many workers over a queue of so many pieces.
+#[derive(Clone, Copy)]
+pub enum Way {
+    Alone,
+    Following,
+    Crew(usize, usize),
+}
+
+/// The totals of no pieces.
+pub const NONE: Totals = Totals {
+    posts: 0,
+    findings: 0,
+    octets: 0,
+    segments: 0,
+};
+
+/// What a scan answered, and what its sink took. No worker has a share of a scan in one thread.
+#[derive(Drop)]
+pub struct Scanned<A: Allocator = Global> {
+    pub answer: Result<Scan<A>, Fault>,
+    pub taken: Vec<u8>,
+}
+
+/// The last line of a report or why there is none, and what the sink took.
+#[derive(Drop)]
+pub struct Outcome {
+    pub answer: Result<Summary, Fault>,
+    pub taken: Vec<u8>,
+}
+
+/// What a scan answers of which no worker has a share.
+fn unshared<A: Allocator>(heap: A, answer: Result<Summary, Fault>) -> Result<Scan<A>, Fault> {
+    match answer {
+        Ok(summary) => Ok(Scan {
+            summary,
+            totals: NONE,
+            shares: Vec::new(heap),
+        }),
+        Err(fault) => Err(fault),
+    }
+}
+
+fn scan_by<
+    A: Allocator + Copy + Send + Sync,
+    S: Source,
+    K: Sink,
+    G: Gate,
+    R: Threads + Wait + Clock + Sync,
+>(rt: &R, heap: A, gate: &G, way: Way, source: &mut S, sink: &mut K) -> Result<Scan<A>, Fault> {
+    match way {
+        Way::Alone => unshared(heap, scan_alone(heap, source, sink)),
+        Way::Following => unshared(heap, follow(heap, source, sink)),
+        Way::Crew(workers, capacity) => scan_with(
+            rt,
+            heap,
+            source,
+            sink,
+            workers.clamp(1, 64),
+            capacity.clamp(1, 4096),
+            gate,
+        ),
+    }
+}
+
+/// Scans what a source gives.
+pub fn scan_from<
+    A: Allocator + Copy + Send + Sync,
+    S: Source,
+    G: Gate,
+    R: Threads + Wait + Clock + Sync,
+>(rt: &R, heap: A, alloc: Global, gate: &G, way: Way, source: &mut S, cuts: Cuts) -> Scanned<A> {
+    let mut sink = CutSink::new(alloc, cuts);
+    let answer = scan_by(rt, heap, gate, way, source, &mut sink);
+    Scanned {
+        answer,
+        taken: sink.taken,
+    }
+}
+
+/// Scans a text with a heap of its own and through any gate, into a sink of another heap.
+pub fn scan_through<A: Allocator + Copy + Send + Sync, G: Gate, R: Threads + Wait + Clock + Sync>(
+    rt: &R,
+    heap: A,
+    alloc: Global,
+    gate: &G,
+    way: Way,
+    text: &[u8],
+    cuts: Cuts,
+) -> Scanned<A> {
+    let mut source = CutSource::new(text, cuts);
+    scan_from(rt, heap, alloc, gate, way, &mut source, cuts)
+}
+
+/// The outcome of a scan, without the shares.
+pub fn outcome_of<A: Allocator>(scanned: Scanned<A>) -> Outcome {
+    let Scanned { answer, taken } = scanned;
+    match answer {
+        Ok(scan) => Outcome {
+            answer: Ok(scan.summary),
+            taken,
+        },
+        Err(fault) => Outcome {
+            answer: Err(fault),
+            taken,
+        },
+    }
+}
+
+/// Scans a text with a heap of its own, into a sink of another.
+pub fn scan_in<A: Allocator + Copy + Send + Sync, R: Threads + Wait + Clock + Sync>(
+    rt: &R,
+    heap: A,
+    alloc: Global,
+    way: Way,
+    text: &[u8],
+    cuts: Cuts,
+) -> Outcome {
+    outcome_of(scan_through(rt, heap, alloc, &OpenGate, way, text, cuts))
+}
+
+/// Scans a text.
+pub fn scan<R: Threads + Wait + Clock + Sync>(
+    rt: &R,
+    alloc: Global,
+    way: Way,
+    text: &[u8],
+    cuts: Cuts,
+) -> Outcome {
+    scan_in(rt, alloc, alloc, way, text, cuts)
+}

@@ -1,0 +1,53 @@
+//! Cutting whose growths are refused.
+
+use crate::checks::holds_at;
+use crate::epochs::{EPOCH, PLAIN, rows_of};
+use line_model::fault::Fault;
+use restart_epochs::cut::cut;
+use std::alloc::Global;
+use std::process::Abort;
+use std::test::Fail;
+use tests_devices::scarce::Scarce;
+
+/// The most growths that this test looks for.
+const GROWTHS: u64 = 1000;
+
+/// Cuts an epoch, with one growth refused after so many: how many pieces there are, and whether one was refused.
+fn cut_with(heap: &Scarce<Global>, good: u64) -> Result<(Result<usize, Fault>, bool), Fail> {
+    let rows = rows_of(heap, EPOCH.as_slice())?;
+    heap.refuse_one(good);
+    let pieces = match cut(&PLAIN, rows) {
+        Ok(cut) => Ok(cut.pieces.len()),
+        Err(fault) => Err(fault),
+    };
+    let refused = good < heap.asked();
+    heap.grant_all();
+    Ok((pieces, refused))
+}
+
+/// Refuses one growth of a cut, and sees that it answers want of memory. Answers whether there was such a growth.
+fn check_growth(rt: &impl Abort, heap: &Scarce<Global>, good: u64) -> Result<bool, Fail> {
+    let (pieces, refused) = cut_with(heap, good)?;
+    let wanted = if refused { Err(Fault::Memory) } else { Ok(4) };
+    holds_at(rt, pieces == wanted, good);
+    holds_at(rt, heap.held() == 0, good);
+    Ok(refused)
+}
+
+/// How many growths a cut has, each of which is refused in turn.
+fn growths(rt: &impl Abort, heap: &Scarce<Global>) -> Result<u64, Fail> {
+    for good in 0..GROWTHS {
+        if !check_growth(rt, heap, good)? {
+            return Ok(good);
+        }
+    }
+    Ok(GROWTHS)
+}
+
+#[test]
+fn each_growth_of_a_cut_may_be_refused(rt: HostRuntime) -> Result<(), Fail> {
+    let heap = Scarce::new(rt.alloc());
+    let growths = growths(&rt, &heap)?;
+    assert!(rt; 0 < growths && growths < GROWTHS);
+    Ok(())
+}

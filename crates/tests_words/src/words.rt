@@ -1,0 +1,115 @@
+//! The words of the program, its exit status, and where its help, its explanations and its refusals go.
+
+mod runs;
+
+use crate::words::runs::run;
+use command_line::options::parse;
+use std::test::Fail;
+use tests_devices::Cuts;
+
+/// A header.
+const HEADER: &str = "X25 1 MOD 8 WIN 2 SIZE 128 PVC 0 SVC 4\n";
+
+#[test]
+fn the_status_follows_the_scan(rt: HostRuntime) -> Result<(), Fail> {
+    let whole = Cuts::of_steps(usize::MAX, usize::MAX);
+    let unread = Cuts {
+        good_bytes: 0,
+        ..whole
+    };
+    let unwritten = Cuts {
+        good_writes: 0,
+        ..whole
+    };
+    for (rows, cuts, status, report, told) in [
+        ("", whole, 0, "P 0 -\nZ 0 0 0 0 0\n", ""),
+        ("1 T -\n", whole, 1, "F 1 T - 38\nP 0 -\nZ 1 1 0 0 0\n", ""),
+        (
+            "5 T -\n5 T -\n",
+            whole,
+            2,
+            "",
+            "x25scan: line 3: kind 25\n  The row's number is 5, and that of the row before is 5: numbers rise.\n",
+        ),
+        ("", unread, 3, "", "x25scan: read failed\n"),
+        ("", unwritten, 3, "", "x25scan: write failed\n"),
+    ] {
+        let text = format!(in rt.alloc(); "{HEADER}{rows}")?;
+        for words in [
+            ["x25scan"].as_slice(),
+            ["x25scan", "--alone"].as_slice(),
+            ["x25scan", "--workers", "1"].as_slice(),
+            ["x25scan", "--alone", "--workers=64"].as_slice(),
+        ] {
+            let ran = run(&rt, rt.alloc(), words, text.as_bytes(), cuts);
+            assert_eq!(rt; ran.status, status, "at {rows}");
+            assert_eq!(rt; ran.taken.as_slice(), report.as_bytes());
+            assert_eq!(rt; ran.told.as_slice(), told.as_bytes());
+        }
+    }
+    Ok(())
+}
+
+#[test]
+fn an_explanation_that_is_not_taken_is_told(rt: HostRuntime) {
+    let cuts = Cuts {
+        good_writes: 1,
+        ..Cuts::of_steps(usize::MAX, 10)
+    };
+    let ran = run(
+        &rt,
+        rt.alloc(),
+        ["x25scan", "--explain", "F"].as_slice(),
+        b"",
+        cuts,
+    );
+    assert_eq!(rt; ran.status, 3);
+    assert_eq!(rt; ran.taken.as_slice(), b"F (line of".as_slice());
+    assert_eq!(rt; ran.told.as_slice(), b"x25scan: write failed\n".as_slice());
+}
+
+#[test]
+fn help_that_is_not_taken_ends_well(rt: HostRuntime) {
+    for words in [
+        ["x25scan", "--help"].as_slice(),
+        ["x25scan", "--version"].as_slice(),
+    ] {
+        let cuts = Cuts {
+            good_writes: 0,
+            ..Cuts::of_steps(1, 1)
+        };
+        let ran = run(&rt, rt.alloc(), words, b"", cuts);
+        assert_eq!(rt; ran.status, 0);
+        assert_eq!(rt; ran.told.as_slice(), b"".as_slice());
+    }
+}
+
+#[test]
+fn the_words_choose_the_threads(rt: HostRuntime) -> Result<(), Fail> {
+    for (words, workers, alone, follow) in [
+        (["x25scan"].as_slice(), 4, false, false),
+        (["x25scan", "--alone"].as_slice(), 4, true, false),
+        (["x25scan", "--follow"].as_slice(), 4, false, true),
+        (["x25scan", "--workers", "1"].as_slice(), 1, false, false),
+        (
+            ["x25scan", "--workers=64", "--alone"].as_slice(),
+            64,
+            true,
+            false,
+        ),
+        (
+            ["x25scan", "--follow", "--workers=2"].as_slice(),
+            2,
+            false,
+            true,
+        ),
+    ] {
+        let Ok(options) = parse(rt.alloc(), words) else {
+            return Err(Fail::new("refused"));
+        };
+        assert_eq!(rt; options.workers, workers);
+        assert_eq!(rt; options.alone, alone);
+        assert_eq!(rt; options.follow, follow);
+    }
+    Ok(())
+}

@@ -1,0 +1,137 @@
+-- A text whose pieces are fed while it is read from a source.
+use Rattle.std.proofs.Common.{◌≡◌, ◌∙◌, sym, ap, subst, refl, ℕ, List, [], ◌++◌, length, Option, Some, None, Result, Ok, Err, append-nil, inl, inr, ◌⊎◌}
+use Rattle.std.specs.Prelude.{IfOk, IfErr, IfSome}
+use Rattle.std.specs.Option.{option_map}
+use Rattle.line_model.specs.work.Book.{KnownPlan}
+use Rattle.line_model.specs.basics.Records.{Piece}
+use Rattle.line_model.specs.text.Text.{early, fault}
+use Rattle.line_model.specs.traces.Traces.{trace_plan}
+use Rattle.line_model.specs.declared.fault.Fault.{Fault}
+use Rattle.line_model.specs.declared.fault.Fault.TheVariants.{Memory, Trace, Read as ReadFailed}
+use Rattle.line_model.proofs.TextLemmas.{early_rows-nothing}
+use Rattle.trace_text.specs.Sources.{BeginsSo, HasFailed, IsAllGiven, IsFedAll, IsFedUpTo, IsRefusedBy, MayBeFed}
+use Rattle.trace_text.specs.StandsFor.{IsFaultOf, IsTextFault}
+use Rattle.trace_text.proofs.SourceLemmas.{all_sound, sound_before}
+use Rattle.shared_work.specs.queue.Passes.{PassView, QueueId}
+use Rattle.shared_work.specs.declared.queue.rule.Record.{Record}
+use Rattle.workers.specs.Workers.{HasFed}
+use Rattle.trace_scan.specs.TextCuts.{HasTaken, IsPlanOf}
+use Rattle.trace_scan.specs.Readings.{HasRead, IsFedTextOf, IsReadOf, IsReadingFault, IsRefusal, IsRefusedText}
+use Rattle.trace_scan.specs.declared.feeding.Read.{Read}
+use Rattle.trace_scan.specs.declared.text_cutter.TextCutter.{TextCutter}
+use Rattle.trace_scan.proofs.Firsts.{none_known}
+
+fed_none : (v : Record) → v.ends ≡ 0 → HasFed v v
+fed_none v none = record { ends = none; pending = refl; done = refl; taken = refl }
+
+pub fed_on : (u v w : Record) → HasFed u v → HasFed v w → HasFed u w
+fed_on u v w first more = record { ends = more.ends; pending = more.pending ∙ first.pending; done = more.done ∙ first.done; taken = more.taken ∙ first.taken }
+
+pub nothing_fed : {A : Type 0} (queue : QueueId) (pass : PassView) (c : TextCutter A) → HasTaken [] c → pass.record_of.fed ≡ 0 → pass.record_of.ends ≡ 0 → pass.pieces ≡ [] → pass.queue ≡ queue → IsFedTextOf queue pass pass [] c
+nothing_fed queue pass c taken none no_ends no_pieces same =
+    let known = none_known [] early_rows-nothing in
+    record {
+      kept = fed_none pass.record_of no_ends;
+      no_ends = no_ends;
+      same = refl;
+      queue_is = same;
+      cut = record { taken = taken; count = none ∙ sym (ap (λ (ps : List Piece). length ps) known); pieces = no_pieces ∙ sym known };
+    }
+
+-- ---- the plan of the text
+
+plan_begun : (left : Option (List ℕ)) (text : List ℕ) → BeginsSo left text → IsPlanOf (option_map trace_plan left) text
+plan_begun None text h = tt
+plan_begun (Some all) text h = (h.0, ap trace_plan h.1)
+
+pub plan_expected : (known : KnownPlan) (left : Option (List ℕ)) → known ≡ option_map trace_plan left → MayBeFed left (IsPlanOf known)
+plan_expected known left e text begins = subst (λ ps. IsPlanOf ps text) (sym e) (plan_begun left text begins)
+
+plan_ended : (left after asked : Option (List ℕ)) (text : List ℕ) → IsAllGiven left after asked text → IfSome (option_map trace_plan left) (λ ps. ps ≡ trace_plan text)
+plan_ended None after asked text source = tt
+plan_ended (Some all) after asked text source = ap trace_plan (source all refl).0
+
+pub plan_whole : (known : KnownPlan) (left after asked : Option (List ℕ)) (text : List ℕ) → known ≡ option_map trace_plan left → IsAllGiven left after asked text → IfSome known (λ ps. ps ≡ trace_plan text)
+plan_whole known left after asked text e source = subst (λ ps. IfSome ps (λ l. l ≡ trace_plan text)) (sym e) (plan_ended left after asked text source)
+
+-- ---- what is told at the end
+
+reading_fault : (f : Fault) → IsTextFault f → IsReadingFault f
+reading_fault Memory h = tt
+reading_fault (Trace line kind) h = tt
+reading_fault _ h = absurd h
+
+pub no_read_fault : (f : Fault) → IsTextFault f → f ≡ ReadFailed → ⊥
+no_read_fault f h e = subst IsTextFault e h
+
+at_end : (text : List ℕ) (f : Fault) → IsFaultOf (fault text) f → IsRefusal text [] f
+at_end text Memory h = tt
+at_end text (Trace line kind) h = inr (refl, h)
+at_end text _ h = absurd h
+
+on_the_way : (given rest : List ℕ) (f : Fault) → IsFaultOf (early given) f → IsRefusal given rest f
+on_the_way given rest Memory h = tt
+on_the_way given rest (Trace line kind) h = inl h
+on_the_way given rest _ h = absurd h
+
+pub has_read : {A : Type 0} (before after asked : Option (List ℕ)) (failed : Type 0) (was_fed : List ℕ → Type 0) (fed : List Piece) (r : Result (Read A) Fault) → (w : IsFedAll before after asked was_fed) → IfOk r (IsReadOf w.text fed) → IfErr r (IsFaultOf (fault w.text)) → IfErr r IsTextFault
+    → HasRead before after asked failed fed r
+has_read before after asked failed was_fed fed (Ok read) w ok refused kinds = record {
+  told = λ all e. let at = w.source all e in (subst (λ t. IsReadOf t fed read) (sym at.0) ok, at.1, at.2);
+  of_text = (w.text, ok);
+  kinds = tt;
+  refused = λ all e. tt;
+  read_failed = λ e. absurd (cc);
+}
+has_read before after asked failed was_fed fed (Err f) w ok refused kinds = record {
+  told = λ all e. tt;
+  of_text = tt;
+  kinds = reading_fault f kinds;
+  refused = λ all e.
+      let at = w.source all e in
+      record { given = w.text; rest = []; whole = at.0 ∙ sym (append-nil w.text); left = at.1; order = inr (all_sound before after asked was_fed all w e); refusal = at_end w.text f refused };
+  read_failed = λ e. let same : f ≡ ReadFailed = cc in absurd (no_read_fault f kinds same);
+}
+
+stop_kinds : (was_fed : List ℕ → Type 0) (start pass : PassView) (fed last : List ℕ) (f : Fault) → HasFailed was_fed fed last f ⊎ IsRefusedText start pass fed last f → IsReadingFault f
+stop_kinds was_fed start pass fed last f (inl why) = subst IsReadingFault (sym why.failure) tt
+stop_kinds was_fed start pass fed last f (inr why) = reading_fault f why.kinds
+
+stop_refusal : (was_fed : List ℕ → Type 0) (refused : (fed last : List ℕ) → Fault → Type 0) (fed last rest : List ℕ) (f : Fault) → early fed ≡ None → (refused fed last f → IsFaultOf (early (fed ++ last)) f) → HasFailed was_fed fed last f ⊎ refused fed last f → IsRefusal (fed ++ last) rest f
+stop_refusal was_fed refused fed last rest f sound is (inl why) =
+    subst (IsRefusal (fed ++ last) rest) (sym why.failure) (subst (λ xs. early (fed ++ xs) ≡ None) (sym why.none) (subst (λ xs. early xs ≡ None) (sym (append-nil fed)) sound))
+stop_refusal was_fed refused fed last rest f sound is (inr why) = on_the_way (fed ++ last) rest f (is why)
+
+-- what the bytes say that were given where reading stopped
+pub refused_by : (before after asked : Option (List ℕ)) (was_fed : List ℕ → Type 0) (refused : (fed last : List ℕ) → Fault → Type 0) (f : Fault) (text : List ℕ) → (u : IsFedUpTo before after asked was_fed refused f) → (refused u.fed u.last f → IsFaultOf (early (u.fed ++ u.last)) f) → before ≡ Some text
+    → IsRefusedBy IsRefusal text after asked f
+refused_by before after asked was_fed refused f text u is told =
+    let at = u.given text told in
+    record {
+      given = u.fed ++ u.last;
+      rest = at.0;
+      whole = at.1;
+      left = at.2;
+      order = inr (sound_before before after asked was_fed refused f text u told);
+      refusal = stop_refusal was_fed refused u.fed u.last at.0 f u.sound is u.why;
+    }
+
+pub has_stopped : {A : Type 0} (before after asked : Option (List ℕ)) (failed : Type 0) (was_fed : List ℕ → Type 0) (start pass : PassView) (fed : List Piece) (f : Fault) → IsFedUpTo before after asked was_fed (IsRefusedText start pass) f → (f ≡ ReadFailed → failed)
+    → HasRead {A = A} before after asked failed fed (Err f)
+has_stopped before after asked failed was_fed start pass fed f u fails = record {
+  told = λ all e. tt;
+  of_text = tt;
+  kinds = stop_kinds was_fed start pass u.fed u.last f u.why;
+  refused = λ all e. refused_by before after asked was_fed (IsRefusedText start pass) f all u (λ why. why.refusal) e;
+  read_failed = λ e. let same : f ≡ ReadFailed = cc in fails same;
+}
+
+-- ---- what the pass did
+
+pub stop_kept : (was_fed : List ℕ → Type 0) (start pass : PassView) (fed last : List ℕ) (f : Fault) → (was_fed fed → HasFed start.record_of pass.record_of) → HasFailed was_fed fed last f ⊎ IsRefusedText start pass fed last f → HasFed start.record_of pass.record_of
+stop_kept was_fed start pass fed last f kept (inl why) = kept why.stands
+stop_kept was_fed start pass fed last f kept (inr why) = why.kept
+
+pub stop_queue : (was_fed : List ℕ → Type 0) (start pass : PassView) (fed last : List ℕ) (f : Fault) → (was_fed fed → pass.queue ≡ start.queue) → HasFailed was_fed fed last f ⊎ IsRefusedText start pass fed last f → pass.queue ≡ start.queue
+stop_queue was_fed start pass fed last f same (inl why) = same why.stands
+stop_queue was_fed start pass fed last f same (inr why) = why.same

@@ -1,0 +1,73 @@
+-- What was read of a source.
+use Rattle.std.specs.Prelude.{◌≡◌, ℕ, ◌⊎◌, List, [], ◌++◌, length, Option, Some, None, Result, Err, IfOk, IfErr, MatchOption}
+use Rattle.line_model.specs.basics.Records.{Row, Piece}
+use Rattle.line_model.specs.declared.interface.Interface.{Interface}
+use Rattle.line_model.specs.text.Text.{early, fault, head, rows}
+use Rattle.line_model.specs.pieces.Plans.{plan, line_findings}
+use Rattle.trace_text.specs.Sources.{IsRefusedBy}
+use Rattle.trace_text.specs.StandsFor.{IsFaultOf, IsTextFault}
+use Rattle.line_model.specs.declared.fault.Fault.{Fault}
+use Rattle.line_model.specs.declared.fault.Fault.TheVariants.{Memory, Trace, Read as ReadFailed, Write, Start}
+use Rattle.shared_work.specs.queue.Passes.{PassView, QueueId}
+use Rattle.workers.specs.Workers.{HasFed}
+use Rattle.trace_scan.specs.TextCuts.{IsFedTo}
+use Rattle.trace_scan.specs.declared.text_cutter.TextCutter.{TextCutter}
+use Rattle.trace_scan.specs.declared.feeding.Read.{Read}
+
+-- this is what the rows of an interface say, and the pieces of their plan were fed, all and in order
+pub record IsCutOf {A : Type 0} (i : Interface) (rs : List Row) (fed : List Piece) (r : Read A) : Type 0 where
+  pub interface : r.interface ≡ i
+  pub all : fed ≡ plan i rs
+  pub line : r.line.items ≡ line_findings i rs
+  pub packets : r.packets ≡ length rs
+  pub pieces : r.pieces ≡ length fed
+
+-- the text has no fault, this was read of it, and its pieces were fed
+pub record IsReadOf {A : Type 0} (text : List ℕ) (fed : List Piece) (r : Read A) : Type 0 where
+  pub sound : fault text ≡ None
+  pub header : head text ≡ Some r.interface
+  pub cut : IsCutOf r.interface (rows text) fed r
+
+-- what a refusal says of the bytes that were given: the first faulty line is told as soon as they show it, else at the end of the text; the
+-- source failed while they showed none; the sink failed on the report of a text without a fault; where no thread was made, none was given
+abbrev pub IsRefusal : (given rest : List ℕ) → Fault → Type 0
+IsRefusal given rest Memory = Unit {0}
+IsRefusal given rest (Trace line kind) = (early given ≡ Some (line, kind)) ⊎ ((rest ≡ []) × (fault given ≡ Some (line, kind)))
+IsRefusal given rest ReadFailed = early given ≡ None
+IsRefusal given rest Write = (rest ≡ []) × (fault given ≡ None)
+IsRefusal given rest Start = given ≡ []
+IsRefusal given rest _ = ⊥
+
+-- the faults that reading a text may meet
+abbrev pub IsReadingFault : Fault → Type 0
+IsReadingFault Memory = Unit {0}
+IsReadingFault (Trace line kind) = Unit {0}
+IsReadingFault ReadFailed = Unit {0}
+IsReadingFault _ = ⊥
+
+-- a text was fed since the pass of the queue was `start`: it was cut, and the pieces that are known whole were fed
+pub record IsFedTextOf {A : Type 0} (queue : QueueId) (start pass : PassView) (text : List ℕ) (c : TextCutter A) : Type 0 where
+  pub kept : HasFed start.record_of pass.record_of
+  pub no_ends : start.record_of.ends ≡ 0
+  pub same : pass.queue ≡ start.queue
+  pub queue_is : pass.queue ≡ queue
+  pub cut : IsFedTo text pass c
+
+-- after this text was fed, the next bytes of it were refused
+pub record IsRefusedText (start pass : PassView) (text last : List ℕ) (told : Fault) : Type 0 where
+  pub kept : HasFed start.record_of pass.record_of
+  pub same : pass.queue ≡ start.queue
+  pub refusal : IsFaultOf (early (text ++ last)) told
+  pub kinds : IsTextFault told
+
+-- these pieces were fed, by which all of a text was read, or it was refused; `asked` is what the source had before its last call
+pub record HasRead {A : Type 0} (before after asked : Option (List ℕ)) (failed : Type 0) (fed : List Piece) (r : Result (Read A) Fault) : Type 0 where
+  pub told : (text : List ℕ) → before ≡ Some text → IfOk r (λ read. IsReadOf text fed read × (after ≡ Some []) × (asked ≡ Some []))
+  pub of_text : IfOk r (λ read. (text : List ℕ) × IsReadOf text fed read)
+  pub kinds : IfErr r IsReadingFault
+  pub refused : (text : List ℕ) → before ≡ Some text → IfErr r (IsRefusedBy IsRefusal text after asked)
+  pub read_failed : r ≡ Err ReadFailed → failed
+
+-- the source was read
+abbrev pub IsOutcome : {A : Type 0} → (before after asked : Option (List ℕ)) → (failed : Type 0) → List Piece → Option (Result (Read A) Fault) → Type 0
+IsOutcome before after asked failed fed outcome = MatchOption outcome ⊥ (HasRead before after asked failed fed)

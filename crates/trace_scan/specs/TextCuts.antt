@@ -1,0 +1,65 @@
+-- How far a text was read, and its rows cut.
+use Rattle.std.specs.Prelude.{◌≡◌, ℕ, ◌≤◌, ◌^◌, List, [], ◌∷◌, ◌++◌, length, map, sum_by, All, Option, Some, None, IfSome}
+use Rattle.std.specs.List.Sorted.{IsStrictlyIncreasing}
+use Rattle.line_model.specs.declared.interface.Interface.{Interface}
+use Rattle.line_model.specs.work.Book.{KnownPlan}
+use Rattle.line_model.specs.basics.Records.{Row, Piece}
+use Rattle.line_model.specs.text.Text.{early_head, early_rows, last_or}
+use Rattle.line_model.specs.traces.Traces.{trace_plan}
+use Rattle.restart_epochs.specs.Cutting.{Cutting, StandsFor as IsCutterOf, given_of}
+use Rattle.shared_work.specs.queue.Passes.{PassView}
+use Rattle.trace_text.specs.Progress.{Progress}
+use Rattle.trace_text.specs.StandsFor.{StandsFor}
+use Rattle.trace_scan.specs.declared.text_cutter.Front.{Front}
+use Rattle.trace_scan.specs.declared.text_cutter.TextCutter.{TextCutter}
+
+-- rows as a text has them: their numbers rise, and they have few octets
+pub record IsTrace (rs : List Row) : Type 0 where
+  pub rising : IsStrictlyIncreasing (0 ∷ map (λ r. r.number) rs)
+  pub numbers : All (λ r. r.number ≤ 999999999) rs
+  pub octets : sum_by (λ r. length r.octets) rs ≤ 2 ^ 31
+
+-- a cutter that was given these rows has counted them
+pub record IsCounting (rs : List Row) (c : Cutting) : Type 0 where
+  pub last : c.last ≡ last_or 0 (map (λ r. r.number) rs)
+  pub octets : c.octets ≡ sum_by (λ r. length r.octets) rs
+
+-- the cutter was given these rows
+pub record HasCut {A : Type 0} (rs : List Row) (f : Front A) : Type 0 where
+  pub stands : IsCutterOf f.interface rs f.cutter
+  pub counting : IsCounting rs f.cutter
+
+-- a text was read so far, and the rows of the lines that an LF ended were cut
+pub record IsCutTo {A : Type 0} (text : List ℕ) (lines : Progress) (f : Front A) : Type 0 where
+  pub reads : StandsFor lines text
+  pub header : lines.interface ≡ Some f.interface
+  pub cut : HasCut (early_rows text) f
+
+-- the rows were cut, if there are any
+abbrev pub AreCut : {A : Type 0} → List Row → Option Interface → Option (Front A) → Type 0
+AreCut rows head None = rows ≡ []
+AreCut rows head (Some f) = (head ≡ Some f.interface) × HasCut rows f
+
+-- it was given this text
+pub record HasTaken {A : Type 0} (text : List ℕ) (c : TextCutter A) : Type 0 where
+  pub reads : StandsFor c.lines text
+  pub cut : AreCut (early_rows text) c.lines.interface c.front
+
+-- the pieces of some rows that are known whole, where there is a header
+abbrev pub known_of : Option Interface → List Row → List Piece
+known_of None rs = []
+known_of (Some i) rs = given_of i rs
+
+-- the pieces of a text that are known whole
+abbrev pub known_pieces : List ℕ → List Piece
+known_pieces text = known_of (early_head text) (early_rows text)
+
+-- it was given this text, and the pieces that are known whole were fed
+pub record IsFedTo {A : Type 0} (text : List ℕ) (fed : PassView) (c : TextCutter A) : Type 0 where
+  pub taken : HasTaken text c
+  pub count : fed.record_of.fed ≡ length (known_pieces text)
+  pub pieces : fed.pieces ≡ known_pieces text
+
+-- the plan, where it is known, is that of a text that begins so
+abbrev pub IsPlanOf : KnownPlan → List ℕ → Type 0
+IsPlanOf plan text = IfSome plan (λ ps. (rest : List ℕ) × (ps ≡ trace_plan (text ++ rest)))

@@ -1,0 +1,265 @@
+//! A text that is cut as it is read: each row goes through the cutter as soon as its line has ended.
+
+ghost use Rattle.std.specs.Prelude.{◌≡◌, ℕ, ◌++◌, ◌∷◌, ◌+◌, ◌≤◌, ◌^◌, [], List, Option, None, Some, IfErr, IfOk, IfSome, OnOk, length};
+ghost use Rattle.line_model.specs.text.Text.{early, early_rows, fault, head, rows};
+ghost use Rattle.line_model.specs.basics.Records as records;
+ghost use Rattle.line_model.specs.declared.interface.Interface.{Interface as AnyInterface};
+ghost use Rattle.line_model.specs.declared.fault.Fault.TheVariants.{Memory};
+ghost use Rattle.trace_text.specs.Progress.{bytes_fed};
+ghost use Rattle.trace_text.specs.StandsFor.{last_row, IsFaultOf, IsTextFault};
+ghost use Rattle.restart_epochs.specs.Cutting.{HasAppended, given_of};
+ghost use Rattle.trace_scan.specs.TextCuts.{AreCut, HasCut, HasTaken, IsCutTo, IsTrace, known_pieces};
+
+use line_model::fault::Fault;
+use line_model::interface::Interface;
+use line_model::piece::Piece;
+use line_model::row::Row;
+use line_model::state::Side;
+use packet_decode::decode::decode;
+use restart_epochs::cutter::Cutter;
+use std::alloc::{Allocator, Global};
+use trace_text::lines::Lines;
+
+/// The cutter of a text whose header was read.
+#[derive(Drop)]
+pub struct Front<A: Allocator = Global> {
+    pub interface: Interface,
+    pub cutter: Cutter<A>,
+}
+
+impl<A: Allocator + Copy> Front<A> {
+    /// Before the first row.
+    fn new(alloc: A, interface: &Interface) -> Self
+        ensures interface { result.interface ≡ interface.now }
+        ensures cut { HasCut [] result }
+    {
+        Front {
+            interface: *interface,
+            cutter: Cutter::new(alloc, interface),
+        }
+    }
+
+    /// Cuts a row, and appends the pieces that are known whole with it.
+    fn cut(&mut self, row: &Row<A>, pieces: &mut Vec<Piece<A>, A>) -> Result<(), Fault>
+        requires next { (before : List records.Row) × HasCut before self.old
+            × IsTrace (before ++ row.now ∷ []) }
+        ensures interface { self.new.interface ≡ self.old.interface }
+        ensures cut { (before : List records.Row) → HasCut before self.old
+            → OnOk result (HasCut (before ++ row.now ∷ []) self.new) }
+        ensures pieces { (before : List records.Row) → HasCut before self.old
+            → OnOk result (HasAppended pieces.old.items pieces.new.items
+            (given_of self.old.interface before)
+            (given_of self.old.interface (before ++ row.now ∷ []))) }
+        ensures memory { IfErr result (λ fault. fault ≡ Memory) }
+    {
+        let packet = decode(&self.interface, row.octets.as_slice());
+        self.cutter.push(&row.with_packet(packet), pieces)
+    }
+
+    /// Cuts the row of a last line that no LF ended, if it has one.
+    fn cut_last(
+        &mut self,
+        has_row: bool,
+        row: &Row<A>,
+        pieces: &mut Vec<Piece<A>, A>,
+    ) -> Result<(), Fault>
+        requires next { (before : List records.Row) × HasCut before self.old
+            × IsTrace (before ++ last_row has_row row.now) }
+        ensures interface { self.new.interface ≡ self.old.interface }
+        ensures cut { (before : List records.Row) → HasCut before self.old
+            → OnOk result (HasCut (before ++ last_row has_row row.now) self.new) }
+        ensures pieces { (before : List records.Row) → HasCut before self.old
+            → OnOk result (HasAppended pieces.old.items pieces.new.items
+            (given_of self.old.interface before)
+            (given_of self.old.interface (before ++ last_row has_row row.now))) }
+        ensures memory { IfErr result (λ fault. fault ≡ Memory) }
+    {
+        if has_row {
+            return self.cut(row, pieces);
+        }
+        Ok(())
+    }
+
+    /// Cuts the rows of the lines that an LF of this part of the text ends, each read into the place of the one before,
+    /// and appends the pieces that are known whole with them.
+    fn cut_lines(
+        &mut self,
+        bytes: &[u8],
+        lines: &mut Lines<A>,
+        row: &mut Row<A>,
+        pieces: &mut Vec<Piece<A>, A>,
+    ) -> Result<(), Fault>
+        requires { (text : List ℕ) × IsCutTo text lines.old self.old }
+        ensures interface { self.new.interface ≡ self.old.interface }
+        ensures cut { (text : List ℕ) → IsCutTo text lines.old self.old
+            → OnOk result (IsCutTo (text ++ bytes.now) lines.new self.new) }
+        ensures pieces { (text : List ℕ) → IsCutTo text lines.old self.old
+            → OnOk result (HasAppended pieces.old.items pieces.new.items
+            (given_of self.old.interface (early_rows text))
+            (given_of self.old.interface (early_rows (text ++ bytes.now)))) }
+        ensures refused { (text : List ℕ) → IsCutTo text lines.old self.old
+            → IfErr result (IsFaultOf (early (text ++ bytes.now))) }
+        ensures size { OnOk result (bytes_fed lines.new ≡ bytes_fed lines.old + length bytes.now) }
+        ensures limit { OnOk result (bytes_fed lines.new ≤ 2 ^ 30) }
+        ensures kinds { IfErr result IsTextFault }
+    {
+        let mut rest = bytes;
+        loop {
+            match lines.next_row(rest, row) {
+                Ok(Some(after)) => {
+                    self.cut(row, pieces)?;
+                    rest = after;
+                }
+                Ok(None) => return Ok(()),
+                Err(fault) => return Err(fault),
+            }
+        }
+    }
+}
+
+/// The front of a text whose header was read: a new one before its first row.
+fn front_of<A: Allocator + Copy>(
+    alloc: A,
+    interface: &Interface,
+    front: Option<Front<A>>,
+) -> Front<A>
+    ensures cut { (rows : List records.Row) (head : Option AnyInterface) → AreCut rows head front
+        → IfSome head (λ i. i ≡ interface.now) → HasCut rows result }
+    ensures interface { (rows : List records.Row) (head : Option AnyInterface)
+        → AreCut rows head front → IfSome head (λ i. i ≡ interface.now)
+        → result.interface ≡ interface.now }
+{
+    match front {
+        Some(front) => front,
+        None => Front::new(alloc, interface),
+    }
+}
+
+/// A text that is taken part by part, and cut into the pieces of its trace.
+#[derive(Drop)]
+pub struct TextCutter<A: Allocator = Global> {
+    pub lines: Lines<A>,
+    /// The last row, whose room the next one uses.
+    row: Row<A>,
+    /// Made once the first row was read.
+    front: Option<Front<A>>,
+}
+
+impl<A: Allocator + Copy> TextCutter<A> {
+    /// A text of which nothing was taken. It takes no memory.
+    pub fn new(alloc: A) -> Self
+        ensures { HasTaken [] result }
+    {
+        TextCutter {
+            lines: Lines::new(alloc),
+            row: Row {
+                number: 0,
+                side: Side::T,
+                octets: Vec::new(alloc),
+            },
+            front: None,
+        }
+    }
+
+    /// Takes the next part of the text, and appends the pieces that are known whole with its rows.
+    fn take_into(&mut self, bytes: &[u8], pieces: &mut Vec<Piece<A>, A>) -> Result<(), Fault>
+        requires { (text : List ℕ) × HasTaken text self.old }
+        ensures taken { (text : List ℕ) → HasTaken text self.old
+            → OnOk result (HasTaken (text ++ bytes.now) self.new) }
+        ensures pieces { (text : List ℕ) → HasTaken text self.old
+            → OnOk result (HasAppended pieces.old.items pieces.new.items
+            (known_pieces text) (known_pieces (text ++ bytes.now))) }
+        ensures refused { (text : List ℕ) → HasTaken text self.old
+            → IfErr result (IsFaultOf (early (text ++ bytes.now))) }
+        ensures size { OnOk result (bytes_fed self.new.lines
+            ≡ bytes_fed self.old.lines + length bytes.now) }
+        ensures limit { OnOk result (bytes_fed self.new.lines ≤ 2 ^ 30) }
+        ensures kinds { IfErr result IsTextFault }
+    {
+        if let Some(front) = &mut self.front {
+            return front.cut_lines(bytes, &mut self.lines, &mut self.row, pieces);
+        }
+        self.begin(bytes, pieces)
+    }
+
+    /// Takes the next part of a text of which no row was read, and appends the pieces that are known whole with its rows.
+    fn begin(&mut self, bytes: &[u8], pieces: &mut Vec<Piece<A>, A>) -> Result<(), Fault>
+        requires taken { (text : List ℕ) × HasTaken text self.old }
+        requires bare { self.old.front ≡ None }
+        ensures taken { (text : List ℕ) → HasTaken text self.old
+            → OnOk result (HasTaken (text ++ bytes.now) self.new) }
+        ensures pieces { (text : List ℕ) → HasTaken text self.old
+            → OnOk result (HasAppended pieces.old.items pieces.new.items
+            (known_pieces text) (known_pieces (text ++ bytes.now))) }
+        ensures refused { (text : List ℕ) → HasTaken text self.old
+            → IfErr result (IsFaultOf (early (text ++ bytes.now))) }
+        ensures size { OnOk result (bytes_fed self.new.lines
+            ≡ bytes_fed self.old.lines + length bytes.now) }
+        ensures limit { OnOk result (bytes_fed self.new.lines ≤ 2 ^ 30) }
+        ensures kinds { IfErr result IsTextFault }
+    {
+        let Some(rest) = self.lines.next_row(bytes, &mut self.row)? else {
+            return Ok(());
+        };
+        let Some(interface) = self.lines.interface() else {
+            unreachable!();
+        };
+        let mut front = Front::new(*self.row.octets.allocator(), &interface);
+        front.cut(&self.row, pieces)?;
+        match front.cut_lines(rest, &mut self.lines, &mut self.row, pieces) {
+            Ok(()) => {
+                self.front = Some(front);
+                Ok(())
+            }
+            Err(fault) => Err(fault),
+        }
+    }
+
+    /// Takes the next part of the text. The pieces that are known whole with its rows.
+    pub fn take(&mut self, bytes: &[u8]) -> Result<Vec<Piece<A>, A>, Fault>
+        requires { (text : List ℕ) × HasTaken text self.old }
+        ensures taken { (text : List ℕ) → HasTaken text self.old
+            → OnOk result (HasTaken (text ++ bytes.now) self.new) }
+        ensures pieces { (text : List ℕ) → HasTaken text self.old
+            → IfOk result (λ pieces. known_pieces (text ++ bytes.now)
+            ≡ known_pieces text ++ pieces.items) }
+        ensures refused { (text : List ℕ) → HasTaken text self.old
+            → IfErr result (IsFaultOf (early (text ++ bytes.now))) }
+        ensures size { OnOk result (bytes_fed self.new.lines
+            ≡ bytes_fed self.old.lines + length bytes.now) }
+        ensures limit { OnOk result (bytes_fed self.new.lines ≤ 2 ^ 30) }
+        ensures kinds { IfErr result IsTextFault }
+    {
+        let mut pieces = Vec::new(*self.row.octets.allocator());
+        self.take_into(bytes, &mut pieces)?;
+        Ok(pieces)
+    }
+
+    /// The text has ended, and its last line may lack its LF: all its rows are cut. The pieces that are known whole with
+    /// the row of that line are appended.
+    pub fn end(self, pieces: &mut Vec<Piece<A>, A>) -> Result<Front<A>, Fault>
+        requires { (text : List ℕ) × HasTaken text self }
+        ensures sound { (text : List ℕ) → HasTaken text self
+            → IfOk result (λ front. (fault text ≡ None) × (head text ≡ Some front.interface)) }
+        ensures cut { (text : List ℕ) → HasTaken text self → IfOk result (HasCut (rows text)) }
+        ensures pieces { (text : List ℕ) → HasTaken text self
+            → IfOk result (λ front. HasAppended pieces.old.items pieces.new.items
+            (known_pieces text) (given_of front.interface (rows text))) }
+        ensures refused { (text : List ℕ) → HasTaken text self
+            → IfErr result (IsFaultOf (fault text)) }
+        ensures kinds { IfErr result IsTextFault }
+    {
+        let TextCutter {
+            lines,
+            mut row,
+            front,
+        } = self;
+        let end = match lines.end_row(&mut row) {
+            Ok(end) => end,
+            Err(fault) => return Err(fault),
+        };
+        let mut front = front_of(*row.octets.allocator(), &end.interface, front);
+        front.cut_last(end.has_row, &row, pieces)?;
+        Ok(front)
+    }
+}

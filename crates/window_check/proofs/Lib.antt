@@ -1,3 +1,0 @@
-pub mod FlowLemmas
-pub mod SendLemmas
-pub mod WordLemmas

@@ -1,5 +1,0 @@
-use Rattle.std.proofs.Common.{rules}
-use Rattle.window_check.proofs.flow.Flow.pack.Goals as goal
-
-pub returns-clause-word : goal.returns-clause-word
-returns-clause-word c = search rules

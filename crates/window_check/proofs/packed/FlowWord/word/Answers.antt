@@ -1,7 +1,0 @@
-use Rattle.std.proofs.Common.{◌∙◌, sym, ap}
-use Rattle.window_check.specs.Packed.{packed_word}
-use Rattle.window_check.specs.PackedLaw.{packed_word-packed_in}
-use Rattle.window_check.proofs.packed.FlowWord.word.Goals as goal
-
-pub returns : goal.returns
-returns c = sym (packed_word-packed_in c.self.inside.word) ∙ ap packed_word c.self.view_is

@@ -1,4 +1,0 @@
-use Rattle.worker_tests.proofs.posting.refused.play.Given as goal
-
-abbrev pub ghosts-play_refused : goal.ghosts-play_refused
-ghosts-play_refused g a = record { names = a.blanks }

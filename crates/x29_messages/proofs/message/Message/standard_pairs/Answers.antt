@@ -1,7 +1,0 @@
-use Rattle.std.proofs.Common.{◌∙◌, ap}
-use Rattle.x29_messages.specs.Pairs.{pairs_before}
-use Rattle.x29_messages.proofs.message.Message.standard_pairs.Goals as goal
-
-pub returns : goal.returns
-returns c =
-    c.new.ensures ∙ ap (λ b. pairs_before b c.args.self.now.pairs.now) (c.is_indication.ensures c.args.self.now.pairs.now)

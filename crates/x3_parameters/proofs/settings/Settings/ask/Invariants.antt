@@ -1,6 +1,0 @@
-use Rattle.x3_parameters.specs.Effects.{asked_one}
-use Rattle.x3_parameters.proofs.Walked.{IsWalked}
-use Rattle.x3_parameters.proofs.settings.Settings.ask.Given as goal
-
-abbrev pub invariant-loop-pair : goal.invariant-loop-pair
-invariant-loop-pair l = IsWalked asked_one l.fn.self l.self l.pair-iterator l.fn.pairs

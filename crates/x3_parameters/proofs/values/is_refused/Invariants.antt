@@ -1,7 +1,0 @@
-use Rattle.std.proofs.Common.{◌≡◌}
-use Rattle.std.specs.List.{list_any}
-use Rattle.line_model.specs.channels.Pad.{is_refusable}
-use Rattle.x3_parameters.proofs.values.is_refused.Given as goal
-
-abbrev pub invariant-loop-pair : goal.invariant-loop-pair
-invariant-loop-pair l = list_any is_refusable l.pair-iterator ≡ list_any is_refusable l.fn.pairs
