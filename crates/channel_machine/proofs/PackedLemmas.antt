@@ -10,8 +10,8 @@ use Rattle.channel_machine.specs.Status.{CountsAlone}
 use Rattle.channel_machine.specs.PackedStatus.{settled, state_by, state_in, owed_in, call_by, call_in, values_in, status_in}
 
 -- five fields, one above the other: the states, whether an indication is owed, the call, and the logarithms of both sizes
-abbrev pub above_of : (s o c t n : ℕ) → ℕ
-above_of s o c t n = s + o * 32 + c * 64 + t * 1024 + n * 16384
+abbrev pub owner_bits_of : (s o c t n : ℕ) → ℕ
+owner_bits_of s o c t n = s + o * 32 + c * 64 + t * 1024 + n * 16384
 
 -- a bit
 pub byte_below : (b : Bool) → bool_byte b < 2
@@ -22,47 +22,47 @@ pub byte_is : (b : Bool) → (bool_byte b == 1) ≡ b
 byte_is true = refl
 byte_is false = refl
 
-setup_is : (s o c t n : ℕ) → above_of s o c t n % 8 ≡ s % 8
+setup_is : (s o c t n : ℕ) → owner_bits_of s o c t n % 8 ≡ s % 8
 setup_is s o c t n = omega arith
 
-transfer_is : (s o c t n : ℕ) → s < 32 → above_of s o c t n / 8 % 4 ≡ s / 8 % 4
+transfer_is : (s o c t n : ℕ) → s < 32 → owner_bits_of s o c t n / 8 % 4 ≡ s / 8 % 4
 transfer_is s o c t n hs = omega (arith, hs)
 
-owed_is : (s o c t n : ℕ) → s < 32 → o < 2 → above_of s o c t n / 32 % 2 ≡ o
+owed_is : (s o c t n : ℕ) → s < 32 → o < 2 → owner_bits_of s o c t n / 32 % 2 ≡ o
 owed_is s o c t n hs ho = omega (arith, hs, ho)
 
-call_is : (s o c t n : ℕ) → s < 32 → o < 2 → c < 16 → above_of s o c t n / 64 % 16 ≡ c
+call_is : (s o c t n : ℕ) → s < 32 → o < 2 → c < 16 → owner_bits_of s o c t n / 64 % 16 ≡ c
 call_is s o c t n hs ho hc = omega (arith, hs, ho, hc)
 
-size_t_is : (s o c t n : ℕ) → s < 32 → o < 2 → c < 16 → t < 16 → above_of s o c t n / 1024 % 16 ≡ t
+size_t_is : (s o c t n : ℕ) → s < 32 → o < 2 → c < 16 → t < 16 → owner_bits_of s o c t n / 1024 % 16 ≡ t
 size_t_is s o c t n hs ho hc ht = omega (arith, hs, ho, hc, ht)
 
-size_n_is : (s o c t n : ℕ) → s < 32 → o < 2 → c < 16 → t < 16 → n < 16 → above_of s o c t n / 16384 % 16 ≡ n
+size_n_is : (s o c t n : ℕ) → s < 32 → o < 2 → c < 16 → t < 16 → n < 16 → owner_bits_of s o c t n / 16384 % 16 ≡ n
 size_n_is s o c t n hs ho hc ht hn = omega (arith, hs, ho, hc, ht, hn)
 
-pub state_of_fields : (s o c t n : ℕ) → s < 32 → state_in (above_of s o c t n) ≡ state_by (s % 8) (s / 8 % 4)
+pub state_of_fields : (s o c t n : ℕ) → s < 32 → state_in (owner_bits_of s o c t n) ≡ state_by (s % 8) (s / 8 % 4)
 state_of_fields s o c t n hs = λ j. state_by (setup_is s o c t n j) (transfer_is s o c t n hs j)
 
-pub owed_of_fields : (s o c t n : ℕ) → s < 32 → o < 2 → owed_in (above_of s o c t n) ≡ (o == 1)
+pub owed_of_fields : (s o c t n : ℕ) → s < 32 → o < 2 → owed_in (owner_bits_of s o c t n) ≡ (o == 1)
 owed_of_fields s o c t n hs ho = ap (λ v. v == 1) (owed_is s o c t n hs ho)
 
-pub call_of_fields : (s o c t n : ℕ) → s < 32 → o < 2 → c < 16 → call_in (above_of s o c t n) ≡ call_by c
+pub call_of_fields : (s o c t n : ℕ) → s < 32 → o < 2 → c < 16 → call_in (owner_bits_of s o c t n) ≡ call_by c
 call_of_fields s o c t n hs ho hc = ap (λ v. call_by v) (call_is s o c t n hs ho hc)
 
-pub size_t_of_fields : (s o c t n : ℕ) → s < 32 → o < 2 → c < 16 → t < 16 → 2 ^ (above_of s o c t n / 1024 % 16) ≡ 2 ^ t
+pub size_t_of_fields : (s o c t n : ℕ) → s < 32 → o < 2 → c < 16 → t < 16 → 2 ^ (owner_bits_of s o c t n / 1024 % 16) ≡ 2 ^ t
 size_t_of_fields s o c t n hs ho hc ht = ap (λ v. 2 ^ v) (size_t_is s o c t n hs ho hc ht)
 
-pub size_n_of_fields : (s o c t n : ℕ) → s < 32 → o < 2 → c < 16 → t < 16 → n < 16 → 2 ^ (above_of s o c t n / 16384 % 16) ≡ 2 ^ n
+pub size_n_of_fields : (s o c t n : ℕ) → s < 32 → o < 2 → c < 16 → t < 16 → n < 16 → 2 ^ (owner_bits_of s o c t n / 16384 % 16) ≡ 2 ^ n
 size_n_of_fields s o c t n hs ho hc ht hn = ap (λ v. 2 ^ v) (size_n_is s o c t n hs ho hc ht hn)
 
-pub fields_fit : (s o c t n : ℕ) → s < 32 → o < 2 → c < 16 → t < 16 → n < 16 → above_of s o c t n < 2 ^ 19
+pub fields_fit : (s o c t n : ℕ) → s < 32 → o < 2 → c < 16 → t < 16 → n < 16 → owner_bits_of s o c t n < 2 ^ 19
 fields_fit s o c t n hs ho hc ht hn = omega (arith, hs, ho, hc, ht, hn)
 
 -- the values of a word that was made of them
-pub values_new : (w : Packed) (a : ℕ) (f : FlowResidues) (v : Values) → w.above ≡ a → w.flow ≡ f →
+pub values_new : (w : Packed) (a : ℕ) (f : FlowResidues) (v : Values) → w.owner_bits ≡ a → w.flow ≡ f →
     f.windows ≡ record { of_t = v.window_t; of_n = v.window_n } → 2 ^ (a / 1024 % 16) ≡ v.size_t → 2 ^ (a / 16384 % 16) ≡ v.size_n → values_in w ≡ v
-values_new w a f v above flow windows size_t size_n =
-    (λ j. values_in (record { flow = flow j; above = above j }))
+values_new w a f v owner_bits flow windows size_t size_n =
+    (λ j. values_in (record { flow = flow j; owner_bits = owner_bits j }))
     ∙ (λ j. record { size_t = size_t j; size_n = size_n j; window_t = (windows j).of_t; window_n = (windows j).of_n })
 
 -- the same with nothing owed
@@ -84,19 +84,19 @@ settled_size_t a = omega arith
 settled_size_n : (a : ℕ) → settled a / 16384 % 16 ≡ a / 16384 % 16
 settled_size_n a = omega arith
 
-pub settled_status : (i : Interface) (old new : Packed) → new.above ≡ settled old.above → new.flow ≡ old.flow →
+pub settled_status : (i : Interface) (old new : Packed) → new.owner_bits ≡ settled old.owner_bits → new.flow ≡ old.flow →
     status_in i new ≡ record (status_in i old) { owed = false }
-settled_status i old new above flow =
-    (λ j. status_in i (record { flow = flow j; above = above j }))
+settled_status i old new owner_bits flow =
+    (λ j. status_in i (record { flow = flow j; owner_bits = owner_bits j }))
     ∙ (λ j. record {
-      state = state_by (settled_setup old.above j) (settled_transfer old.above j);
-      owed = settled_owed old.above j == 1;
+      state = state_by (settled_setup old.owner_bits j) (settled_transfer old.owner_bits j);
+      owed = settled_owed old.owner_bits j == 1;
       terms = record {
         interface = i;
-        call = call_by (settled_call old.above j);
+        call = call_by (settled_call old.owner_bits j);
         values = record {
-          size_t = 2 ^ settled_size_t old.above j;
-          size_n = 2 ^ settled_size_n old.above j;
+          size_t = 2 ^ settled_size_t old.owner_bits j;
+          size_n = 2 ^ settled_size_n old.owner_bits j;
           window_t = old.flow.windows.of_t;
           window_n = old.flow.windows.of_n;
         };
@@ -104,30 +104,30 @@ settled_status i old new above flow =
       flow = old.flow;
     })
 
-pub settled_usable : (m : ℕ) (old new : Packed) → new.above ≡ settled old.above → new.flow ≡ old.flow →
+pub settled_usable : (m : ℕ) (old new : Packed) → new.owner_bits ≡ settled old.owner_bits → new.flow ≡ old.flow →
     AreUsable m (values_in old) → AreUsable m (values_in new)
-settled_usable m old new above flow usable =
-    subst (λ v. AreUsable m v) (sym ((λ j. values_in (record { flow = flow j; above = above j }))
+settled_usable m old new owner_bits flow usable =
+    subst (λ v. AreUsable m v) (sym ((λ j. values_in (record { flow = flow j; owner_bits = owner_bits j }))
     ∙ (λ j. record {
-      size_t = 2 ^ settled_size_t old.above j;
-      size_n = 2 ^ settled_size_n old.above j;
+      size_t = 2 ^ settled_size_t old.owner_bits j;
+      size_n = 2 ^ settled_size_n old.owner_bits j;
       window_t = old.flow.windows.of_t;
       window_n = old.flow.windows.of_n;
     }))) usable
 
 -- other counts under the same number of the owner
-pub counts_alone : (i : Interface) (old new : Packed) → new.above ≡ old.above → new.flow.modulus ≡ old.flow.modulus → new.flow.windows ≡ old.flow.windows →
+pub counts_alone : (i : Interface) (old new : Packed) → new.owner_bits ≡ old.owner_bits → new.flow.modulus ≡ old.flow.modulus → new.flow.windows ≡ old.flow.windows →
     CountsAlone (status_in i old) (status_in i new)
-counts_alone i old new above modulus windows = record {
+counts_alone i old new owner_bits modulus windows = record {
   rest = λ j. record {
-    state = state_in (above j);
-    owed = owed_in (above j);
+    state = state_in (owner_bits j);
+    owed = owed_in (owner_bits j);
     terms = record {
       interface = i;
-      call = call_in (above j);
+      call = call_in (owner_bits j);
       values = record {
-        size_t = 2 ^ (above j / 1024 % 16);
-        size_n = 2 ^ (above j / 16384 % 16);
+        size_t = 2 ^ (owner_bits j / 1024 % 16);
+        size_n = 2 ^ (owner_bits j / 16384 % 16);
         window_t = (windows j).of_t;
         window_n = (windows j).of_n;
       };
@@ -138,12 +138,12 @@ counts_alone i old new above modulus windows = record {
   windows = windows;
 }
 
-pub counted_usable : (m : ℕ) (old new : Packed) → new.above ≡ old.above → new.flow.windows ≡ old.flow.windows →
+pub counted_usable : (m : ℕ) (old new : Packed) → new.owner_bits ≡ old.owner_bits → new.flow.windows ≡ old.flow.windows →
     AreUsable m (values_in old) → AreUsable m (values_in new)
-counted_usable m old new above windows usable =
+counted_usable m old new owner_bits windows usable =
     subst (λ v. AreUsable m v) (sym (λ j. record {
-      size_t = 2 ^ (above j / 1024 % 16);
-      size_n = 2 ^ (above j / 16384 % 16);
+      size_t = 2 ^ (owner_bits j / 1024 % 16);
+      size_n = 2 ^ (owner_bits j / 16384 % 16);
       window_t = (windows j).of_t;
       window_n = (windows j).of_n;
     })) usable

@@ -37,8 +37,8 @@ call_in a = call_by (a / 64 % 16)
 
 abbrev pub values_in : Packed → Values
 values_in w = record {
-  size_t = 2 ^ (w.above / 1024 % 16);
-  size_n = 2 ^ (w.above / 16384 % 16);
+  size_t = 2 ^ (w.owner_bits / 1024 % 16);
+  size_n = 2 ^ (w.owner_bits / 16384 % 16);
   window_t = w.flow.windows.of_t;
   window_n = w.flow.windows.of_n;
 }
@@ -50,8 +50,8 @@ settled a = a - a / 32 % 2 * 32
 -- the status of a channel on an interface
 abbrev pub status_in : Interface → Packed → Status
 status_in i w = record {
-  state = state_in w.above;
-  owed = owed_in w.above;
-  terms = record { interface = i; call = call_in w.above; values = values_in w };
+  state = state_in w.owner_bits;
+  owed = owed_in w.owner_bits;
+  terms = record { interface = i; call = call_in w.owner_bits; values = values_in w };
   flow = w.flow;
 }

@@ -44,9 +44,9 @@ impl StatusStore for PackedStatus {
         } = terms.values;
         let flow = Flow::new(terms.interface.modulus, window_t, window_n);
         let permanent = terms.interface.is_permanent(channel);
-        let above = above_of(state_bits(permanent, state), owed, terms);
+        let owner_bits = owner_bits_of(state_bits(permanent, state), owed, terms);
         PackedStatus {
-            word: FlowWord::new(&flow, above),
+            word: FlowWord::new(&flow, owner_bits),
             interface: terms.interface,
         }
     }
@@ -56,22 +56,22 @@ impl StatusStore for PackedStatus {
     }
 
     fn state(&self) -> ChannelState {
-        state_in(self.word.above())
+        state_in(self.word.owner_bits())
     }
 
     fn is_owed(&self) -> bool {
-        bit(self.word.above(), 5)
+        bit(self.word.owner_bits(), 5)
     }
 
     fn settle(&mut self) {
-        let above = self.word.above();
-        self.word.set_above(settled(above));
+        let owner_bits = self.word.owner_bits();
+        self.word.set_owner_bits(settled(owner_bits));
     }
 
     fn terms(&self) -> Terms {
         Terms {
             interface: self.interface,
-            call: call_in(self.word.above()),
+            call: call_in(self.word.owner_bits()),
             values: Values {
                 size_t: self.size(Side::T),
                 size_n: self.size(Side::N),
@@ -82,7 +82,7 @@ impl StatusStore for PackedStatus {
     }
 
     fn call(&self) -> Option<Opened> {
-        call_in(self.word.above())
+        call_in(self.word.owner_bits())
     }
 
     fn flow(&self) -> Flow {
@@ -91,8 +91,8 @@ impl StatusStore for PackedStatus {
 
     fn size(&self, side: Side) -> u16 {
         match side {
-            Side::T => power((self.word.above() >> 10) % 16),
-            Side::N => power((self.word.above() >> 14) % 16),
+            Side::T => power((self.word.owner_bits() >> 10) % 16),
+            Side::N => power((self.word.owner_bits() >> 14) % 16),
         }
     }
 
@@ -114,7 +114,7 @@ impl StatusStore for PackedStatus {
 }
 
 /// What stands above the windows and interrupts.
-fn above_of(state: u32, owed: bool, terms: &Terms) -> u32
+fn owner_bits_of(state: u32, owed: bool, terms: &Terms) -> u32
     requires state { state < 32 }
     ensures fits { result < 2 ^ 19 }
     ensures state { state_in result ≡ state_by (state % 8) (state / 8 % 4) }
@@ -129,10 +129,10 @@ fn above_of(state: u32, owed: bool, terms: &Terms) -> u32
 }
 
 /// The same with no indication owed.
-fn settled(above: u32) -> u32
-    ensures { result ≡ settled above }
+fn settled(owner_bits: u32) -> u32
+    ensures { result ≡ settled owner_bits }
 {
-    above - above / 32 % 2 * 32
+    owner_bits - owner_bits / 32 % 2 * 32
 }
 
 /// The bits of a state: three for p1 to p7, which are those of p4 on a virtual channel in data transfer, and two for d1
@@ -173,14 +173,14 @@ fn transfer_bits(state: DState) -> u32
 }
 
 /// The state of the owner's number.
-fn state_in(above: u32) -> ChannelState
-    ensures { result ≡ state_in above }
+fn state_in(owner_bits: u32) -> ChannelState
+    ensures { result ≡ state_in owner_bits }
 {
-    match (above >> 3) % 4 {
+    match (owner_bits >> 3) % 4 {
         1 => ChannelState::Transfer(DState::D1),
         2 => ChannelState::Transfer(DState::D2),
         3 => ChannelState::Transfer(DState::D3),
-        _ => setup(above % 8),
+        _ => setup(owner_bits % 8),
     }
 }
 
@@ -216,10 +216,10 @@ fn call_bits(call: Option<Opened>) -> u32
 }
 
 /// The call of the owner's number.
-fn call_in(above: u32) -> Option<Opened>
-    ensures { result ≡ call_in above }
+fn call_in(owner_bits: u32) -> Option<Opened>
+    ensures { result ≡ call_in owner_bits }
 {
-    let bits = (above >> 6) % 16;
+    let bits = (owner_bits >> 6) % 16;
     if bits >> 3 != 1 {
         return None;
     }

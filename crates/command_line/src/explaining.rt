@@ -61,7 +61,7 @@ fn answer(alloc: Global, word: &str) -> Result<Option<String>, AllocError>
 }
 
 /// Gives an answer to the sink, and answers the exit status.
-fn tell_answer<K: Output, E: Sink>(alloc: Global, text: &str, sink: &mut K, errors: &mut E) -> u8
+fn print_answer<K: Output, E: Sink>(alloc: Global, text: &str, sink: &mut K, errors: &mut E) -> u8
     ensures told { result ≡ 0 → K.taken sink.new ≡ with_more (K.taken sink.old) text.now }
     ensures part { result ≡ 3 → (n : ℕ) × (K.taken sink.new
         ≡ with_more (K.taken sink.old) (take n text.now)) }
@@ -97,7 +97,7 @@ pub fn explain_word<K: Output, E: Sink>(
     ensures unwritten { result ≡ 64 → sink.new ≡ sink.old }
 {
     match answer(alloc, word) {
-        Ok(Some(text)) => tell_answer(alloc, text.as_str(), sink, errors),
+        Ok(Some(text)) => print_answer(alloc, text.as_str(), sink, errors),
         Ok(None) => refuse_word(alloc, word, errors),
         Err(_) => refuse(alloc, errors, Fault::Memory),
     }

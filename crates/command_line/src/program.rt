@@ -51,8 +51,8 @@ fn names_two_traces(message: &str) -> bool {
         && !message.starts_with(b"error: unexpected argument '-")
 }
 
-/// Tells what is wrong with the words, as far as it can be told.
-fn tell_words<E: Sink>(alloc: Global, errors: &mut E, error: &Error) {
+/// Prints what is wrong with the words, as far as it can be told.
+fn print_words_fault<E: Sink>(alloc: Global, errors: &mut E, error: &Error) {
     if let Ok(text) = format!(in alloc; "{error}") {
         let _ = write_all(errors, text.as_bytes());
         if names_two_traces(&text) {
@@ -184,8 +184,8 @@ pub(crate) fn scan<S: Input, K: Output, E: Sink, R: Threads + Wait + Clock + Syn
     }
 }
 
-/// Scans the trace as the options ask, tells its report in the form that they ask, and answers the exit status.
-fn tell<S: Input, K: Output, E: Sink, R: Threads + Wait + Clock + Sync>(
+/// Scans the trace as the options ask, writes its report in the form that they ask, and answers the exit status.
+fn scan_in_form<S: Input, K: Output, E: Sink, R: Threads + Wait + Clock + Sync>(
     rt: &R,
     alloc: Global,
     options: Options<'_>,
@@ -206,7 +206,7 @@ fn tell<S: Input, K: Output, E: Sink, R: Threads + Wait + Clock + Sync>(
 }
 
 /// Scans the trace of a name as the options ask, and answers the exit status.
-fn tell_named<S: Input, K: Output, E: Sink, R: Threads + Wait + Clock + Sync>(
+fn scan_named<S: Input, K: Output, E: Sink, R: Threads + Wait + Clock + Sync>(
     rt: &R,
     alloc: Global,
     options: Options<'_>,
@@ -223,13 +223,13 @@ fn tell_named<S: Input, K: Output, E: Sink, R: Threads + Wait + Clock + Sync>(
     ensures asked { S.calls source.new ≤ S.calls source.old + (2 ^ 30 + 1) }
 {
     match source.open(name) {
-        Ok(()) => tell(rt, alloc, options, source, sink, errors),
+        Ok(()) => scan_in_form(rt, alloc, options, source, sink, errors),
         Err(fault) => refuse_trace(alloc, errors, name, fault),
     }
 }
 
 /// Scans standard input, or the trace that is named, as the options ask, and answers the exit status.
-fn tell_trace<S: Input, K: Output, E: Sink, R: Threads + Wait + Clock + Sync>(
+fn scan_trace<S: Input, K: Output, E: Sink, R: Threads + Wait + Clock + Sync>(
     rt: &R,
     alloc: Global,
     options: Options<'_>,
@@ -246,8 +246,8 @@ fn tell_trace<S: Input, K: Output, E: Sink, R: Threads + Wait + Clock + Sync>(
     ensures asked { S.calls source.new ≤ S.calls source.old + (2 ^ 30 + 1) }
 {
     match options.trace {
-        Some(name) => tell_named(rt, alloc, options, name, source, sink, errors),
-        None => tell(rt, alloc, options, source, sink, errors),
+        Some(name) => scan_named(rt, alloc, options, name, source, sink, errors),
+        None => scan_in_form(rt, alloc, options, source, sink, errors),
     }
 }
 
@@ -284,14 +284,14 @@ fn run<S: Input, K: Output, E: Sink, R: Threads + Wait + Clock + Sync>(
         Some(word) => explain_word(alloc, word, sink, errors),
         None => match options.annotate {
             Some(rows) => annotate_trace(alloc, options, rows, source, sink, errors),
-            None => tell_trace(rt, alloc, options, source, sink, errors),
+            None => scan_trace(rt, alloc, options, source, sink, errors),
         },
     }
 }
 
 /// Writes help or the version, which was asked for, and returns the exit status. That the sink does not take it is no fault
 /// of the words.
-fn tell_asked<K: Sink, E: Sink>(alloc: Global, error: &Error, sink: &mut K, errors: &mut E) -> u8
+fn print_asked<K: Sink, E: Sink>(alloc: Global, error: &Error, sink: &mut K, errors: &mut E) -> u8
     ensures { (result ≡ 0) ⊎ (result ≡ 3) }
 {
     match format!(in alloc; "{error}") {
@@ -312,10 +312,10 @@ fn refuse_words<K: Output, E: Sink>(alloc: Global, error: Error, sink: &mut K, e
     match error.kind() {
         ErrorKind::OutOfMemory => refuse(alloc, errors, Fault::Memory),
         ErrorKind::DisplayHelp | ErrorKind::DisplayVersion => {
-            tell_asked(alloc, &error, sink, errors)
+            print_asked(alloc, &error, sink, errors)
         }
         _ => {
-            tell_words(alloc, errors, &error);
+            print_words_fault(alloc, errors, &error);
             USAGE
         }
     }

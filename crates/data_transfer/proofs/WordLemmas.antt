@@ -124,7 +124,7 @@ pub record IsRead (w m st at sn an wt wn it is a : ℕ) : Type 0 where
   pub window_n : number_at w 36 ≡ wn
   pub unconfirmed_t : w / 2 ^ 43 % 2 ≡ it
   pub unconfirmed_n : w / 2 ^ 44 % 2 ≡ is
-  pub above : w / 2 ^ 45 ≡ a
+  pub owner_bits : w / 2 ^ 45 ≡ a
 
 pub read : (w m st at sn an wt wn it is a : ℕ) → IsWord w m st at sn an wt wn it is a → IsRead w m st at sn an wt wn it is a
 read w m st at sn an wt wn it is a h =
@@ -154,13 +154,13 @@ read w m st at sn an wt wn it is a h =
       window_n = field_at w 36 7 l36 wn h43 (omega arith) h.window_n (omega (arith, h.word));
       unconfirmed_t = field_at w 43 1 l43 it h44 (omega arith) h.unconfirmed_t (omega (arith, h.word));
       unconfirmed_n = field_at w 44 1 l44 is a (omega arith) h.unconfirmed_n (omega (arith, h.word));
-      above = above_at w 45 l45 a (omega arith) (omega (arith, h.word));
+      owner_bits = above_at w 45 l45 a (omega arith) (omega (arith, h.word));
     }
 
 -- the numbers of a word of what can be kept
 word_of_kept : (w : ℕ) (p : Packed) → AreFlowResidues p.flow → w ≡ packed_word p →
     IsWord w (bit (p.flow.modulus == 128)) p.flow.sent.of_t p.flow.acknowledged.of_t p.flow.sent.of_n p.flow.acknowledged.of_n
-    p.flow.windows.of_t p.flow.windows.of_n (bit p.flow.unconfirmed.of_t) (bit p.flow.unconfirmed.of_n) p.above
+    p.flow.windows.of_t p.flow.windows.of_n (bit p.flow.unconfirmed.of_t) (bit p.flow.unconfirmed.of_n) p.owner_bits
 word_of_kept w p h e =
     let fits : (n : ℕ) → n < p.flow.modulus → n < 128 = λ n. below_128 p.flow.modulus n h.eight in
     record {
@@ -183,7 +183,7 @@ packed_in-packed_word w p h e =
     let modulus : cond (bit_at w 0) 128 8 ≡ p.flow.modulus = ap (λ b. cond b 128 8) (bit_back _ _ r.modulus) ∙ modulus_back _ h.eight in
     let flow : kept_in w ≡ p.flow = kept_by p.flow w modulus r.window_t r.window_n r.sent_t r.sent_n r.acknowledged_t r.acknowledged_n
     (bit_back _ _ r.unconfirmed_t) (bit_back _ _ r.unconfirmed_n) in
-    λ i. record { flow = flow i; above = r.above i }
+    λ i. record { flow = flow i; owner_bits = r.owner_bits i }
 
 -- the numbers of a side are read at its places
 pub direction_read : (x : Side) (w : ℕ) →
@@ -245,11 +245,11 @@ range_of T k h = h.of_t
 range_of N k h = h.of_n
 
 -- a word that keeps what another keeps, with another number of the owner
-pub above_replaced : (w u v : ℕ) (old : Packed) → packed_in w ≡ old → AreFlowResidues (kept_in w) → w < 2 ^ 64 →
-    u + w / 2 ^ 45 % 2 ^ 19 * 2 ^ 45 ≡ w + v * 2 ^ 45 → Keeps u (record old { above = v })
-above_replaced w u v old is h l e =
+pub owner_bits_replaced : (w u v : ℕ) (old : Packed) → packed_in w ≡ old → AreFlowResidues (kept_in w) → w < 2 ^ 64 →
+    u + w / 2 ^ 45 % 2 ^ 19 * 2 ^ 45 ≡ w + v * 2 ^ 45 → Keeps u (record old { owner_bits = v })
+owner_bits_replaced w u v old is h l e =
     let whole : w / 2 ^ 45 % 2 ^ 19 ≡ w / 2 ^ 45 = mod-eq_of_lt (shr_below w 19 45 l) in
-    subst (λ p. Keeps u (record p { above = v })) is (keeps u _ h (omega (arith, e, whole, packed_word-packed_in w)))
+    subst (λ p. Keeps u (record p { owner_bits = v })) is (keeps u _ h (omega (arith, e, whole, packed_word-packed_in w)))
 
 -- what is kept when nothing was sent
 abbrev pub nothing_sent : FlowResidues → FlowResidues
@@ -307,7 +307,7 @@ pub nothing_stands : (k : FlowResidues) → Stands (nothing_sent k) no_counts
 nothing_stands k = record { of_t = none_stand _ _; of_n = none_stand _ _; unconfirmed = refl }
 
 -- the word of what can be kept has nothing above, and keeps it
-pub word_of-keeps : (w : ℕ) (k : FlowResidues) → AreFlowResidues k → word_of k ≡ w → packed_in w ≡ record { flow = k; above = 0 }
+pub word_of-keeps : (w : ℕ) (k : FlowResidues) → AreFlowResidues k → word_of k ≡ w → packed_in w ≡ record { flow = k; owner_bits = 0 }
 word_of-keeps w k h e = packed_in-packed_word w _ h (omega (arith, e))
 
 -- a word with nothing above is that of what it keeps

@@ -42,12 +42,12 @@ kept_in w = record {
 -- a channel's part of a word, and a number in the bits from 45 up, which are the owner's (profile)
 pub record Packed : Type 0 where
   pub flow : FlowResidues
-  pub above : ℕ
+  pub owner_bits : ℕ
 
 -- both parts of a word
 abbrev pub packed_in : ℕ → Packed
-packed_in w = record { flow = kept_in w; above = w / 2 ^ 45 }
+packed_in w = record { flow = kept_in w; owner_bits = w / 2 ^ 45 }
 
 -- the word of both parts
 abbrev pub packed_word : Packed → ℕ
-packed_word p = word_of p.flow + p.above * 2 ^ 45
+packed_word p = word_of p.flow + p.owner_bits * 2 ^ 45

@@ -42,38 +42,38 @@ impl Model for FlowWord {
 
 impl FlowWord {
     /// What a channel keeps, and a number of the owner of at most 19 bits.
-    pub fn new(flow: &Flow, above: u32) -> FlowWord
-        requires { above < 2 ^ 19 }
+    pub fn new(flow: &Flow, owner_bits: u32) -> FlowWord
+        requires { owner_bits < 2 ^ 19 }
         ensures flow { result.flow ≡ flow.now }
-        ensures above { result.above ≡ above }
+        ensures owner_bits { result.owner_bits ≡ owner_bits }
     {
         FlowWord {
-            word: flow.pack() + (u64::from(above) << 45),
+            word: flow.pack() + (u64::from(owner_bits) << 45),
         }
     }
 
     /// The word: what `Flow::pack` makes of the channel's part, and the owner's number from bit 45 up.
     pub fn word(&self) -> u64
-        ensures { result ≡ word_of self.now.flow + self.now.above * 2 ^ 45 }
+        ensures { result ≡ word_of self.now.flow + self.now.owner_bits * 2 ^ 45 }
     {
         self.word
     }
 
     /// The owner's number.
-    pub fn above(&self) -> u32
-        ensures above { result ≡ self.now.above }
+    pub fn owner_bits(&self) -> u32
+        ensures owner_bits { result ≡ self.now.owner_bits }
         ensures fits { result < 2 ^ 19 }
     {
         (self.word >> 45) as u32
     }
 
     /// Another number of the owner, of at most 19 bits.
-    pub fn set_above(&mut self, above: u32)
-        requires { above < 2 ^ 19 }
+    pub fn set_owner_bits(&mut self, owner_bits: u32)
+        requires { owner_bits < 2 ^ 19 }
         ensures flow { self.new.flow ≡ self.old.flow }
-        ensures above { self.new.above ≡ above }
+        ensures owner_bits { self.new.owner_bits ≡ owner_bits }
     {
-        self.word = with_field(self.word, 45, 19, u64::from(above));
+        self.word = with_field(self.word, 45, 19, u64::from(owner_bits));
     }
 
     /// What a channel keeps, by itself.
@@ -99,7 +99,7 @@ impl FlowWord {
     pub fn data(&mut self, side: Side, send: u8, receive: u8) -> Result<(), u8>
         ensures modulus { self.new.flow.modulus ≡ self.old.flow.modulus }
         ensures windows { self.new.flow.windows ≡ self.old.flow.windows }
-        ensures above { self.new.above ≡ self.old.above }
+        ensures owner_bits { self.new.owner_bits ≡ self.old.owner_bits }
         ensures unchanged { OnErr result (self.new ≡ self.old) }
         ensures counts { (c : Counts) → Stands self.old.flow c
             → Answers result self.old.flow self.new.flow
@@ -121,7 +121,7 @@ impl FlowWord {
     pub fn ack(&mut self, side: Side, receive: u8) -> Result<(), u8>
         ensures modulus { self.new.flow.modulus ≡ self.old.flow.modulus }
         ensures windows { self.new.flow.windows ≡ self.old.flow.windows }
-        ensures above { self.new.above ≡ self.old.above }
+        ensures owner_bits { self.new.owner_bits ≡ self.old.owner_bits }
         ensures unchanged { OnErr result (self.new ≡ self.old) }
         ensures counts { (c : Counts) → Stands self.old.flow c
             → Answers result self.old.flow self.new.flow
@@ -134,7 +134,7 @@ impl FlowWord {
     pub fn interrupt(&mut self, side: Side) -> Result<(), u8>
         ensures modulus { self.new.flow.modulus ≡ self.old.flow.modulus }
         ensures windows { self.new.flow.windows ≡ self.old.flow.windows }
-        ensures above { self.new.above ≡ self.old.above }
+        ensures owner_bits { self.new.owner_bits ≡ self.old.owner_bits }
         ensures unchanged { OnErr result (self.new ≡ self.old) }
         ensures counts { (c : Counts) → Stands self.old.flow c
             → Answers result self.old.flow self.new.flow (count_interrupt c side) }
@@ -150,7 +150,7 @@ impl FlowWord {
     pub fn confirm(&mut self, side: Side) -> Result<(), u8>
         ensures modulus { self.new.flow.modulus ≡ self.old.flow.modulus }
         ensures windows { self.new.flow.windows ≡ self.old.flow.windows }
-        ensures above { self.new.above ≡ self.old.above }
+        ensures owner_bits { self.new.owner_bits ≡ self.old.owner_bits }
         ensures unchanged { OnErr result (self.new ≡ self.old) }
         ensures counts { (c : Counts) → Stands self.old.flow c
             → Answers result self.old.flow self.new.flow (count_confirm c side) }
@@ -166,7 +166,7 @@ impl FlowWord {
     pub fn reset(&mut self)
         ensures modulus { self.new.flow.modulus ≡ self.old.flow.modulus }
         ensures windows { self.new.flow.windows ≡ self.old.flow.windows }
-        ensures above { self.new.above ≡ self.old.above }
+        ensures owner_bits { self.new.owner_bits ≡ self.old.owner_bits }
         ensures stands { Stands self.new.flow no_counts }
     {
         let without_interrupts = with_field(self.word, 43, 2, 0);
@@ -194,7 +194,7 @@ impl FlowWord {
     fn acknowledge(&mut self, side: Side, receive: u8) -> Result<(), u8>
         ensures modulus { self.new.flow.modulus ≡ self.old.flow.modulus }
         ensures windows { self.new.flow.windows ≡ self.old.flow.windows }
-        ensures above { self.new.above ≡ self.old.above }
+        ensures owner_bits { self.new.owner_bits ≡ self.old.owner_bits }
         ensures own { direction_of side self.new.flow ≡ direction_of side self.old.flow }
         ensures unchanged { OnErr result (self.new ≡ self.old) }
         ensures counts { (c : Counts) → Stands self.old.flow c

@@ -76,7 +76,7 @@ impl CallRows {
     }
 
     /// Hears the next event of an epoch.
-    fn hear(&mut self, event: &Event)
+    fn apply(&mut self, event: &Event)
         ensures heard { (es : List AnyEvent) → Hears event.now.epoch es self.old
             → Hears event.now.epoch (es ++ event.now ∷ []) self.new }
         ensures number { self.new.number ≡ self.old.number }
@@ -88,8 +88,8 @@ impl CallRows {
         }
     }
 
-    /// Takes the events of the next row of a logical channel: whether the row is one of the call's.
-    pub(crate) fn take(&mut self, epoch: u32, channel: u16, events: &[Event]) -> bool
+    /// The events of the next row of a logical channel: whether the row is one of the call's.
+    pub(crate) fn apply_row(&mut self, epoch: u32, channel: u16, events: &[Event]) -> bool
         ensures told { (es : List AnyEvent) → AllByRecursion (λ f. f.epoch ≡ epoch) events.now
             → Hears epoch es self.old
             → result ≡ (has_open self.old.number epoch channel (calls_of es)
@@ -100,7 +100,7 @@ impl CallRows {
     {
         let was_open = self.is_open(epoch, channel);
         for event in events {
-            self.hear(event);
+            self.apply(event);
         }
         let is_open = self.is_open(epoch, channel);
         was_open || is_open

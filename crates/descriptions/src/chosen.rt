@@ -36,7 +36,7 @@ fn judge_call<A: Allocator + Copy, C: Channel<A>>(
     ensures number { call.new.number ≡ call.old.number }
 {
     match last.channel {
-        Some(channel) => call.take(observer.epoch(), channel, observer.events()),
+        Some(channel) => call.apply_row(observer.epoch(), channel, observer.events()),
         None => false,
     }
 }
@@ -92,7 +92,7 @@ impl Chosen {
 
     /// Judges the last line of a trace, the next one: whether it writes a row that is told of; none where it writes no
     /// row.
-    pub(crate) fn take<A: Allocator + Copy, C: Channel<A>>(
+    pub(crate) fn judge_line<A: Allocator + Copy, C: Channel<A>>(
         &mut self,
         trace: &Live<A, C>,
     ) -> Option<bool>

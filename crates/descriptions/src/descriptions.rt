@@ -205,7 +205,7 @@ impl<A: Allocator + Copy> Course<A> {
         notes.next_line();
         let lane_after = Lane::seen_as(observer.view(channel));
         channel_move(notes, state, lane_after.state(state));
-        self.tell(seen, observer.events(), &mut lane, notes);
+        self.describe_row(seen, observer.events(), &mut lane, notes);
         if let PacketKind::Data(_) = kind {
             if !seen.is_counted(observer.events()) {
                 self.leave_out(seen, &lane, notes);
@@ -239,8 +239,14 @@ impl<A: Allocator + Copy> Course<A> {
         }
     }
 
-    /// Tells the events of a row and the call that it belongs to.
-    fn tell<P: Page>(&mut self, seen: &Seen<'_>, events: &[Event], lane: &mut Lane, notes: &mut P) {
+    /// Describes the events of a row and the call that it belongs to.
+    fn describe_row<P: Page>(
+        &mut self,
+        seen: &Seen<'_>,
+        events: &[Event],
+        lane: &mut Lane,
+        notes: &mut P,
+    ) {
         let mut named = false;
         for told in events {
             if told.packet == seen.number {
@@ -345,7 +351,7 @@ impl<A: Allocator + Copy, C: Channel<A>> Describer<A, Live<A, C>> for Descriptio
     }
 
     fn describe(&mut self, trace: &Live<A, C>, notes: &mut Notes<A>) -> Result<bool, AllocError> {
-        let Some(told) = self.chosen.take(trace) else {
+        let Some(told) = self.chosen.judge_line(trace) else {
             return Ok(false);
         };
         Self::say_row(&mut self.course, trace, notes)?;

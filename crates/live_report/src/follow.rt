@@ -38,7 +38,7 @@ impl<A: Allocator + Copy, C: Channel<A>> Follower<A, C> {
     }
 
     /// Takes the rows of a chunk, and writes the lines of what they found.
-    fn tell<K: Sink>(&mut self, chunk: &[u8], sink: &mut K) -> Result<(), Fault>
+    fn write_found<K: Sink>(&mut self, chunk: &[u8], sink: &mut K) -> Result<(), Fault>
         requires { (text : List ℕ) × HasFollowed C.Channel text self.old }
         ensures stands { FollowsOn C.Channel self.old chunk.now self.new result }
         ensures refused { RefusesOn C.Channel self.old chunk.now result }
@@ -99,7 +99,7 @@ impl<A: Allocator + Copy, C: Channel<A>> Follower<A, C> {
         if let Some(fault) = self.refused {
             return Err(fault);
         }
-        let answer = self.tell(chunk, sink);
+        let answer = self.write_found(chunk, sink);
         self.refused = answer.err();
         answer
     }

@@ -119,8 +119,8 @@ fn number_of_the_owner_stays(rt: HostRuntime) {
     let word = after_packed(&rt, word, &FIRST);
     assert!(rt; word.word() == 207_232_172_034 + (5 << 45));
     let mut word = after_packed(&rt, word, &OF_AN_OWNER);
-    assert!(rt; word.above() == 5);
-    word.set_above(524_287);
-    assert!(rt; word.above() == 524_287);
+    assert!(rt; word.owner_bits() == 5);
+    word.set_owner_bits(524_287);
+    assert!(rt; word.owner_bits() == 524_287);
     assert!(rt; word.word() == 207_232_172_032 + (524_287 << 45));
 }

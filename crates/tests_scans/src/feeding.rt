@@ -14,7 +14,7 @@ use std::test::Fail;
 use std::thread::Threads;
 use std::time::Clock;
 use tests_devices::{CutSource, Cuts};
-use trace_scan::feeding::{Read, Reading};
+use trace_scan::feeding::{Read, ReadingTask};
 use trace_scan::gate::OpenGate;
 use trace_scan::text_cutter::TextCutter;
 use workers::{Crew, Worked, work_through};
@@ -32,7 +32,7 @@ fn read_by<P: Plan + Send + Sync, R: Threads + Wait + Clock + Sync>(
     requires plan { P.pieces ≡ Some (trace_plan text.now) }
 {
     let mut source = CutSource::new(text, cuts);
-    let reading = Reading {
+    let reading = ReadingTask {
         source: &mut source,
         threads: rt,
         alloc,
@@ -112,7 +112,7 @@ fn is_fed(read: Option<Result<Read, Fault>>, fed: &Fed) -> bool {
         Some(Ok(read)) => {
             read.packets == fed.packets
                 && read.pieces == fed.pieces
-                && read.line.len() == fed.findings
+                && read.interface_findings.len() == fed.findings
                 && read.interface.svc == 4
         }
         _ => false,
@@ -173,11 +173,11 @@ fn a_source_that_fails_is_told(rt: HostRuntime) {
 /// The pieces that are known whole with each of two parts of a text, and those that it leaves at its end.
 fn cut(alloc: Global, first: &[u8], rest: &[u8]) -> Result<[Vec<Piece>; 3], Fail> {
     let mut text = TextCutter::new(alloc);
-    let early = text.take(first)?;
-    let late = text.take(rest)?;
+    let early = text.feed(first)?;
+    let late = text.feed(rest)?;
     let mut last = Vec::new(alloc);
-    let front = text.end(&mut last)?;
-    last.append(&mut front.cutter.end()?.pieces)?;
+    let row_cutter = text.end(&mut last)?;
+    last.append(&mut row_cutter.cutter.end()?.pieces)?;
     Ok([early, late, last])
 }
 

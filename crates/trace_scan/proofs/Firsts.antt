@@ -1,4 +1,4 @@
--- The first row of a text, which begins the front.
+-- The first row of a text, which begins the row cutter.
 use Rattle.std.proofs.Common.{◌≡◌, ◌∙◌, sym, ap, subst, refl, ℕ, List, [], ◌∷◌, ◌++◌, length, Option, Some, None, append-nil, append_assoc}
 use Rattle.std.specs.Prelude.{IfSome}
 use Rattle.line_model.specs.declared.interface.Interface.{Interface}
@@ -10,7 +10,7 @@ use Rattle.trace_text.proofs.Grows.{head_stays, no_rows}
 use Rattle.trace_text.proofs.RefusalLemmas.{head_stands}
 use Rattle.restart_epochs.specs.Cutting.{HasAppended, given_of}
 use Rattle.restart_epochs.proofs.Listings.{nothing_cut}
-use Rattle.trace_scan.specs.declared.text_cutter.Front.{Front}
+use Rattle.trace_scan.specs.declared.text_cutter.RowCutter.{RowCutter}
 use Rattle.trace_scan.specs.TextCuts.{HasCut, IsCutTo, IsTrace, known_of, known_pieces}
 use Rattle.trace_scan.proofs.Rows.{appended_next, appended_none}
 use Rattle.trace_scan.proofs.Heads.{known_under, next_trace}
@@ -49,7 +49,7 @@ pub first_trace : (lines after : Progress) (text chunk rest : List ℕ) (row : R
 first_trace lines after text chunk rest row s none t = subst (λ rows. IsTrace (rows ++ row ∷ [])) none (next_trace lines after text chunk rest row s t)
 
 -- the first row was cut
-pub first_cut : {A : Type 0} (text chunk rest : List ℕ) (row : Row) (lines after : Progress) (i : Interface) (f : Front A) → StandsFor lines text → early_rows text ≡ [] → (t : TakesRow lines after chunk rest row) → Some i ≡ after.interface → f.interface ≡ i
+pub first_cut : {A : Type 0} (text chunk rest : List ℕ) (row : Row) (lines after : Progress) (i : Interface) (f : RowCutter A) → StandsFor lines text → early_rows text ≡ [] → (t : TakesRow lines after chunk rest row) → Some i ≡ after.interface → f.interface ≡ i
     → HasCut ([] ++ row ∷ []) f → IsCutTo (text ++ t.taken) after f
 first_cut text chunk rest row lines after i f s none t kept same cut = cut_row text chunk rest row lines after f s t (sym kept ∙ ap Some (sym same)) (subst (λ rows. HasCut (rows ++ row ∷ []) f) (sym none) cut)
 

@@ -1,4 +1,4 @@
--- The header of a text, and the front that begins behind it.
+-- The header of a text, and the row cutter that begins after it.
 use Rattle.std.proofs.Common.{◌≡◌, ◌∙◌, sym, ap, subst, ℕ, List, [], ◌∷◌, ◌++◌, Option, Some, None}
 use Rattle.line_model.specs.declared.interface.Interface.{Interface}
 use Rattle.line_model.specs.basics.Records.{Row}
@@ -9,7 +9,7 @@ use Rattle.trace_text.proofs.Grows.{early_head_stays}
 use Rattle.trace_text.proofs.RefusalLemmas.{head_stands}
 use Rattle.trace_text.proofs.RowsOfText.{early_numbers, early_octets, early_rises, text_numbers, text_octets, text_rises}
 use Rattle.restart_epochs.specs.Cutting.{given_of}
-use Rattle.trace_scan.specs.declared.text_cutter.Front.{Front}
+use Rattle.trace_scan.specs.declared.text_cutter.RowCutter.{RowCutter}
 use Rattle.trace_scan.specs.declared.text_cutter.TextCutter.{TextCutter}
 use Rattle.trace_scan.specs.TextCuts.{AreCut, HasTaken, IsCutTo, IsTrace, known_of, known_pieces}
 
@@ -35,18 +35,18 @@ header_stays reader after text more i s h kept = kept ∙ early_head_stays text 
 pub known_under : (reader : Progress) (text : List ℕ) (i : Interface) → StandsFor reader text → reader.interface ≡ Some i → known_pieces text ≡ given_of i (early_rows text)
 known_under reader text i s h = ap (λ o. known_of o (early_rows text)) (sym (head_stands reader text s) ∙ h)
 
--- ---- the front
+-- ---- the row cutter
 
-pub cut_of : {A : Type 0} (c : TextCutter A) (text : List ℕ) (f : Front A) → HasTaken text c → c.front ≡ Some f → IsCutTo text c.lines f
+pub cut_of : {A : Type 0} (c : TextCutter A) (text : List ℕ) (f : RowCutter A) → HasTaken text c → c.row_cutter ≡ Some f → IsCutTo text c.lines f
 cut_of c text f t h =
     let cut : AreCut (early_rows text) c.lines.interface (Some f) = subst (AreCut (early_rows text) c.lines.interface) h t.cut in
     record { reads = t.reads; header = cut.0; cut = cut.1 }
 
-pub taken_of : {A : Type 0} (c : TextCutter A) (text : List ℕ) (f : Front A) → IsCutTo text c.lines f → c.front ≡ Some f → HasTaken text c
+pub taken_of : {A : Type 0} (c : TextCutter A) (text : List ℕ) (f : RowCutter A) → IsCutTo text c.lines f → c.row_cutter ≡ Some f → HasTaken text c
 taken_of c text f cut h = record { reads = cut.reads; cut = subst (AreCut (early_rows text) c.lines.interface) (sym h) (cut.header, cut.cut) }
 
-pub no_rows_yet : {A : Type 0} (c : TextCutter A) (text : List ℕ) → HasTaken text c → c.front ≡ None → early_rows text ≡ []
+pub no_rows_yet : {A : Type 0} (c : TextCutter A) (text : List ℕ) → HasTaken text c → c.row_cutter ≡ None → early_rows text ≡ []
 no_rows_yet c text t h = subst (AreCut (early_rows text) c.lines.interface) h t.cut
 
-pub none_cut : {A : Type 0} (front : Option (Front A)) (head : Option Interface) (rs : List Row) → front ≡ None → rs ≡ [] → AreCut rs head front
-none_cut front head rs h none = subst (AreCut rs head) (sym h) none
+pub none_cut : {A : Type 0} (row_cutter : Option (RowCutter A)) (head : Option Interface) (rs : List Row) → row_cutter ≡ None → rs ≡ [] → AreCut rs head row_cutter
+none_cut row_cutter head rs h none = subst (AreCut rs head) (sym h) none

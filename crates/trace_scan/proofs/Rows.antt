@@ -10,7 +10,7 @@ use Rattle.line_model.proofs.LineLemmas.{last_or-add}
 use Rattle.restart_epochs.specs.Cutting.{Cutting, IsCounted, HasAppended, StandsFor as IsCutterOf}
 use Rattle.restart_epochs.proofs.Whole.{MayCome}
 use Rattle.trace_scan.specs.TextCuts.{HasCut, IsCounting, IsTrace}
-use Rattle.trace_scan.specs.declared.text_cutter.Front.{Front}
+use Rattle.trace_scan.specs.declared.text_cutter.RowCutter.{RowCutter}
 
 pub counts_one : (rs : List Row) (r : Row) (c c' : Cutting) → IsCounting rs c → IsCounted r c c' → IsCounting (rs ++ r ∷ []) c'
 counts_one rs r c c' h counted =
@@ -48,7 +48,7 @@ room_for before r c counting trace =
     omega (arith, octets, few, sum_by_push (λ (x : Row). length x.octets) before r)
 
 -- a row was cut
-pub cut_more : {A : Type 0} (f : Front A) (next : Cutting) (before : List Row) (r : Row) → IsCounting before f.cutter → IsCutterOf f.interface (before ++ r ∷ []) next → IsCounted r f.cutter next → HasCut {A = A} (before ++ r ∷ []) (record { interface = f.interface; cutter = next })
+pub cut_more : {A : Type 0} (f : RowCutter A) (next : Cutting) (before : List Row) (r : Row) → IsCounting before f.cutter → IsCutterOf f.interface (before ++ r ∷ []) next → IsCounted r f.cutter next → HasCut {A = A} (before ++ r ∷ []) (record { interface = f.interface; cutter = next })
 cut_more f next before r counting stands counted = record { stands = stands; counting = counts_one before r f.cutter next counting counted }
 
 -- nothing was appended

@@ -50,7 +50,7 @@ read_of text i j rs fed r sound e same told cut =
       cut = record {
         interface = refl;
         all = cut.all ∙ (λ k. plan (here k) (sym told k));
-        line = cut.line ∙ (λ k. line_findings (here k) (sym told k));
+        interface_findings = cut.interface_findings ∙ (λ k. line_findings (here k) (sym told k));
         packets = cut.packets ∙ ap (λ (l : List Row). length l) (sym told);
         pieces = cut.pieces;
       };

@@ -115,11 +115,11 @@ parts_are (Ok t) o g known workers before after asked failed fed both h m =
 
 -- the reports are those of the walk over the rows of the text that was read
 pub of_walk : {A : Type 0} (known : KnownPlan) (workers : ℕ) (text : List ℕ) (fed : List Piece) (read : Read A) (g : Gathered A)
-    → IsReadOf text fed read → IsWhole known workers fed g → IsOfWalk read.interface (rows text) g.reports.items read.line.items read.packets read.pieces
+    → IsReadOf text fed read → IsWhole known workers fed g → IsOfWalk read.interface (rows text) g.reports.items read.interface_findings.items read.packets read.pieces
 of_walk known workers text fed read g r w = record {
   rising = text_rises text r.sound;
   values = permuted_posts (plan read.interface (rows text)) g.reports.items (subst (λ ps. AreOf (Some ps) g.reports.items) r.cut.all w.of_fed) (w.number ∙ ap (λ (l : List Piece). length l) r.cut.all);
-  line_is = r.cut.line;
+  line_is = r.cut.interface_findings;
   packets_are = r.cut.packets;
   pieces_are = r.cut.pieces ∙ ap (λ (l : List Piece). length l) r.cut.all;
 }

@@ -18,7 +18,7 @@ use Rattle.trace_scan.specs.declared.feeding.Read.{Read}
 pub record IsCutOf {A : Type 0} (i : Interface) (rs : List Row) (fed : List Piece) (r : Read A) : Type 0 where
   pub interface : r.interface ≡ i
   pub all : fed ≡ plan i rs
-  pub line : r.line.items ≡ line_findings i rs
+  pub interface_findings : r.interface_findings.items ≡ line_findings i rs
   pub packets : r.packets ≡ length rs
   pub pieces : r.pieces ≡ length fed
 

@@ -10,7 +10,7 @@ use Rattle.restart_epochs.specs.Cutting.{Cutting, StandsFor as IsCutterOf, given
 use Rattle.shared_work.specs.queue.Passes.{PassView}
 use Rattle.trace_text.specs.Progress.{Progress}
 use Rattle.trace_text.specs.StandsFor.{StandsFor}
-use Rattle.trace_scan.specs.declared.text_cutter.Front.{Front}
+use Rattle.trace_scan.specs.declared.text_cutter.RowCutter.{RowCutter}
 use Rattle.trace_scan.specs.declared.text_cutter.TextCutter.{TextCutter}
 
 -- rows as a text has them: their numbers rise, and they have few octets
@@ -25,25 +25,25 @@ pub record IsCounting (rs : List Row) (c : Cutting) : Type 0 where
   pub octets : c.octets ≡ sum_by (λ r. length r.octets) rs
 
 -- the cutter was given these rows
-pub record HasCut {A : Type 0} (rs : List Row) (f : Front A) : Type 0 where
+pub record HasCut {A : Type 0} (rs : List Row) (f : RowCutter A) : Type 0 where
   pub stands : IsCutterOf f.interface rs f.cutter
   pub counting : IsCounting rs f.cutter
 
 -- a text was read so far, and the rows of the lines that an LF ended were cut
-pub record IsCutTo {A : Type 0} (text : List ℕ) (lines : Progress) (f : Front A) : Type 0 where
+pub record IsCutTo {A : Type 0} (text : List ℕ) (lines : Progress) (f : RowCutter A) : Type 0 where
   pub reads : StandsFor lines text
   pub header : lines.interface ≡ Some f.interface
   pub cut : HasCut (early_rows text) f
 
 -- the rows were cut, if there are any
-abbrev pub AreCut : {A : Type 0} → List Row → Option Interface → Option (Front A) → Type 0
+abbrev pub AreCut : {A : Type 0} → List Row → Option Interface → Option (RowCutter A) → Type 0
 AreCut rows head None = rows ≡ []
 AreCut rows head (Some f) = (head ≡ Some f.interface) × HasCut rows f
 
 -- it was given this text
 pub record HasTaken {A : Type 0} (text : List ℕ) (c : TextCutter A) : Type 0 where
   pub reads : StandsFor c.lines text
-  pub cut : AreCut (early_rows text) c.lines.interface c.front
+  pub cut : AreCut (early_rows text) c.lines.interface c.row_cutter
 
 -- the pieces of some rows that are known whole, where there is a header
 abbrev pub known_of : Option Interface → List Row → List Piece

@@ -16,7 +16,7 @@ ghost use Rattle.workers.specs.Workers.{HasFed};
 ghost use Rattle.trace_scan.specs.TextCuts.{HasCut, IsFedTo, IsPlanOf};
 ghost use Rattle.trace_scan.specs.Readings.{HasRead, IsCutOf, IsFedTextOf, IsOutcome, IsReadOf, IsRefusedText};
 
-use crate::text_cutter::{Front, TextCutter};
+use crate::text_cutter::{RowCutter, TextCutter};
 use line_model::device::Source;
 use line_model::fault::Fault;
 use line_model::finding::Finding;
@@ -35,43 +35,43 @@ use workers::{Feed, feed_pieces};
 #[derive(Drop)]
 pub struct Read<A: Allocator = Global> {
     pub interface: Interface,
-    pub line: Vec<Finding, A>,
+    pub interface_findings: Vec<Finding, A>,
     pub packets: u32,
     pub pieces: u32,
 }
 
 /// The trace has ended: the pieces of the epoch that is open are fed.
-fn end_front<P: Plan, A: Allocator + Copy, R: Wait + Clock>(
+fn feed_open_epoch<P: Plan, A: Allocator + Copy, R: Wait + Clock>(
     rt: &R,
-    front: Front<A>,
+    row_cutter: RowCutter<A>,
     work: &Work<P, A>,
     pass: &mut FeederPass<A>,
 ) -> Result<Read<A>, Fault>
     requires queue { pass.old.queue ≡ work.now.queue }
     requires open { pass.old.record_of.ends ≡ 0 }
-    requires ready { (rows : List records.Row) × HasCut rows front
-        × (pass.old.record_of.fed ≡ length (given_of front.interface rows))
-        × (pass.old.pieces ≡ given_of front.interface rows)
-        × IfSome P.pieces (λ ps. ps ≡ plan front.interface rows) }
+    requires ready { (rows : List records.Row) × HasCut rows row_cutter
+        × (pass.old.record_of.fed ≡ length (given_of row_cutter.interface rows))
+        × (pass.old.pieces ≡ given_of row_cutter.interface rows)
+        × IfSome P.pieces (λ ps. ps ≡ plan row_cutter.interface rows) }
     ensures queue { pass.new.queue ≡ pass.old.queue }
     ensures kept { HasFed pass.old.record_of pass.new.record_of }
-    ensures cut { (rows : List records.Row) → HasCut rows front
-        → pass.old.pieces ≡ given_of front.interface rows
-        → IfOk result (IsCutOf front.interface rows pass.new.pieces) }
+    ensures cut { (rows : List records.Row) → HasCut rows row_cutter
+        → pass.old.pieces ≡ given_of row_cutter.interface rows
+        → IfOk result (IsCutOf row_cutter.interface rows pass.new.pieces) }
     ensures memory { IfErr result (λ fault. fault ≡ Memory) }
 {
-    let Front { interface, cutter } = front;
+    let RowCutter { interface, cutter } = row_cutter;
     let given = cutter.given();
     let Cut {
         pieces,
-        line,
+        line: interface_findings,
         packets,
     } = cutter.end()?;
     let all = given + pieces.len();
     feed_pieces(rt, work, pieces, pass);
     Ok(Read {
         interface,
-        line,
+        interface_findings,
         packets,
         pieces: all as u32,
     })
@@ -98,9 +98,9 @@ fn finish<P: Plan, A: Allocator + Copy, R: Wait + Clock>(
     ensures kinds { IfErr result IsTextFault }
 {
     let mut pieces = Vec::new(alloc);
-    let front = text.end(&mut pieces)?;
+    let row_cutter = text.end(&mut pieces)?;
     feed_pieces(rt, work, pieces, pass);
-    end_front(rt, front, work, pass)
+    feed_open_epoch(rt, row_cutter, work, pass)
 }
 
 /// A text whose pieces are fed as soon as they are known whole.
@@ -123,7 +123,7 @@ impl<P: Plan, A: Allocator + Copy, R: Wait + Clock> Consumer<FeederPass<A>>
     ghost size = { λ now. bytes_fed now.text.lines };
 
     fn feed(&mut self, chunk: &[u8], pass: &mut FeederPass<A>) -> Result<(), Fault> {
-        let pieces = self.text.take(chunk)?;
+        let pieces = self.text.feed(chunk)?;
         feed_pieces(self.rt, self.work, pieces, pass);
         Ok(())
     }
@@ -165,7 +165,7 @@ fn read_all<P: Plan, A: Allocator + Copy, S: Source, R: Wait + Clock>(
 /// The reading thread's part of a scan with threads: a source, what starts threads that would read beside it (none is
 /// started yet), and what became of reading it: nothing before.
 #[derive(Drop)]
-pub struct Reading<'a, A: Allocator, S, T> {
+pub struct ReadingTask<'a, A: Allocator, S, T> {
     pub source: &'a mut S,
     pub threads: &'a T,
     pub alloc: A,
@@ -173,7 +173,7 @@ pub struct Reading<'a, A: Allocator, S, T> {
 }
 
 impl<'a, P: Plan, A: Allocator + Copy, S: Source, T: Threads + Sync> Feed<P, A>
-    for Reading<'a, A, S, T> {
+    for ReadingTask<'a, A, S, T> {
     // What starts threads may be shared with them. The plan is that of the bytes that the source tells.
     ghost can_feed = { λ task. IsSync T.row × (P.pieces ≡ option_map trace_plan (S.left task.source.now)) };
 
@@ -186,14 +186,14 @@ impl<'a, P: Plan, A: Allocator + Copy, S: Source, T: Threads + Sync> Feed<P, A>
     }
 
     fn feed<R: Wait + Clock>(self, rt: &R, work: &Work<P, A>, pass: &mut FeederPass<A>) -> Self {
-        let Reading {
+        let ReadingTask {
             source,
             threads,
             alloc,
             ..
         } = self;
         let outcome = Some(read_all(rt, alloc, source, work, pass));
-        Reading {
+        ReadingTask {
             source,
             threads,
             alloc,

@@ -22,18 +22,18 @@ use trace_text::lines::Lines;
 
 /// The cutter of a text whose header was read.
 #[derive(Drop)]
-pub struct Front<A: Allocator = Global> {
+pub struct RowCutter<A: Allocator = Global> {
     pub interface: Interface,
     pub cutter: Cutter<A>,
 }
 
-impl<A: Allocator + Copy> Front<A> {
+impl<A: Allocator + Copy> RowCutter<A> {
     /// Before the first row.
     fn new(alloc: A, interface: &Interface) -> Self
         ensures interface { result.interface ≡ interface.now }
         ensures cut { HasCut [] result }
     {
-        Front {
+        RowCutter {
             interface: *interface,
             cutter: Cutter::new(alloc, interface),
         }
@@ -117,21 +117,21 @@ impl<A: Allocator + Copy> Front<A> {
     }
 }
 
-/// The front of a text whose header was read: a new one before its first row.
-fn front_of<A: Allocator + Copy>(
+/// The row cutter of a text whose header was read: a new one before its first row.
+fn row_cutter_of<A: Allocator + Copy>(
     alloc: A,
     interface: &Interface,
-    front: Option<Front<A>>,
-) -> Front<A>
-    ensures cut { (rows : List records.Row) (head : Option AnyInterface) → AreCut rows head front
+    row_cutter: Option<RowCutter<A>>,
+) -> RowCutter<A>
+    ensures cut { (rows : List records.Row) (head : Option AnyInterface) → AreCut rows head row_cutter
         → IfSome head (λ i. i ≡ interface.now) → HasCut rows result }
     ensures interface { (rows : List records.Row) (head : Option AnyInterface)
-        → AreCut rows head front → IfSome head (λ i. i ≡ interface.now)
+        → AreCut rows head row_cutter → IfSome head (λ i. i ≡ interface.now)
         → result.interface ≡ interface.now }
 {
-    match front {
-        Some(front) => front,
-        None => Front::new(alloc, interface),
+    match row_cutter {
+        Some(row_cutter) => row_cutter,
+        None => RowCutter::new(alloc, interface),
     }
 }
 
@@ -142,7 +142,7 @@ pub struct TextCutter<A: Allocator = Global> {
     /// The last row, whose room the next one uses.
     row: Row<A>,
     /// Made once the first row was read.
-    front: Option<Front<A>>,
+    row_cutter: Option<RowCutter<A>>,
 }
 
 impl<A: Allocator + Copy> TextCutter<A> {
@@ -157,12 +157,12 @@ impl<A: Allocator + Copy> TextCutter<A> {
                 side: Side::T,
                 octets: Vec::new(alloc),
             },
-            front: None,
+            row_cutter: None,
         }
     }
 
     /// Takes the next part of the text, and appends the pieces that are known whole with its rows.
-    fn take_into(&mut self, bytes: &[u8], pieces: &mut Vec<Piece<A>, A>) -> Result<(), Fault>
+    fn feed_into(&mut self, bytes: &[u8], pieces: &mut Vec<Piece<A>, A>) -> Result<(), Fault>
         requires { (text : List ℕ) × HasTaken text self.old }
         ensures taken { (text : List ℕ) → HasTaken text self.old
             → OnOk result (HasTaken (text ++ bytes.now) self.new) }
@@ -176,8 +176,8 @@ impl<A: Allocator + Copy> TextCutter<A> {
         ensures limit { OnOk result (bytes_fed self.new.lines ≤ 2 ^ 30) }
         ensures kinds { IfErr result IsTextFault }
     {
-        if let Some(front) = &mut self.front {
-            return front.cut_lines(bytes, &mut self.lines, &mut self.row, pieces);
+        if let Some(row_cutter) = &mut self.row_cutter {
+            return row_cutter.cut_lines(bytes, &mut self.lines, &mut self.row, pieces);
         }
         self.begin(bytes, pieces)
     }
@@ -185,7 +185,7 @@ impl<A: Allocator + Copy> TextCutter<A> {
     /// Takes the next part of a text of which no row was read, and appends the pieces that are known whole with its rows.
     fn begin(&mut self, bytes: &[u8], pieces: &mut Vec<Piece<A>, A>) -> Result<(), Fault>
         requires taken { (text : List ℕ) × HasTaken text self.old }
-        requires bare { self.old.front ≡ None }
+        requires bare { self.old.row_cutter ≡ None }
         ensures taken { (text : List ℕ) → HasTaken text self.old
             → OnOk result (HasTaken (text ++ bytes.now) self.new) }
         ensures pieces { (text : List ℕ) → HasTaken text self.old
@@ -204,19 +204,19 @@ impl<A: Allocator + Copy> TextCutter<A> {
         let Some(interface) = self.lines.interface() else {
             unreachable!();
         };
-        let mut front = Front::new(*self.row.octets.allocator(), &interface);
-        front.cut(&self.row, pieces)?;
-        match front.cut_lines(rest, &mut self.lines, &mut self.row, pieces) {
+        let mut row_cutter = RowCutter::new(*self.row.octets.allocator(), &interface);
+        row_cutter.cut(&self.row, pieces)?;
+        match row_cutter.cut_lines(rest, &mut self.lines, &mut self.row, pieces) {
             Ok(()) => {
-                self.front = Some(front);
+                self.row_cutter = Some(row_cutter);
                 Ok(())
             }
             Err(fault) => Err(fault),
         }
     }
 
-    /// Takes the next part of the text. The pieces that are known whole with its rows.
-    pub fn take(&mut self, bytes: &[u8]) -> Result<Vec<Piece<A>, A>, Fault>
+    /// The next part of the text. The pieces that are known whole with its rows.
+    pub fn feed(&mut self, bytes: &[u8]) -> Result<Vec<Piece<A>, A>, Fault>
         requires { (text : List ℕ) × HasTaken text self.old }
         ensures taken { (text : List ℕ) → HasTaken text self.old
             → OnOk result (HasTaken (text ++ bytes.now) self.new) }
@@ -231,20 +231,20 @@ impl<A: Allocator + Copy> TextCutter<A> {
         ensures kinds { IfErr result IsTextFault }
     {
         let mut pieces = Vec::new(*self.row.octets.allocator());
-        self.take_into(bytes, &mut pieces)?;
+        self.feed_into(bytes, &mut pieces)?;
         Ok(pieces)
     }
 
     /// The text has ended, and its last line may lack its LF: all its rows are cut. The pieces that are known whole with
     /// the row of that line are appended.
-    pub fn end(self, pieces: &mut Vec<Piece<A>, A>) -> Result<Front<A>, Fault>
+    pub fn end(self, pieces: &mut Vec<Piece<A>, A>) -> Result<RowCutter<A>, Fault>
         requires { (text : List ℕ) × HasTaken text self }
         ensures sound { (text : List ℕ) → HasTaken text self
-            → IfOk result (λ front. (fault text ≡ None) × (head text ≡ Some front.interface)) }
+            → IfOk result (λ row_cutter. (fault text ≡ None) × (head text ≡ Some row_cutter.interface)) }
         ensures cut { (text : List ℕ) → HasTaken text self → IfOk result (HasCut (rows text)) }
         ensures pieces { (text : List ℕ) → HasTaken text self
-            → IfOk result (λ front. HasAppended pieces.old.items pieces.new.items
-            (known_pieces text) (given_of front.interface (rows text))) }
+            → IfOk result (λ row_cutter. HasAppended pieces.old.items pieces.new.items
+            (known_pieces text) (given_of row_cutter.interface (rows text))) }
         ensures refused { (text : List ℕ) → HasTaken text self
             → IfErr result (IsFaultOf (fault text)) }
         ensures kinds { IfErr result IsTextFault }
@@ -252,14 +252,14 @@ impl<A: Allocator + Copy> TextCutter<A> {
         let TextCutter {
             lines,
             mut row,
-            front,
+            row_cutter,
         } = self;
         let end = match lines.end_row(&mut row) {
             Ok(end) => end,
             Err(fault) => return Err(fault),
         };
-        let mut front = front_of(*row.octets.allocator(), &end.interface, front);
-        front.cut_last(end.has_row, &row, pieces)?;
-        Ok(front)
+        let mut row_cutter = row_cutter_of(*row.octets.allocator(), &end.interface, row_cutter);
+        row_cutter.cut_last(end.has_row, &row, pieces)?;
+        Ok(row_cutter)
     }
 }

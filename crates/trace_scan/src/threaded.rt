@@ -10,7 +10,7 @@ ghost use Rattle.trace_scan.specs.Readings.{IsRefusal};
 ghost use Rattle.trace_scan.specs.Scan.{IsPartTaken};
 ghost use Rattle.trace_scan.specs.Threaded.{AreScanParts, IsStopped, IsWorkedFault, trace_totals};
 
-use crate::feeding::{Read, Reading};
+use crate::feeding::{Read, ReadingTask};
 use line_model::device::{Sink, Source};
 use line_model::fault::Fault;
 use line_model::lending::take_back;
@@ -79,7 +79,7 @@ fn work_on_trace<
     ensures unasked { S.calls source.new ≡ S.calls source.old → source.new ≡ source.old }
     ensures asked { S.calls source.new ≤ S.calls source.old + (2 ^ 30 + 1) }
 {
-    let reading = Reading {
+    let reading = ReadingTask {
         source,
         threads: rt,
         alloc,
@@ -90,10 +90,10 @@ fn work_on_trace<
         capacity,
         gate,
     };
-    match work_through::<P, A, G, R, Reading<A, S, R>>(rt, alloc, crew, reading) {
+    match work_through::<P, A, G, R, ReadingTask<A, S, R>>(rt, alloc, crew, reading) {
         Ok(worked) => {
             let Worked { task, gathered } = worked;
-            let Reading {
+            let ReadingTask {
                 source,
                 outcome,
                 ..
@@ -102,7 +102,7 @@ fn work_on_trace<
             first_fault(outcome, gathered)
         }
         Err((reading, fault)) => {
-            let Reading {
+            let ReadingTask {
                 source,
                 outcome,
                 ..
@@ -190,7 +190,13 @@ pub fn scan_with<
         shares,
         reports,
     } = gathered;
-    let report = match merge(alloc, reports, read.line, read.packets, read.pieces) {
+    let report = match merge(
+        alloc,
+        reports,
+        read.interface_findings,
+        read.packets,
+        read.pieces,
+    ) {
         Ok(report) => report,
         Err(fault) => return Err(fault),
     };

@@ -5,5 +5,5 @@ use Rattle.channel_machine.proofs.packed.PackedStatusStatusStore.settle.Goals as
 
 pub returns : goal.returns
 returns c =
-    settled_status c.args.self.now.interface c.args.self.now.word c.set_above.new.self
-    (c.set_above.ensures.above ∙ c.settled.ensures ∙ ap (λ a. settled a) c.above-above.ensures.above) c.set_above.ensures.flow
+    settled_status c.args.self.now.interface c.args.self.now.word c.set_owner_bits.new.self
+    (c.set_owner_bits.ensures.owner_bits ∙ c.settled.ensures ∙ ap (λ a. settled a) c.owner_bits-owner_bits.ensures.owner_bits) c.set_owner_bits.ensures.flow

@@ -10,5 +10,5 @@ returns-then-number-modulus-clause-counts c s a r =
 
 pub returns-else-number-modulus-clause-counts : goal.returns-else-number-modulus-clause-counts
 returns-else-number-modulus-clause-counts c s a r =
-    let above : nat_lt c.args.number c.args.modulus ≡ false = grind (arith, c.if-number-modulus.false) in
-    rw above (acknowledged-none_above _ s a _ c.requires.eight (grind (arith, c.if-number-modulus.false)))
+    let owner_bits : nat_lt c.args.number c.args.modulus ≡ false = grind (arith, c.if-number-modulus.false) in
+    rw owner_bits (acknowledged-none_above _ s a _ c.requires.eight (grind (arith, c.if-number-modulus.false)))

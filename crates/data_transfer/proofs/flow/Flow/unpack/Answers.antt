@@ -28,7 +28,7 @@ returns-else-word-eq0-clause-none c f h e =
           w.if-is_in_range-2.ensures.no (λ q. cc) (range_read N _ _ _ f c.modulus-modulus.ensures.value c.direction-of_n.ensures h e)
       | else-word-eq0-via-then-word-eq0+else-is_in_range w ↦
           w.if-is_in_range.ensures.no (λ q. cc) (range_read T _ _ _ f c.modulus-modulus.ensures.value c.direction-of_t.ensures h e)
-      | else-word-eq0-via-else-word-eq0 w ↦ w.if-word-eq0.false (ap (λ p. p.above) (word_of-keeps c.args.word f h e))
+      | else-word-eq0-via-else-word-eq0 w ↦ w.if-word-eq0.false (ap (λ p. p.owner_bits) (word_of-keeps c.args.word f h e))
     ]
 
 pub returns-else-word-eq0-clause-back : goal.returns-else-word-eq0-clause-back

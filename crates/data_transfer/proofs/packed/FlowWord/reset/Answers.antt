@@ -19,8 +19,8 @@ returns-clause-modulus c = ap (λ p. p.flow.modulus) (written c).parts
 pub returns-clause-windows : goal.returns-clause-windows
 returns-clause-windows c = ap (λ p. p.flow.windows) (written c).parts
 
-pub returns-clause-above : goal.returns-clause-above
-returns-clause-above c = ap (λ p. p.above) (written c).parts
+pub returns-clause-owner_bits : goal.returns-clause-owner_bits
+returns-clause-owner_bits c = ap (λ p. p.owner_bits) (written c).parts
 
 pub returns-clause-stands : goal.returns-clause-stands
 returns-clause-stands c = subst (λ p. Stands p.flow no_counts) (sym (written c).parts) (nothing_stands c.args.self.now.flow)

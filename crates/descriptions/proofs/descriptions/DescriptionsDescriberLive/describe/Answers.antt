@@ -4,8 +4,8 @@ use Rattle.descriptions.proofs.descriptions.DescriptionsDescriberLive.describe.G
 
 pub returns-in_default-clause-told : goal.returns-in_default-clause-told
 returns-in_default-clause-told g c before line text h s lines =
-    rightly_none c.args.self.now.chosen.rows before line (none_is c.take.result c.in_default.not-Some ∙ c.take.ensures.told before line text h s lines)
+    rightly_none c.args.self.now.chosen.rows before line (none_is c.judge_line.result c.in_default.not-Some ∙ c.judge_line.ensures.told before line text h s lines)
 
 pub returns-clause-told : goal.returns-clause-told
 returns-clause-told g c before line text h s lines =
-    rightly_some c.args.self.now.chosen.rows before line c.in-Some.told (sym c.in-Some.is ∙ c.take.ensures.told before line text h s lines)
+    rightly_some c.args.self.now.chosen.rows before line c.in-Some.told (sym c.in-Some.is ∙ c.judge_line.ensures.told before line text h s lines)

@@ -7,8 +7,8 @@ use Rattle.trace_scan.proofs.Rows.{all_fed}
 use Rattle.trace_scan.proofs.Texts.{part_next}
 use Rattle.trace_scan.proofs.feeding.FedTextConsumerFeederPass.feed.Goals as goal
 
-pub take-requires : goal.take-requires
-take-requires g c = let was = c.requires.fed in (was.2, was.3.cut.taken)
+pub feed-requires : goal.feed-requires
+feed-requires g c = let was = c.requires.fed in (was.2, was.3.cut.taken)
 
 pub feed_pieces-requires-clause-queue : goal.feed_pieces-requires-clause-queue
 feed_pieces-requires-clause-queue g c = c.requires.fed.3.queue_is

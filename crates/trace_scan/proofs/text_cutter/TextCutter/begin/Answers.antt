@@ -14,7 +14,7 @@ returns-in_default-clause-taken g c text taken =
     let none = no_rows_yet c.args.self.now text taken c.requires.bare in
     record {
       reads = end.stands text taken.reads;
-      cut = none_cut c.args.self.now.front c.next_row.new.self.interface (early_rows (text ++ c.args.bytes.now)) c.requires.bare (end.rows text taken.reads ∙ none);
+      cut = none_cut c.args.self.now.row_cutter c.next_row.new.self.interface (early_rows (text ++ c.args.bytes.now)) c.requires.bare (end.rows text taken.reads ∙ none);
     }
 
 pub returns-in_default-clause-pieces : goal.returns-in_default-clause-pieces
@@ -27,21 +27,21 @@ cut-requires g c =
     let text = c.requires.taken.0 in
     let none = no_rows_yet c.args.self.now text c.requires.taken.1 c.requires.bare in
     let t : TakesRow c.args.self.now.lines c.next_row.new.self c.args.bytes.now c.in-Some.rest.now c.next_row.new.row = rw c.in-Some.is at c.in_ok-rest.ensures.ok in
-    record { next = ([], c.new-front.ensures.cut, first_trace c.args.self.now.lines c.next_row.new.self text c.args.bytes.now c.in-Some.rest.now c.next_row.new.row c.requires.taken.1.reads none t) }
+    record { next = ([], c.new-row_cutter.ensures.cut, first_trace c.args.self.now.lines c.next_row.new.self text c.args.bytes.now c.in-Some.rest.now c.next_row.new.row c.requires.taken.1.reads none t) }
 
 pub cut_lines-requires : goal.cut_lines-requires
 cut_lines-requires g c =
     let text = c.requires.taken.0 in
     let t : TakesRow c.args.self.now.lines c.next_row.new.self c.args.bytes.now c.in-Some.rest.now c.next_row.new.row = rw c.in-Some.is at c.in_ok-rest.ensures.ok in
     let begun = first_cut text c.args.bytes.now c.in-Some.rest.now c.next_row.new.row c.args.self.now.lines c.next_row.new.self c.in-Some-interface.interface c.cut.new.self c.requires.taken.1.reads (no_rows_yet c.args.self.now text c.requires.taken.1 c.requires.bare) t
-    (c.in-Some-interface.ensures.kept ∙ ap (λ v. v.lines.interface) c.self.view_is) (c.in_ok-cut.ensures.interface ∙ c.new-front.ensures.interface) (c.in_ok-cut.ensures.cut [] c.new-front.ensures.cut) in
+    (c.in-Some-interface.ensures.kept ∙ ap (λ v. v.lines.interface) c.self.view_is) (c.in_ok-cut.ensures.interface ∙ c.new-row_cutter.ensures.interface) (c.in_ok-cut.ensures.cut [] c.new-row_cutter.ensures.cut) in
     (text ++ t.taken, begun)
 
 pub returns-in-Err-clause-refused : goal.returns-in-Err-clause-refused
 returns-in-Err-clause-refused g c text taken =
     let t : TakesRow c.args.self.now.lines c.next_row.new.self c.args.bytes.now c.in-Some.rest.now c.next_row.new.row = rw c.in-Some.is at c.in_ok-rest.ensures.ok in
     let begun = first_cut text c.args.bytes.now c.in-Some.rest.now c.next_row.new.row c.args.self.now.lines c.next_row.new.self c.in-Some-interface.interface c.cut.new.self taken.reads (no_rows_yet c.args.self.now text taken c.requires.bare) t
-    (c.in-Some-interface.ensures.kept ∙ ap (λ v. v.lines.interface) c.self.view_is) (c.in_ok-cut.ensures.interface ∙ c.new-front.ensures.interface) (c.in_ok-cut.ensures.cut [] c.new-front.ensures.cut) in
+    (c.in-Some-interface.ensures.kept ∙ ap (λ v. v.lines.interface) c.self.view_is) (c.in_ok-cut.ensures.interface ∙ c.new-row_cutter.ensures.interface) (c.in_ok-cut.ensures.cut [] c.new-row_cutter.ensures.cut) in
     subst (λ x. IsFaultOf (early x) c.in-Err.fault) (chunk_text c.args.self.now.lines c.next_row.new.self text c.args.bytes.now c.in-Some.rest.now c.next_row.new.row t)
     (c.in-Err.ensures.refused (text ++ t.taken) begun)
 
@@ -49,7 +49,7 @@ pub returns-in-Ok-clause-taken : goal.returns-in-Ok-clause-taken
 returns-in-Ok-clause-taken g c text taken =
     let t : TakesRow c.args.self.now.lines c.next_row.new.self c.args.bytes.now c.in-Some.rest.now c.next_row.new.row = rw c.in-Some.is at c.in_ok-rest.ensures.ok in
     let begun = first_cut text c.args.bytes.now c.in-Some.rest.now c.next_row.new.row c.args.self.now.lines c.next_row.new.self c.in-Some-interface.interface c.cut.new.self taken.reads (no_rows_yet c.args.self.now text taken c.requires.bare) t
-    (c.in-Some-interface.ensures.kept ∙ ap (λ v. v.lines.interface) c.self.view_is) (c.in_ok-cut.ensures.interface ∙ c.new-front.ensures.interface) (c.in_ok-cut.ensures.cut [] c.new-front.ensures.cut) in
+    (c.in-Some-interface.ensures.kept ∙ ap (λ v. v.lines.interface) c.self.view_is) (c.in_ok-cut.ensures.interface ∙ c.new-row_cutter.ensures.interface) (c.in_ok-cut.ensures.cut [] c.new-row_cutter.ensures.cut) in
     taken_of _ (text ++ c.args.bytes.now) c.cut_lines.new.self
     (subst (λ x. IsCutTo x c.cut_lines.new.lines c.cut_lines.new.self) (chunk_text c.args.self.now.lines c.next_row.new.self text c.args.bytes.now c.in-Some.rest.now c.next_row.new.row t)
     (c.in-Ok.ensures.cut (text ++ t.taken) begun)) refl
@@ -58,13 +58,13 @@ pub returns-in-Ok-clause-pieces : goal.returns-in-Ok-clause-pieces
 returns-in-Ok-clause-pieces g c text taken =
     let t : TakesRow c.args.self.now.lines c.next_row.new.self c.args.bytes.now c.in-Some.rest.now c.next_row.new.row = rw c.in-Some.is at c.in_ok-rest.ensures.ok in
     let begun = first_cut text c.args.bytes.now c.in-Some.rest.now c.next_row.new.row c.args.self.now.lines c.next_row.new.self c.in-Some-interface.interface c.cut.new.self taken.reads (no_rows_yet c.args.self.now text taken c.requires.bare) t
-    (c.in-Some-interface.ensures.kept ∙ ap (λ v. v.lines.interface) c.self.view_is) (c.in_ok-cut.ensures.interface ∙ c.new-front.ensures.interface) (c.in_ok-cut.ensures.cut [] c.new-front.ensures.cut) in
+    (c.in-Some-interface.ensures.kept ∙ ap (λ v. v.lines.interface) c.self.view_is) (c.in_ok-cut.ensures.interface ∙ c.new-row_cutter.ensures.interface) (c.in_ok-cut.ensures.cut [] c.new-row_cutter.ensures.cut) in
     let i = c.cut.new.self.interface in
     let after = c.in-Ok.ensures.cut (text ++ t.taken) begun in
     let all = chunk_text c.args.self.now.lines c.next_row.new.self text c.args.bytes.now c.in-Some.rest.now c.next_row.new.row t in
     first_pieces i text c.args.bytes.now c.in-Some.rest.now c.next_row.new.row c.args.self.now.lines c.next_row.new.self c.cut_lines.new.lines c.args.pieces.now.items c.cut.new.pieces.items c.cut_lines.new.pieces.items taken.reads
     (no_rows_yet c.args.self.now text taken c.requires.bare) t
-    (subst (λ j. HasAppended c.args.pieces.now.items c.cut.new.pieces.items (given_of j []) (given_of j ([] ++ c.next_row.new.row ∷ []))) (sym c.in_ok-cut.ensures.interface) (c.in_ok-cut.ensures.pieces [] c.new-front.ensures.cut))
+    (subst (λ j. HasAppended c.args.pieces.now.items c.cut.new.pieces.items (given_of j []) (given_of j ([] ++ c.next_row.new.row ∷ []))) (sym c.in_ok-cut.ensures.interface) (c.in_ok-cut.ensures.pieces [] c.new-row_cutter.ensures.cut))
     (c.in-Ok.ensures.pieces (text ++ t.taken) begun)
     (subst (StandsFor c.cut_lines.new.lines) all after.reads) (after.header ∙ ap Some c.in-Ok.ensures.interface)
 

@@ -1,0 +1,61 @@
+use Rattle.std.proofs.Common.{◌≡◌, ◌∙◌, ◌+◌, ◌++◌, refl, subst, length}
+use Rattle.line_model.specs.text.Text.{early, early_rows}
+use Rattle.trace_text.specs.Progress.{bytes_fed}
+use Rattle.trace_text.specs.StandsFor.{IsFaultOf, ReadsChunk, TakesRow}
+use Rattle.trace_scan.proofs.Heads.{next_trace}
+use Rattle.trace_scan.proofs.Cuts.{come_begun, come_end, come_pieces, come_row, come_text}
+use Rattle.trace_scan.proofs.text_cutter.RowCutter.cut_lines.Goals as goal
+
+pub loop-after-init : goal.loop-after-init
+loop-after-init g c = record {
+  size = refl;
+  same = refl;
+  come = λ text cut. come_begun text c.args.bytes.now c.args.lines.now c.args.self.now c.args.pieces.now.items cut;
+}
+
+pub cut-requires : goal.cut-requires
+cut-requires g c =
+    let text = c.requires.0 in
+    let come = c.loop-after.invariant.come text c.requires.1 in
+    let row : TakesRow c.loop-after.lines c.next_row.new.self c.loop-after.rest.now c.in-Ok-Some.after.now c.next_row.new.row = rw c.in-Ok-Some.field-0-is at c.in-Ok-Some.ensures.ok in
+    record {
+      next = (
+        early_rows (text ++ come.read),
+        come.cut.cut,
+        next_trace c.loop-after.lines c.next_row.new.self (text ++ come.read) c.loop-after.rest.now c.in-Ok-Some.after.now c.next_row.new.row come.cut.reads row,
+      );
+    }
+
+pub loop-after-preserved : goal.loop-after-preserved
+loop-after-preserved g c =
+    let inv = c.loop-after.invariant in
+    let row : TakesRow c.loop-after.lines c.next_row.new.self c.loop-after.rest.now c.in-Ok-Some.after.now c.next_row.new.row = rw c.in-Ok-Some.field-0-is at c.in-Ok-Some.ensures.ok in
+    let size : bytes_fed c.next_row.new.self + length c.in-Ok-Some.after.now ≡ bytes_fed c.loop-after.lines + length c.loop-after.rest.now = rw c.in-Ok-Some.field-0-is at c.in-Ok-Some.ensures.size in
+    record {
+      size = size ∙ inv.size;
+      same = c.in_ok-cut-in-Ok-Some.ensures.interface ∙ inv.same;
+      come = λ text cut.
+          let come = inv.come text cut in
+          come_row c.args.self.now.interface text c.args.bytes.now c.loop-after.rest.now c.in-Ok-Some.after.now c.next_row.new.row c.loop-after.lines c.next_row.new.self c.loop-after.self c.cut.new.self
+          c.args.pieces.now.items c.loop-after.pieces.items c.cut.new.pieces.items come row (c.in-Ok-Some.ensures.header (text ++ come.read) come.cut.reads) c.in_ok-cut-in-Ok-Some.ensures.interface
+          (c.in_ok-cut-in-Ok-Some.ensures.cut (early_rows (text ++ come.read)) come.cut.cut) (c.in_ok-cut-in-Ok-Some.ensures.pieces (early_rows (text ++ come.read)) come.cut.cut);
+    }
+
+pub returns-in-Ok-None-clause-cut : goal.returns-in-Ok-None-clause-cut
+returns-in-Ok-None-clause-cut g c text cut =
+    let come = c.loop-after.invariant.come text cut in
+    let end : ReadsChunk c.loop-after.lines c.next_row.new.self c.loop-after.rest.now = rw c.in-Ok-None.field-0-is at c.in-Ok-None.ensures.ok in
+    come_end c.args.self.now.interface text c.args.bytes.now c.loop-after.rest.now c.loop-after.lines c.next_row.new.self c.loop-after.self c.args.pieces.now.items c.loop-after.pieces.items come end
+    (c.in-Ok-None.ensures.header (text ++ come.read) come.cut.reads)
+
+pub returns-in-Ok-None-clause-pieces : goal.returns-in-Ok-None-clause-pieces
+returns-in-Ok-None-clause-pieces g c text cut =
+    let come = c.loop-after.invariant.come text cut in
+    let end : ReadsChunk c.loop-after.lines c.next_row.new.self c.loop-after.rest.now = rw c.in-Ok-None.field-0-is at c.in-Ok-None.ensures.ok in
+    come_pieces c.args.self.now.interface text c.args.bytes.now c.loop-after.rest.now c.loop-after.lines c.next_row.new.self c.loop-after.self c.args.pieces.now.items c.loop-after.pieces.items come end
+
+pub returns-in-Err-clause-refused : goal.returns-in-Err-clause-refused
+returns-in-Err-clause-refused g c text cut =
+    let come = c.loop-after.invariant.come text cut in
+    subst (λ x. IsFaultOf (early x) c.in-Err.fault) (come_text c.args.self.now.interface text c.args.bytes.now c.loop-after.lines c.loop-after.self c.loop-after.rest.now c.args.pieces.now.items c.loop-after.pieces.items come)
+    (c.in-Err.ensures.refused (text ++ come.read) come.cut.reads)
