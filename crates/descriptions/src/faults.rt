@@ -3,16 +3,13 @@
 use crate::prose::{Prose, count, say_number};
 use channel_run::run::View;
 use data_transfer::flow::SendWindow;
-use explanations::explanation::Explanation;
-use explanations::flow_codes::flow_codes;
-use explanations::messages::messages;
-use explanations::packet_codes::packet_codes;
+use explanations::lookup::code_row;
 use line_model::diagnostic::{
     CALL_ON_ONE_WAY_LOGICAL_CHANNEL, INCONSISTENT_Q_BIT_SETTING, INVALID_GENERAL_FORMAT_IDENTIFIER,
     INVALID_P_R, INVALID_P_S, PACKET_ON_UNASSIGNED_LOGICAL_CHANNEL, PACKET_TOO_LONG,
     PACKET_TOO_SHORT, UNIDENTIFIABLE_PACKET,
 };
-use line_model::finding::{Code, Finding, Xcode};
+use line_model::finding::{Code, Finding};
 use line_model::interface::Interface;
 use line_model::packet::{DataHeader, Packet, PacketKind};
 use line_model::state::{Side, StateName};
@@ -30,42 +27,9 @@ pub struct Before {
     pub packet: Packet,
 }
 
-/// The row of the table of explanations for a code.
-fn explanation(code: Code) -> Option<&'static Explanation> {
-    match code {
-        Code::Number(number) => numbered(number),
-        Code::Pad(code) => messages().get(message_place(code)),
-    }
-}
-
-/// The place of a code among those of messages.
-fn message_place(code: Xcode) -> usize {
-    match code {
-        Xcode::X1 => 0,
-        Xcode::X2 => 1,
-        Xcode::X3 => 2,
-        Xcode::X4 => 3,
-        Xcode::XL => 4,
-    }
-}
-
-/// The row of the table of explanations for a diagnostic code.
-fn numbered(number: u8) -> Option<&'static Explanation> {
-    let place = usize::from(number);
-    match number {
-        1 | 2 => flow_codes().get(place - 1),
-        17..=29 => flow_codes().get(place - 15),
-        33..=41 => packet_codes().get(place - 33),
-        43 | 44 => packet_codes().get(place - 34),
-        66..=69 => packet_codes().get(place - 55),
-        83 => packet_codes().get(15),
-        _ => None,
-    }
-}
-
 /// A finding: the name of its code, what is wrong with the values of the row, what the DCE does next, and the clause.
 pub fn fault<P: Prose>(out: &mut P, before: &Before, octets: &[u8], finding: &Finding) {
-    let Some(row) = explanation(finding.code) else {
+    let Some(row) = code_row(finding.code) else {
         return;
     };
     out.say(row.name);

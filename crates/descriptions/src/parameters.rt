@@ -2,14 +2,14 @@
 
 use crate::names;
 use crate::prose::{Prose, bracketed, say_number};
-use explanations::parameters::parameters;
+use explanations::lookup::parameter_row;
 use line_model::event::Entry;
 use line_model::state::Side;
 
 /// A parameter by its reference, with its name where X.3 has one.
 pub fn parameter<P: Prose>(out: &mut P, reference: u8) {
     say_number(out, "parameter ", u64::from(reference));
-    if let Some(named) = parameters().get(usize::from(reference).wrapping_sub(1)) {
+    if let Some(named) = parameter_row(reference) {
         bracketed(out, named.name);
     }
 }

@@ -5,12 +5,13 @@
 pub mod advice;
 pub mod explanation;
 mod fields;
-pub mod flow_codes;
+mod flow_codes;
 mod header_words;
 mod kinds;
-pub mod messages;
-pub mod packet_codes;
-pub mod parameters;
+pub mod lookup;
+mod messages;
+mod packet_codes;
+mod parameters;
 mod refusals;
 mod report_fields;
 mod states;
