@@ -43,7 +43,7 @@ def length(function, edit):
 
 def packet_class(edit):
     """A code that a packet's class has by itself."""
-    return Proof("Packets", "crates/packet_decode/src/decode.rt", "class_of", f"crates/packet_decode/{edit}.edit", "crates/packet_decode/proofs/decode/type_class/Answers.antt")
+    return Proof("Packets", "crates/packet_decode/src/decode.rt", "decode", f"crates/packet_decode/{edit}.edit", "crates/packet_decode/proofs/decode/decode/Answers.antt")
 
 
 def message(edit):
