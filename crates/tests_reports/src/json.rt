@@ -5,7 +5,7 @@ ghost use Rattle.std.specs.Prelude.{◌≡◌};
 use json_lines::sink::JsonSink;
 use line_model::device::Sink;
 use line_model::fault::Fault;
-use line_model::lending::{Borrowed, Origin};
+use line_model::lending::{Borrowed, Origin, take_back};
 use std::alloc::Global;
 use std::marker::Brand;
 use std::process::Abort;
@@ -31,20 +31,25 @@ fn write_parts<K: Sink>(sink: &mut K, text: &[u8], size: usize) -> Result<(), Fa
 }
 
 /// Has a lent sink take the objects of a text that comes in parts.
-fn convert<'a, K: Sink, B: Origin>(text: &[u8], size: usize, sink: &'a mut K) -> Result<(), Fault>
+fn convert<'a, K: Sink, B: Origin>(
+    text: &[u8],
+    size: usize,
+    sink: &'a mut K,
+) -> (&'a mut K, Result<(), Fault>)
     requires name { sink.ghost_name ≡ B.name }
     requires before { (K.taken sink.now, K.failures sink.now) ≡ B.before }
 {
     let mut json = JsonSink::new(Borrowed::<K, B>::new(sink));
     let written = write_parts(&mut json, text, size);
-    let (_, answer) = json.finish();
-    written.and(answer)
+    let (lent, answer) = json.finish();
+    (lent.give_back(), written.and(answer))
 }
 
 /// What becomes of a text that comes in parts of some size.
 fn converted(alloc: Global, text: &[u8], size: usize, cuts: Cuts) -> Conversion {
     let mut sink = CutSink::new(alloc, cuts);
-    let answer = convert::<CutSink, Brand>(text, size, &mut sink);
+    let (lent, answer) = convert::<CutSink, Brand>(text, size, &mut sink);
+    take_back(lent);
     let calls = cuts.good_writes.saturating_sub(sink.good_calls);
     Conversion {
         answer,

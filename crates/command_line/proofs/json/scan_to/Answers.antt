@@ -11,7 +11,7 @@ pub returns-in-Ok-clause-told : goal.returns-in-Ok-clause-told
 returns-in-Ok-clause-told g c text told =
     let taken = c.scan-scanned.new.sink.lines.told.bytes in
     let failures = length c.scan-scanned.new.sink.lines.refused.bytes in
-    let back = c.give_back-in-Ok in
+    let back = c.give_back in
     told_back c.args.options.follow text _ _ _ (g.K.Sink.taken c.finish-lent.result.0.sink.now) _ (g.K.Sink.failures c.finish-lent.result.0.sink.now) _ _ _ back.ensures.taken back.ensures.failures
     (record {
       told = taken;
