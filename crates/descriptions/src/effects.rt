@@ -1,8 +1,10 @@
 //! What a row did, in words.
 
+use crate::facts::Reason;
 use crate::names;
 use crate::parameters::setting;
 use crate::prose::{Prose, count, say_number};
+use call_accounts::so_far::segments_in;
 use line_model::event::{Event, How, What};
 use line_model::state::{ChannelState, RState};
 
@@ -58,7 +60,7 @@ pub fn event<P: Prose>(out: &mut P, event: &Event) {
         What::End(how) => out.say(ending(*how)),
         What::Data { octets, .. } => {
             count(out, "; counted: ", u64::from(*octets), " octet");
-            count(out, " in ", segments(*octets), " segment");
+            count(out, " in ", segments_in(event), " segment");
         }
         What::Setting {
             pad,
@@ -76,11 +78,6 @@ pub fn event<P: Prose>(out: &mut P, event: &Event) {
     }
 }
 
-/// The segments of 64 octets that some octets count.
-fn segments(octets: u32) -> u64 {
-    u64::from(octets).div_ceil(64)
-}
-
 /// How a call ended.
 fn ending(how: How) -> &'static str {
     match how {
@@ -91,34 +88,17 @@ fn ending(how: How) -> &'static str {
     }
 }
 
-/// Why a data packet without a finding was not counted.
-#[derive(Clone, Copy)]
-pub enum Passed {
-    /// The DCE owes its indication.
-    Owed,
-    /// The state discards it.
-    Discarded,
-    /// Nothing is known of the channel.
-    Unknown,
-}
-
-impl Passed {
-    /// By what was known of the channel before.
-    pub fn before(state: ChannelState, owed: bool) -> Passed {
-        match state {
-            ChannelState::Unknown => Passed::Unknown,
-            _ if owed => Passed::Owed,
-            _ => Passed::Discarded,
-        }
-    }
-
+impl Reason {
     /// The reason in words.
-    pub fn reason(self) -> &'static str {
+    pub fn words(self) -> &'static str {
         match self {
-            Passed::Owed => "the DCE owes its indication",
-            Passed::Discarded => "the state discards data",
-            Passed::Unknown =>
+            Reason::Finding => "a finding",
+            Reason::Owed => "the DCE owes its indication",
+            Reason::NotInTransfer => "the channel is not in data transfer",
+            Reason::Discarded => "the state discards data",
+            Reason::Unknown =>
                 "the recording began in the middle, and nothing is known of the channel yet",
+            Reason::Restart => "a restart goes on",
         }
     }
 }

@@ -1,8 +1,10 @@
 //! What is wrong with a row, in words.
 
+use crate::facts::RowFacts;
 use crate::prose::{Prose, count, say_number};
 use channel_run::run::View;
 use data_transfer::flow::SendWindow;
+use explanations::explanation::Explanation;
 use explanations::lookup::code_row;
 use line_model::diagnostic::{
     CALL_ON_ONE_WAY_LOGICAL_CHANNEL, INCONSISTENT_Q_BIT_SETTING, INVALID_GENERAL_FORMAT_IDENTIFIER,
@@ -27,6 +29,17 @@ pub struct Before {
     pub packet: Packet,
 }
 
+impl Before {
+    /// What stands before a row.
+    pub fn of_row(facts: &RowFacts<'_>) -> Self {
+        Before {
+            interface: facts.interface,
+            view: facts.view_before(),
+            packet: facts.packet,
+        }
+    }
+}
+
 /// A finding: the name of its code, what is wrong with the values of the row, what the DCE does next, and the clause.
 pub fn fault<P: Prose>(out: &mut P, before: &Before, octets: &[u8], finding: &Finding) {
     let Some(row) = code_row(finding.code) else {
@@ -34,11 +47,7 @@ pub fn fault<P: Prose>(out: &mut P, before: &Before, octets: &[u8], finding: &Fi
     };
     out.say(row.name);
     out.say(": ");
-    if values(out, before, octets, finding) {
-        out.say(".");
-    } else {
-        out.say(row.meaning);
-    }
+    wrong(out, before, octets, finding, row);
     out.say(" ");
     out.say(consequence(finding));
     out.say(". (");
@@ -46,8 +55,23 @@ pub fn fault<P: Prose>(out: &mut P, before: &Before, octets: &[u8], finding: &Fi
     out.say(")");
 }
 
+/// What is wrong with a row: with its values, where these tell it.
+pub fn wrong<P: Prose>(
+    out: &mut P,
+    before: &Before,
+    octets: &[u8],
+    finding: &Finding,
+    row: &Explanation,
+) {
+    if values(out, before, octets, finding) {
+        out.say(".");
+    } else {
+        out.say(row.meaning);
+    }
+}
+
 /// What an error has the DCE do.
-fn consequence(finding: &Finding) -> &'static str {
+pub fn consequence(finding: &Finding) -> &'static str {
     match finding.code {
         Code::Pad(_) => "No state changes",
         Code::Number(code) => match finding.side {

@@ -1,19 +1,30 @@
 //! What the rows of a trace are and did, in words.
 #![tactic(auto)]
 
+mod call_memory;
 mod call_rows;
 mod calls;
 mod causes;
 mod chosen;
 mod closing;
+mod closing_objects;
+mod course;
 pub mod descriptions;
 mod diagnostics;
 mod effects;
+mod facts;
 mod faults;
-mod lanes;
+mod json;
 mod messages;
 mod names;
+mod packet_members;
+mod packet_types;
 mod packets;
 mod parameters;
 mod prose;
+mod row_head;
+mod row_members;
+pub mod row_objects;
+mod row_words;
+mod times;
 mod uncounted;

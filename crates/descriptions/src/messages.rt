@@ -5,7 +5,7 @@ use crate::prose::{Prose, say_number};
 use pad::message::{Message, MessageCode, read_message};
 
 /// What a message is for (X.29 Table 3).
-fn name(code: MessageCode) -> &'static str {
+pub fn name(code: MessageCode) -> &'static str {
     match code {
         MessageCode::Indication => "parameter indication",
         MessageCode::InvitationToClear => "invitation to clear",

@@ -3,35 +3,34 @@
 use crate::calls::call;
 use crate::causes::{clearing_cause, resetting_cause, restarting_cause};
 use crate::diagnostics::diagnostic;
+use crate::facts::RowFacts;
 use crate::names;
 use crate::prose::{Prose, bracketed, count, say_number};
 use line_model::interface::Interface;
 use line_model::packet::{DataHeader, Packet, PacketKind};
-use line_model::state::Side;
 use packet_decode::transfer::header_length;
 
-/// A packet of a side, with its logical channel and its fields. `fast_before` says whether the call that is open on its
-/// channel asked fast select.
-pub fn packet<P: Prose>(
-    out: &mut P,
-    interface: &Interface,
-    side: Side,
-    octets: &[u8],
-    packet: &Packet,
-    fast_before: bool,
-) {
-    match packet {
+/// The packet of a row, with its side, its logical channel and its fields.
+pub fn packet<P: Prose>(out: &mut P, facts: &RowFacts<'_>) {
+    let side = facts.side;
+    match &facts.packet {
         Packet::Channel { channel, kind } => {
             say_number(out, names::side_on_channel(side), u64::from(*channel));
             out.say(": ");
-            out.say(names::packet(side, packet));
-            channel_fields(out, interface, octets, kind, fast_before)
+            out.say(names::packet(side, &facts.packet));
+            channel_fields(
+                out,
+                &facts.interface,
+                facts.octets,
+                kind,
+                facts.was_fast(),
+            )
         }
         packet => {
             out.say(names::side(side));
             out.say(": ");
             out.say(names::packet(side, packet));
-            interface_fields(out, octets, packet)
+            interface_fields(out, facts.octets, packet)
         }
     }
 }

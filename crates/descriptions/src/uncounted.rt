@@ -1,13 +1,15 @@
 //! The data packets that the sums leave out, and why.
 
-use crate::effects::Passed;
+use crate::facts::{Fate, Reason, RowFacts, user_data};
 use crate::prose::{Page, count};
 
 /// Some packets and their octets of user data. More than a number can hold stays at the greatest.
 #[derive(Clone, Copy)]
-struct Amount {
-    packets: u64,
-    octets: u64,
+pub struct Amount {
+    /// How many packets.
+    pub packets: u64,
+    /// Their octets of user data.
+    pub octets: u64,
 }
 
 const NONE: Amount = Amount {
@@ -39,10 +41,21 @@ impl Amount {
 pub struct Uncounted {
     faulty: Amount,
     owed: Amount,
+    not_in_transfer: Amount,
     discarded: Amount,
     unknown: Amount,
     restarting: Amount,
 }
+
+/// The reasons, in the order in which they are printed.
+pub const REASONS: [Reason; 6] = [
+    Reason::Finding,
+    Reason::Owed,
+    Reason::NotInTransfer,
+    Reason::Discarded,
+    Reason::Unknown,
+    Reason::Restart,
+];
 
 impl Uncounted {
     /// All were counted so far.
@@ -50,37 +63,45 @@ impl Uncounted {
         Uncounted {
             faulty: NONE,
             owed: NONE,
+            not_in_transfer: NONE,
             discarded: NONE,
             unknown: NONE,
             restarting: NONE,
         }
     }
 
-    /// A packet with a finding.
-    pub fn faulty(&mut self, octets: u64) {
-        self.faulty.add(octets);
+    /// Takes a row: its data, where it was not counted.
+    pub fn take(&mut self, facts: &RowFacts<'_>) {
+        let Fate::NotCounted(reason) = facts.fate else {
+            return;
+        };
+        let octets = user_data(&facts.interface, facts.octets).len() as u64;
+        match reason {
+            Reason::Finding => self.faulty.add(octets),
+            Reason::Owed => self.owed.add(octets),
+            Reason::NotInTransfer => self.not_in_transfer.add(octets),
+            Reason::Discarded => self.discarded.add(octets),
+            Reason::Unknown => self.unknown.add(octets),
+            Reason::Restart => self.restarting.add(octets),
+        }
     }
 
-    /// A packet that came while a restart went on.
-    pub fn restarting(&mut self, octets: u64) {
-        self.restarting.add(octets);
-    }
-
-    /// A packet that its channel passed over.
-    pub fn passed(&mut self, why: Passed, octets: u64) {
-        match why {
-            Passed::Owed => self.owed.add(octets),
-            Passed::Discarded => self.discarded.add(octets),
-            Passed::Unknown => self.unknown.add(octets),
+    /// What was not counted for a reason.
+    pub fn amount(&self, reason: Reason) -> Amount {
+        match reason {
+            Reason::Finding => self.faulty,
+            Reason::Owed => self.owed,
+            Reason::NotInTransfer => self.not_in_transfer,
+            Reason::Discarded => self.discarded,
+            Reason::Unknown => self.unknown,
+            Reason::Restart => self.restarting,
         }
     }
 
     /// A line for each reason.
     pub fn say<P: Page>(&self, notes: &mut P) {
-        self.faulty.say(notes, "a finding");
-        self.owed.say(notes, Passed::Owed.reason());
-        self.discarded.say(notes, Passed::Discarded.reason());
-        self.unknown.say(notes, Passed::Unknown.reason());
-        self.restarting.say(notes, "a restart goes on");
+        for reason in &REASONS {
+            self.amount(*reason).say(notes, reason.words());
+        }
     }
 }

@@ -1,0 +1,33 @@
+-- The facts of a row, as the definitions' walk has them.
+use Rattle.std.specs.Prelude.{◌≡◌, ℕ, List, [], ◌∷◌, ◌++◌, Option, None, Some, option_to_list}
+use Rattle.line_model.specs.basics.Records.{Row}
+use Rattle.line_model.specs.declared.event.Event.{Event}
+use Rattle.line_model.specs.declared.interface.Interface.{Interface}
+use Rattle.line_model.specs.observer.Calls.{all_lengths, segments_of}
+use Rattle.line_model.specs.observer.Machine.{routed}
+use Rattle.line_model.specs.observer.Observer.{x25}
+use Rattle.line_model.specs.observer.Report.{report_of}
+use Rattle.line_model.specs.packets.Classes.{packet_of}
+use Rattle.restart_epochs.specs.Cutting.{observer}
+use Rattle.live_report.specs.LastRows.{IsKnown}
+use Rattle.descriptions.specs.RowObjects.{events_at}
+use Rattle.descriptions.specs.declared.facts.Fate.{Fate}
+use Rattle.descriptions.specs.declared.facts.Fate.TheVariants.{Counted}
+use Rattle.descriptions.specs.declared.facts.RowFacts.{RowFacts}
+
+-- what became of the data of a row whose data packets have these lengths: the first one is counted, with its segments
+abbrev pub IsFateOf : List ℕ → Fate → Type 0
+IsFateOf [] (Counted octets segments) = ⊥
+IsFateOf [] _ = Unit {0}
+IsFateOf (n ∷ ns) (Counted octets segments) = (octets ≡ n) × (segments ≡ segments_of (n ∷ []))
+IsFateOf (n ∷ ns) _ = ⊥
+
+-- a row after others, what was known before and after it by the machine that judged it, what it found, and what it counted
+pub record AreFactsOf (i : Interface) (earlier : List Row) (r : Row) (facts : RowFacts) : Type 0 where
+  pub number : facts.number ≡ r.number
+  pub side : facts.side ≡ r.side
+  pub packet : facts.packet ≡ packet_of i r.octets
+  pub before : IsKnown i (routed (x25 i) (observer i earlier).line r) (observer i earlier) facts.before
+  pub after : IsKnown i (routed (x25 i) (observer i earlier).line r) (observer i (earlier ++ r ∷ [])) facts.after
+  pub finding : (report_of i (earlier ++ r ∷ [])).findings ≡ (report_of i earlier).findings ++ option_to_list facts.finding
+  pub fate : IsFateOf (all_lengths (events_at i (routed (x25 i) (observer i earlier).line r) (observer i earlier) r)) facts.fate

@@ -1,0 +1,106 @@
+-- The object of a row: its first members say what the definitions' walk does; others come after them.
+use Rattle.std.specs.Prelude.{◌≡◌, ℕ, Bool, true, false, List, [], ◌∷◌, ◌++◌, Option, None, Some, option_to_list, codes, decimal, flat_map}
+use Rattle.json_lines.specs.Json.{json_text}
+use Rattle.line_model.specs.basics.Records.{Report, Row}
+use Rattle.line_model.specs.channels.Channels.{Channel}
+use Rattle.line_model.specs.channels.ChannelStep.{setup_name, transfer_name}
+use Rattle.line_model.specs.channels.RestartMachine.{LineState, restart_name}
+use Rattle.line_model.specs.declared.event.Event.{Event}
+use Rattle.line_model.specs.declared.finding.Finding.{Finding}
+use Rattle.line_model.specs.declared.interface.Interface.{Interface}
+use Rattle.line_model.specs.declared.packet.Packet.{Packet}
+use Rattle.line_model.specs.declared.packet.Packet.TheVariants as packet
+use Rattle.line_model.specs.declared.state.ChannelState.{ChannelState}
+use Rattle.line_model.specs.declared.state.ChannelState.TheVariants.{Setup, Transfer, Unknown}
+use Rattle.line_model.specs.observer.Calls.{all_lengths, segments_of}
+use Rattle.line_model.specs.observer.Machine.{Observer, routed}
+use Rattle.line_model.specs.observer.Observer.{x25}
+use Rattle.line_model.specs.observer.Report.{code_word, report_of, side_word, state_word, text_of}
+use Rattle.line_model.specs.packets.Classes.{packet_of}
+use Rattle.line_model.specs.text.Text.{Line, head_of, rows_in}
+use Rattle.channel_run.specs.Run.{row_events}
+use Rattle.restart_epochs.specs.Cutting.{observer}
+use Rattle.annotated_trace.specs.Annotation.{IsOneLine}
+use Rattle.annotated_trace.specs.Rows.{is_told, row_written}
+use Rattle.annotated_trace.specs.declared.rows.Rows.{Rows}
+
+-- all words, one after the other
+abbrev pub joined : List (List ℕ) → List ℕ
+joined words = flat_map (λ word. word) words
+
+-- the state of a logical channel, of which nothing may be known where the trace began in the middle
+abbrev pub channel_word : ChannelState → List ℕ
+channel_word (Setup s) = state_word (setup_name s)
+channel_word (Transfer s) = state_word (transfer_name s)
+channel_word Unknown = codes "unknown"
+
+-- the state of the logical channel that takes a row; of the restart machine where none does
+abbrev pub state_at : (taker : Option ℕ) → Observer LineState Channel → List ℕ
+state_at None o = state_word (restart_name o.line.state)
+state_at (Some k) o = channel_word (o.states k).state
+
+-- the events of a row on the logical channel that takes it
+abbrev pub events_at : Interface → (taker : Option ℕ) → Observer LineState Channel → Row → List Event
+events_at i None o r = []
+events_at i (Some k) o r = row_events i o.epoch k (o.states k) r
+
+-- the logical channel that a packet names
+abbrev pub named_channel : Packet → Option ℕ
+named_channel (packet.Channel k kind) = Some k
+named_channel _ = None
+
+-- a number of JSON, or null
+abbrev pub number_word : Option ℕ → List ℕ
+number_word None = codes "null"
+number_word (Some n) = decimal n
+
+-- what is counted of data packets with these lengths: that of the first one, which is the only one of a row
+abbrev pub counted_word : List ℕ → List ℕ
+counted_word [] = codes "null"
+counted_word (n ∷ ns) = joined (codes "{\"octets\":" ∷ decimal n ∷ codes ",\"segments\":" ∷ decimal (segments_of (n ∷ [])) ∷ codes "}" ∷ [])
+
+-- the object of a finding, up to its code, or null
+abbrev pub finding_word : Option Finding → List ℕ
+finding_word None = codes "null"
+finding_word (Some f) = joined (codes "{\"code\":\"" ∷ code_word f.code ∷ codes "\"" ∷ [])
+
+-- the members of a row up to its states
+abbrev pub state_members : Row → (channel : Option ℕ) → (before after : List ℕ) → List ℕ
+state_members r channel before after =
+    joined (codes "{\"line\":\"row\",\"packet\":" ∷ decimal r.number ∷ codes ",\"side\":\"" ∷ side_word r.side ∷ codes "\",\"channel\":" ∷ number_word channel
+    ∷ codes ",\"before\":\"" ∷ before ∷ codes "\",\"after\":\"" ∷ after ∷ codes "\",\"counted\":" ∷ [])
+
+-- the beginning of the object of a row after others: the packet, its side and logical channel, the state before and after it, what it
+-- counted, and the code of what it found
+abbrev pub row_head : Interface → (earlier : List Row) → Row → Option Finding → List ℕ
+row_head i earlier r found =
+    let taker : Option ℕ = routed (x25 i) (observer i earlier).line r in
+    state_members r (named_channel (packet_of i r.octets)) (state_at taker (observer i earlier)) (state_at taker (observer i (earlier ++ r ∷ [])))
+    ++ (counted_word (all_lengths (events_at i taker (observer i earlier) r)) ++ (codes ",\"finding\":" ++ finding_word found))
+
+-- the object of a row after others on a line of its own: that beginning, with what the row found, and further members
+pub record IsRowObject (i : Interface) (earlier : List Row) (r : Row) (bytes : List ℕ) : Type 0 where
+  pub found : Option Finding
+  pub came : (report_of i (earlier ++ r ∷ [])).findings ≡ (report_of i earlier).findings ++ option_to_list found
+  pub rest : List ℕ
+  pub one : IsOneLine rest
+  pub written : bytes ≡ row_head i earlier r found ++ (rest ++ codes "}\n")
+
+-- the object of a row that is printed, and nothing for another
+abbrev pub IsObjectWhere : (told : Bool) → Interface → (earlier : List Row) → Row → List ℕ → Type 0
+IsObjectWhere true i earlier r bytes = IsRowObject i earlier r bytes
+IsObjectWhere false i earlier r bytes = bytes ≡ []
+
+-- of a row, if there is one
+abbrev pub IsObjectOf : Rows → Option Interface → (earlier : List Row) → Option Row → List ℕ → Type 0
+IsObjectOf rows (Some i) earlier (Some r) bytes = IsObjectWhere (is_told rows i earlier r) i earlier r bytes
+IsObjectOf rows _ earlier _ bytes = bytes ≡ []
+
+-- what a line after others becomes: the object of its row, where it writes one of these rows
+abbrev pub IsLineObject : Rows → (before : List Line) → Line → List ℕ → Type 0
+IsLineObject rows before l bytes = IsObjectOf rows (head_of before) (rows_in before) (row_written before l) bytes
+
+-- what comes after the last row: the objects of the report, and further ones
+pub record IsClosing (rows : Rows) (report : Report) (bytes : List ℕ) : Type 0 where
+  pub rest : List ℕ
+  pub written : bytes ≡ json_text (text_of report) ++ rest

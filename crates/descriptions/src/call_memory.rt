@@ -1,0 +1,114 @@
+//! What is remembered of each call for the objects after the report.
+
+use crate::facts::RowFacts;
+use crate::times::Time;
+use line_model::event::What;
+use line_model::finding::Code;
+use std::alloc::{AllocError, Allocator};
+
+/// How often the rows of a call have a code.
+#[derive(Clone, Copy)]
+pub struct CodeCount {
+    /// The code.
+    pub code: Code,
+    /// On how many rows.
+    pub count: u64,
+}
+
+/// The cause and the diagnostic code of the packet that cleared a call.
+#[derive(Clone, Copy)]
+pub struct Clearing {
+    /// The cause.
+    pub cause: Option<u8>,
+    /// The diagnostic code.
+    pub diagnostic: Option<u8>,
+}
+
+/// What is remembered of a call.
+#[derive(Drop)]
+pub struct CallMemory<A: Allocator> {
+    /// The packet that cleared it.
+    pub clearing: Option<Clearing>,
+    /// The codes of its rows' findings, in the order of their first ones.
+    pub codes: Vec<CodeCount, A>,
+    /// When it was opened.
+    pub start: Option<Time>,
+    /// When it ended.
+    pub end: Option<Time>,
+}
+
+impl<A: Allocator> CallMemory<A> {
+    /// A call that a row opened.
+    fn new(alloc: A, start: Option<Time>) -> Self {
+        CallMemory {
+            clearing: None,
+            codes: Vec::new(alloc),
+            start,
+            end: None,
+        }
+    }
+
+    /// Counts a code.
+    fn count(&mut self, code: Code) -> Result<(), AllocError> {
+        for known in self.codes.as_mut_slice() {
+            if known.code == code {
+                known.count = known.count.saturating_add(1);
+                return Ok(());
+            }
+        }
+        self.codes.push(CodeCount { code, count: 1 })
+    }
+}
+
+/// What is remembered of the calls, in the order of their numbers.
+#[derive(Drop)]
+pub struct Calls<A: Allocator> {
+    alloc: A,
+    calls: Vec<CallMemory<A>, A>,
+}
+
+impl<A: Allocator + Copy> Calls<A> {
+    /// There was no call. It takes no memory.
+    pub fn new(alloc: A) -> Self {
+        Calls {
+            alloc,
+            calls: Vec::new(alloc),
+        }
+    }
+
+    /// The call of a number.
+    pub fn get(&self, number: u32) -> Option<&CallMemory<A>> {
+        self.calls.get((number as usize).checked_sub(1)?)
+    }
+
+    /// The call of a number, to change it.
+    fn get_mut(&mut self, number: u32) -> Option<&mut CallMemory<A>> {
+        self.calls.get_mut((number as usize).checked_sub(1)?)
+    }
+
+    /// Takes a row with its time.
+    pub fn take(&mut self, facts: &RowFacts<'_>, time: Option<Time>) -> Result<(), AllocError> {
+        for event in facts.events {
+            if let What::Open { .. } = event.what {
+                self.calls.push(CallMemory::new(self.alloc, time))?;
+            }
+        }
+        if let Some(finding) = &facts.finding {
+            if let Some(call) = self.get_mut(facts.calls.of_row()) {
+                call.count(finding.code)?;
+            }
+        }
+        for ended in facts.ended {
+            if let Some(call) = self.get_mut(ended.call) {
+                call.end = time;
+            }
+        }
+        if let Some(call) = self.get_mut(facts.calls.cleared) {
+            call.clearing = Some(Clearing {
+                cause: facts.octets.get(3).copied(),
+                diagnostic: facts.octets.get(4).copied(),
+            });
+        }
+        Ok(())
+    }
+}

@@ -1,0 +1,314 @@
+//! What is remembered of the rows before: the calls, and which sequences of data go on.
+
+ghost use Rattle.std.specs.Prelude.{◌≡◌, ◌++◌, ◌∷◌, [], List, IfOk, MatchOption};
+ghost use Rattle.line_model.specs.basics.Records.{Row};
+ghost use Rattle.line_model.specs.declared.interface.Interface.{Interface as AnyInterface};
+ghost use Rattle.line_model.specs.observer.Calls.{all_lengths};
+ghost use Rattle.live_report.specs.Observing.{HasWalked};
+ghost use Rattle.descriptions.specs.Facts.{AreFactsOf, IsFateOf};
+
+use crate::facts::{
+    CallMove, EndedCall, Fate, Reason, RowFacts, counted_in, data_header, is_clear, is_data,
+    user_data,
+};
+use channel_run::run::{Channel, View};
+use line_model::event::{Event, How, What};
+use line_model::interface::Interface;
+use line_model::packet::{DataHeader, Packet};
+use line_model::state::{RState, Side};
+use live_report::last_row::{Known, LastRow};
+use live_report::observer::Observer;
+use restart_epochs::channel_table::ChannelTable;
+use std::alloc::{AllocError, Allocator};
+use std::boxed::Box;
+
+/// What is remembered of a logical channel.
+#[derive(Clone, Copy)]
+struct Lane {
+    /// The number of its call that is open, or 0.
+    call: u32,
+    /// The number of its last call, where the clear indication of the DCE is still to come, or 0.
+    uncleared: u32,
+    /// A sequence of data packets of T goes on.
+    continues_t: bool,
+    /// A sequence of data packets of N goes on.
+    continues_n: bool,
+}
+
+impl Lane {
+    /// A channel without a row.
+    fn fresh() -> Self {
+        Lane {
+            call: 0,
+            uncleared: 0,
+            continues_t: false,
+            continues_n: false,
+        }
+    }
+
+    /// Whether a data packet of a side goes on with a sequence.
+    fn continues(&self, side: Side) -> bool {
+        match side {
+            Side::T => self.continues_t,
+            Side::N => self.continues_n,
+        }
+    }
+
+    /// Takes a data packet that was counted: whether a message is whole in it. `size` is the packet size in force.
+    fn takes_whole(&mut self, side: Side, header: &DataHeader, length: usize, size: u16) -> bool {
+        let begins = !self.continues(side);
+        let goes_on = header.more && !header.delivery && length == usize::from(size);
+        match side {
+            Side::T => self.continues_t = goes_on,
+            Side::N => self.continues_n = goes_on,
+        }
+        begins && !goes_on
+    }
+}
+
+/// The packet size in force for data from a side.
+fn size_from(view: &View, side: Side) -> u16 {
+    match side {
+        Side::T => view.size_t,
+        Side::N => view.size_n,
+    }
+}
+
+/// A row that an observer took.
+#[derive(Clone, Copy)]
+struct TakenRow<'a> {
+    interface: Interface,
+    octets: &'a [u8],
+    last: LastRow,
+}
+
+/// What a row did.
+#[derive(Clone, Copy)]
+struct Deeds<'a> {
+    events: &'a [Event],
+    calls: CallMove,
+    fate: Fate,
+    message: Option<&'a [u8]>,
+}
+
+/// What is remembered of the rows before.
+#[derive(Drop)]
+pub struct Course<A: Allocator> {
+    alloc: A,
+    /// How many calls were opened.
+    calls: u32,
+    /// The epoch that the next row stands in.
+    epoch: u32,
+    lanes: ChannelTable<Lane, A>,
+    /// The calls that the last row ended.
+    ended: Vec<EndedCall, A>,
+}
+
+impl<A: Allocator + Copy> Course<A> {
+    /// There was no row. It takes no memory.
+    pub fn new(alloc: A) -> Self {
+        Course {
+            alloc,
+            calls: 0,
+            epoch: 1,
+            lanes: ChannelTable::new(alloc),
+            ended: Vec::new(alloc),
+        }
+    }
+
+    /// The facts of the last row of an observer, if it took one.
+    pub fn facts<'a, C: Channel<A>>(
+        &'a mut self,
+        interface: &Interface,
+        octets: &'a [u8],
+        observer: &'a Observer<A, C>,
+    ) -> Result<Option<RowFacts<'a>>, AllocError>
+        ensures facts { (i : AnyInterface) (earlier : List Row) (r : Row)
+            → HasWalked C.Channel i (earlier ++ r ∷ []) observer.entry.now
+            → IfOk result (λ found. MatchOption found ⊥ (AreFactsOf i earlier r)) }
+    {
+        let Some(last) = observer.last_row() else {
+            return Ok(None);
+        };
+        let epoch = self.epoch;
+        self.epoch = observer.epoch();
+        self.ended.clear();
+        let row = TakenRow {
+            interface: *interface,
+            octets,
+            last,
+        };
+        let deeds = match last.channel {
+            Some(channel) => self.on_channel(channel, &row, observer.events())?,
+            None => self.on_interface(&row)?,
+        };
+        Ok(Some(RowFacts {
+            interface: *interface,
+            number: last.number,
+            side: last.side,
+            octets,
+            packet: last.packet,
+            epoch,
+            before: last.before,
+            after: last.after,
+            finding: last.finding,
+            events: deeds.events,
+            calls: deeds.calls,
+            ended: self.ended.as_slice(),
+            fate: deeds.fate,
+            message: deeds.message,
+        }))
+    }
+
+    /// What a row did that a logical channel took.
+    fn on_channel<'a>(
+        &mut self,
+        channel: u16,
+        row: &TakenRow<'a>,
+        events: &'a [Event],
+    ) -> Result<Deeds<'a>, AllocError>
+        ensures fate { IfOk result (λ deeds. IsFateOf (all_lengths events.entry.now) deeds.fate) }
+    {
+        let mut lane = self.lane(channel)?;
+        let mut calls = self.call_move(&mut lane, events)?;
+        if is_clear(&row.last.packet) && (row.last.side == Side::N || !self.ended.is_empty()) {
+            calls.cleared = lane.uncleared;
+            lane.uncleared = 0;
+        }
+        let fate = fate(&row.last, events);
+        let message = message(row, fate, &mut lane);
+        self.lanes.put(channel, lane);
+        Ok(Deeds {
+            events,
+            calls,
+            fate,
+            message,
+        })
+    }
+
+    /// What a row did that the restart machine judged.
+    fn on_interface<'a>(&mut self, row: &TakenRow<'a>) -> Result<Deeds<'a>, AllocError>
+        ensures fate { IfOk result (λ deeds. IsFateOf [] deeds.fate) }
+    {
+        match (row.last.before, row.last.after) {
+            (Known::Restart(RState::R1), Known::Restart(after)) if after != RState::R1 => {
+                self.end_all()?
+            }
+            _ => {}
+        }
+        Ok(Deeds {
+            events: &[],
+            calls: CallMove::none(),
+            fate: passed_in_restart(&row.last.packet),
+            message: None,
+        })
+    }
+
+    /// Takes out what is remembered of a channel.
+    fn lane(&mut self, channel: u16) -> Result<Box<Lane, A>, AllocError> {
+        match self.lanes.take(channel) {
+            Some(lane) => Ok(lane),
+            None => {
+                self.lanes.list(channel)?;
+                Box::new(self.alloc, Lane::fresh())
+            }
+        }
+    }
+
+    /// The calls of a channel by the events of a row.
+    fn call_move(&mut self, lane: &mut Lane, events: &[Event]) -> Result<CallMove, AllocError> {
+        let mut calls = CallMove::none();
+        calls.before = lane.call;
+        for event in events {
+            match event.what {
+                What::Open { .. } => {
+                    self.calls = self.calls.saturating_add(1);
+                    calls.opened = self.calls;
+                    lane.call = self.calls;
+                    lane.uncleared = 0;
+                }
+                What::End(how) => {
+                    self.ended.push(EndedCall {
+                        call: lane.call,
+                        how,
+                    })?;
+                    if how == How::T || how == How::N {
+                        lane.uncleared = lane.call;
+                    }
+                    lane.call = 0;
+                }
+                _ => {}
+            }
+        }
+        calls.after = lane.call;
+        Ok(calls)
+    }
+
+    /// All calls end, and all channels are fresh again.
+    fn end_all(&mut self) -> Result<(), AllocError> {
+        while let Some((_, lane)) = self.lanes.pop_first() {
+            match lane {
+                Some(lane) if lane.call != 0 => {
+                    self.ended.push(EndedCall {
+                        call: lane.call,
+                        how: How::Restart,
+                    })?;
+                }
+                _ => {}
+            }
+        }
+        Ok(())
+    }
+}
+
+/// What became of the data of a row that a channel took.
+fn fate(last: &LastRow, events: &[Event]) -> Fate
+    ensures { IsFateOf (all_lengths events.now) result }
+{
+    if let Some(counted) = counted_in(events) {
+        return counted;
+    }
+    passed_on_channel(last)
+}
+
+/// What became of the data of a row that a channel took and did not count.
+fn passed_on_channel(last: &LastRow) -> Fate
+    ensures { IsFateOf [] result }
+{
+    match last.before {
+        _ if !is_data(&last.packet) => Fate::NoData,
+        _ if last.finding.is_some() => Fate::NotCounted(Reason::Finding),
+        Known::Channel(view) => Fate::NotCounted(Reason::of_channel(&view)),
+        Known::Restart(_) => Fate::NotCounted(Reason::Restart),
+    }
+}
+
+/// What became of the data of a row that the restart machine judged.
+fn passed_in_restart(packet: &Packet) -> Fate
+    ensures { IsFateOf [] result }
+{
+    if is_data(packet) {
+        Fate::NotCounted(Reason::Restart)
+    } else {
+        Fate::NoData
+    }
+}
+
+/// The octets of the PAD message that is whole in a data packet.
+fn message<'a>(row: &TakenRow<'a>, fate: Fate, lane: &mut Lane) -> Option<&'a [u8]> {
+    let Fate::Counted { .. } = fate else {
+        return None;
+    };
+    let Known::Channel(before) = row.last.before else {
+        return None;
+    };
+    let header = data_header(&row.last.packet)?;
+    let data = user_data(&row.interface, row.octets);
+    let size = size_from(&before, row.last.side);
+    let is_whole = lane.takes_whole(row.last.side, &header, data.len(), size);
+    if is_whole && header.qualified && before.pad_call {
+        Some(data)
+    } else {
+        None
+    }
+}

@@ -1,0 +1,208 @@
+//! What a row is and did, as the observer judged it.
+
+ghost use Rattle.std.specs.Prelude.{◌≡◌, [], MatchOption};
+ghost use Rattle.line_model.specs.observer.Calls.{all_lengths};
+ghost use Rattle.descriptions.specs.Facts.{IsFateOf};
+
+use call_accounts::so_far::segments_in;
+use channel_run::run::View;
+use line_model::event::{Event, How, What};
+use line_model::finding::Finding;
+use line_model::interface::Interface;
+use line_model::packet::{DataHeader, Packet, PacketKind};
+use line_model::state::{ChannelState, Side};
+use live_report::last_row::Known;
+use packet_decode::transfer::header_length;
+
+/// Why data was not counted.
+#[derive(Clone, Copy, PartialEq, Eq)]
+pub enum Reason {
+    /// The row has a finding.
+    Finding,
+    /// The DCE owes its indication.
+    Owed,
+    /// The logical channel is not in data transfer.
+    NotInTransfer,
+    /// A reset goes on, and the state discards data.
+    Discarded,
+    /// The recording began in the middle, and nothing is known of the channel.
+    Unknown,
+    /// A restart goes on.
+    Restart,
+}
+
+impl Reason {
+    /// Why a channel passed over data without a finding, by what was known of it before.
+    pub fn of_channel(before: &View) -> Reason {
+        match before.state {
+            ChannelState::Unknown => Reason::Unknown,
+            _ if before.owed => Reason::Owed,
+            ChannelState::Setup(_) => Reason::NotInTransfer,
+            ChannelState::Transfer(_) => Reason::Discarded,
+        }
+    }
+}
+
+/// What became of the data of a row.
+#[derive(Clone, Copy)]
+pub enum Fate {
+    /// It has no data.
+    NoData,
+    /// So many octets were counted, in so many segments of 64 octets.
+    Counted { octets: u32, segments: u64 },
+    /// They were not.
+    NotCounted(Reason),
+}
+
+/// The calls of the logical channel that took a row, by their numbers in the report; 0 where there is none.
+#[derive(Clone, Copy)]
+pub struct CallMove {
+    /// The call that was open before.
+    pub before: u32,
+    /// The call that the row opened.
+    pub opened: u32,
+    /// The call that is open after it.
+    pub after: u32,
+    /// The call that the row's clear request or indication cleared.
+    pub cleared: u32,
+}
+
+impl CallMove {
+    /// No call.
+    pub fn none() -> Self {
+        CallMove {
+            before: 0,
+            opened: 0,
+            after: 0,
+            cleared: 0,
+        }
+    }
+
+    /// The call that a row belongs to: the one that is open after it, else the one that was open before it.
+    pub fn of_row(&self) -> u32 {
+        if self.after != 0 {
+            self.after
+        } else if self.opened != 0 {
+            self.opened
+        } else {
+            self.before
+        }
+    }
+}
+
+/// A call that a row ended.
+#[derive(Clone, Copy)]
+pub struct EndedCall {
+    /// Its number in the report.
+    pub call: u32,
+    /// How it ended.
+    pub how: How,
+}
+
+/// What a row is and did.
+#[derive(Drop)]
+pub struct RowFacts<'a> {
+    /// The interface.
+    pub interface: Interface,
+    /// The number of the row.
+    pub number: u32,
+    /// The side that sent it.
+    pub side: Side,
+    /// Its octets.
+    pub octets: &'a [u8],
+    /// Its packet.
+    pub packet: Packet,
+    /// The stretch between restarts that it stands in.
+    pub epoch: u32,
+    /// What was known before it.
+    pub before: Known,
+    /// What is known after it.
+    pub after: Known,
+    /// What is wrong with it.
+    pub finding: Option<Finding>,
+    /// The events of the logical channel that took it.
+    pub events: &'a [Event],
+    /// The calls of that channel.
+    pub calls: CallMove,
+    /// The calls that it ended.
+    pub ended: &'a [EndedCall],
+    /// What became of its data.
+    pub fate: Fate,
+    /// The octets of the PAD message that is whole in it.
+    pub message: Option<&'a [u8]>,
+}
+
+impl RowFacts<'_> {
+    /// What was known before it of the logical channel that took it.
+    pub fn view_before(&self) -> Option<View> {
+        match self.before {
+            Known::Channel(view) => Some(view),
+            Known::Restart(_) => None,
+        }
+    }
+
+    /// Whether the call that was open before it asked fast select.
+    pub fn was_fast(&self) -> bool {
+        match self.before {
+            Known::Channel(view) => view.fast,
+            Known::Restart(_) => false,
+        }
+    }
+}
+
+/// The user data of a data packet.
+pub fn user_data<'a>(interface: &Interface, octets: &'a [u8]) -> &'a [u8] {
+    match octets.split_at_checked(header_length(interface)) {
+        Some((_, data)) => data,
+        None => &[],
+    }
+}
+
+/// Whether a packet is a data packet.
+pub fn is_data(packet: &Packet) -> bool {
+    matches!(
+        packet,
+        Packet::Channel {
+            kind: PacketKind::Data(_),
+            ..
+        }
+    )
+}
+
+/// Whether a packet is a clear request or indication.
+pub fn is_clear(packet: &Packet) -> bool {
+    matches!(
+        packet,
+        Packet::Channel {
+            kind: PacketKind::Clear,
+            ..
+        }
+    )
+}
+
+/// The header of a data packet.
+pub fn data_header(packet: &Packet) -> Option<DataHeader> {
+    match packet {
+        Packet::Channel {
+            kind: PacketKind::Data(header),
+            ..
+        } => *header,
+        _ => None,
+    }
+}
+
+/// What became of the data of a packet with these events, where it was counted.
+pub fn counted_in(events: &[Event]) -> Option<Fate>
+    ensures { MatchOption result (all_lengths events.now ≡ [])
+        (λ fate. IsFateOf (all_lengths events.now) fate) }
+{
+    for event in events {
+        if let What::Data { octets, .. } = event.what {
+            return Some(Fate::Counted {
+                octets,
+                segments: segments_in(event),
+            });
+        }
+    }
+    None
+}

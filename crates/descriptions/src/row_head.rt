@@ -1,0 +1,155 @@
+//! The beginning of the object of a row.
+
+ghost use Rattle.std.specs.Prelude.{◌≡◌, ℕ, ◌++◌, ◌∷◌, List, OnOk};
+ghost use Rattle.line_model.specs.basics.Records.{Row};
+ghost use Rattle.line_model.specs.declared.interface.Interface.{Interface};
+ghost use Rattle.line_model.specs.declared.finding.Finding.{Finding as AnyFinding};
+ghost use Rattle.line_model.specs.observer.Machine.{Observer as AnyObserver};
+ghost use Rattle.line_model.specs.channels.Channels.{Channel};
+ghost use Rattle.line_model.specs.channels.RestartMachine.{LineState};
+ghost use Rattle.line_model.specs.observer.Report.{code_word};
+ghost use Rattle.live_report.specs.LastRows.{IsKnown};
+ghost use Rattle.descriptions.specs.Facts.{AreFactsOf, IsFateOf};
+ghost use Rattle.descriptions.specs.RowObjects.{channel_word, counted_word, finding_word, joined, known_word, named_channel, row_head, state_at, state_members};
+
+use crate::facts::{Fate, RowFacts};
+use itoa::Buffer;
+use line_model::finding::{Code, Finding};
+use line_model::packet::Packet;
+use line_model::state::ChannelState;
+use live_report::last_row::Known;
+use report_merge::words::{pad_word, side_word, state_word};
+use std::alloc::{AllocError, Allocator};
+
+/// Appends words, one after the other.
+fn append_words<A: Allocator>(words: &[&[u8]], out: &mut Vec<u8, A>) -> Result<(), AllocError>
+    ensures { OnOk result (out.new.items ≡ out.old.items ++ joined (map (λ word. word.now) words.now)) }
+{
+    for word in words {
+        out.extend_from_slice(word)?;
+    }
+    Ok(())
+}
+
+/// The name of the state of a logical channel.
+fn channel_word(state: ChannelState) -> &'static [u8]
+    ensures { result.now ≡ channel_word state }
+{
+    match state {
+        ChannelState::Setup(state) => state_word(state.name()),
+        ChannelState::Transfer(state) => state_word(state.name()),
+        ChannelState::Unknown => b"unknown",
+    }
+}
+
+/// The name of the state that is known.
+fn known_word(known: &Known) -> &'static [u8]
+    ensures { result.now ≡ known_word known.now }
+{
+    match known {
+        Known::Restart(state) => state_word(state.name()),
+        Known::Channel(view) => channel_word(view.state),
+    }
+}
+
+/// The logical channel that a packet names, or null.
+fn channel_digits<'a>(packet: &Packet, buffer: &'a mut Buffer) -> &'a [u8]
+    ensures { result.now ≡ number_word (named_channel packet.now) }
+{
+    match packet {
+        Packet::Channel { channel, .. } => buffer.format(*channel).as_bytes(),
+        _ => b"null",
+    }
+}
+
+/// Appends the members of a row up to its states.
+fn append_states<A: Allocator>(
+    facts: &RowFacts<'_>,
+    out: &mut Vec<u8, A>,
+) -> Result<(), AllocError> {
+    let mut number = Buffer::new();
+    let mut channel = Buffer::new();
+    append_words(
+        &[
+            b"{\"line\":\"row\",\"packet\":",
+            number.format(facts.number).as_bytes(),
+            b",\"side\":\"",
+            side_word(facts.side),
+            b"\",\"channel\":",
+            channel_digits(&facts.packet, &mut channel),
+            b",\"before\":\"",
+            known_word(&facts.before),
+            b"\",\"after\":\"",
+            known_word(&facts.after),
+            b"\",\"counted\":",
+        ],
+        out,
+    )
+}
+
+/// Appends what was counted, or null.
+fn append_counted<A: Allocator>(fate: Fate, out: &mut Vec<u8, A>) -> Result<(), AllocError>
+    ensures { (lengths : List ℕ) → IsFateOf lengths fate
+        → OnOk result (out.new.items ≡ out.old.items ++ counted_word lengths) }
+{
+    let Fate::Counted { octets, segments } = fate else {
+        return out.extend_from_slice(b"null");
+    };
+    let mut counted = Buffer::new();
+    let mut whole = Buffer::new();
+    append_words(
+        &[
+            b"{\"octets\":",
+            counted.format(octets).as_bytes(),
+            b",\"segments\":",
+            whole.format(segments).as_bytes(),
+            b"}",
+        ],
+        out,
+    )
+}
+
+/// A code, as the report prints it.
+pub fn code_digits<'a>(code: Code, buffer: &'a mut Buffer) -> &'a [u8]
+    ensures { result.now ≡ code_word code }
+{
+    match code {
+        Code::Number(number) => buffer.format(number).as_bytes(),
+        Code::Pad(code) => pad_word(code),
+    }
+}
+
+/// Appends the object of a finding up to its code, or null.
+fn append_finding<A: Allocator>(
+    finding: Option<Finding>,
+    out: &mut Vec<u8, A>,
+) -> Result<(), AllocError>
+    ensures { OnOk result (out.new.items ≡ out.old.items ++ finding_word finding) }
+{
+    let Some(finding) = finding else {
+        return out.extend_from_slice(b"null");
+    };
+    let mut code = Buffer::new();
+    append_words(
+        &[
+            b"{\"code\":\"",
+            code_digits(finding.code, &mut code),
+            b"\"",
+        ],
+        out,
+    )
+}
+
+/// Appends the beginning of the object of a row.
+pub fn append_head<A: Allocator>(
+    facts: &RowFacts<'_>,
+    out: &mut Vec<u8, A>,
+) -> Result<(), AllocError>
+    ensures { (i : Interface) (earlier : List Row) (r : Row) → AreFactsOf i earlier r facts.now
+        → OnOk result (out.new.items ≡ out.old.items ++ row_head i earlier r facts.now.finding) }
+{
+    append_states(facts, out)?;
+    append_counted(facts.fate, out)?;
+    out.extend_from_slice(b",\"finding\":")?;
+    append_finding(facts.finding, out)
+}

@@ -1,0 +1,172 @@
+//! What a row did, as members of an object.
+
+use crate::facts::{Fate, Reason, RowFacts};
+use crate::faults::{Before, consequence, wrong};
+use crate::json::{Json, Out};
+use crate::packet_members::{packet_members, settings_member};
+use crate::packet_types::packet_type;
+use crate::prose::Prose;
+use crate::times::Time;
+use explanations::lookup::code_row;
+use line_model::event::{Event, How, What};
+use line_model::finding::Finding;
+use live_report::last_row::Known;
+
+/// The members of a row's object after its finding's code.
+pub fn row_members<O: Out>(
+    json: &mut Json<O>,
+    facts: &RowFacts<'_>,
+    time: Option<Time>,
+    hex: &[u8],
+) {
+    if let Some(finding) = &facts.finding {
+        finding_members(json, facts, finding);
+    }
+    json.number_member(",\"epoch\":", u64::from(facts.epoch));
+    json.flag_member(",\"owed\":", is_owed(facts));
+    call_members(json, facts);
+    ends_member(json, facts);
+    not_counted_member(json, facts);
+    time_member(json, ",\"time\":", time);
+    json.word_member(",\"type\":", packet_type(facts.side, &facts.packet));
+    hex_member(json, facts, hex);
+    packet_members(json, facts);
+    settings_member(json, facts.events);
+}
+
+/// The rest of the object of a finding after its code.
+fn finding_members<O: Out>(
+    json: &mut Json<O>,
+    facts: &RowFacts<'_>,
+    finding: &Finding,
+) {
+    if let Some(row) = code_row(finding.code) {
+        json.text_member(",\"name\":", row.name);
+        json.member(",\"wrong\":");
+        json.raw(b"\"");
+        wrong(json, &Before::of_row(facts), facts.octets, finding, row);
+        json.raw(b"\"");
+        json.member(",\"then\":");
+        json.raw(b"\"");
+        json.say(consequence(finding));
+        json.raw(b".\"");
+        json.text_member(",\"clause\":", row.clause);
+    }
+    json.raw(b"}");
+}
+
+/// Whether the DCE owes an indication on the channel after the row.
+fn is_owed(facts: &RowFacts<'_>) -> bool {
+    match facts.after {
+        Known::Channel(view) => view.owed,
+        Known::Restart(_) => false,
+    }
+}
+
+/// The call of a row, and whether the row begins it or brings it into data transfer.
+fn call_members<O: Out>(json: &mut Json<O>, facts: &RowFacts<'_>) {
+    json.member(",\"call\":");
+    match facts.calls.of_row() {
+        0 => json.null(),
+        call => json.value(u64::from(call)),
+    }
+    json.flag_member(",\"begins\":", facts.calls.opened != 0);
+    json.flag_member(",\"up\":", is_up(facts.events));
+}
+
+/// Whether a call came into data transfer.
+fn is_up(events: &[Event]) -> bool {
+    for event in events {
+        if let What::Up = event.what {
+            return true;
+        }
+    }
+    false
+}
+
+/// How a call ended, in the words of the report.
+pub fn how_word(how: How) -> &'static str {
+    match how {
+        How::T => "T",
+        How::N => "N",
+        How::Collision => "collision",
+        How::Restart => "restart",
+    }
+}
+
+/// The calls that a row ended.
+fn ends_member<O: Out>(json: &mut Json<O>, facts: &RowFacts<'_>) {
+    json.member(",\"ends\":");
+    json.raw(b"[");
+    let mut is_first = true;
+    for ended in facts.ended {
+        if !is_first {
+            json.raw(b",");
+        }
+        is_first = false;
+        json.first("{\"call\":");
+        json.value(u64::from(ended.call));
+        json.word_member(",\"how\":", how_word(ended.how));
+        json.raw(b"}");
+    }
+    json.raw(b"]");
+}
+
+/// The word of a reason for which data was not counted.
+pub fn reason_word(reason: Reason) -> &'static str {
+    match reason {
+        Reason::Finding => "finding",
+        Reason::Owed => "indication_owed",
+        Reason::NotInTransfer => "not_in_data_transfer",
+        Reason::Discarded => "discarded",
+        Reason::Unknown => "unknown",
+        Reason::Restart => "restart",
+    }
+}
+
+/// Why the data of a row was not counted.
+fn not_counted_member<O: Out>(json: &mut Json<O>, facts: &RowFacts<'_>) {
+    json.member(",\"not_counted\":");
+    match facts.fate {
+        Fate::NotCounted(reason) => json.word(reason_word(reason)),
+        _ => json.null(),
+    }
+}
+
+/// A time, as a number of seconds.
+pub fn time_member<O: Out>(json: &mut Json<O>, beginning: &str, time: Option<Time>) {
+    json.member(beginning);
+    match time {
+        Some(time) => {
+            json.value(time.seconds);
+            if time.billionths != 0 {
+                json.raw(b".");
+                billionths(json, time.billionths);
+            }
+        }
+        None => json.null(),
+    }
+}
+
+/// The digits after the point, without zeros at the end.
+fn billionths<O: Out>(json: &mut Json<O>, billionths: u32) {
+    let mut rest = billionths;
+    let mut worth = 100_000_000;
+    while rest != 0 && worth != 0 {
+        json.value(u64::from(rest / worth));
+        rest %= worth;
+        worth /= 10;
+    }
+}
+
+/// The octets of a row: the hex digits of its line, where they are that many.
+fn hex_member<O: Out>(json: &mut Json<O>, facts: &RowFacts<'_>, hex: &[u8]) {
+    json.member(",\"hex\":");
+    if hex.len() == facts.octets.len().saturating_mul(2) {
+        json.raw(b"\"");
+        json.raw(hex);
+        json.raw(b"\"");
+    } else {
+        json.hex(facts.octets);
+    }
+}

@@ -1,0 +1,64 @@
+//! What a row is and did, in words.
+
+use crate::effects::{channel_move, event, of_call, restart_move};
+use crate::facts::{Fate, Reason, RowFacts};
+use crate::messages::message;
+use crate::packets::packet;
+use crate::prose::Page;
+use line_model::event::What;
+use live_report::last_row::Known;
+
+/// Says what a row is, and on a further line what it did.
+pub fn row<P: Page>(facts: &RowFacts<'_>, notes: &mut P) {
+    packet(notes, facts);
+    if let Some(octets) = facts.message {
+        message(notes, octets);
+    }
+    notes.next_line();
+    moved(facts, notes);
+    calls(facts, notes);
+    left_out(facts, notes);
+}
+
+/// Says how the state changed.
+fn moved<P: Page>(facts: &RowFacts<'_>, notes: &mut P) {
+    match (facts.before, facts.after) {
+        (Known::Restart(before), Known::Restart(after)) => restart_move(notes, before, after),
+        (Known::Channel(before), Known::Channel(after)) => {
+            channel_move(notes, before.state, after.state)
+        }
+        _ => {}
+    }
+}
+
+/// Says the call that a row belongs to, and its events.
+fn calls<P: Page>(facts: &RowFacts<'_>, notes: &mut P) {
+    let mut call = facts.calls.before;
+    let mut is_named = false;
+    for what in facts.events {
+        if let What::Open { .. } = what.what {
+            call = facts.calls.opened;
+            is_named = false;
+        }
+        if !is_named {
+            of_call(notes, call);
+            is_named = true;
+        }
+        event(notes, what);
+    }
+    if !is_named {
+        of_call(notes, call);
+    }
+}
+
+/// Says why data was not counted. Of a row with a finding the finding says it, and of one in a restart its move.
+fn left_out<P: Page>(facts: &RowFacts<'_>, notes: &mut P) {
+    match facts.fate {
+        Fate::NotCounted(Reason::Finding | Reason::Restart) => {}
+        Fate::NotCounted(reason) => {
+            notes.say("; not counted: ");
+            notes.say(reason.words());
+        }
+        _ => {}
+    }
+}

@@ -1,0 +1,113 @@
+//! Times of rows, which stand in comments before them.
+
+/// A time in seconds.
+#[derive(Clone, Copy)]
+pub struct Time {
+    /// Whole seconds.
+    pub seconds: u64,
+    /// Billionths of a second, below 1,000,000,000.
+    pub billionths: u32,
+}
+
+/// The billionths of a second that a digit counts, by its place after the point.
+const BILLIONTHS: [u32; 9] = [
+    100_000_000,
+    10_000_000,
+    1_000_000,
+    100_000,
+    10_000,
+    1_000,
+    100,
+    10,
+    1,
+];
+
+impl Time {
+    /// The time that a line says which is a comment `#@ SECONDS`: at most twelve digits, and at most nine more after a
+    /// point. Another comment says none.
+    pub fn of_comment(line: &[u8]) -> Option<Time> {
+        let [b'#', b'@', b' ', words @ ..] = line else {
+            return None;
+        };
+        let digits = match words {
+            [digits @ .., b'\r', b'\n'] => digits,
+            [digits @ .., b'\n'] => digits,
+            digits => digits,
+        };
+        let (whole, part) = split_at_point(digits);
+        let seconds = whole_seconds(whole)?;
+        let billionths = match part {
+            Some(part) => part_of_second(part)?,
+            None => 0,
+        };
+        Some(Time {
+            seconds,
+            billionths,
+        })
+    }
+
+    /// How long it is from another time; none where that is later.
+    pub fn since(&self, start: &Time) -> Option<Time> {
+        let seconds = self.seconds.checked_sub(start.seconds)?;
+        match self.billionths.checked_sub(start.billionths) {
+            Some(billionths) => Some(Time {
+                seconds,
+                billionths,
+            }),
+            None => Some(Time {
+                seconds: seconds.checked_sub(1)?,
+                billionths: self
+                    .billionths
+                    .saturating_add(1_000_000_000)
+                    .saturating_sub(start.billionths),
+            }),
+        }
+    }
+}
+
+/// The digits before the first point, and those after it.
+fn split_at_point(digits: &[u8]) -> (&[u8], Option<&[u8]>) {
+    let mut place = 0;
+    while place < digits.len() {
+        if digits[place] == b'.' {
+            return (&digits[..place], Some(&digits[place + 1..]));
+        }
+        place += 1;
+    }
+    (digits, None)
+}
+
+/// A decimal digit.
+fn digit(byte: u8) -> Option<u8> {
+    if byte.is_ascii_digit() {
+        Some(byte.saturating_sub(b'0'))
+    } else {
+        None
+    }
+}
+
+/// A number of one to twelve digits.
+fn whole_seconds(digits: &[u8]) -> Option<u64> {
+    if digits.is_empty() || digits.len() > 12 {
+        return None;
+    }
+    let mut seconds: u64 = 0;
+    for byte in digits {
+        let value = digit(*byte)?;
+        seconds = seconds.saturating_mul(10).saturating_add(u64::from(value));
+    }
+    Some(seconds)
+}
+
+/// Up to nine digits after the point.
+fn part_of_second(digits: &[u8]) -> Option<u32> {
+    if digits.is_empty() || digits.len() > 9 {
+        return None;
+    }
+    let mut billionths: u32 = 0;
+    for (byte, worth) in digits.iter().zip(&BILLIONTHS) {
+        let value = digit(*byte)?;
+        billionths = billionths.saturating_add(worth.saturating_mul(u32::from(value)));
+    }
+    Some(billionths)
+}
