@@ -83,19 +83,22 @@ same_channel : (i : Interface) (k : ℕ) (c : Channel) (rs : List Row) → chann
 same_channel i k c [] = refl
 same_channel i k c (r ∷ rs) = same_channel i k (channel_step i k c r).after rs
 
+-- in r1 the state of a channel is that of its piece in the open epoch
+pub state_here : (i : Interface) (rs : List Row) (c : Cutting) (k : ℕ) → IsCutterOf i rs c → is_ready (observer i rs).line ≡ true → (observer i rs).states k ≡ channel_so_far (begun_piece c.interface c.epoch k (rows_of c.open_rows k))
+state_here i rs c k s ready =
+    let o = observer i rs in
+    let rows : rows_of c.open_rows k ≡ map (item_of i) (piece_rows o.epoch k (places i rs)) = s.rows k ∙ ap (λ b. rows_if b i (places i rs) o.epoch k) ready in
+    states_of i rs ready k ∙ sym (same_channel i k (fresh i o.epoch k) (piece_rows o.epoch k (places i rs))) ∙ ap (channel_after i k (fresh i o.epoch k)) (sym rows)
+    ∙ (λ t. channel_so_far (begun_piece (sym s.interface t) (sym s.epoch t) k (rows_of c.open_rows k)))
+
 -- the events of a row on its channel, by the rows of the open epoch
 pub events_on : (i : Interface) (rs : List Row) (c : Cutting) (r : Row) → IsCutterOf i rs c → is_to_channel (routing i c.line r).route ≡ true
     → row_events i (observer i rs).epoch (channel_of r.octets) ((observer i rs).states (channel_of r.octets)) r
     ≡ row_events c.interface c.epoch (channel_of r.octets) (channel_so_far (begun_piece c.interface c.epoch (channel_of r.octets) (rows_of c.open_rows (channel_of r.octets)))) r
 events_on i rs c r s to =
-    let o = observer i rs in
-    let k = channel_of r.octets in
     let on = on_channel i rs r (ap (λ l. is_to_channel (routing i l r).route) (sym s.line) ∙ to) in
-    let rows : rows_of c.open_rows k ≡ map (item_of i) (piece_rows o.epoch k (places i rs)) = s.rows k ∙ ap (λ b. rows_if b i (places i rs) o.epoch k) on.ready in
-    let state : o.states k ≡ channel_after i k (fresh i o.epoch k) (rows_of c.open_rows k) =
-    states_of i rs on.ready k ∙ sym (same_channel i k (fresh i o.epoch k) (piece_rows o.epoch k (places i rs))) ∙ ap (channel_after i k (fresh i o.epoch k)) (sym rows) in
-    ap (λ x. row_events i o.epoch k x r) state
-    ∙ (λ t. row_events (sym s.interface t) (sym s.epoch t) k (channel_so_far (begun_piece (sym s.interface t) (sym s.epoch t) k (rows_of c.open_rows k))) r)
+    let state = state_here i rs c (channel_of r.octets) s on.ready in
+    (λ t. row_events (sym s.interface t) (sym s.epoch t) (channel_of r.octets) (state t) r)
 
 pub found_on_channel : (i : Interface) (rs : List Row) (c : Cutting) (r : Row) → IsCutterOf i rs c → is_to_channel (routing i c.line r).route ≡ true
     → findings_of (events i (rs ++ r ∷ [])) ≡ findings_of (events i rs) ++ findings_of (row_events c.interface c.epoch (channel_of r.octets) (channel_so_far (begun_piece c.interface c.epoch (channel_of r.octets) (rows_of c.open_rows (channel_of r.octets)))) r)

@@ -1,5 +1,5 @@
 -- The row that an observer took last, by the route of the row.
-use Rattle.std.proofs.Common.{◌≡◌, ◌∙◌, sym, ap, subst, refl, ℕ, true, false, List, [], ◌∷◌, ◌++◌, length, length-append, Option, Some, None, arith}
+use Rattle.std.proofs.Common.{◌≡◌, ◌∙◌, sym, ap, subst, refl, ℕ, Bool, true, false, true≢false, List, [], ◌∷◌, ◌++◌, length, length-append, Option, Some, None, option_to_list, arith}
 use Rattle.std.specs.Prelude.{MatchOption}
 use Rattle.line_model.specs.declared.event.Event.{Event}
 use Rattle.line_model.specs.declared.interface.Interface.{Interface}
@@ -8,24 +8,28 @@ use Rattle.line_model.specs.declared.verdict.Route.{Route}
 use Rattle.line_model.specs.declared.verdict.Route.TheVariants.{ToChannel, Leave, Enter, Found, Pass}
 use Rattle.line_model.specs.basics.Records.{Row, Item}
 use Rattle.line_model.specs.basics.Octets.{channel_of}
-use Rattle.line_model.specs.channels.RestartMachine.{Routing}
-use Rattle.line_model.specs.observer.Observer.{routing}
+use Rattle.line_model.specs.channels.RestartMachine.{LineState, Routing}
+use Rattle.line_model.specs.observer.Observer.{routing, is_ready}
+use Rattle.line_model.specs.observer.Report.{report_of}
 use Rattle.line_model.specs.packets.Classes.{packet_of}
+use Rattle.line_model.specs.pieces.Plan.{has_some}
 use Rattle.channel_run.specs.Live.{channel_so_far}
 use Rattle.channel_run.specs.Run.{row_events}
-use Rattle.restart_epochs.specs.OpenRows.{rows_of}
-use Rattle.restart_epochs.specs.Cutting.{Cutting, StandsFor as IsCutterOf, observer}
+use Rattle.restart_epochs.specs.OpenRows.{OpenRows, rows_of}
+use Rattle.restart_epochs.specs.Cutting.{Cutting, IsTakenBy, StandsFor as IsCutterOf, observer, places, rows_if}
 use Rattle.restart_epochs.specs.declared.walk.EpochWalk.{EpochWalk}
 use Rattle.restart_epochs.specs.declared.walk.Step.{Step}
-use Rattle.restart_epochs.specs.Walks.{channel_in, routed_at, turn_of, IsStep}
+use Rattle.restart_epochs.specs.declared.walk.Turn.{Turn}
+use Rattle.restart_epochs.specs.Walks.{channel_in, epoch_after, routed_at, turn_of, IsStep}
 use Rattle.restart_epochs.proofs.Routes.{is_to_channel}
-use Rattle.restart_epochs.proofs.Steps.{routed_to, routed_none}
+use Rattle.restart_epochs.proofs.Steps.{on_channel, routed_to, routed_none}
 use Rattle.restart_epochs.proofs.Taken.{Told, routed_by}
 use Rattle.live_report.specs.Lanes.{begun_piece}
-use Rattle.live_report.specs.Turns.{HasEvents}
-use Rattle.live_report.specs.LastRows.{IsLastRow, KnowsLast}
+use Rattle.live_report.specs.Turns.{walked_piece, HasEvents, KnowsBy, SeesOn}
+use Rattle.live_report.specs.LastRows.{IsKnown, IsLastRow, IsSeen, IsState, KnowsLast}
+use Rattle.live_report.specs.declared.last_row.Known.{Known}
 use Rattle.live_report.specs.declared.last_row.LastRow.{LastRow}
-use Rattle.live_report.proofs.FindingLemmas.{events_on}
+use Rattle.live_report.proofs.FindingLemmas.{events_on, state_here}
 
 -- ---- lists
 
@@ -59,56 +63,87 @@ knows i rs r l last events is h before x e =
 goes : (i : Interface) (rs : List Row) (c : Cutting) (r : Row) (p : Packet) (step : Routing) → IsCutterOf i rs c → Told c (record { row = r; packet = p }) step → is_to_channel (routing i c.line r).route ≡ is_to_channel step.route
 goes i rs c r p step s told = ap (λ q. is_to_channel q.route) (sym (routed_by i rs c (record { row = r; packet = p }) step s told))
 
-channel_last : (i : Interface) (rs : List Row) (c : Cutting) (r : Row) (p : Packet) (step : Routing) (k : ℕ) (last : Option LastRow) (events : List Event) → IsCutterOf i rs c → Told c (record { row = r; packet = p }) step → is_to_channel step.route ≡ true
-    → k ≡ channel_of r.octets → last ≡ Some (record { packet = p; channel = Some k }) → events ≡ row_events c.interface c.epoch k (channel_so_far (begun_piece c.interface c.epoch k (rows_of c.open_rows k))) r → KnowsLast i (rs ++ r ∷ []) last events
-channel_last i rs c r p step k last events s told to is l came =
-    let there = goes i rs c r p step s told ∙ to in
-    let here = ap (λ x. is_to_channel (routing i x r).route) (sym s.line) ∙ there in
-    let all : events ≡ row_events i (observer i rs).epoch k ((observer i rs).states k) r =
-    came ∙ subst (λ n. row_events c.interface c.epoch n (channel_so_far (begun_piece c.interface c.epoch n (rows_of c.open_rows n))) r ≡ row_events i (observer i rs).epoch n ((observer i rs).states n) r) (sym is) (sym (events_on i rs c r s there)) in
-    knows i rs r (record { packet = p; channel = Some k }) last events l
-    (record {
-      packet = told.packet ∙ ap (λ j. packet_of j r.octets) s.interface;
-      channel = ap (λ n. Some n) is ∙ sym (routed_to i (observer i rs).line r here);
-      came = λ n e. subst (λ m. events ≡ row_events i (observer i rs).epoch m ((observer i rs).states m) r) (some_one k n e) all;
-    })
-  where
-    some_one : (a b : ℕ) → Some a ≡ Some b → a ≡ b
-    some_one a b h = cc
+-- a channel of the open epoch of a walk, as the observer knows it
+seen_at : {B : Type 0} → (i : Interface) (rs : List Row) (c : Cutting) (v : EpochWalk B) (k : ℕ) (known : Known) → IsCutterOf i rs c → is_ready (observer i rs).line ≡ true → v.interface ≡ c.interface → v.epoch ≡ c.epoch
+    → SeesOn v k c.open_rows known → IsSeen i ((observer i rs).states k) known
+seen_at i rs c v k known s ready same_interface same_epoch seen =
+    let same : channel_so_far (walked_piece v k c.open_rows) ≡ (observer i rs).states k =
+    (λ t. channel_so_far (begun_piece (same_interface t) (same_epoch t) k (rows_of c.open_rows k))) ∙ sym (state_here i rs c k s ready) in
+    subst (λ x. IsSeen i x known) same (subst (λ j. IsSeen j (channel_so_far (walked_piece v k c.open_rows)) known) (same_interface ∙ s.interface) seen)
 
-line_last : (i : Interface) (rs : List Row) (c : Cutting) (r : Row) (p : Packet) (step : Routing) (last : Option LastRow) (events : List Event) → IsCutterOf i rs c → Told c (record { row = r; packet = p }) step → is_to_channel step.route ≡ false
-    → last ≡ Some (record { packet = p; channel = None }) → KnowsLast i (rs ++ r ∷ []) last events
-line_last i rs c r p step last events s told to l =
-    let here = ap (λ x. is_to_channel (routing i x r).route) (sym s.line) ∙ goes i rs c r p step s told ∙ to in
-    knows i rs r (record { packet = p; channel = None }) last events l
-    (record {
-      packet = told.packet ∙ ap (λ j. packet_of j r.octets) s.interface;
-      channel = sym (routed_none i (observer i rs).line r here);
-      came = λ n e. absurd (no_one n e);
-    })
+-- where a channel has rows in the open epoch, it is open
+pub open_is_ready : (i : Interface) (rs : List Row) (c : Cutting) (k : ℕ) → IsCutterOf i rs c → has_some (rows_of c.open_rows k) ≡ true → is_ready (observer i rs).line ≡ true
+open_is_ready i rs c k s some = at (is_ready (observer i rs).line) refl
   where
+    at : (b : Bool) → is_ready (observer i rs).line ≡ b → is_ready (observer i rs).line ≡ true
+    at true e = e
+    at false e = absurd (true≢false (sym some ∙ ap has_some (s.rows k ∙ ap (λ b. rows_if b i (places i rs) (observer i rs).epoch k) e)))
+
+-- what a turn makes known of a row
+pub record Judged {B : Type 0} (turn : Turn) (item : Item) (walk : EpochWalk B) (machine : LineState) (rows rows_after : OpenRows) (last : LastRow) (events : List Event) : Type 0 where
+  pub packet : last.packet ≡ item.packet
+  pub channel : last.channel ≡ channel_in turn
+  pub before : KnowsBy turn walk walk.machine rows last.before
+  pub after : KnowsBy turn walk machine rows_after last.after
+  pub came : HasEvents turn walk rows item.row events
+
+-- by what the row did to the channels
+pub last_known : {B : Type 0} → (i : Interface) (rs : List Row) (c a : Cutting) (item : Item) (step : Step) (v : EpochWalk B) (l : LastRow) (last : Option LastRow) (events : List Event)
+    → IsCutterOf i rs c → IsCutterOf i (rs ++ item.row ∷ []) a → IsTakenBy item step c a → item.packet ≡ packet_of c.interface item.row.octets → IsStep c.line c.epoch item step
+    → v.interface ≡ c.interface → v.epoch ≡ c.epoch → v.machine ≡ c.line → last ≡ Some l → Judged step.turn item v step.machine c.open_rows a.open_rows l events
+    → (report_of i (rs ++ item.row ∷ [])).findings ≡ (report_of i rs).findings ++ option_to_list l.finding → KnowsLast i (rs ++ item.row ∷ []) last events
+last_known {B} i rs c a item step v l last events s grown taken packet is same_interface same_epoch same_machine last_is judged finding =
+    knows i rs item.row l last events last_is (at (routed_at c.line item).route refl (subst (λ t. Judged t item v step.machine c.open_rows a.open_rows l events) is.turn judged))
+  where
+    r : Row
+    r = item.row
+
+    k : ℕ
+    k = channel_of item.row.octets
+
+    routes : (q : Route) → (routed_at c.line item).route ≡ q → is_to_channel (routing i (observer i rs).line r).route ≡ is_to_channel q
+    routes q e = ap (λ x. is_to_channel (routing i x r).route) (sym s.line) ∙ goes i rs c r item.packet (routed_at c.line item) s (record { packet = packet; stepped = refl }) ∙ ap is_to_channel e
+
+    packet_is : l.packet ≡ packet_of i r.octets
+    packet_is = judged.packet ∙ packet ∙ ap (λ j. packet_of j r.octets) s.interface
+
     no_one : (n : ℕ) → ◌≡◌ {A = Option ℕ} None (Some n) → ⊥
     no_one n h = cc
 
--- by what the row did to the channels
-pub last_known : {B : Type 0} → (i : Interface) (rs : List Row) (c : Cutting) (item : Item) (step : Step) (v : EpochWalk B) (last : Option LastRow) (events : List Event) → IsCutterOf i rs c → item.packet ≡ packet_of c.interface item.row.octets
-    → IsStep c.line c.epoch item step → v.interface ≡ c.interface → v.epoch ≡ c.epoch → last ≡ Some (record { packet = item.packet; channel = channel_in step.turn }) → HasEvents step.turn v c.open_rows item.row events → KnowsLast i (rs ++ item.row ∷ []) last events
-last_known i rs c item step v last events s packet is same_interface same_epoch l came = at (routed_at c.line item).route refl
-    (subst (λ t. last ≡ Some (record { packet = item.packet; channel = channel_in t })) is.turn l) (subst (λ t. HasEvents t v c.open_rows item.row events) is.turn came)
-  where
-    told : Told c item (routed_at c.line item)
-    told = record { packet = packet; stepped = refl }
+    some_one : (x y : ℕ) → Some x ≡ Some y → x ≡ y
+    some_one x y h = cc
 
-    on_line : (q : Route) → (routed_at c.line item).route ≡ q → is_to_channel q ≡ false → last ≡ Some (record { packet = item.packet; channel = None }) → KnowsLast i (rs ++ item.row ∷ []) last events
-    on_line q e to h = line_last i rs c item.row item.packet (routed_at c.line item) last events s told (ap is_to_channel e ∙ to) h
+    on_line : (q : Route) → (routed_at c.line item).route ≡ q → is_to_channel q ≡ false → l.channel ≡ None → IsState v.machine.state l.before → IsState step.machine.state l.after → IsLastRow i rs r l events
+    on_line q e to none before after = record {
+      packet = packet_is;
+      channel = none ∙ sym (routed_none i (observer i rs).line r (routes q e ∙ to));
+      before = subst (λ n. IsKnown i n (observer i rs) l.before) (sym none) (subst (λ x. IsState x l.before) (ap (λ m. m.state) (same_machine ∙ s.line)) before);
+      after = subst (λ n. IsKnown i n (observer i (rs ++ r ∷ [])) l.after) (sym none) (subst (λ x. IsState x l.after) (ap (λ m. m.state) (sym taken.line ∙ grown.line)) after);
+      finding = finding;
+      came = λ n there. absurd (no_one n (sym none ∙ there));
+    }
 
-    at : (q : Route) → (routed_at c.line item).route ≡ q → last ≡ Some (record { packet = item.packet; channel = channel_in (turn_of item.row.octets q) }) → HasEvents (turn_of item.row.octets q) v c.open_rows item.row events
-        → KnowsLast i (rs ++ item.row ∷ []) last events
-    at ToChannel e h had =
-        let k = channel_of item.row.octets in
-        channel_last i rs c item.row item.packet (routed_at c.line item) k last events s told (ap is_to_channel e) refl h
-        (had ∙ (λ t. row_events (same_interface t) (same_epoch t) k (channel_so_far (begun_piece (same_interface t) (same_epoch t) k (rows_of c.open_rows k))) item.row))
-    at (Leave code) e h had = on_line (Leave code) e refl h
-    at Enter e h had = on_line Enter e refl h
-    at (Found state code) e h had = on_line (Found state code) e refl h
-    at Pass e h had = on_line Pass e refl h
+    on_its_channel : (routed_at c.line item).route ≡ ToChannel → Judged (turn_of r.octets ToChannel) item v step.machine c.open_rows a.open_rows l events → IsLastRow i rs r l events
+    on_its_channel e j =
+        let there = routes ToChannel e in
+        let on = on_channel i rs r there in
+        let epoch : v.epoch ≡ a.epoch = same_epoch ∙ sym (taken.epoch ∙ is.epoch ∙ ap (epoch_after c.epoch) e) in
+        let events_are : events ≡ row_events i (observer i rs).epoch k ((observer i rs).states k) r =
+        j.came ∙ (λ t. row_events (same_interface t) (same_epoch t) k (channel_so_far (begun_piece (same_interface t) (same_epoch t) k (rows_of c.open_rows k))) r)
+        ∙ sym (events_on i rs c r s (ap (λ x. is_to_channel (routing i x r).route) s.line ∙ there)) in
+        record {
+          packet = packet_is;
+          channel = j.channel ∙ sym (routed_to i (observer i rs).line r there);
+          before = subst (λ n. IsKnown i n (observer i rs) l.before) (sym j.channel) (seen_at i rs c v k l.before s on.ready same_interface same_epoch j.before);
+          after = subst (λ n. IsKnown i n (observer i (rs ++ r ∷ [])) l.after) (sym j.channel)
+              (seen_at i (rs ++ r ∷ []) a v k l.after grown (ap is_ready on.line ∙ on.ready) (same_interface ∙ sym taken.counted.interface) epoch j.after);
+          finding = finding;
+          came = λ n here. subst (λ m. events ≡ row_events i (observer i rs).epoch m ((observer i rs).states m) r) (some_one k n (sym j.channel ∙ here)) events_are;
+        }
+
+    at : (q : Route) → (routed_at c.line item).route ≡ q → Judged (turn_of r.octets q) item v step.machine c.open_rows a.open_rows l events → IsLastRow i rs r l events
+    at ToChannel e j = on_its_channel e j
+    at (Leave code) e j = on_line (Leave code) e refl j.channel j.before j.after
+    at Enter e j = on_line Enter e refl j.channel j.before j.after
+    at (Found state code) e j = on_line (Found state code) e refl j.channel j.before j.after
+    at Pass e j = on_line Pass e refl j.channel j.before j.after

@@ -54,7 +54,7 @@ cutting_after c item step = record c {
   open_rows = rows_after step.turn item c.open_rows;
 }
 
-is_taken : (c : Cutting) (item : Item) (step : Step) → IsTakenBy item step c (cutting_after c item step)
+pub is_taken : (c : Cutting) (item : Item) (step : Step) → IsTakenBy item step c (cutting_after c item step)
 is_taken c item step = record {
   counted = record { interface = refl; packets = refl; last = refl; octets = refl };
   line = refl;
@@ -63,6 +63,9 @@ is_taken c item step = record {
   given = refl;
   open_rows = has_turned step.turn item c.open_rows;
 }
+
+pub cut_after : (i : Interface) (rs : List Row) (c : Cutting) (item : Item) (step : Step) → IsCutterOf i rs c → item.packet ≡ packet_of c.interface item.row.octets → IsStep c.line c.epoch item step → IsCutterOf i (rs ++ item.row ∷ []) (cutting_after c item step)
+cut_after i rs c item step s packet is = (takes i rs c (cutting_after c item step) item step s packet is (is_taken c item step)).stands
 
 -- ---- live channels
 
@@ -159,13 +162,14 @@ holds_after I N S i rs c reports item step o new v s packet is h same on many en
           (lanes_same I N S v.interface c.interface v.epoch c.epoch rows rows new.lanes lanes (sym interface) (sym epoch) (record { rows = λ k. refl; channels = refl })) (epoch_stays i rs c item step s packet is);
     }
 
-pub stands_after : {A C : Type 0} → (I : C → Interface) (N : C → ℕ) (S : C → Channel → Type 0) (i : Interface) (rs : List Row) (o new : Observer A C) (item : Item) (step : Step) (s : StandsFor I N S i rs o) → AreRows (rs ++ item.row ∷ [])
+pub stands_after : {A C : Type 0} → (I : C → Interface) (N : C → ℕ) (S : C → Channel → Type 0) (i : Interface) (rs : List Row) (r : Row) (o new : Observer A C) (item : Item) (step : Step) (s : StandsFor I N S i rs o) → item.row ≡ r → AreRows (rs ++ item.row ∷ [])
     → item.packet ≡ packet_of s.cutting.interface item.row.octets → IsStep s.cutting.line s.cutting.epoch item step
     → Holds I N S (cutting_after s.cutting item step) (map value (given_of i rs) ++ map value (ended_by step.turn s.cutting.interface s.cutting.epoch item.row.number s.cutting.given s.cutting.open_rows)) new
-    → KnowsLast i (rs ++ item.row ∷ []) new.last new.events.items → StandsFor I N S i (rs ++ item.row ∷ []) new
-stands_after I N S i rs o new item step s sound packet is holds known =
+    → KnowsLast i (rs ++ item.row ∷ []) new.last new.events.items → StandsFor I N S i (rs ++ r ∷ []) new
+stands_after I N S i rs r o new item step s same sound packet is holds known =
     let c = s.cutting in
     let after = cutting_after c item step in
     let t = is_taken c item step in
-    next_stands I N S i rs item.row (ended_by step.turn c.interface c.epoch item.row.number c.given c.open_rows) o new after s sound (takes i rs c after item step s.cut packet is t)
-    (bounds_after I N S i rs o item step s sound packet is) t.counted holds known
+    subst (λ x. StandsFor I N S i (rs ++ x ∷ []) new) same
+    (next_stands I N S i rs item.row (ended_by step.turn c.interface c.epoch item.row.number c.given c.open_rows) o new after s sound (takes i rs c after item step s.cut packet is t)
+    (bounds_after I N S i rs o item step s sound packet is) t.counted holds known)

@@ -47,8 +47,10 @@ told_some I N S i e rows first out left k rest lanes t next f none =
     let empty : rows_of rows k ≡ [] = subst (LaneFor I N S (begun_piece i e k (rows_of rows k))) none (f.each k) in
     true≢false (sym has.0 ∙ ap has_some empty)
 
+pub told_lane : {A C : Type 0} → (I : C → Interface) (N : C → ℕ) (S : C → Channel → Type 0) (i : Interface) (e : ℕ) (rows : OpenRows) (k : ℕ) (lanes : OpenLanes (LiveChannel A C)) (live : LiveChannel A C)
+    → OpenFor I N S i e rows lanes → Some live ≡ value_at lanes k → LaneFor I N S (begun_piece i e k (rows_of rows k)) (Some live)
+told_lane I N S i e rows k lanes live f some = subst (LaneFor I N S (begun_piece i e k (rows_of rows k))) (sym some) (f.each k)
+
 pub told_live : {A C : Type 0} → (I : C → Interface) (N : C → ℕ) (S : C → Channel → Type 0) (i : Interface) (e : ℕ) (rows : OpenRows) (k : ℕ) (lanes : OpenLanes (LiveChannel A C)) (live : LiveChannel A C)
     → OpenFor I N S i e rows lanes → Some live ≡ value_at lanes k → IsLive I N S live (begun_piece i e k (rows_of rows k))
-told_live I N S i e rows k lanes live f some =
-    let here : LaneFor I N S (begun_piece i e k (rows_of rows k)) (Some live) = subst (LaneFor I N S (begun_piece i e k (rows_of rows k))) (sym some) (f.each k) in
-    here.1
+told_live I N S i e rows k lanes live f some = (told_lane I N S i e rows k lanes live f some).1

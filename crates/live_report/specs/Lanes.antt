@@ -1,7 +1,6 @@
 -- The live channels of the open epoch, and the rows that they stand for.
 use Rattle.std.specs.Prelude.{◌≡◌, ◌≢◌, ℕ, true, List, [], Option, Some, None, option_to_list}
 use Rattle.line_model.specs.declared.interface.Interface.{Interface}
-use Rattle.line_model.specs.declared.packet.Packet.{Packet}
 use Rattle.line_model.specs.declared.finding.Finding.{Finding}
 use Rattle.line_model.specs.basics.Records.{Row, Item, Piece}
 use Rattle.line_model.specs.channels.Channels.{Channel}
@@ -13,10 +12,6 @@ use Rattle.channel_run.specs.declared.live.LiveChannel.{LiveChannel}
 use Rattle.channel_run.specs.declared.run.Channel.{Ghosts as Machine}
 use Rattle.channel_run.specs.Live.{StandsFor as IsLive, channel_so_far}
 use Rattle.channel_run.specs.Run.{row_events}
-
--- a row with its packet
-abbrev pub item : Row → Packet → Item
-item row packet = record { row = row; packet = packet }
 
 -- the piece of a channel in an epoch that has not ended
 abbrev pub begun_piece : Interface → (epoch channel : ℕ) → List Item → Piece

@@ -1,22 +1,23 @@
 //! The live channels of the epoch that has not ended.
 
-ghost use Rattle.std.specs.Prelude.{◌≡◌, ◌<◌, ◌++◌, ◌∷◌, [], IfErr, IfOk, OnOk, length};
+ghost use Rattle.std.specs.Prelude.{◌≡◌, ◌<◌, ◌++◌, ◌∷◌, [], Some, IfErr, IfOk, OnOk, length};
 ghost use Rattle.line_model.specs.basics.Bounds.{IsPiece};
 ghost use Rattle.line_model.specs.declared.fault.Fault.TheVariants.{Memory};
 ghost use Rattle.restart_epochs.specs.OpenRows.{OpenRows, rows_of, HasMore};
 ghost use Rattle.channel_run.specs.Live.{channel_so_far};
 ghost use Rattle.channel_run.specs.Run.{row_events};
-ghost use Rattle.live_report.specs.Lanes.{begun_piece, item, FindsOn, IsOut, LanesStandFor};
+ghost use Rattle.live_report.specs.Lanes.{FindsOn, IsOut, LanesStandFor};
+ghost use Rattle.live_report.specs.Turns.{walked_piece, OfLanes, SeesOn};
 
+use crate::last_row::{Known, LastRow};
 use channel_run::live::LiveChannel;
 use channel_run::run::Channel;
 use line_model::event::Event;
 use line_model::fault::Fault;
-use line_model::finding::Finding;
 use line_model::interface::Interface;
-use line_model::packet::Packet;
-use line_model::row::Row;
+use line_model::items::ItemRef;
 use restart_epochs::channel_table::ChannelTable;
+use restart_epochs::walk::EpochWalk;
 use std::alloc::Allocator;
 use std::boxed::Box;
 
@@ -41,32 +42,48 @@ fn take_out<A: Allocator + Copy, C: Channel<A>>(
     Ok(live)
 }
 
-/// Steps the live channel of a channel by its next row, and answers what it finds. It refuses for want of memory alone.
+/// Steps the live channel of a channel by its next row, and returns the row as it was judged. It refuses for want of
+/// memory alone.
 pub fn step_channel<A: Allocator + Copy, C: Channel<A>>(
-    interface: &Interface,
-    epoch: u32,
+    walk: &EpochWalk<A>,
     channel: u16,
-    row: &Row<A>,
-    packet: &Packet,
+    item: &ItemRef<'_>,
     events: &mut Vec<Event, A>,
     lanes: &mut ChannelTable<LiveChannel<A, C>, A>,
-) -> Result<Option<Finding>, Fault>
-    requires room { (rows : OpenRows) × LanesStandFor C.Channel interface.now epoch rows lanes.old
-        × IsPiece interface.now channel (rows_of rows channel ++ item row.now packet.now ∷ []) }
-    ensures stands { (rows after : OpenRows) → LanesStandFor C.Channel interface.now epoch rows lanes.old
-        → HasMore channel (item row.now packet.now) rows after
-        → IsPiece interface.now channel (rows_of after channel)
-        → OnOk result (LanesStandFor C.Channel interface.now epoch after lanes.new) }
-    ensures finding { (rows : OpenRows) → LanesStandFor C.Channel interface.now epoch rows lanes.old
-        → IfOk result (FindsOn (begun_piece interface.now epoch channel (rows_of rows channel)) row.now) }
-    ensures events { (rows : OpenRows) → LanesStandFor C.Channel interface.now epoch rows lanes.old
-        → OnOk result (events.new.items ≡ row_events interface.now epoch channel
-        (channel_so_far (begun_piece interface.now epoch channel (rows_of rows channel))) row.now) }
+) -> Result<LastRow, Fault>
+    requires room { (rows : OpenRows)
+        × LanesStandFor C.Channel walk.now.interface walk.now.epoch rows lanes.old
+        × IsPiece walk.now.interface channel (rows_of rows channel ++ item.now ∷ []) }
+    ensures stands { OfLanes C.Channel walk.now lanes.old (λ rows. (after : OpenRows)
+        → HasMore channel item.now rows after
+        → IsPiece walk.now.interface channel (rows_of after channel)
+        → OnOk result (LanesStandFor C.Channel walk.now.interface walk.now.epoch after lanes.new)) }
+    ensures packet { IfOk result (λ last. last.packet ≡ item.now.packet) }
+    ensures channel { IfOk result (λ last. last.channel ≡ Some channel) }
+    ensures before { OfLanes C.Channel walk.now lanes.old (λ rows.
+        IfOk result (λ last. SeesOn walk.now channel rows last.before)) }
+    ensures after { OfLanes C.Channel walk.now lanes.old (λ rows. (after : OpenRows)
+        → HasMore channel item.now rows after
+        → IsPiece walk.now.interface channel (rows_of after channel)
+        → IfOk result (λ last. SeesOn walk.now channel after last.after)) }
+    ensures finding { OfLanes C.Channel walk.now lanes.old (λ rows.
+        IfOk result (λ last. FindsOn (walked_piece walk.now channel rows) item.now.row last.finding)) }
+    ensures events { OfLanes C.Channel walk.now lanes.old (λ rows.
+        OnOk result (events.new.items ≡ row_events walk.now.interface walk.now.epoch channel
+        (channel_so_far (walked_piece walk.now channel rows)) item.now.row)) }
     ensures memory { IfErr result (λ fault. fault ≡ Memory) }
 {
     let alloc = *events.allocator();
-    let mut live = take_out(alloc, interface, epoch, channel, lanes)?;
-    let found = live.take(&row.with_packet(*packet), events)?;
+    let mut live = take_out(alloc, &walk.interface, walk.epoch, channel, lanes)?;
+    let before = live.view();
+    let finding = live.take(item, events)?;
+    let after = live.view();
     lanes.put(channel, live);
-    Ok(found)
+    Ok(LastRow {
+        packet: item.packet,
+        channel: Some(channel),
+        before: Known::Channel(before),
+        after: Known::Channel(after),
+        finding,
+    })
 }

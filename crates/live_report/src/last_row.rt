@@ -1,6 +1,18 @@
 //! The row that an observer took last.
 
+use channel_run::run::View;
+use line_model::finding::Finding;
 use line_model::packet::Packet;
+use line_model::state::RState;
+
+/// What the machine that judged a row knew at one moment.
+#[derive(Clone, Copy)]
+pub enum Known {
+    /// The restart machine knew its state.
+    Restart(RState),
+    /// The logical channel of the row.
+    Channel(View),
+}
 
 /// A row, as it was judged.
 #[derive(Clone, Copy)]
@@ -9,4 +21,10 @@ pub struct LastRow {
     pub packet: Packet,
     /// The logical channel that took it; none where the restart machine judged it.
     pub channel: Option<u16>,
+    /// What was known before it.
+    pub before: Known,
+    /// What was known after it.
+    pub after: Known,
+    /// What it found.
+    pub finding: Option<Finding>,
 }

@@ -1,23 +1,24 @@
 //! The observer that runs: it walks a trace row by row, and keeps what it found, not what it read.
 
-ghost use Rattle.std.specs.Prelude.{◌≡◌, ◌<◌, ◌+◌, ◌^◌, ◌++◌, ◌∷◌, [], List, length, map, IfErr, IfOk, IfSome, MatchOption, OnOk};
+ghost use Rattle.std.specs.Prelude.{◌≡◌, ◌<◌, ◌+◌, ◌^◌, ◌++◌, ◌∷◌, [], None, List, length, map, IfErr, IfOk, IfSome, MatchOption, OnOk};
 ghost use Rattle.line_model.specs.basics.Records as records;
 ghost use Rattle.line_model.specs.declared.fault.Fault.TheVariants.{Memory};
 ghost use Rattle.line_model.specs.declared.interface.Interface.{Interface as AnyInterface};
 ghost use Rattle.line_model.specs.pieces.Plans.{value};
 ghost use Rattle.restart_epochs.specs.OpenRows.{OpenRows};
 ghost use Rattle.restart_epochs.specs.Cutting.{Cutting, ended_by, observer, HasTurned};
+ghost use Rattle.restart_epochs.specs.Walks.{channel_in};
 ghost use Rattle.report_merge.specs.Gathered.{gathered};
 ghost use Rattle.channel_run.specs.Live.{channel_so_far};
 ghost use Rattle.channel_run.specs.Views.{IsViewOf};
-ghost use Rattle.live_report.specs.Lanes.{item, LanesStandFor};
+ghost use Rattle.live_report.specs.Lanes.{LanesStandFor};
 ghost use Rattle.live_report.specs.LastRows.{IsLastRow};
-ghost use Rattle.live_report.specs.Turns.{FindsBy, HasEvents, MayTurn, OfOpen, StandsAt};
+ghost use Rattle.live_report.specs.Turns.{FindsBy, HasEvents, KnowsBy, MayTurn, OfOpen, StandsAt};
 ghost use Rattle.live_report.specs.Observing.{open_piece, HasWalked, IsHolding, IsObserver, MayWalk, TellsFinding, TellsReport, WalksOn};
 
 use crate::ending::end_channels;
 use crate::lanes::step_channel;
-use crate::last_row::LastRow;
+use crate::last_row::{Known, LastRow};
 use crate::telling::tell_channels;
 use channel_run::live::LiveChannel;
 use channel_run::run::{Channel, View};
@@ -25,6 +26,7 @@ use line_model::event::Event;
 use line_model::fault::Fault;
 use line_model::finding::Finding;
 use line_model::interface::Interface;
+use line_model::items::ItemRef;
 use line_model::packet::Packet;
 use line_model::report::Report;
 use line_model::row::Row;
@@ -49,6 +51,25 @@ pub struct Observer<A: Allocator, C: Channel<A>> {
     events: Vec<Event, A>,
 }
 
+/// A row of a packet that no channel takes, which the restart machine judged in a state.
+fn judged_on_line(packet: Packet, before: RState, step: &Step) -> LastRow
+    ensures { result ≡ record {
+      packet = packet;
+      channel = None;
+      before = Known.Restart before;
+      after = Known.Restart step.now.machine.state;
+      finding = step.now.finding;
+    } }
+{
+    LastRow {
+        packet,
+        channel: None,
+        before: Known::Restart(before),
+        after: Known::Restart(step.machine.state()),
+        finding: step.finding,
+    }
+}
+
 impl<A: Allocator + Copy, C: Channel<A>> Observer<A, C> {
     /// An observer before the first row. It takes no memory.
     pub fn new(alloc: A, interface: &Interface) -> Self
@@ -63,43 +84,45 @@ impl<A: Allocator + Copy, C: Channel<A>> Observer<A, C> {
         }
     }
 
-    /// Steps the channel that a row goes to, or ends the channels that it ends, and returns what the row finds. It
+    /// Steps the channel that a row goes to, or ends the channels that it ends, and returns the row as it was judged. It
     /// refuses for want of memory alone.
-    fn turn(&mut self, step: &Step, row: &Row<A>, packet: &Packet) -> Result<Option<Finding>, Fault>
+    fn turn(&mut self, step: &Step, item: &ItemRef<'_>) -> Result<LastRow, Fault>
         requires room { (rows : OpenRows) × (reports : List records.PieceReport)
             × StandsAt C.Channel self.old.walk rows self.old.lanes × (self.old.ended ≡ gathered reports)
-            × MayTurn step.now.turn self.old.walk.interface (item row.now packet.now) rows }
+            × MayTurn step.now.turn self.old.walk.interface item.now rows }
         requires pieces { self.old.ended.pieces + length self.old.lanes.channels < 2 ^ 32 }
         ensures walk { self.new.walk ≡ self.old.walk }
         ensures lanes { OfOpen C.Channel self.old.walk self.old.lanes (λ rows. (after : OpenRows)
-            → MayTurn step.now.turn self.old.walk.interface (item row.now packet.now) rows
-            → HasTurned step.now.turn (item row.now packet.now) rows after
+            → MayTurn step.now.turn self.old.walk.interface item.now rows
+            → HasTurned step.now.turn item.now rows after
             → OnOk result (LanesStandFor C.Channel self.old.walk.interface self.old.walk.epoch after self.new.lanes)) }
         ensures ended { OfOpen C.Channel self.old.walk self.old.lanes (λ rows. (reports : List records.PieceReport)
             → self.old.ended ≡ gathered reports
             → OnOk result (self.new.ended ≡ gathered (reports ++ map value (ended_by step.now.turn
-            self.old.walk.interface self.old.walk.epoch row.now.number (length reports) rows)))) }
+            self.old.walk.interface self.old.walk.epoch item.now.row.number (length reports) rows)))) }
+        ensures packet { IfOk result (λ last. last.packet ≡ item.now.packet) }
+        ensures channel { IfOk result (λ last. last.channel ≡ channel_in step.now.turn) }
+        ensures before { OfOpen C.Channel self.old.walk self.old.lanes (λ rows. IfOk result (λ last.
+            KnowsBy step.now.turn self.old.walk self.old.walk.machine rows last.before)) }
+        ensures after { OfOpen C.Channel self.old.walk self.old.lanes (λ rows. (after : OpenRows)
+            → MayTurn step.now.turn self.old.walk.interface item.now rows
+            → HasTurned step.now.turn item.now rows after
+            → IfOk result (λ last. KnowsBy step.now.turn self.old.walk step.now.machine after last.after)) }
         ensures finding { OfOpen C.Channel self.old.walk self.old.lanes (λ rows.
-            IfOk result (FindsBy step.now self.old.walk rows row.now)) }
+            IfOk result (λ last. FindsBy step.now self.old.walk rows item.now.row last.finding)) }
         ensures events { OfOpen C.Channel self.old.walk self.old.lanes (λ rows.
-            OnOk result (HasEvents step.now.turn self.old.walk rows row.now self.new.events.items)) }
+            OnOk result (HasEvents step.now.turn self.old.walk rows item.now.row self.new.events.items)) }
         ensures memory { IfErr result (λ fault. fault ≡ Memory) }
     {
         match step.turn {
-            Turn::ToChannel(channel) => step_channel(
-                &self.walk.interface,
-                self.walk.epoch,
-                channel,
-                row,
-                packet,
-                &mut self.events,
-                &mut self.lanes,
-            ),
-            Turn::Ends => {
-                end_channels(Some(row.number), &mut self.lanes, &mut self.ended)?;
-                Ok(step.finding)
+            Turn::ToChannel(channel) => {
+                step_channel(&self.walk, channel, item, &mut self.events, &mut self.lanes)
             }
-            Turn::Stays => Ok(step.finding),
+            Turn::Ends => {
+                end_channels(Some(item.number), &mut self.lanes, &mut self.ended)?;
+                Ok(judged_on_line(item.packet, self.walk.machine.state(), step))
+            }
+            Turn::Stays => Ok(judged_on_line(item.packet, self.walk.machine.state(), step)),
         }
     }
 
@@ -146,9 +169,12 @@ impl<A: Allocator + Copy, C: Channel<A>> Observer<A, C> {
 
     /// What is known of a logical channel in the epoch that goes on, if it has rows there.
     pub fn view(&self, channel: u16) -> Option<View>
-        ensures { (c : Cutting) (reports : List records.PieceReport)
+        ensures held { (c : Cutting) (reports : List records.PieceReport)
             → IsHolding C.Channel c reports self.now
             → IfSome result (IsViewOf c.interface (channel_so_far (open_piece c channel))) }
+        ensures walked { (i : AnyInterface) (rows : List records.Row)
+            → HasWalked C.Channel i rows self.now
+            → IfSome result (IsViewOf i ((observer i rows).states channel)) }
     {
         match self.lanes.get(channel) {
             Some(live) => Some(live.view()),
@@ -165,15 +191,13 @@ impl<A: Allocator + Copy, C: Channel<A>> Observer<A, C> {
         ensures finding { TellsFinding C.Channel self.old row.now result }
         ensures memory { IfErr result (λ fault. fault ≡ Memory) }
     {
-        let packet = decode(&self.walk.interface, row.octets.as_slice());
-        let step = self.walk.step(&row.with_packet(packet))?;
-        let found = self.turn(&step, row, &packet)?;
-        self.last = Some(LastRow {
-            packet,
-            channel: step.turn.channel(),
-        });
+        let item = row.with_packet(decode(&self.walk.interface, row.octets.as_slice()));
+        let step = self.walk.step(&item)?;
+        let last = self.turn(&step, &item)?;
+        let finding = last.finding;
+        self.last = Some(last);
         self.walk.take(step);
-        Ok(found)
+        Ok(finding)
     }
 
     /// The report of the rows that were taken so far, by copies: the observer goes on. It costs what is reported, not

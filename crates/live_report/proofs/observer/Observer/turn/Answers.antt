@@ -1,11 +1,11 @@
-use Rattle.std.proofs.Common.{◌∙◌, ap, sym, subst, ◌++◌, append-nil, length, map, refl}
+use Rattle.std.proofs.Common.{◌≡◌, ◌∙◌, ap, sym, subst, ◌++◌, append-nil, length, map, refl}
 use Rattle.std.specs.Prelude.{IfOk, OnOk}
 use Rattle.line_model.specs.basics.Bounds.{IsPiece}
 use Rattle.line_model.specs.pieces.Plans.{value}
 use Rattle.restart_epochs.specs.Cutting.{HasTurned, ended_by}
+use Rattle.restart_epochs.specs.Walks.{channel_in}
 use Rattle.report_merge.specs.Gathered.{gathered}
-use Rattle.live_report.specs.Lanes.{item}
-use Rattle.live_report.specs.Turns.{FindsAt, HasEvents, MayTurn}
+use Rattle.live_report.specs.Turns.{FindsAt, HasEvents, KnowsBy, MayTurn}
 use Rattle.live_report.proofs.StandLemmas.{lanes_same}
 use Rattle.live_report.proofs.TakeLemmas.{lanes_ended, on_any}
 use Rattle.live_report.proofs.observer.Observer.turn.Goals as goal
@@ -13,7 +13,7 @@ use Rattle.live_report.proofs.observer.Observer.turn.Goals as goal
 pub step_channel-requires : goal.step_channel-requires
 step_channel-requires g c =
     let room = c.requires.room in
-    record { room = (room.0, room.2.0, subst (λ t. MayTurn t c.args.self.now.walk.interface (item c.args.row.now c.args.packet.now) room.0) c.in-ToChannel.is room.4) }
+    record { room = (room.0, room.2.0, subst (λ t. MayTurn t c.args.self.now.walk.interface c.args.item.now room.0) c.in-ToChannel.is room.4) }
 
 pub end_channels-requires-clause-room : goal.end_channels-requires-clause-room
 end_channels-requires-clause-room g c =
@@ -22,33 +22,49 @@ end_channels-requires-clause-room g c =
 
 pub returns-in-ToChannel-clause-lanes : goal.returns-in-ToChannel-clause-lanes
 returns-in-ToChannel-clause-lanes g c rows stands after may turned =
-    let one = item c.args.row.now c.args.packet.now in
+    let one = c.args.item.now in
     let i = c.args.self.now.walk.interface in
     let more = subst (λ t. HasTurned t one rows after) c.in-ToChannel.is turned in
-    c.step_channel.ensures.stands rows after stands.0 more (subst (IsPiece i c.in-ToChannel.channel) (sym more.row) (subst (λ t. MayTurn t i one rows) c.in-ToChannel.is may))
+    c.step_channel.ensures.stands rows stands.0 after more (subst (IsPiece i c.in-ToChannel.channel) (sym more.row) (subst (λ t. MayTurn t i one rows) c.in-ToChannel.is may))
 
 pub returns-in-ToChannel-clause-ended : goal.returns-in-ToChannel-clause-ended
 returns-in-ToChannel-clause-ended g c rows stands reports was =
     on_any c.step_channel.result _
     (was ∙ ap gathered (sym (append-nil reports))
-    ∙ ap (λ t. gathered (reports ++ map value (ended_by t c.args.self.now.walk.interface c.args.self.now.walk.epoch c.args.row.now.number (length reports) rows))) (sym c.in-ToChannel.is))
+    ∙ ap (λ t. gathered (reports ++ map value (ended_by t c.args.self.now.walk.interface c.args.self.now.walk.epoch c.args.item.now.row.number (length reports) rows))) (sym c.in-ToChannel.is))
+
+pub returns-in-ToChannel-clause-channel : goal.returns-in-ToChannel-clause-channel
+returns-in-ToChannel-clause-channel g c = subst (λ t. IfOk c.step_channel.result (λ last. last.channel ≡ channel_in t)) (sym c.in-ToChannel.is) c.step_channel.ensures.channel
+
+pub returns-in-ToChannel-clause-before : goal.returns-in-ToChannel-clause-before
+returns-in-ToChannel-clause-before g c rows stands =
+    let walk = c.args.self.now.walk in
+    subst (λ t. IfOk c.step_channel.result (λ last. KnowsBy t walk walk.machine rows last.before)) (sym c.in-ToChannel.is) (c.step_channel.ensures.before rows stands.0)
+
+pub returns-in-ToChannel-clause-after : goal.returns-in-ToChannel-clause-after
+returns-in-ToChannel-clause-after g c rows stands after may turned =
+    let one = c.args.item.now in
+    let walk = c.args.self.now.walk in
+    let more = subst (λ t. HasTurned t one rows after) c.in-ToChannel.is turned in
+    subst (λ t. IfOk c.step_channel.result (λ last. KnowsBy t walk c.args.step.now.machine after last.after)) (sym c.in-ToChannel.is)
+    (c.step_channel.ensures.after rows stands.0 after more (subst (IsPiece walk.interface c.in-ToChannel.channel) (sym more.row) (subst (λ t. MayTurn t walk.interface one rows) c.in-ToChannel.is may)))
 
 pub returns-in-ToChannel-clause-finding : goal.returns-in-ToChannel-clause-finding
 returns-in-ToChannel-clause-finding g c rows stands =
-    subst (λ t. IfOk c.step_channel.result (FindsAt t c.args.step.now.finding c.args.self.now.walk rows c.args.row.now)) (sym c.in-ToChannel.is) (c.step_channel.ensures.finding rows stands.0)
+    subst (λ t. IfOk c.step_channel.result (λ last. FindsAt t c.args.step.now.finding c.args.self.now.walk rows c.args.item.now.row last.finding)) (sym c.in-ToChannel.is) (c.step_channel.ensures.finding rows stands.0)
 
 pub returns-in-ToChannel-clause-events : goal.returns-in-ToChannel-clause-events
 returns-in-ToChannel-clause-events g c rows stands =
-    subst (λ t. OnOk c.step_channel.result (HasEvents t c.args.self.now.walk rows c.args.row.now c.step_channel.new.events.items)) (sym c.in-ToChannel.is) (c.step_channel.ensures.events rows stands.0)
+    subst (λ t. OnOk c.step_channel.result (HasEvents t c.args.self.now.walk rows c.args.item.now.row c.step_channel.new.events.items)) (sym c.in-ToChannel.is) (c.step_channel.ensures.events rows stands.0)
 
 pub returns-in_ok-end_channels-in-Ends-clause-lanes : goal.returns-in_ok-end_channels-in-Ends-clause-lanes
 returns-in_ok-end_channels-in-Ends-clause-lanes g c rows stands after may turned =
     let walk = c.args.self.now.walk in
-    lanes_ended g.C.Channel.interface_of g.C.Channel.number_of g.C.Channel.stands_for walk.interface walk.epoch rows after (item c.args.row.now c.args.packet.now) c.end_channels.new.lanes stands.1
-    (subst (λ t. HasTurned t (item c.args.row.now c.args.packet.now) rows after) c.in-Ends.is turned) (c.in_ok-end_channels-in-Ends.ensures.emptied walk.interface walk.epoch rows stands.0 stands.1)
+    lanes_ended g.C.Channel.interface_of g.C.Channel.number_of g.C.Channel.stands_for walk.interface walk.epoch rows after c.args.item.now c.end_channels.new.lanes stands.1
+    (subst (λ t. HasTurned t c.args.item.now rows after) c.in-Ends.is turned) (c.in_ok-end_channels-in-Ends.ensures.emptied walk.interface walk.epoch rows stands.0 stands.1)
 
 pub returns-in-Stays-clause-lanes : goal.returns-in-Stays-clause-lanes
 returns-in-Stays-clause-lanes g c rows stands after may turned =
     let walk = c.args.self.now.walk in
     lanes_same g.C.Channel.interface_of g.C.Channel.number_of g.C.Channel.stands_for walk.interface walk.interface walk.epoch walk.epoch rows after c.args.self.now.lanes stands.0 refl refl
-    (subst (λ t. HasTurned t (item c.args.row.now c.args.packet.now) rows after) c.in-Stays.is turned)
+    (subst (λ t. HasTurned t c.args.item.now rows after) c.in-Stays.is turned)
