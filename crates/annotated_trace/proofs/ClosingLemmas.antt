@@ -14,8 +14,8 @@ use Rattle.line_model.specs.text.Text.{Line, begun_line, ended_lines, is_lf}
 use Rattle.line_model.specs.traces.Traces.{text}
 use Rattle.line_model.proofs.TextLemmas.{begun-lf, begun-more, ended-lf, ended-more}
 use Rattle.line_model.specs.declared.write_buffer.WriteBuffer.{WriteBuffer}
-use Rattle.annotated_trace.specs.Annotation.{IsOneLine}
-use Rattle.annotated_trace.specs.Marking.{HasClosing, HasFirstOfClosing}
+use Rattle.annotated_trace.specs.Annotation.{IsOneLine, IsUnmarked}
+use Rattle.annotated_trace.specs.Printed.{HasTaken, HasTakenFirst}
 use Rattle.annotated_trace.specs.Pages.{HasNoted, HasNotes}
 use Rattle.annotated_trace.specs.Wording.{AreNotes, IsNote, Remarks, notes_of}
 use Rattle.annotated_trace.proofs.LinesOfText.{AreLines, begun_behind, ended_are_lines, ended_first, ended_text}
@@ -185,9 +185,15 @@ some_same a b h = cc
 since : (b bytes more : List ℕ) → Some bytes ≡ Some (b ++ more) → drop (length b) bytes ≡ more
 since b bytes more h = ap (drop (length b)) (some_same bytes (b ++ more) h) ∙ drop-append_seam b more
 
+unmarked_notes : (ls : List Line) → AreNotes ls → IsUnmarked (text ls)
+unmarked_notes ls notes = record { closing = ls; written = refl; comments = notes_are_comments ls notes; unmarked = notes_mark_nothing ls notes }
+
+nothing_unmarked : IsUnmarked []
+nothing_unmarked = unmarked_notes [] tt
+
 -- there are such notes: so those that its bytes are
-pub closing_taken : (before after : Option (List ℕ)) → ∥ TookNotes before after ∥₁ → HasClosing before after
-closing_taken None after t = record { closing = []; taken = ∥∥₁_elim t (Coded-set (coded_option (coded_list coded_ℕ)) _ _) (λ x. x.taken); comments = tt; unmarked = refl }
+pub closing_taken : (before after : Option (List ℕ)) → ∥ TookNotes before after ∥₁ → HasTaken IsUnmarked before after
+closing_taken None after t = record { bytes = []; taken = ∥∥₁_elim t (Coded-set (coded_option (coded_list coded_ℕ)) _ _) (λ x. x.taken); formed = nothing_unmarked }
 closing_taken (Some b) None t = absurd (∥∥₁_elim t (hlevel props) (λ x. let bad = x.taken in cc))
 closing_taken (Some b) (Some bytes) t =
     let sent = drop (length b) bytes in
@@ -195,17 +201,16 @@ closing_taken (Some b) (Some bytes) t =
     let all : list_all is_noted ls ≡ true = ∥∥₁_elim t (Coded-set coded_bool _ _) (λ x. ap (list_all is_noted) (same x) ∙ all_of_notes x.lines x.notes) in
     let notes = notes_of_all ls all (ended_are_lines sent) in
     record {
-      closing = ls;
+      bytes = text ls;
       taken = ∥∥₁_elim t (Coded-set (coded_option (coded_list coded_ℕ)) _ _) (λ x. x.taken ∙ ap (λ ms. Some (b ++ text ms)) (sym (same x)));
-      comments = notes_are_comments ls notes;
-      unmarked = notes_mark_nothing ls notes;
+      formed = unmarked_notes ls notes;
     }
   where
     same : (x : TookNotes (Some b) (Some bytes)) → ended_lines (drop (length b) bytes) ≡ x.lines
     same x = ap ended_lines (since b bytes (text x.lines) x.taken) ∙ ended_text x.lines (lines_of_notes x.lines x.notes)
 
-pub first_taken : (before after : Option (List ℕ)) → ∥ TookFirst before after ∥₁ → HasFirstOfClosing before after
-first_taken None after t = record { closing = []; front = []; left = []; whole = refl; taken = ∥∥₁_elim t (Coded-set (coded_option (coded_list coded_ℕ)) _ _) (λ x. x.taken); comments = tt; unmarked = refl }
+pub first_taken : (before after : Option (List ℕ)) → ∥ TookFirst before after ∥₁ → HasTakenFirst IsUnmarked before after
+first_taken None after t = record { bytes = []; front = []; left = []; whole = refl; taken = ∥∥₁_elim t (Coded-set (coded_option (coded_list coded_ℕ)) _ _) (λ x. x.taken); formed = nothing_unmarked }
 first_taken (Some b) None t = absurd (∥∥₁_elim t (hlevel props) (λ x. let bad = x.taken in cc))
 first_taken (Some b) (Some bytes) t =
     let front = drop (length b) bytes in
@@ -217,13 +222,12 @@ first_taken (Some b) (Some bytes) t =
     ap (list_all is_noted) (rest_ended front begun refl) ∙ list_all-append is_noted (ended_lines front) (last_of begun) ∙ ap (λ v. v && list_all is_noted (last_of begun)) ended ∙ last in
     let notes = notes_of_all ls all (ended_are_lines (front ++ rest_of begun)) in
     record {
-      closing = ls;
+      bytes = text ls;
       front = front;
       left = rest_of begun;
       whole = whole_text (front ++ rest_of begun) (rest_whole front begun refl);
       taken = ∥∥₁_elim t (Coded-set (coded_option (coded_list coded_ℕ)) _ _) (λ x. x.taken ∙ ap (λ xs. Some (b ++ xs)) (sym (since b bytes x.front x.taken)));
-      comments = notes_are_comments ls notes;
-      unmarked = notes_mark_nothing ls notes;
+      formed = unmarked_notes ls notes;
     }
   where
     first : (x : TookFirst (Some b) (Some bytes)) → IsFirstOfNotes (drop (length b) bytes)
@@ -232,13 +236,13 @@ first_taken (Some b) (Some bytes) t =
 -- ---- what a page says of its sink
 
 pub closing_said : {T E : Type 0} (r : Result T E) (start now : Option (List ℕ) × ℕ) (buffer : WriteBuffer) (said : ℕ) (after : Option (List ℕ)) → ∥ HasNotes start now buffer said ∥₁
-    → ((notes : Remarks) → HasNoted start now buffer said notes → OnOk r (after ≡ with_more start.0 (text (notes_of notes)))) → OnOk r (HasClosing start.0 after)
+    → ((notes : Remarks) → HasNoted start now buffer said notes → OnOk r (after ≡ with_more start.0 (text (notes_of notes)))) → OnOk r (HasTaken IsUnmarked start.0 after)
 closing_said (Ok x) start now buffer said after t ok =
     closing_taken start.0 after (∥∥₁_map t (λ h. record { lines = notes_of h.notes; notes = all_notes h.notes h.noted.lines h.noted.words; taken = ok h.notes h.noted }))
 closing_said (Err e) start now buffer said after t ok = tt
 
 pub first_said : {T E : Type 0} (r : Result T E) (start now : Option (List ℕ) × ℕ) (buffer : WriteBuffer) (said : ℕ) (after : Option (List ℕ)) → ∥ HasNotes start now buffer said ∥₁
-    → ((notes : Remarks) → HasNoted start now buffer said notes → OnErr r ((front : List ℕ) × (rest : List ℕ) × (text (notes_of notes) ≡ front ++ rest) × (after ≡ with_more start.0 front))) → OnErr r (HasFirstOfClosing start.0 after)
+    → ((notes : Remarks) → HasNoted start now buffer said notes → OnErr r ((front : List ℕ) × (rest : List ℕ) × (text (notes_of notes) ≡ front ++ rest) × (after ≡ with_more start.0 front))) → OnErr r (HasTakenFirst IsUnmarked start.0 after)
 first_said (Ok x) start now buffer said after t part = tt
 first_said (Err e) start now buffer said after t part = first_taken start.0 after (∥∥₁_map t (λ h. first_of h (part h.notes h.noted)))
   where

@@ -8,7 +8,7 @@ use Rattle.line_model.specs.basics.Device.{with_more}
 use Rattle.line_model.specs.basics.Records.{Report}
 use Rattle.line_model.specs.observer.Report.{no_summary, report_of}
 use Rattle.line_model.specs.text.Text.{Line, begun_kind, begun_line, content_of, early, end_kind, ended_lines, fault, first_fault, form_kind, head, head_of, line_kind, line_or_none, lines_of, rows, rows_in, size_kind, size_of}
-use Rattle.line_model.specs.traces.Traces.{text, trace_summary}
+use Rattle.line_model.specs.traces.Traces.{trace_summary}
 use Rattle.line_model.specs.declared.fault.Fault.{Fault}
 use Rattle.line_model.specs.declared.fault.Fault.TheVariants.{Memory, Trace, Read, Write, Start, Double, Stranger, Missing}
 use Rattle.line_model.specs.declared.fault.Kind.{Kind}
@@ -18,15 +18,12 @@ use Rattle.line_model.proofs.FinalFaults.{early-ended, one_fault, both_none}
 use Rattle.line_model.proofs.TextLemmas.{begun-lf, ended-lf, first_fault-append, size_kind-none, size_of-append, size_of-ended}
 use Rattle.trace_text.proofs.FeedLemmas.{early-none, no_fault, size-sound, size_less, on_err}
 use Rattle.line_model.proofs.LineLemmas.{size_kind-zero}
-use Rattle.annotated_trace.specs.Annotation.{AreComments, IsAnnotation, IsAnnotationOf, marks_in}
-use Rattle.annotated_trace.specs.Annotators.{HasAnnotated, HasFirstOf, IsAnnotated, IsCloseRefusal, IsEndRefusal, IsFull}
-use Rattle.annotated_trace.specs.Marking.{HasClosing, HasFirstOfClosing, StopsClosing}
+use Rattle.annotated_trace.specs.Printed.{HasTaken, StopsClosing}
+use Rattle.annotated_trace.specs.Printers.{HasFirstPrintOf, HasPrinted, IsCloseRefusal, IsEndRefusal, IsFirstOfClosing, IsFirstOfLines, IsFull, IsPrinted}
 use Rattle.trace_text.specs.StandsFor.{IsFaultOf}
 use Rattle.trace_text.specs.Watched.{IsReportOf}
-use Rattle.annotated_trace.specs.declared.rows.Rows.{Rows}
 use Rattle.trace_text.proofs.EndLemmas.{one_line, one_kind, fault-last, head-sound, rows-all}
-use Rattle.annotated_trace.proofs.AnnotatedLemmas.{some_same}
-use Rattle.annotated_trace.proofs.PassedLemmas.{sent_all}
+use Rattle.annotated_trace.proofs.PrintLemmas.{some_same}
 use Rattle.line_model.proofs.DeviceLemmas.{with_more-append}
 
 -- ---- the same lines
@@ -140,88 +137,84 @@ sums_of x r h = ap (λ (s : Report). s.summary) h.report ∙ ap (λ o. elim o as
 no_last : (x : List ℕ) → begun_line x ≡ [] → lines_of x ≡ ended_lines x
 no_last x h = ap (λ b. ended_lines x ++ line_or_none b) h ∙ append-nil (ended_lines x)
 
--- comments behind the lines
-closed : (choice : Rows) (x front rest : List ℕ) (closing : List Line) → begun_line x ≡ [] → IsAnnotationOf choice (ended_lines x) front → rest ≡ text closing → AreComments closing → marks_in closing ≡ [] → IsAnnotation choice x (front ++ rest)
-closed choice x front rest closing none lines written comments unmarked = record {
-  front = front;
-  closing = closing;
-  lines = subst (λ ls. IsAnnotationOf choice ls front) (sym (no_last x none)) lines;
-  whole = ap (λ xs. front ++ xs) written;
-  comments = comments;
-  unmarked = unmarked;
-}
+-- the print of the lines that ended is that of all
+all_lines : (F : List Line → List ℕ → Type 0) (x bytes : List ℕ) → begun_line x ≡ [] → F (ended_lines x) bytes → F (lines_of x) bytes
+all_lines F x bytes none h = subst (λ ls. F ls bytes) (sym (no_last x none)) h
 
 -- what is behind what a sink has
 behind : (before taken after : Option (List ℕ)) (sent more : List ℕ) → taken ≡ with_more before sent → after ≡ with_more taken more → after ≡ with_more before (sent ++ more)
 behind before taken after sent more t a = a ∙ ap (λ o. with_more o more) t ∙ with_more-append before sent more
 
-pub all_annotated : (choice : Rows) (x : List ℕ) (before taken after : Option (List ℕ)) (r : Report) (sums : Summary) → begun_line x ≡ [] → HasAnnotated choice before taken [] (ended_lines x) → HasClosing taken after → IsReportOf x r
-    → sums ≡ r.summary → IsAnnotated choice x before after sums
-all_annotated choice x before taken after r sums none h c told s = record {
-  sound = told.sound;
-  bytes = h.sent ++ text c.closing;
-  taken = behind before taken after h.sent (text c.closing) h.taken_is c.taken;
-  annotation = closed choice x h.sent (text c.closing) c.closing none (subst (IsAnnotationOf choice (ended_lines x)) (append-nil h.sent) h.lines) refl c.comments c.unmarked;
-  counted = s ∙ sums_of x r told;
+-- the lines that were held, and what comes after them
+pub all_closed : (F : List Line → List ℕ → Type 0) (C : Report → List ℕ → Type 0) (x : List ℕ) (before taken after : Option (List ℕ)) (held : List ℕ) (r : Report) (result : Result Summary Fault) → begun_line x ≡ [] → HasPrinted F before taken held (ended_lines x) → IsReportOf x r
+    → OnOk result (HasTaken (C r) (with_more taken held) after) → IfOk result (λ sums. sums ≡ r.summary) → IfOk result (IsPrinted F C x before after)
+all_closed F C x before taken after held r (Err f) none h told closing same = tt
+all_closed F C x before taken after held r (Ok sums) none h told closing same = record {
+  report = r;
+  told = told;
+  lines = h.sent ++ held;
+  closing = closing.bytes;
+  print = all_lines F x (h.sent ++ held) none h.lines;
+  closed = closing.formed;
+  taken = behind before (with_more taken held) after (h.sent ++ held) closing.bytes (behind before taken (with_more taken held) h.sent held h.taken_is refl) closing.taken;
+  counted = same ∙ sums_of x r told;
 }
 
-pub first_annotated : (choice : Rows) (x : List ℕ) (before taken after : Option (List ℕ)) → begun_line x ≡ [] → HasAnnotated choice before taken [] (ended_lines x) → HasFirstOfClosing taken after → HasFirstOf choice x before after
-first_annotated choice x before taken after none h c = record {
-  front = h.sent ++ c.front;
-  left = c.left;
-  taken = behind before taken after h.sent c.front h.taken_is c.taken;
-  annotation = subst (IsAnnotation choice x) (sym (append_assoc h.sent c.front c.left))
-      (closed choice x h.sent (c.front ++ c.left) c.closing none (subst (IsAnnotationOf choice (ended_lines x)) (append-nil h.sent) h.lines) (sym c.whole) c.comments c.unmarked);
+-- a first part of them
+pub first_closed : (F : List Line → List ℕ → Type 0) (C : Report → List ℕ → Type 0) (x : List ℕ) (before taken after : Option (List ℕ)) (held : List ℕ) (r : Report) → begun_line x ≡ [] → HasPrinted F before taken held (ended_lines x) → IsReportOf x r → StopsClosing (C r) held taken after
+    → HasFirstPrintOf F C x before after
+first_closed F C x before taken after held r none h told (inl p) = record {
+  lines = h.sent ++ held;
+  front = h.sent ++ p.front;
+  print = all_lines F x (h.sent ++ held) none h.lines;
+  taken = behind before taken after h.sent p.front h.taken_is p.taken;
+  part = inl (p.left, ap (λ xs. h.sent ++ xs) p.whole ∙ sym (append_assoc h.sent p.front p.left));
 }
-
--- the sink failed before the comments behind all lines
-pub part_annotated : (choice : Rows) (x : List ℕ) (before taken after : Option (List ℕ)) (held front left : List ℕ) → begun_line x ≡ [] → HasAnnotated choice before taken held (ended_lines x) → held ≡ front ++ left → after ≡ with_more taken front → HasFirstOf choice x before after
-part_annotated choice x before taken after held front left none h split t = record {
-  front = h.sent ++ front;
-  left = left;
-  taken = behind before taken after h.sent front h.taken_is t;
-  annotation = subst (IsAnnotation choice x) (append-nil (h.sent ++ held) ∙ ap (λ xs. h.sent ++ xs) split ∙ sym (append_assoc h.sent front left)) (closed choice x (h.sent ++ held) [] [] none h.lines refl tt refl);
+first_closed F C x before taken after held r none h told (inr p) = record {
+  lines = h.sent ++ held;
+  front = (h.sent ++ held) ++ p.front;
+  print = all_lines F x (h.sent ++ held) none h.lines;
+  taken = behind before (with_more taken held) after (h.sent ++ held) p.front (behind before taken (with_more taken held) h.sent held h.taken_is refl) p.taken;
+  part = inr (record {
+    report = r;
+    told = told;
+    closing = p.bytes;
+    left = p.left;
+    closed = p.formed;
+    whole = ap (λ xs. (h.sent ++ held) ++ xs) p.whole ∙ sym (append_assoc (h.sent ++ held) p.front p.left);
+  });
 }
 
 -- ---- of the text without the LF
 
-same_annotation : (choice : Rows) (x bytes : List ℕ) → 0 < length (begun_line x) → IsAnnotation choice (x ++ 10 ∷ []) bytes → IsAnnotation choice x bytes
-same_annotation choice x bytes some a = record {
-  front = a.front;
-  closing = a.closing;
-  lines = subst (λ ls. IsAnnotationOf choice ls a.front) (same_lines x some) a.lines;
-  whole = a.whole;
-  comments = a.comments;
-  unmarked = a.unmarked;
-}
-
-same_sums : (x : List ℕ) → 0 < length (begun_line x) → fault x ≡ None → fault (x ++ 10 ∷ []) ≡ None → trace_summary (x ++ 10 ∷ []) ≡ trace_summary x
-same_sums x some h k =
+same_report : (x : List ℕ) (r : Report) → 0 < length (begun_line x) → fault (x ++ 10 ∷ []) ≡ fault x → IsReportOf (x ++ 10 ∷ []) r → IsReportOf x r
+same_report x r some e h =
     let y = x ++ 10 ∷ [] in
-    let header : head y ≡ head x = head-sound y k ∙ ap head_of (same_lines x some) ∙ sym (head-sound x h) in
-    let rs : rows y ≡ rows x = rows-all y k ∙ ap rows_in (same_lines x some) ∙ sym (rows-all x h) in
-    ap (λ o. elim o as (λ _. Summary) [ None ↦ no_summary | Some i ↦ (report_of i (rows y)).summary ]) header ∙ ap (λ l. elim (head x) as (λ _. Summary) [ None ↦ no_summary | Some i ↦ (report_of i l).summary ]) rs
+    let sound : fault x ≡ None = sym e ∙ h.sound in
+    let header : head x ≡ head y = head-sound x sound ∙ ap head_of (sym (same_lines x some)) ∙ sym (head-sound y h.sound) in
+    let rs : rows x ≡ rows y = rows-all x sound ∙ ap rows_in (sym (same_lines x some)) ∙ sym (rows-all y h.sound) in
+    record { sound = sound; interface = h.interface; header = header ∙ h.header; report = h.report ∙ ap (report_of h.interface) (sym rs) }
 
--- the lines that were held and the closing comments
-pub all_closed : (choice : Rows) (x : List ℕ) (before taken after : Option (List ℕ)) (held : List ℕ) (r : Report) (result : Result Summary Fault) → begun_line x ≡ [] → HasAnnotated choice before taken held (ended_lines x) → IsReportOf x r → OnOk result (HasClosing (with_more taken held) after)
-    → IfOk result (λ sums. sums ≡ r.summary) → IfOk result (IsAnnotated choice x before after)
-all_closed choice x before taken after held r (Ok sums) none h told closing same =
-    all_annotated choice x before (with_more taken held) after r sums none (sent_all choice before taken (with_more taken held) held (ended_lines x) h refl) closing told same
-all_closed choice x before taken after held r (Err f) none h told closing same = tt
+same_printed : (F : List Line → List ℕ → Type 0) (C : Report → List ℕ → Type 0) (x : List ℕ) (before after : Option (List ℕ)) (sums : Summary) → 0 < length (begun_line x) → fault (x ++ 10 ∷ []) ≡ fault x → IsPrinted F C (x ++ 10 ∷ []) before after sums → IsPrinted F C x before after sums
+same_printed F C x before after sums some e p =
+    let told = same_report x p.report some e p.told in
+    record {
+      report = p.report;
+      told = told;
+      lines = p.lines;
+      closing = p.closing;
+      print = subst (λ ls. F ls p.lines) (same_lines x some) p.print;
+      closed = p.closed;
+      taken = p.taken;
+      counted = p.counted ∙ sym (sums_of (x ++ 10 ∷ []) p.report p.told) ∙ sums_of x p.report told;
+    }
 
--- a first part of them
-pub first_closed : (choice : Rows) (x : List ℕ) (before taken after : Option (List ℕ)) (held : List ℕ) → begun_line x ≡ [] → HasAnnotated choice before taken held (ended_lines x) → StopsClosing held taken after → HasFirstOf choice x before after
-first_closed choice x before taken after held none h (inl p) = part_annotated choice x before taken after held p.front p.left none h p.whole p.taken
-first_closed choice x before taken after held none h (inr p) =
-    first_annotated choice x before (with_more taken held) after none (sent_all choice before taken (with_more taken held) held (ended_lines x) h refl) p
-
-pub same_annotated : (choice : Rows) (x : List ℕ) (before after : Option (List ℕ)) (sums : Summary) → 0 < length (begun_line x) → fault (x ++ 10 ∷ []) ≡ fault x → IsAnnotated choice (x ++ 10 ∷ []) before after sums → IsAnnotated choice x before after sums
-same_annotated choice x before after sums some e a =
-    let sound : fault x ≡ None = sym e ∙ a.sound in
-    record { sound = sound; bytes = a.bytes; taken = a.taken; annotation = same_annotation choice x a.bytes some a.annotation; counted = a.counted ∙ same_sums x some sound a.sound }
-
-pub same_first : (choice : Rows) (x : List ℕ) (before after : Option (List ℕ)) → 0 < length (begun_line x) → HasFirstOf choice (x ++ 10 ∷ []) before after → HasFirstOf choice x before after
-same_first choice x before after some f = record { front = f.front; left = f.left; taken = f.taken; annotation = same_annotation choice x (f.front ++ f.left) some f.annotation }
+pub same_first : (F : List Line → List ℕ → Type 0) (C : Report → List ℕ → Type 0) (x : List ℕ) (before after : Option (List ℕ)) → 0 < length (begun_line x) → fault (x ++ 10 ∷ []) ≡ fault x → HasFirstPrintOf F C (x ++ 10 ∷ []) before after → HasFirstPrintOf F C x before after
+same_first F C x before after some e p = record { lines = p.lines; front = p.front; print = subst (λ ls. F ls p.lines) (same_lines x some) p.print; taken = p.taken; part = same_part p.part }
+  where
+    same_part : IsFirstOfLines p.lines p.front ⊎ IsFirstOfClosing C (x ++ 10 ∷ []) p.lines p.front → IsFirstOfLines p.lines p.front ⊎ IsFirstOfClosing C x p.lines p.front
+    same_part (inl q) = inl q
+    same_part (inr q) = inr (record { report = q.report; told = same_report x q.report some e q.told; closing = q.closing; left = q.left; closed = q.closed; whole = q.whole })
 
 -- ---- steps of the end
 
@@ -232,14 +225,9 @@ pub if_ok : {T E : Type 0} (r : Result T E) (P Q : T → Type 0) → IfOk r P �
 if_ok (Ok x) P Q h k = k x h
 if_ok (Err e) P Q h k = tt
 
--- the last line was ended
-pub last_held : (choice same : Rows) (before taken : Option (List ℕ)) (held now x y : List ℕ) → same ≡ choice → (h : HasAnnotated choice before taken held (ended_lines x)) → IsAnnotationOf choice (ended_lines y) (h.sent ++ now) → HasAnnotated same before taken now (ended_lines y)
-last_held choice same before taken held now x y e h lines =
-    subst (λ k. HasAnnotated k before taken now (ended_lines y)) (sym e) (record { sent = h.sent; taken_is = h.taken_is; lines = lines })
-
-pub ended_annotated : (choice same : Rows) (x : List ℕ) (before after : Option (List ℕ)) (r : Result Summary Fault) → same ≡ choice → 0 < length (begun_line x) → early x ≡ None → early (x ++ 10 ∷ []) ≡ None → IfOk r (IsAnnotated same (x ++ 10 ∷ []) before after) → IfOk r (IsAnnotated choice x before after)
-ended_annotated choice same x before after r e some h k a =
-    if_ok r (IsAnnotated same (x ++ 10 ∷ []) before after) (IsAnnotated choice x before after) a (λ sums b. same_annotated choice x before after sums some (same_fault x some h k) (subst (λ c. IsAnnotated c (x ++ 10 ∷ []) before after sums) e b))
+pub ended_printed : (F : List Line → List ℕ → Type 0) (C : Report → List ℕ → Type 0) (x : List ℕ) (before after : Option (List ℕ)) (r : Result Summary Fault) → 0 < length (begun_line x) → early x ≡ None → early (x ++ 10 ∷ []) ≡ None → IfOk r (IsPrinted F C (x ++ 10 ∷ []) before after) → IfOk r (IsPrinted F C x before after)
+ended_printed F C x before after r some h k a =
+    if_ok r (IsPrinted F C (x ++ 10 ∷ []) before after) (IsPrinted F C x before after) a (λ sums b. same_printed F C x before after sums some (same_fault x some h k) b)
 
 pub ended_refused : (x : List ℕ) (r : Result Summary Fault) → 0 < length (begun_line x) → early x ≡ None → early (x ++ 10 ∷ []) ≡ None → IfErr r (IsCloseRefusal (x ++ 10 ∷ [])) → IfErr r (IsEndRefusal x)
 ended_refused x r some h k a = on_err r (IsCloseRefusal (x ++ 10 ∷ [])) (IsEndRefusal x) a (λ f b. end_refused x (x ++ 10 ∷ []) f (same_fault x some h k) b)

@@ -5,7 +5,8 @@ pub mod MarkLemmas
 pub mod WordingLemmas
 pub mod PageLemmas
 pub mod ClosingLemmas
-pub mod AnnotatedLemmas
+pub mod PrintLemmas
+pub mod AnnotationLemmas
 pub mod MarkingLemmas
 pub mod PassedLemmas
 pub mod CommentLemmas

@@ -3,7 +3,7 @@ use Rattle.std.proofs.Common.{◌≡◌, ◌≢◌, sym, subst, ℕ, List, None,
 use Rattle.line_model.specs.text.Text.{fault}
 use Rattle.line_model.specs.declared.fault.Fault.{Fault}
 use Rattle.line_model.specs.declared.fault.Fault.TheVariants.{Memory, Trace, Write}
-use Rattle.annotated_trace.specs.Annotators.{IsAnnotatorFault, IsCloseRefusal}
+use Rattle.annotated_trace.specs.Printers.{IsCloseRefusal, IsPrinterFault}
 use Rattle.trace_text.specs.StandsFor.{IsTextFault}
 
 -- a sink that fails refuses a text without a fault
@@ -11,9 +11,9 @@ pub write_refused : {T : Type 0} (r : Result T Fault) (x : List ℕ) → fault x
 write_refused (Ok y) x sound h = tt
 write_refused (Err f) x sound h = subst (IsCloseRefusal x) (sym h) sound
 
-pub write_kind : {T : Type 0} (r : Result T Fault) → IfErr r (λ f. f ≡ Write) → IfErr r IsAnnotatorFault
+pub write_kind : {T : Type 0} (r : Result T Fault) → IfErr r (λ f. f ≡ Write) → IfErr r IsPrinterFault
 write_kind (Ok y) h = tt
-write_kind (Err f) h = subst IsAnnotatorFault (sym h) tt
+write_kind (Err f) h = subst IsPrinterFault (sym h) tt
 
 -- no other fault is told
 pub no_other : {T : Type 0} (r : Result T Fault) (P : Type 0) → IfErr r (λ f. f ≡ Write) → IfErr r (λ f. f ≢ Write → P)
@@ -24,7 +24,7 @@ pub write_cause : {T E : Type 0} (r : Result T E) (f : E) (P : Type 0) → OnErr
 write_cause (Ok y) f P h e = absurd (let bad : Ok y ≡ Err f = e in cc)
 write_cause (Err f') f P h e = h
 
-pub text_kind : (f : Fault) → IsTextFault f → IsAnnotatorFault f
+pub text_kind : (f : Fault) → IsTextFault f → IsPrinterFault f
 text_kind Memory h = tt
 text_kind (Trace line kind) h = tt
 text_kind _ h = absurd h

@@ -89,6 +89,13 @@ abbrev pub AreMarked : Rows → (before : List Line) → List Annotated → Type
 AreMarked choice before [] = Unit {0}
 AreMarked choice before (a ∷ annotated) = IsMarked choice before a × AreMarked choice (before ++ a.line ∷ []) annotated
 
+-- bytes are a line after others as it was, with its LF, and comments behind it that mark its findings
+pub record IsAnnotatedLine (choice : Rows) (before : List Line) (l : Line) (bytes : List ℕ) : Type 0 where
+  pub comments : List Line
+  pub written : bytes ≡ text (l ∷ comments)
+  pub are_comments : AreComments comments
+  pub marked : IsMarked choice before (record { line = l; comments = comments })
+
 -- bytes are some lines, each with comments behind it that mark its findings
 pub record IsAnnotationOf (choice : Rows) (ls : List Line) (bytes : List ℕ) : Type 0 where
   pub annotated : List Annotated
@@ -96,6 +103,13 @@ pub record IsAnnotationOf (choice : Rows) (ls : List Line) (bytes : List ℕ) : 
   pub written : bytes ≡ text (all_lines annotated)
   pub comments : AllByRecursion (λ a. AreComments a.comments) annotated
   pub marked : AreMarked choice [] annotated
+
+-- bytes are comments that mark nothing
+pub record IsUnmarked (bytes : List ℕ) : Type 0 where
+  pub closing : List Line
+  pub written : bytes ≡ text closing
+  pub comments : AreComments closing
+  pub unmarked : marks_in closing ≡ []
 
 -- an annotation of a whole text: that of its lines, and behind them comments that mark nothing
 pub record IsAnnotation (choice : Rows) (source bytes : List ℕ) : Type 0 where

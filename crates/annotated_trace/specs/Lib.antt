@@ -3,6 +3,9 @@ pub mod Annotation
 pub mod Wording
 pub mod Pages
 pub mod Marking
+pub mod Printed
+pub mod Printers
+pub mod Printing
 pub mod Annotators
 pub mod Annotating
 pub mod Laws

@@ -1,6 +1,5 @@
 -- The marks that are written.
-use Rattle.std.specs.Prelude.{◌≡◌, ◌⊎◌, ℕ, Bool, true, false, ◌<◌, ◌^◌, List, [], ◌∷◌, ◌++◌, Option, codes, decimal}
-use Rattle.line_model.specs.basics.Device.{with_more}
+use Rattle.std.specs.Prelude.{◌≡◌, ℕ, Bool, true, false, ◌<◌, ◌^◌, List, [], ◌∷◌, ◌++◌, codes, decimal}
 use Rattle.line_model.specs.observer.Report.{code_word, side_word, state_word}
 use Rattle.line_model.specs.text.Text.{Line}
 use Rattle.line_model.specs.traces.Traces.{text}
@@ -62,31 +61,3 @@ IsToldRightly (Chosen channel call) before l told = told ≡ is_told_line (Chose
 abbrev pub HasRightComments : (choice : Rows) (before : List Line) → Line → List Finding → (bytes bytes_after : List ℕ) → Type 0
 HasRightComments choice before l findings bytes bytes_after =
     (told : Bool) × IsToldRightly choice before l told × HasCommentsOf choice told findings bytes bytes_after
-
--- a sink took comments that mark nothing
-pub record HasClosing (before after : Option (List ℕ)) : Type 0 where
-  pub closing : List Line
-  pub taken : after ≡ with_more before (text closing)
-  pub comments : AreComments closing
-  pub unmarked : marks_in closing ≡ []
-
--- it took a first part of some
-pub record HasFirstOfClosing (before after : Option (List ℕ)) : Type 0 where
-  pub closing : List Line
-  pub front : List ℕ
-  pub left : List ℕ
-  pub whole : text closing ≡ front ++ left
-  pub taken : after ≡ with_more before front
-  pub comments : AreComments closing
-  pub unmarked : marks_in closing ≡ []
-
--- it took a first part of some bytes
-pub record HasFirstPart (bytes : List ℕ) (before after : Option (List ℕ)) : Type 0 where
-  pub front : List ℕ
-  pub left : List ℕ
-  pub whole : bytes ≡ front ++ left
-  pub taken : after ≡ with_more before front
-
--- it took a first part of what was held, or all of it and a first part of comments that mark nothing
-abbrev pub StopsClosing : (held : List ℕ) (before after : Option (List ℕ)) → Type 0
-StopsClosing held before after = HasFirstPart held before after ⊎ HasFirstOfClosing (with_more before held) after

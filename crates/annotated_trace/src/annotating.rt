@@ -1,36 +1,16 @@
 //! A scan of one thread that writes a trace again.
 
-ghost use Rattle.std.specs.Prelude.{◌≡◌, ℕ, ◌+◌, ◌<◌, ◌≤◌, ◌^◌, [], Err, IfErr, IfOk};
-ghost use Rattle.annotated_trace.specs.Annotators.{HasRead};
-ghost use Rattle.annotated_trace.specs.Annotating.{Annotates, HasWritten, IsAnnotatingFault, IsRefusedAfter, Stops};
+ghost use Rattle.std.specs.Prelude.{◌≡◌, ◌+◌, ◌<◌, ◌≤◌, ◌^◌, [], Err, IfErr, IfOk};
+ghost use Rattle.annotated_trace.specs.Annotating.{Annotates, IsAnnotatingFault, Stops};
 
-use crate::annotator::Annotator;
+use crate::annotation::Annotation;
 use crate::describer::Describer;
+use crate::printing::print_trace;
 use line_model::device::{Sink, Source};
 use line_model::fault::Fault;
 use line_model::totals::Summary;
 use std::alloc::Allocator;
-use trace_text::consumer::{Consumer, read_to_end};
 use trace_text::watcher::Watcher;
-
-impl<A: Allocator + Copy, W: Watcher<A>, D: Describer<A, W>, K: Sink> Consumer<K>
-    for Annotator<A, W, D> {
-    ghost was_fed = { λ first start now sink text. HasWritten (HasRead W.Watcher D.Describer) W.size (K.taken start) (K.taken sink) (K.failures start) (K.failures sink) first.choice text now };
-
-    ghost refused = { λ first start now sink text last told. IsRefusedAfter first.choice (K.taken start) (K.taken sink) (K.failures start) (K.failures sink) text last told };
-
-    ghost expects = { λ text. Unit {0} };
-
-    ghost size = { λ now. W.size now.trace };
-
-    fn feed(&mut self, chunk: &[u8], sink: &mut K) -> Result<(), Fault> {
-        Annotator::feed(self, chunk, sink)
-    }
-
-    ghost sound = { λ first start now sink text fed. fed.sound };
-
-    ghost sized = { λ first start now sink text fed. fed.sized };
-}
 
 /// Writes a trace again that a source gives, each line with its comments as soon as its LF was read, and answers the last
 /// line of its report as numbers. It refuses by the first faulty line as soon as it is known, and has written the lines
@@ -59,7 +39,11 @@ pub fn annotate<A: Allocator + Copy, W: Watcher<A>, D: Describer<A, W>, S: Sourc
     ensures called { S.calls source.old < S.calls source.new }
     ensures asked { S.calls source.new ≤ S.calls source.old + (2 ^ 30 + 1) }
 {
-    let mut annotator = Annotator::new(alloc, trace, describer);
-    read_to_end(source, &mut annotator, sink)?;
-    annotator.end(sink)
+    print_trace(
+        alloc,
+        trace,
+        Annotation::new(alloc, describer),
+        source,
+        sink,
+    )
 }

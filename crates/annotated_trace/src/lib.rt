@@ -2,6 +2,7 @@
 #![tactic(auto)]
 
 pub mod annotating;
+pub mod annotation;
 pub mod annotator;
 mod closing;
 mod commenting;
@@ -11,4 +12,6 @@ pub mod laws;
 mod marks;
 pub mod notes;
 pub mod page;
+pub mod printer;
+pub mod printing;
 pub mod rows;

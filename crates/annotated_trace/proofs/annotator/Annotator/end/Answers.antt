@@ -1,88 +1,22 @@
-use Rattle.std.proofs.Common.{◌∙◌, ◌++◌, ◌∷◌, [], List, ℕ, sym, ap, subst, refl, length}
-use Rattle.line_model.specs.text.Text.{begun_line}
-use Rattle.line_model.proofs.TextLemmas.{begun-lf}
-use Rattle.annotated_trace.specs.Annotators.{HasFirstOf}
-use Rattle.annotated_trace.proofs.EndOfText.{ended_annotated, ended_refused, last_held, lf_refused, none_begun, same_first, some_bytes, whole_refused}
-use Rattle.annotated_trace.proofs.StopLemmas.{no_write, text_kind}
+use Rattle.std.proofs.Common.{[]}
+use Rattle.line_model.specs.text.Text.{ended_lines}
+use Rattle.annotated_trace.specs.Annotation.{IsAnnotatedLine, IsAnnotationOf}
+use Rattle.annotated_trace.specs.Annotators.{IsAnnotated}
+use Rattle.annotated_trace.specs.Printed.{IsPrintOf}
+use Rattle.annotated_trace.specs.Printers.{IsPrinted}
+use Rattle.annotated_trace.proofs.AnnotationLemmas.{Closes, annotated_of, first_of_annotation, print_of, same_print}
+use Rattle.annotated_trace.proofs.EndOfText.{if_ok}
 use Rattle.annotated_trace.proofs.annotator.Annotator.end.Goals as goal
 
-pub close-requires-in-Ok : goal.close-requires-in-Ok
-close-requires-in-Ok g c =
-    let x = c.requires.fed.0 in
-    (x ++ 10 ∷ [], c.in-Ok.ensures.stands x [] c.requires.fed.1 refl refl, begun-lf x)
+pub returns-clause-annotated : goal.returns-clause-annotated
+returns-clause-annotated g c text before s h =
+    let choice = c.args.self.choice in
+    let taken = g.K.Sink.taken c.end.new.sink in
+    let held = same_print (IsAnnotationOf choice) (IsPrintOf (IsAnnotatedLine choice) []) (print_of choice) before (g.K.Sink.taken c.args.sink.now) c.args.self.printing.held.items (ended_lines text) h in
+    if_ok c.end.result (IsPrinted (IsPrintOf (IsAnnotatedLine choice) []) Closes text before taken) (IsAnnotated choice text before taken) (c.end.ensures.printed choice text before (record { trace = s.trace; begun = s.begun }) held) (λ sums p. annotated_of choice text before taken sums p)
 
-pub returns-in-Ok-clause-annotated : goal.returns-in-Ok-clause-annotated
-returns-in-Ok-clause-annotated g c text before s h =
-    let some = some_bytes c.args.self.begun.len (length (begun_line text)) (sym c.is_empty.ensures ∙ c.if-is_empty.false) (c.args.self.begun.ok.0 ∙ ap (λ (b : List ℕ). length b) s.begun) in
-    let next = c.in-Ok.ensures.stands text [] s refl refl in
-    let held = last_held c.args.self.choice c.take_line.new.self.choice before (g.K.Sink.taken c.args.sink.now) c.args.self.held.items c.take_line.new.self.held.items text (text ++ 10 ∷ []) c.take_line.ensures.choice h
-    (c.in-Ok.ensures.held text [] h.sent s refl refl h.lines) in
-    ended_annotated c.args.self.choice c.take_line.new.self.choice text before (g.K.Sink.taken c.close-in-Ok.new.sink) c.close-in-Ok.result c.take_line.ensures.choice some (g.met.W.Watcher.sound c.args.self.trace text s.trace.0)
-    (g.met.W.Watcher.sound c.take_line.new.self.trace (text ++ 10 ∷ []) next.trace.0) (c.close-in-Ok.ensures.annotated (text ++ 10 ∷ []) before next (begun-lf text) held)
-
-pub returns-in-Ok-clause-refused : goal.returns-in-Ok-clause-refused
-returns-in-Ok-clause-refused g c text s =
-    let some = some_bytes c.args.self.begun.len (length (begun_line text)) (sym c.is_empty.ensures ∙ c.if-is_empty.false) (c.args.self.begun.ok.0 ∙ ap (λ (b : List ℕ). length b) s.begun) in
-    let next = c.in-Ok.ensures.stands text [] s refl refl in
-    ended_refused text c.close-in-Ok.result some (g.met.W.Watcher.sound c.args.self.trace text s.trace.0) (g.met.W.Watcher.sound c.take_line.new.self.trace (text ++ 10 ∷ []) next.trace.0) (c.close-in-Ok.ensures.refused (text ++ 10 ∷ []) next)
-
-pub returns-in-Ok-clause-taken : goal.returns-in-Ok-clause-taken
-returns-in-Ok-clause-taken g c text before s h w =
-    let some = some_bytes c.args.self.begun.len (length (begun_line text)) (sym c.is_empty.ensures ∙ c.if-is_empty.false) (c.args.self.begun.ok.0 ∙ ap (λ (b : List ℕ). length b) s.begun) in
-    let next = c.in-Ok.ensures.stands text [] s refl refl in
-    let held = last_held c.args.self.choice c.take_line.new.self.choice before (g.K.Sink.taken c.args.sink.now) c.args.self.held.items c.take_line.new.self.held.items text (text ++ 10 ∷ []) c.take_line.ensures.choice h
-    (c.in-Ok.ensures.held text [] h.sent s refl refl h.lines) in
-    same_first c.args.self.choice text before (g.K.Sink.taken c.close-in-Ok.new.sink) some
-    (subst (λ k. HasFirstOf k (text ++ 10 ∷ []) before (g.K.Sink.taken c.close-in-Ok.new.sink)) c.take_line.ensures.choice (c.close-in-Ok.ensures.taken (text ++ 10 ∷ []) before next (begun-lf text) held w))
-
-pub returns-in-Err-clause-refused : goal.returns-in-Err-clause-refused
-returns-in-Err-clause-refused g c text s =
-    let some = some_bytes c.args.self.begun.len (length (begun_line text)) (sym c.is_empty.ensures ∙ c.if-is_empty.false) (c.args.self.begun.ok.0 ∙ ap (λ (b : List ℕ). length b) s.begun) in
-    lf_refused text c.in-Err.fault some (g.met.W.Watcher.sound c.args.self.trace text s.trace.0) (c.in-Err.ensures.refused text s)
-
-pub close-requires : goal.close-requires
-close-requires g c =
-    let x = c.requires.fed.0 in
-    (x, c.requires.fed.1, none_begun c.args.self.begun.len c.args.self.begun.items x (sym c.is_empty.ensures ∙ c.if-is_empty.true) c.args.self.begun.ok.0 c.requires.fed.1.begun)
-
-pub returns-then-is_empty-clause-annotated : goal.returns-then-is_empty-clause-annotated
-returns-then-is_empty-clause-annotated g c text before s h = c.close.ensures.annotated text before s (none_begun c.args.self.begun.len c.args.self.begun.items text (sym c.is_empty.ensures ∙ c.if-is_empty.true) c.args.self.begun.ok.0 s.begun) h
-
-pub returns-then-is_empty-clause-refused : goal.returns-then-is_empty-clause-refused
-returns-then-is_empty-clause-refused g c text s = whole_refused text c.close.result (c.close.ensures.refused text s)
-
-pub returns-then-is_empty-clause-taken : goal.returns-then-is_empty-clause-taken
-returns-then-is_empty-clause-taken g c text before s h w = c.close.ensures.taken text before s (none_begun c.args.self.begun.len c.args.self.begun.items text (sym c.is_empty.ensures ∙ c.if-is_empty.true) c.args.self.begun.ok.0 s.begun) h w
-
-pub returns-then-is_empty-clause-not_written : goal.returns-then-is_empty-clause-not_written
-returns-then-is_empty-clause-not_written g c = c.close.ensures.not_written
-
-pub returns-then-is_empty-clause-kinds : goal.returns-then-is_empty-clause-kinds
-returns-then-is_empty-clause-kinds g c = c.close.ensures.kinds
-
-pub returns-then-is_empty-clause-write_failed : goal.returns-then-is_empty-clause-write_failed
-returns-then-is_empty-clause-write_failed g c = c.close.ensures.write_failed
-
-pub returns-in-Ok-clause-not_written : goal.returns-in-Ok-clause-not_written
-returns-in-Ok-clause-not_written g c = c.close-in-Ok.ensures.not_written
-
-pub returns-in-Ok-clause-kinds : goal.returns-in-Ok-clause-kinds
-returns-in-Ok-clause-kinds g c = c.close-in-Ok.ensures.kinds
-
-pub returns-in-Ok-clause-write_failed : goal.returns-in-Ok-clause-write_failed
-returns-in-Ok-clause-write_failed g c = c.close-in-Ok.ensures.write_failed
-
-pub returns-in-Err-clause-annotated : goal.returns-in-Err-clause-annotated
-returns-in-Err-clause-annotated g c text before s h = tt
-
-pub returns-in-Err-clause-taken : goal.returns-in-Err-clause-taken
-returns-in-Err-clause-taken g c text before s h w = absurd (no_write c.in-Err.fault c.in-Err.ensures.kinds w)
-
-pub returns-in-Err-clause-not_written : goal.returns-in-Err-clause-not_written
-returns-in-Err-clause-not_written g c other = refl
-
-pub returns-in-Err-clause-kinds : goal.returns-in-Err-clause-kinds
-returns-in-Err-clause-kinds g c = text_kind c.in-Err.fault c.in-Err.ensures.kinds
-
-pub returns-in-Err-clause-write_failed : goal.returns-in-Err-clause-write_failed
-returns-in-Err-clause-write_failed g c w = absurd (no_write c.in-Err.fault c.in-Err.ensures.kinds w)
+pub returns-clause-taken : goal.returns-clause-taken
+returns-clause-taken g c text before s h w =
+    let choice = c.args.self.choice in
+    let held = same_print (IsAnnotationOf choice) (IsPrintOf (IsAnnotatedLine choice) []) (print_of choice) before (g.K.Sink.taken c.args.sink.now) c.args.self.printing.held.items (ended_lines text) h in
+    first_of_annotation choice text before (g.K.Sink.taken c.end.new.sink) (c.end.ensures.taken choice text before (record { trace = s.trace; begun = s.begun }) held w)

@@ -1,98 +1,30 @@
-use Rattle.std.proofs.Common.{◌≡◌, ◌∙◌, arith, subst, sym, ◌++◌, true}
-use Rattle.line_model.specs.text.Text.{early, ended_lines}
-use Rattle.line_model.specs.declared.fault.Fault.TheVariants.{Write}
-use Rattle.annotated_trace.specs.Annotators.{HasLinesBefore, IsRefusalOf, is_line}
-use Rattle.annotated_trace.proofs.CommentLemmas.{always, part_err}
-use Rattle.annotated_trace.proofs.StopLemmas.{write_cause, write_kind}
-use Rattle.annotated_trace.proofs.PassedLemmas.{all_first, line_first, line_part, line_sent, not_line, sent_all, sent_part, stopped_first}
-use Rattle.annotated_trace.proofs.annotator.Annotator.feed.Goals as goal
+use Rattle.std.proofs.Common.{[], ◌++◌}
+use Rattle.line_model.specs.text.Text.{ended_lines}
 use Rattle.trace_text.proofs.FeedLemmas.{on_err, on_ok}
+use Rattle.annotated_trace.specs.Annotation.{IsAnnotatedLine, IsAnnotationOf}
+use Rattle.annotated_trace.specs.Printed.{IsPrintOf}
+use Rattle.annotated_trace.proofs.AnnotationLemmas.{annotation_of, print_of, same_first_print, same_print, same_print_before}
+use Rattle.annotated_trace.proofs.annotator.Annotator.feed.Goals as goal
 
-pub returns-then-not-is_line-clause-taken : goal.returns-then-not-is_line-clause-taken
-returns-then-not-is_line-clause-taken g c text before s h =
-    stopped_first c.args.self.now.choice before (g.K.Sink.taken c.take_lines.new.sink) c.take_lines.new.self.held.items (ended_lines (text ++ c.args.chunk.now)) c.in-Err.fault (c.in-Err.ensures.stopped text before s h)
+pub returns-clause-annotated : goal.returns-clause-annotated
+returns-clause-annotated g c text before s h =
+    let choice = c.args.self.now.choice in
+    let F = IsPrintOf (IsAnnotatedLine choice) [] in
+    let held = same_print (IsAnnotationOf choice) F (print_of choice) before (g.K.Sink.taken c.args.sink.now) c.args.self.now.printing.held.items (ended_lines text) h in
+    on_ok c.feed.result _ _ (c.feed.ensures.printed choice text before (record { trace = s.trace; begun = s.begun }) held) (λ p. same_print F (IsAnnotationOf choice) (annotation_of choice) before (g.K.Sink.taken c.feed.new.sink) [] (ended_lines (text ++ c.args.chunk.now)) p)
 
-pub returns-in-Ok-clause-annotated : goal.returns-in-Ok-clause-annotated
-returns-in-Ok-clause-annotated g c text before s h =
-    on_ok c.send_held.result _ _ c.send_held.ensures.ok (λ t.
-    sent_all c.args.self.now.choice before (g.K.Sink.taken c.take_lines.new.sink) (g.K.Sink.taken c.send_held.new.sink) c.take_lines.new.self.held.items (ended_lines (text ++ c.args.chunk.now)) (c.in-Ok.ensures.annotated text before s h) t)
+pub returns-clause-taken : goal.returns-clause-taken
+returns-clause-taken g c text before s h =
+    let choice = c.args.self.now.choice in
+    let F = IsPrintOf (IsAnnotatedLine choice) [] in
+    let held = same_print (IsAnnotationOf choice) F (print_of choice) before (g.K.Sink.taken c.args.sink.now) c.args.self.now.printing.held.items (ended_lines text) h in
+    on_err c.feed.result _ _ (c.feed.ensures.taken choice text before (record { trace = s.trace; begun = s.begun }) held)
+    (λ f p. same_first_print F (IsAnnotationOf choice) (annotation_of choice) before (g.K.Sink.taken c.feed.new.sink) (ended_lines (text ++ c.args.chunk.now)) p)
 
-pub returns-in-Ok-clause-taken : goal.returns-in-Ok-clause-taken
-returns-in-Ok-clause-taken g c text before s h =
-    part_err c.send_held.result _ _ c.send_held.ensures.part (λ part.
-    all_first c.args.self.now.choice before (g.K.Sink.taken c.send_held.new.sink) part.1 (ended_lines (text ++ c.args.chunk.now))
-    (sent_part c.args.self.now.choice before (g.K.Sink.taken c.take_lines.new.sink) (g.K.Sink.taken c.send_held.new.sink) c.take_lines.new.self.held.items part.0 part.1 (ended_lines (text ++ c.args.chunk.now)) (c.in-Ok.ensures.annotated text before s h)
-    part.2 part.3))
-
-pub returns-in-Ok-send_held-clause-taken : goal.returns-in-Ok-send_held-clause-taken
-returns-in-Ok-send_held-clause-taken g c text before s h =
-    let line : is_line c.in-Err.fault ≡ true = sym c.is_line.ensures ∙ c.if-not-is_line.false in
-    line_first c.args.self.now.choice before (g.K.Sink.taken c.take_lines.new.sink) (g.K.Sink.taken c.send_held-in-Err.new.sink) c.take_lines.new.self.held.items (ended_lines (text ++ c.args.chunk.now)) c.in-Err.fault line (c.in-Err.ensures.stopped text before s h)
-    c.in-Ok-send_held.ensures.ok
-
-pub returns-in-Ok-send_held-clause-at_line : goal.returns-in-Ok-send_held-clause-at_line
-returns-in-Ok-send_held-clause-at_line g c text before s h well =
-    let line : is_line c.in-Err.fault ≡ true = sym c.is_line.ensures ∙ c.if-not-is_line.false in
-    line_sent c.args.self.now.choice before (g.K.Sink.taken c.take_lines.new.sink) (g.K.Sink.taken c.send_held-in-Err.new.sink) c.take_lines.new.self.held.items (ended_lines (text ++ c.args.chunk.now)) c.in-Err.fault line (c.in-Err.ensures.stopped text before s h)
-    c.in-Ok-send_held.ensures.ok
-
-pub returns-in-Err-send_held-clause-taken : goal.returns-in-Err-send_held-clause-taken
-returns-in-Err-send_held-clause-taken g c text before s h =
-    let line : is_line c.in-Err.fault ≡ true = sym c.is_line.ensures ∙ c.if-not-is_line.false in
-    let part = c.in-Err-send_held.ensures.part in
-    line_part c.args.self.now.choice before (g.K.Sink.taken c.take_lines.new.sink) (g.K.Sink.taken c.send_held-in-Err.new.sink) c.take_lines.new.self.held.items part.0 part.1 (ended_lines (text ++ c.args.chunk.now)) c.in-Err.fault line
-    (c.in-Err.ensures.stopped text before s h) part.2 part.3
-
-pub returns-then-not-is_line-clause-at_line : goal.returns-then-not-is_line-clause-at_line
-returns-then-not-is_line-clause-at_line g c text before s h well =
-    not_line c.args.self.now.choice before (g.K.Sink.taken c.take_lines.new.sink) (ended_lines (text ++ c.args.chunk.now)) c.in-Err.fault (sym c.is_line.ensures ∙ c.if-not-is_line.true)
-
-pub returns-then-not-is_line-clause-refused : goal.returns-then-not-is_line-clause-refused
-returns-then-not-is_line-clause-refused g c text s = c.in-Err.ensures.refused text s
-
-pub returns-then-not-is_line-clause-write_failed : goal.returns-then-not-is_line-clause-write_failed
-returns-then-not-is_line-clause-write_failed g c w = c.take_lines.ensures.write_failed (c.in-Err.is ∙ w)
-
-pub returns-in-Ok-clause-stands : goal.returns-in-Ok-clause-stands
-returns-in-Ok-clause-stands g c text s =
-    let next = c.in-Ok.ensures.stands text s in
-    always c.send_held.result _ (record { trace = next.trace; begun = next.begun })
-
-pub returns-in-Ok-clause-none_held : goal.returns-in-Ok-clause-none_held
-returns-in-Ok-clause-none_held g c = c.send_held.ensures.none_held
-
-pub returns-in-Ok-clause-refused : goal.returns-in-Ok-clause-refused
-returns-in-Ok-clause-refused g c text s =
-    on_err c.send_held.result _ _ c.send_held.ensures.write (λ f w. subst (IsRefusalOf (early (text ++ c.args.chunk.now))) (sym w) tt)
-
-pub returns-in-Ok-clause-at_line : goal.returns-in-Ok-clause-at_line
-returns-in-Ok-clause-at_line g c text before s h well =
-    on_err c.send_held.result _ _ c.send_held.ensures.write
-    (λ f w. subst (HasLinesBefore c.args.self.now.choice before (g.K.Sink.taken c.send_held.new.sink) (ended_lines (text ++ c.args.chunk.now))) (sym w) tt)
-
-pub returns-in-Ok-clause-kinds : goal.returns-in-Ok-clause-kinds
-returns-in-Ok-clause-kinds g c = write_kind c.send_held.result c.send_held.ensures.write
-
-pub returns-in-Ok-clause-rising : goal.returns-in-Ok-clause-rising
-returns-in-Ok-clause-rising g c = omega (arith, c.take_lines.ensures.rising, c.send_held.ensures.rising)
-
-pub returns-in-Ok-clause-write_failed : goal.returns-in-Ok-clause-write_failed
-returns-in-Ok-clause-write_failed g c w =
-    let failed = write_cause c.send_held.result Write _ c.send_held.ensures.cause w in
-    omega (arith, c.take_lines.ensures.rising, failed)
-
-pub returns-in-Ok-send_held-clause-rising : goal.returns-in-Ok-send_held-clause-rising
-returns-in-Ok-send_held-clause-rising g c = omega (arith, c.take_lines.ensures.rising, c.send_held-in-Err.ensures.rising)
-
-pub returns-in-Ok-send_held-clause-refused : goal.returns-in-Ok-send_held-clause-refused
-returns-in-Ok-send_held-clause-refused g c text s = c.in-Err.ensures.refused text s
-
-pub returns-in-Err-send_held-clause-refused : goal.returns-in-Err-send_held-clause-refused
-returns-in-Err-send_held-clause-refused g c text s = c.in-Err.ensures.refused text s
-
-pub returns-in-Err-send_held-clause-rising : goal.returns-in-Err-send_held-clause-rising
-returns-in-Err-send_held-clause-rising g c = omega (arith, c.take_lines.ensures.rising, c.send_held-in-Err.ensures.rising)
-
-pub returns-in-Err-send_held-clause-at_line : goal.returns-in-Err-send_held-clause-at_line
-returns-in-Err-send_held-clause-at_line g c text before s h well =
-    absurd (omega (arith, well, c.take_lines.ensures.rising, c.in-Err-send_held.ensures.cause))
+pub returns-clause-at_line : goal.returns-clause-at_line
+returns-clause-at_line g c text before s h well =
+    let choice = c.args.self.now.choice in
+    let F = IsPrintOf (IsAnnotatedLine choice) [] in
+    let held = same_print (IsAnnotationOf choice) F (print_of choice) before (g.K.Sink.taken c.args.sink.now) c.args.self.now.printing.held.items (ended_lines text) h in
+    on_err c.feed.result _ _ (c.feed.ensures.at_line choice text before (record { trace = s.trace; begun = s.begun }) held well)
+    (λ f p. same_print_before F (IsAnnotationOf choice) (annotation_of choice) before (g.K.Sink.taken c.feed.new.sink) (ended_lines (text ++ c.args.chunk.now)) f p)

@@ -4,25 +4,25 @@ use Rattle.std.proofs.lemmas.Result.{IfOk-from_err, err_from_is_err_and}
 use Rattle.line_model.specs.text.Text.{early}
 use Rattle.trace_text.specs.StandsFor.{IsFaultOf, IsTextFault}
 use Rattle.line_model.proofs.TextLemmas.{begun-more, ended-more}
-use Rattle.annotated_trace.proofs.annotator.Annotator.begin.Goals as goal
+use Rattle.annotated_trace.proofs.printing.TracePrinter.begin.Goals as goal
 
-pub returns-clause-stands : goal.returns-clause-stands
-returns-clause-stands g c text s one = record {
+pub returns-clause-fed : goal.returns-clause-fed
+returns-clause-fed g c choice text s one = record {
   trace = (
     c.in-Ok.ensures.stands text s.trace.0,
-    subst (g.D.Describer.described c.args.self.now.describer) (sym (ended-more text c.args.more.now one)) s.trace.1,
+    subst (g.P.Printer.printed c.args.self.now.printer) (sym (ended-more text c.args.more.now one)) s.trace.1,
     s.trace.2,
   );
   begun = c.in_ok-extend_from_slice.ensures.items ∙ ap (λ xs. xs ++ c.args.more.now) s.begun ∙ sym (begun-more text c.args.more.now one);
 }
 
 pub returns-in_err-extend_from_slice-clause-refused : goal.returns-in_err-extend_from_slice-clause-refused
-returns-in_err-extend_from_slice-clause-refused g c text s =
+returns-in_err-extend_from_slice-clause-refused g c choice text s =
     let p = err_from_is_err_and c.from_residual.result c.from_residual.ensures.1 in
     subst (λ r. IfErr r (IsFaultOf (early (text ++ c.args.more.now)))) (sym p.1) (subst (IsFaultOf (early (text ++ c.args.more.now))) (sym p.2) tt)
 
-pub returns-in_err-extend_from_slice-clause-stands : goal.returns-in_err-extend_from_slice-clause-stands
-returns-in_err-extend_from_slice-clause-stands g c text s one = IfOk-from_err _ _ c.from_residual.ensures.0
+pub returns-in_err-extend_from_slice-clause-fed : goal.returns-in_err-extend_from_slice-clause-fed
+returns-in_err-extend_from_slice-clause-fed g c choice text s one = IfOk-from_err _ _ c.from_residual.ensures.0
 
 pub returns-in_err-extend_from_slice-clause-kinds : goal.returns-in_err-extend_from_slice-clause-kinds
 returns-in_err-extend_from_slice-clause-kinds g c =

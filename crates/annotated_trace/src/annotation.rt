@@ -1,0 +1,65 @@
+//! A line of a trace as it was, and comments that say what it did.
+
+ghost use Rattle.annotated_trace.specs.Annotation.{IsAnnotatedLine, IsUnmarked};
+
+use crate::commenting::{Scratch, append_comments};
+use crate::describer::Describer;
+use crate::page::ClosingPage;
+use crate::printer::Printer;
+use crate::rows::Rows;
+use line_model::fault::Fault;
+use line_model::lending::LentSink;
+use line_model::report::Report;
+use std::alloc::{AllocError, Allocator};
+use trace_text::watcher::Watcher;
+
+/// Prints each line as it was, with comments after it, and comments after the last line.
+#[derive(Drop)]
+pub struct Annotation<A: Allocator, D: Drop> {
+    describer: D,
+    scratch: Scratch<A>,
+}
+
+impl<A: Allocator + Copy, D: Drop> Annotation<A, D> {
+    ghost use Rattle.std.specs.Prelude.{◌≡◌};
+
+    /// With the words of a describer. It takes no memory.
+    pub fn new(alloc: A, describer: D) -> Self
+        ensures { result.describer ≡ describer }
+    {
+        Annotation {
+            describer,
+            scratch: Scratch::new(alloc),
+        }
+    }
+}
+
+impl<A: Allocator + Copy, W: Watcher<A>, D: Describer<A, W>> Printer<A, W> for Annotation<A, D> {
+    ghost printed = { λ annotation. D.described annotation.describer };
+
+    ghost rows = { λ annotation. D.rows annotation.describer };
+
+    ghost form = { IsAnnotatedLine };
+
+    ghost closing = { λ choice report bytes. IsUnmarked bytes };
+
+    fn rows(&self) -> Rows {
+        self.describer.rows()
+    }
+
+    fn begin(&mut self) {
+        self.describer.begin()
+    }
+
+    fn print(&mut self, trace: &W, line: &[u8], out: &mut Vec<u8, A>) -> Result<(), AllocError> {
+        out.extend_from_slice(line)?;
+        let choice = self.describer.rows();
+        append_comments(trace, choice, &mut self.describer, &mut self.scratch, out)
+    }
+
+    fn close<S: LentSink>(&mut self, report: &Report<A>, sink: S) -> (S, Result<(), Fault>) {
+        let mut page = ClosingPage::new(sink);
+        self.describer.close(report, &mut page);
+        page.finish()
+    }
+}

@@ -1,0 +1,63 @@
+//! What is printed of a trace, line by line.
+
+use crate::rows::Rows;
+use line_model::fault::Fault;
+use line_model::lending::LentSink;
+use line_model::report::Report;
+use std::alloc::{AllocError, Allocator};
+use trace_text::watcher::Watcher;
+
+/// Prints the lines of a trace, and what comes after the last one. `W` is the trace that it reads of, as `Live<A, C>`.
+pub trait Printer<A: Allocator, W: Watcher<A>>: Drop {
+    ghost use Rattle.std.specs.Prelude.{◌≡◌, ◌<◌, ℕ, ◌++◌, ◌∷◌, [], List, IfErr, OnErr, OnOk};
+    ghost use Rattle.line_model.specs.basics.Records.{Report as AnyReport};
+    ghost use Rattle.line_model.specs.text.Text.{Line, ended_lines};
+    ghost use Rattle.trace_text.specs.Watched.{found_in};
+    ghost use Rattle.annotated_trace.specs.Printed.{HasAppended, HasTaken, HasTakenFirst};
+    ghost use Rattle.annotated_trace.specs.declared.rows.Rows.{Rows as AnyRows};
+
+    /// It has printed these lines.
+    ghost printed: { Self → List Line → Type 0 };
+
+    /// The rows that it prints.
+    ghost rows: { Self → AnyRows };
+
+    /// The bytes that a line becomes, after the lines before it.
+    ghost form: { AnyRows → List Line → Line → List ℕ → Type 0 };
+
+    /// The bytes after the last line, by the report.
+    ghost closing: { AnyRows → AnyReport → List ℕ → Type 0 };
+
+    /// The rows that it prints.
+    fn rows(&self) -> Rows
+        ensures { result ≡ rows self.now };
+
+    /// A trace begins, of which no line was printed.
+    fn begin(&mut self)
+        ensures printed { printed self.new [] }
+        ensures rows { rows self.new ≡ rows self.old };
+
+    /// Appends what the last line becomes, which the trace has just taken. `line` is its bytes with the LF.
+    fn print(&mut self, trace: &W, line: &[u8], out: &mut Vec<u8, A>) -> Result<(), AllocError>
+        ensures form { (before : List Line) (l : Line) (text : List ℕ)
+            → printed self.old before → W.stands_for trace.now text
+            → ended_lines text ≡ before ++ l ∷ []
+            → found_in (before ++ l ∷ []) ≡ found_in before ++ W.last_found trace.now
+            → line.now ≡ l ++ 10 ∷ [] → OnOk result
+            (HasAppended (form (rows self.old) before l) out.old.items out.new.items) }
+        ensures printed { (before : List Line) (l : Line) (text : List ℕ)
+            → printed self.old before → W.stands_for trace.now text
+            → ended_lines text ≡ before ++ l ∷ []
+            → OnOk result (printed self.new (before ++ l ∷ [])) }
+        ensures rows { rows self.new ≡ rows self.old };
+
+    /// Gives a lent sink what comes after the last line. Where the sink fails it took a first part of it.
+    fn close<S: LentSink>(&mut self, report: &Report<A>, sink: S) -> (S, Result<(), Fault>)
+        requires { (S.taken sink, S.failures sink) ≡ S.before }
+        ensures ok { OnOk result.1 (HasTaken (closing (rows self.old) report.now) S.before.0
+            (S.taken result.0)) }
+        ensures part { OnErr result.1 (HasTakenFirst (closing (rows self.old) report.now) S.before.0
+            (S.taken result.0)) }
+        ensures cause { OnErr result.1 (S.before.1 < S.failures result.0) }
+        ensures write { IfErr result.1 (λ fault. fault ≡ Fault.Write) };
+}

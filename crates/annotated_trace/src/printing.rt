@@ -1,0 +1,371 @@
+//! A trace that is printed line by line as it grows.
+
+ghost use Rattle.std.specs.Prelude.{◌≡◌, ◌≢◌, ℕ, ◌+◌, ◌<◌, ◌≤◌, ◌^◌, ◌++◌, ◌∷◌, [], List, Option, Err, IfErr, IfOk, OnOk};
+ghost use Rattle.line_model.specs.text.Text.{Line, begun_line, early, ended_lines};
+ghost use Rattle.line_model.specs.declared.fault.Fault.TheVariants.{Memory};
+ghost use Rattle.trace_text.specs.StandsFor.{IsFaultOf, IsTextFault};
+ghost use Rattle.trace_text.specs.Watched.{found_in};
+ghost use Rattle.annotated_trace.specs.Annotation.{IsOneLine};
+ghost use Rattle.annotated_trace.specs.Printed.{HasAppended, IsPrintOf};
+ghost use Rattle.annotated_trace.specs.Printers.{HasFirstPrint, HasFirstPrintOf, HasFollowed, HasPrintBefore, HasPrinted, IsCloseRefusal, IsEndRefusal, IsPrinted, IsPrinterFault, IsRefusalOf, IsStoppedAt, WasFed, is_line};
+ghost use Rattle.annotated_trace.specs.Printing.{HasPassed, HasWritten, IsPrintingFault, IsRefusedAfter, StopsPrinting};
+ghost use Rattle.annotated_trace.specs.declared.rows.Rows.{Rows as AnyRows};
+
+use crate::closing::send_closing;
+use crate::holding::{send_held, send_much};
+use crate::printer::Printer;
+use line_model::device::{Sink, Source};
+use line_model::fault::Fault;
+use line_model::totals::Summary;
+use std::alloc::{AllocError, Allocator};
+use trace_text::consumer::{Consumer, read_to_end};
+use trace_text::cuts::split_at_byte;
+use trace_text::watcher::Watcher;
+
+/// Whether a fault is that of a line.
+fn is_line(fault: Fault) -> bool
+    ensures { result ≡ is_line fault }
+{
+    match fault {
+        Fault::Trace(_, _) => true,
+        _ => false,
+    }
+}
+
+/// A trace that grows, and is printed: each line that an LF has ended becomes what the printer makes of it.
+///
+/// ```text
+///  fed so far:  X25 1 MOD 8 ..\n1 T 10010B0000\n2 N 1001|
+///               `--------- printed -----------'`-begun-'
+/// ```
+///
+/// After a refusal it is of no further use.
+#[derive(Drop)]
+pub struct TracePrinter<A: Allocator, W: Drop, P: Drop> {
+    trace: W,
+    printer: P,
+    /// What stands after the last LF.
+    begun: Vec<u8, A>,
+    /// What was printed and the sink has not taken yet.
+    held: Vec<u8, A>,
+}
+
+impl<A: Allocator + Copy, W: Watcher<A>, P: Printer<A, W>> TracePrinter<A, W, P> {
+    /// A trace of which nothing was fed. It takes no memory.
+    pub fn new(alloc: A, trace: W, mut printer: P) -> Self
+        requires fresh { W.stands_for trace [] }
+        ensures fed { WasFed (HasFollowed W.Watcher P.Printer (P.rows printer)) result [] }
+        ensures held { result.held.items ≡ [] }
+    {
+        printer.begin();
+        TracePrinter {
+            trace,
+            printer,
+            begun: Vec::new(alloc),
+            held: Vec::new(alloc),
+        }
+    }
+
+    /// Holds what a line becomes that the trace has just taken, by its end with the LF.
+    fn print_line(&mut self, end: &[u8]) -> Result<(), AllocError>
+        ensures form { (before : List Line) (l : Line) (text : List ℕ)
+            → P.printed self.old.printer before → W.stands_for self.old.trace text
+            → ended_lines text ≡ before ++ l ∷ []
+            → found_in (before ++ l ∷ []) ≡ found_in before ++ W.last_found self.old.trace
+            → self.old.begun.items ++ end.now ≡ l ++ 10 ∷ [] → OnOk result
+            (HasAppended (P.form (P.rows self.old.printer) before l)
+            self.old.held.items self.new.held.items) }
+        ensures printed { (before : List Line) (l : Line) (text : List ℕ)
+            → P.printed self.old.printer before → W.stands_for self.old.trace text
+            → ended_lines text ≡ before ++ l ∷ []
+            → OnOk result (P.printed self.new.printer (before ++ l ∷ [])) }
+        ensures rows { P.rows self.new.printer ≡ P.rows self.old.printer }
+        ensures trace { self.new.trace ≡ self.old.trace }
+        ensures begun { OnOk result (self.new.begun.items ≡ []) }
+    {
+        if self.begun.is_empty() {
+            return self.printer.print(&self.trace, end, &mut self.held);
+        }
+        self.begun.extend_from_slice(end)?;
+        let line = self.begun.as_slice();
+        self.printer.print(&self.trace, line, &mut self.held)?;
+        self.begun.clear();
+        Ok(())
+    }
+
+    /// Takes the end of a line with its LF, and holds what the line becomes.
+    fn take_line(&mut self, end: &[u8]) -> Result<(), Fault>
+        requires { (choice : AnyRows) × (text : List ℕ)
+            × WasFed (HasFollowed W.Watcher P.Printer choice) self.old text }
+        ensures fed { (choice : AnyRows) (text front : List ℕ)
+            → WasFed (HasFollowed W.Watcher P.Printer choice) self.old text
+            → end.now ≡ front ++ 10 ∷ [] → IsOneLine front
+            → OnOk result (WasFed (HasFollowed W.Watcher P.Printer choice) self.new
+            (text ++ end.now)) }
+        ensures held { (choice : AnyRows) (text front sent : List ℕ)
+            → WasFed (HasFollowed W.Watcher P.Printer choice) self.old text
+            → end.now ≡ front ++ 10 ∷ [] → IsOneLine front
+            → IsPrintOf (P.form choice) [] (ended_lines text) (sent ++ self.old.held.items)
+            → OnOk result (IsPrintOf (P.form choice) [] (ended_lines (text ++ end.now)) (sent
+            ++ self.new.held.items)) }
+        ensures refused { (choice : AnyRows) (text : List ℕ)
+            → WasFed (HasFollowed W.Watcher P.Printer choice) self.old text
+            → IfErr result (IsFaultOf (early (text ++ end.now))) }
+        ensures not_held { IfErr result (λ fault. fault ≢ Memory
+            → self.new.held.items ≡ self.old.held.items) }
+        ensures kinds { IfErr result IsTextFault }
+    {
+        match self.trace.feed(end) {
+            Ok(()) => {}
+            Err(fault) => return Err(fault),
+        }
+        match self.print_line(end) {
+            Ok(()) => Ok(()),
+            Err(_) => Err(Fault::Memory),
+        }
+    }
+
+    /// Takes bytes without an LF.
+    fn begin(&mut self, more: &[u8]) -> Result<(), Fault>
+        requires { (choice : AnyRows) × (text : List ℕ)
+            × WasFed (HasFollowed W.Watcher P.Printer choice) self.old text }
+        ensures fed { (choice : AnyRows) (text : List ℕ)
+            → WasFed (HasFollowed W.Watcher P.Printer choice) self.old text
+            → IsOneLine more.now → OnOk result (WasFed (HasFollowed W.Watcher P.Printer choice)
+            self.new (text ++ more.now)) }
+        ensures refused { (choice : AnyRows) (text : List ℕ)
+            → WasFed (HasFollowed W.Watcher P.Printer choice) self.old text
+            → IfErr result (IsFaultOf (early (text ++ more.now))) }
+        ensures held { self.new.held.items ≡ self.old.held.items }
+        ensures kinds { IfErr result IsTextFault }
+    {
+        match self.trace.feed(more) {
+            Ok(()) => {}
+            Err(fault) => return Err(fault),
+        }
+        self.begun.extend_from_slice(more)?;
+        Ok(())
+    }
+
+    /// Takes a chunk, and holds what its lines become, of which the sink is given what is much.
+    fn take_lines<K: Sink>(&mut self, chunk: &[u8], sink: &mut K) -> Result<(), Fault>
+        requires { (choice : AnyRows) × (text : List ℕ)
+            × WasFed (HasFollowed W.Watcher P.Printer choice) self.old text }
+        ensures fed { (choice : AnyRows) (text : List ℕ)
+            → WasFed (HasFollowed W.Watcher P.Printer choice) self.old text
+            → OnOk result (WasFed (HasFollowed W.Watcher P.Printer choice) self.new
+            (text ++ chunk.now)) }
+        ensures printed { (choice : AnyRows) (text : List ℕ) (before : Option (List ℕ))
+            → WasFed (HasFollowed W.Watcher P.Printer choice) self.old text
+            → HasPrinted (IsPrintOf (P.form choice) []) before (K.taken sink.old)
+            self.old.held.items (ended_lines text) → OnOk result
+            (HasPrinted (IsPrintOf (P.form choice) []) before (K.taken sink.new)
+            self.new.held.items (ended_lines (text ++ chunk.now))) }
+        ensures refused { (choice : AnyRows) (text : List ℕ)
+            → WasFed (HasFollowed W.Watcher P.Printer choice) self.old text
+            → IfErr result (IsRefusalOf (early (text ++ chunk.now))) }
+        ensures stopped { (choice : AnyRows) (text : List ℕ) (before : Option (List ℕ))
+            → WasFed (HasFollowed W.Watcher P.Printer choice) self.old text
+            → HasPrinted (IsPrintOf (P.form choice) []) before (K.taken sink.old)
+            self.old.held.items (ended_lines text) → IfErr result
+            (IsStoppedAt (IsPrintOf (P.form choice) []) before (K.taken sink.new)
+            self.new.held.items (ended_lines (text ++ chunk.now))) }
+        ensures kinds { IfErr result IsPrinterFault }
+        ensures rising { K.failures sink.old ≤ K.failures sink.new }
+        ensures write_failed { result ≡ Err Fault.Write
+            → K.failures sink.old < K.failures sink.new }
+    {
+        let mut rest = chunk;
+        while let Some((front, back)) = split_at_byte(rest, b'\n') {
+            match self.take_line(&rest[..front.len() + 1]) {
+                Ok(()) => {}
+                Err(fault) => return Err(fault),
+            }
+            match send_much(&mut self.held, sink) {
+                Ok(()) => rest = back,
+                Err(fault) => return Err(fault),
+            }
+        }
+        self.begin(rest)
+    }
+
+    /// Takes the next chunk of the text, of any size, and writes what the lines become that its LFs ended. It refuses by
+    /// the first line that is faulty however the text goes on, and has written what the lines before it become; where the
+    /// sink fails; and for want of memory.
+    pub fn feed<K: Sink>(&mut self, chunk: &[u8], sink: &mut K) -> Result<(), Fault>
+        requires fed { (choice : AnyRows) × (text : List ℕ)
+            × WasFed (HasFollowed W.Watcher P.Printer choice) self.old text }
+        // Of any text that it was fed: it was fed that text with the chunk.
+        ensures fed { (choice : AnyRows) (text : List ℕ)
+            → WasFed (HasFollowed W.Watcher P.Printer choice) self.old text
+            → OnOk result (WasFed (HasFollowed W.Watcher P.Printer choice) self.new
+            (text ++ chunk.now)) }
+        // A sink that has the print of the lines that ended has that of the text with the chunk, and nothing is held.
+        ensures printed { (choice : AnyRows) (text : List ℕ) (before : Option (List ℕ))
+            → WasFed (HasFollowed W.Watcher P.Printer choice) self.old text
+            → HasPrinted (IsPrintOf (P.form choice) []) before (K.taken sink.old)
+            self.old.held.items (ended_lines text) → OnOk result
+            (HasPrinted (IsPrintOf (P.form choice) []) before (K.taken sink.new) []
+            (ended_lines (text ++ chunk.now))) }
+        ensures none_held { OnOk result (self.new.held.items ≡ []) }
+        ensures refused { (choice : AnyRows) (text : List ℕ)
+            → WasFed (HasFollowed W.Watcher P.Printer choice) self.old text
+            → IfErr result (IsRefusalOf (early (text ++ chunk.now))) }
+        // At a refusal it has a first part, at a faulty line the print of all lines before it, if it did not fail.
+        ensures taken { (choice : AnyRows) (text : List ℕ) (before : Option (List ℕ))
+            → WasFed (HasFollowed W.Watcher P.Printer choice) self.old text
+            → HasPrinted (IsPrintOf (P.form choice) []) before (K.taken sink.old)
+            self.old.held.items (ended_lines text) → IfErr result (λ fault.
+            HasFirstPrint (IsPrintOf (P.form choice) []) before (K.taken sink.new)
+            (ended_lines (text ++ chunk.now))) }
+        ensures at_line { (choice : AnyRows) (text : List ℕ) (before : Option (List ℕ))
+            → WasFed (HasFollowed W.Watcher P.Printer choice) self.old text
+            → HasPrinted (IsPrintOf (P.form choice) []) before (K.taken sink.old)
+            self.old.held.items (ended_lines text)
+            → K.failures sink.new ≡ K.failures sink.old → IfErr result
+            (HasPrintBefore (IsPrintOf (P.form choice) []) before (K.taken sink.new)
+            (ended_lines (text ++ chunk.now))) }
+        ensures kinds { IfErr result IsPrinterFault }
+        ensures rising { K.failures sink.old ≤ K.failures sink.new }
+        ensures write_failed { result ≡ Err Fault.Write
+            → K.failures sink.old < K.failures sink.new }
+    {
+        match self.take_lines(chunk, sink) {
+            Ok(()) => send_held(&mut self.held, sink),
+            Err(fault) => {
+                if !is_line(fault) {
+                    return Err(fault);
+                }
+                match send_held(&mut self.held, sink) {
+                    Ok(()) => Err(fault),
+                    Err(_) => Err(fault),
+                }
+            }
+        }
+    }
+
+    /// Writes what comes after a text that an LF ended.
+    fn close<K: Sink>(self, sink: &mut K) -> Result<Summary, Fault>
+        requires { (choice : AnyRows) × (text : List ℕ)
+            × WasFed (HasFollowed W.Watcher P.Printer choice) self text × (begun_line text ≡ []) }
+        ensures printed { (choice : AnyRows) (text : List ℕ) (before : Option (List ℕ))
+            → WasFed (HasFollowed W.Watcher P.Printer choice) self text → begun_line text ≡ []
+            → HasPrinted (IsPrintOf (P.form choice) []) before (K.taken sink.old)
+            self.held.items (ended_lines text) → IfOk result
+            (IsPrinted (IsPrintOf (P.form choice) []) (P.closing choice) text before
+            (K.taken sink.new)) }
+        ensures refused { (choice : AnyRows) (text : List ℕ)
+            → WasFed (HasFollowed W.Watcher P.Printer choice) self text
+            → IfErr result (IsCloseRefusal text) }
+        ensures taken { (choice : AnyRows) (text : List ℕ) (before : Option (List ℕ))
+            → WasFed (HasFollowed W.Watcher P.Printer choice) self text → begun_line text ≡ []
+            → HasPrinted (IsPrintOf (P.form choice) []) before (K.taken sink.old)
+            self.held.items (ended_lines text) → result ≡ Err Fault.Write
+            → HasFirstPrintOf (IsPrintOf (P.form choice) []) (P.closing choice) text before
+            (K.taken sink.new) }
+        ensures not_written { IfErr result (λ fault. fault ≢ Fault.Write → sink.new ≡ sink.old) }
+        ensures kinds { IfErr result IsPrinterFault }
+        ensures write_failed { result ≡ Err Fault.Write
+            → K.failures sink.old < K.failures sink.new }
+    {
+        let TracePrinter {
+            trace,
+            mut printer,
+            mut held,
+            ..
+        } = self;
+        match trace.whole() {
+            Ok(report) => send_closing(&report, &mut printer, &mut held, sink),
+            Err(fault) => Err(fault),
+        }
+    }
+
+    /// The text has ended: writes what its last line becomes, with an LF if it lacks one, and what comes after all lines;
+    /// returns the last line of the report as numbers. It refuses by the first faulty line; for want of memory; where the
+    /// sink fails; and where a text is so large that the LF would stand behind the first 2^30 bytes.
+    pub fn end<K: Sink>(mut self, sink: &mut K) -> Result<Summary, Fault>
+        requires fed { (choice : AnyRows) × (text : List ℕ)
+            × WasFed (HasFollowed W.Watcher P.Printer choice) self text }
+        // A sink that has the print of the lines that ended has that of the text, and what comes after it.
+        ensures printed { (choice : AnyRows) (text : List ℕ) (before : Option (List ℕ))
+            → WasFed (HasFollowed W.Watcher P.Printer choice) self text
+            → HasPrinted (IsPrintOf (P.form choice) []) before (K.taken sink.old)
+            self.held.items (ended_lines text) → IfOk result
+            (IsPrinted (IsPrintOf (P.form choice) []) (P.closing choice) text before
+            (K.taken sink.new)) }
+        ensures refused { (choice : AnyRows) (text : List ℕ)
+            → WasFed (HasFollowed W.Watcher P.Printer choice) self text
+            → IfErr result (IsEndRefusal text) }
+        ensures taken { (choice : AnyRows) (text : List ℕ) (before : Option (List ℕ))
+            → WasFed (HasFollowed W.Watcher P.Printer choice) self text
+            → HasPrinted (IsPrintOf (P.form choice) []) before (K.taken sink.old)
+            self.held.items (ended_lines text) → result ≡ Err Fault.Write
+            → HasFirstPrintOf (IsPrintOf (P.form choice) []) (P.closing choice) text before
+            (K.taken sink.new) }
+        ensures not_written { IfErr result (λ fault. fault ≢ Fault.Write → sink.new ≡ sink.old) }
+        ensures kinds { IfErr result IsPrinterFault }
+        ensures write_failed { result ≡ Err Fault.Write
+            → K.failures sink.old < K.failures sink.new }
+    {
+        if self.begun.is_empty() {
+            return self.close(sink);
+        }
+        match self.take_line(b"\n") {
+            Ok(()) => self.close(sink),
+            Err(fault) => Err(fault),
+        }
+    }
+}
+
+impl<A: Allocator + Copy, W: Watcher<A>, P: Printer<A, W>, K: Sink> Consumer<K>
+    for TracePrinter<A, W, P> {
+    ghost was_fed = { λ first start now sink text. HasWritten (HasFollowed W.Watcher P.Printer (P.rows first.printer)) W.size (IsPrintOf (P.form (P.rows first.printer)) []) (K.taken start) (K.taken sink) (K.failures start) (K.failures sink) text now };
+
+    ghost refused = { λ first start now sink text last told. IsRefusedAfter (IsPrintOf (P.form (P.rows first.printer)) []) (K.taken start) (K.taken sink) (K.failures start) (K.failures sink) text last told };
+
+    ghost expects = { λ text. Unit {0} };
+
+    ghost size = { λ now. W.size now.trace };
+
+    fn feed(&mut self, chunk: &[u8], sink: &mut K) -> Result<(), Fault> {
+        TracePrinter::feed(self, chunk, sink)
+    }
+
+    ghost sound = { λ first start now sink text fed. fed.sound };
+
+    ghost sized = { λ first start now sink text fed. fed.sized };
+}
+
+/// Prints a trace that a source gives, each line as soon as its LF was read, and what comes after the last line; returns
+/// the last line of its report as numbers. It refuses by the first faulty line as soon as it is known, and has written
+/// what the lines before it become; where a device fails; for want of memory; and as `TracePrinter::end`.
+pub fn print_trace<A: Allocator + Copy, W: Watcher<A>, P: Printer<A, W>, S: Source, K: Sink>(
+    alloc: A,
+    trace: W,
+    printer: P,
+    source: &mut S,
+    sink: &mut K,
+) -> Result<Summary, Fault>
+    requires fresh { W.stands_for trace [] }
+    // The source gave a text without a fault, and the sink took the print of its lines and what comes after them.
+    ensures printed { IfOk result (HasPassed (IsPrinted (IsPrintOf (P.form (P.rows printer)) [])
+        (P.closing (P.rows printer))) (S.left source.old) (S.left source.new)
+        (S.before source.new) (K.taken sink.old) (K.taken sink.new)) }
+    // A refusal is by the bytes that were given, and those before the last call of the source show no faulty line; the
+    // sink has a first part of their print.
+    ensures stopped { IfErr result (StopsPrinting (IsPrintOf (P.form (P.rows printer)) [])
+        (HasFirstPrintOf (IsPrintOf (P.form (P.rows printer)) [])
+        (P.closing (P.rows printer))) (S.left source.old) (S.left source.new)
+        (S.before source.new) (K.taken sink.old) (K.taken sink.new) (K.failures sink.new
+        ≡ K.failures sink.old)) }
+    ensures kinds { IfErr result IsPrintingFault }
+    ensures read_failed { result ≡ Err Fault.Read → S.failures source.old < S.failures source.new }
+    ensures write_failed { result ≡ Err Fault.Write → K.failures sink.old < K.failures sink.new }
+    // The source is asked at least once.
+    ensures called { S.calls source.old < S.calls source.new }
+    ensures asked { S.calls source.new ≤ S.calls source.old + (2 ^ 30 + 1) }
+{
+    let mut printing = TracePrinter::new(alloc, trace, printer);
+    read_to_end(source, &mut printing, sink)?;
+    printing.end(sink)
+}
