@@ -2,7 +2,7 @@
 use Rattle.std.proofs.Common.{◌≡◌, false, true, refl, codes, [], ◌∷◌, Some, None}
 use Rattle.clap.proofs.OnLiterals.{clap_on_literals}
 use Rattle.clap.specs.declared.error.kind.ErrorKind.TheVariants.{ArgumentConflict, DisplayHelp, DisplayVersion, UnknownArgument, ValueValidation}
-use Rattle.command_line.specs.Options.{alone, annotates, as_json, asked_word, asked_workers, follows, named_trace, shows_progress, words_fault}
+use Rattle.command_line.specs.Options.{alone, annotates, as_json, asked_word, asked_workers, follows, named_trace, prints_rows, shows_progress, words_fault}
 
 no_arguments : words_fault (codes "x25scan" ∷ []) ≡ []
 unfolding clap_on_literals
@@ -147,3 +147,11 @@ not_annotated = refl
 channel_of_no_interface : words_fault (codes "x25scan" ∷ codes "--channel" ∷ codes "4096" ∷ []) ≡ ValueValidation ∷ []
 unfolding clap_on_literals
 channel_of_no_interface = refl
+
+rows_asked : prints_rows (codes "x25scan" ∷ codes "--rows" ∷ codes "--call" ∷ codes "7" ∷ []) ≡ true
+unfolding clap_on_literals
+rows_asked = refl
+
+no_rows_asked : prints_rows (codes "x25scan" ∷ codes "--annotate" ∷ []) ≡ false
+unfolding clap_on_literals
+no_rows_asked = refl

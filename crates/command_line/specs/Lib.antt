@@ -2,4 +2,4 @@ pub mod Options
 pub mod Pasted
 pub mod Explaining
 pub mod Program
-pub mod Annotating
+pub mod Printing

@@ -3,11 +3,12 @@
 #![tactic(auto)]
 
 pub mod annotated_scan;
-mod annotating;
 mod explaining;
 mod help;
 mod json;
 pub mod options;
 mod pasted;
+mod printing;
 pub mod program;
 mod refusing;
+pub mod rows_scan;

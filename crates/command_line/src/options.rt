@@ -2,7 +2,7 @@
 
 ghost use Rattle.std.specs.Prelude.{◌≡◌, ◌≤◌, IfOk, MatchOption, codes, false, map, option_map, true};
 ghost use Rattle.clap.specs.Words.{FailsBy, app_of, first_value, found_of, rule_of};
-ghost use Rattle.command_line.specs.Options.{AreAskedRows, AskFor, HasNumber, HasWorkers, alone, annotates, as_json, asked_word, asked_workers, call_rule, channel_rule, command, explain_rule, flag_rule, follows, is_given, named_by, named_trace, shows_progress, trace_rule, versioned, with_asking, with_scanning, with_telling, words_fault, workers_rule};
+ghost use Rattle.command_line.specs.Options.{AreAskedRows, AskFor, HasNumber, HasWorkers, alone, annotates, as_json, asked_word, asked_workers, call_rule, channel_rule, command, explain_rule, flag_rule, follows, has_comments, is_given, named_by, named_trace, prints_rows, shows_progress, trace_rule, versioned, with_asking, with_scanning, with_telling, words_fault, workers_rule};
 
 use crate::help::{ABOUT, AFTER_HELP, VERSION};
 use annotated_trace::rows::Rows;
@@ -11,6 +11,24 @@ use std::alloc::{AllocError, Global};
 
 /// How many workers there are where the words don't say it.
 const WORKERS: u8 = 4;
+
+/// How rows are printed in place of the report.
+#[derive(Clone, Copy)]
+pub enum Form {
+    /// The trace once more, with comments behind its rows.
+    Comments,
+    /// An object for each row, and then those of the report.
+    Objects,
+}
+
+/// Which rows are printed in place of the report, and how.
+#[derive(Clone, Copy)]
+pub struct Printing {
+    /// How they are printed.
+    pub form: Form,
+    /// Which rows.
+    pub rows: Rows,
+}
 
 /// What the words ask for.
 #[derive(Clone, Copy)]
@@ -25,6 +43,10 @@ pub struct Options<'a> {
     pub json: bool,
     /// The trace is asked for once more in place of its report, with comments behind these rows.
     pub annotate: Option<Rows>,
+    /// `--annotate` was given.
+    pub comments: bool,
+    /// An object is asked for of each row, or of those that are chosen, before the objects of the report.
+    pub rows: bool,
     /// It is asked for that the errors are told how far the reading is, also where they are no terminal.
     pub progress: bool,
     /// The word whose explanation is asked for in place of a scan; empty where the list of all words is.
@@ -82,7 +104,7 @@ fn channel<'a>(alloc: Global) -> Arg<'a>
     Arg::new(alloc, "channel")
         .long("channel")
         .value_name("N")
-        .help("As --annotate, with comments only on the rows of this logical channel")
+        .help("Only the rows of this logical channel: their objects with --rows, else the trace with comments on them")
         .action(ArgAction::Set)
         .value_parser(value_parser!(u16).range(1..=4095))
 }
@@ -95,7 +117,7 @@ fn call<'a>(alloc: Global) -> Arg<'a>
     Arg::new(alloc, "call")
         .long("call")
         .value_name("N")
-        .help("As --annotate, with comments only on the rows of this call of the report")
+        .help("Only the rows of this call of the report: their objects with --rows, else the trace with comments on them")
         .action(ArgAction::Set)
         .value_parser(value_parser!(u32).range(1..=999_999_999))
 }
@@ -139,6 +161,11 @@ fn with_telling<'a>(alloc: Global, command: Command<'a>) -> Result<Command<'a>, 
             alloc,
             "annotate",
             "Print the trace again, with comments that say what its rows are and did",
+        ))?
+        .arg(flag(
+            alloc,
+            "rows",
+            "Print a JSON object for each row, and then those of the report",
         ))?
         .arg(channel(alloc))?
         .arg(call(alloc))
@@ -263,6 +290,9 @@ fn options_in<'a>(matches: &ArgMatches<'a>) -> Options<'a>
     ensures annotate { AskFor (first_value (found_of matches.now) (codes "annotate"))
         (first_value (found_of matches.now) (codes "channel"))
         (first_value (found_of matches.now) (codes "call")) result.annotate }
+    ensures comments { result.comments ≡ is_given
+        (first_value (found_of matches.now) (codes "annotate")) }
+    ensures rows { result.rows ≡ is_given (first_value (found_of matches.now) (codes "rows")) }
     ensures explain { option_map (λ word. word.now) result.explain
         ≡ first_value (found_of matches.now) (codes "explain") }
     ensures trace { option_map (λ name. name.now) result.trace
@@ -272,12 +302,16 @@ fn options_in<'a>(matches: &ArgMatches<'a>) -> Options<'a>
     let follow = is_given(matches, "follow");
     let json = is_given(matches, "json");
     let progress = is_given(matches, "progress");
+    let comments = is_given(matches, "annotate");
+    let rows = is_given(matches, "rows");
     Options {
         workers: workers_in(matches),
         alone,
         follow,
         json,
         annotate: rows_in(matches),
+        comments,
+        rows,
         progress,
         explain: matches.get_str("explain"),
         trace: trace_in(matches),
@@ -300,6 +334,10 @@ pub fn parse<'a>(alloc: Global, words: &'a [&'a str]) -> Result<Options<'a>, Err
     ensures annotate { let asked = map (λ word. word.now) words.entry.now in
         IfOk result (λ options. MatchOption options.annotate (annotates asked ≡ false)
         (λ rows. (annotates asked ≡ true) × AreAskedRows asked rows)) }
+    ensures comments { IfOk result (λ options. options.comments
+        ≡ has_comments (map (λ word. word.now) words.entry.now)) }
+    ensures rows { IfOk result (λ options. options.rows
+        ≡ prints_rows (map (λ word. word.now) words.entry.now)) }
     ensures explain { IfOk result (λ options. option_map (λ word. word.now) options.explain
         ≡ asked_word (map (λ word. word.now) words.entry.now)) }
     ensures trace { IfOk result (λ options. option_map (λ name. name.now) options.trace

@@ -2,17 +2,18 @@
 
 ghost use Rattle.std.specs.Prelude.{◌≡◌, ◌≢◌, ℕ, ◌<◌, ◌≤◌, ◌+◌, ◌^◌, ◌⊎◌, IfSome, List, [], None, Some, false, map, option_map, true};
 ghost use Rattle.clap.specs.Words.{kind_of};
-ghost use Rattle.command_line.specs.Options.{AreAskedRows, annotates, as_json, asked_word, follows, named_trace, words_fault};
+ghost use Rattle.command_line.specs.Options.{AreAskedRows, annotates, as_json, asked_word, follows, has_comments, named_trace, prints_rows, words_fault};
 ghost use Rattle.command_line.specs.Explaining.{IsAnswered};
-ghost use Rattle.annotated_trace.specs.declared.rows.Rows.{Rows};
-ghost use Rattle.command_line.specs.Annotating.{IsAnnotateAnswer};
+ghost use Rattle.annotated_trace.specs.declared.rows.Rows.{Rows as AnyRows};
+ghost use Rattle.command_line.specs.Printing.{IsAnnotateAnswer, IsPrintAnswer, IsRowsAnswer, is_refused, printing_of};
 ghost use Rattle.command_line.specs.Program.{IsFollowStatus, IsStatus, IsUnread, IsWordsStatus, TellsOf, fault_status, summary_status, trace_of, words_status};
 
-use crate::annotating::annotate_trace;
 use crate::explaining::explain_word;
 use crate::json::scan_json;
-use crate::options::{Options, parse};
+use crate::options::{Form, Options, Printing, parse};
+use crate::printing::print_trace;
 use crate::refusing::{refuse, refuse_scan, refuse_trace};
+use annotated_trace::rows::Rows;
 use clap::Error;
 use clap::error::ErrorKind;
 use line_model::device::Sink;
@@ -251,6 +252,28 @@ fn scan_trace<S: Input, K: Output, E: Sink, R: Threads + Wait + Clock + Sync>(
     }
 }
 
+/// Which rows the options ask for in place of the report, and how, if they do: with `--rows` their objects, of all where
+/// none are chosen.
+fn printing(options: &Options<'_>) -> Option<Printing>
+    ensures { result ≡ printing_of options.now.rows options.now.annotate }
+{
+    match (options.rows, options.annotate) {
+        (true, Some(rows)) => Some(Printing {
+            form: Form::Objects,
+            rows,
+        }),
+        (true, None) => Some(Printing {
+            form: Form::Objects,
+            rows: Rows::All,
+        }),
+        (false, Some(rows)) => Some(Printing {
+            form: Form::Comments,
+            rows,
+        }),
+        (false, None) => None,
+    }
+}
+
 /// Explains a word, or scans the trace, as the options ask, and answers the exit status.
 fn run<S: Input, K: Output, E: Sink, R: Threads + Wait + Clock + Sync>(
     rt: &R,
@@ -263,15 +286,16 @@ fn run<S: Input, K: Output, E: Sink, R: Threads + Wait + Clock + Sync>(
     ensures told { let name = option_map (λ name. name.now) options.entry.trace in
         let trace = trace_of name (S.left source.old) (S.named source.old) in
         option_map (λ word. word.now) options.entry.explain ≡ None
-        → options.entry.annotate ≡ None
+        → printing_of options.entry.rows options.entry.annotate ≡ None
         → IsUnread source.old source.new sink.old sink.new result
         ⊎ TellsOf options.entry.json options.entry.follow trace (S.left source.new) (S.before source.new)
         (K.taken sink.old) (K.taken sink.new) (K.failures sink.new ≡ K.failures sink.old) result }
-    ensures annotated { let name = option_map (λ name. name.now) options.entry.trace in
+    ensures printed { let name = option_map (λ name. name.now) options.entry.trace in
         let trace = trace_of name (S.left source.old) (S.named source.old) in
         option_map (λ word. word.now) options.entry.explain ≡ None
-        → IfSome options.entry.annotate (λ rows.
-        IsAnnotateAnswer options.entry.json rows source.old source.new sink.old sink.new trace
+        → IfSome (printing_of options.entry.rows options.entry.annotate) (λ printing.
+        IsPrintAnswer (is_refused printing.form options.entry.json options.entry.comments)
+        printing source.old source.new sink.old sink.new trace
         (S.left source.new) (S.before source.new) (K.taken sink.old) (K.taken sink.new)
         (K.failures sink.new ≡ K.failures sink.old) result) }
     ensures explained { IfSome (option_map (λ word. word.now) options.entry.explain) (λ word.
@@ -282,8 +306,8 @@ fn run<S: Input, K: Output, E: Sink, R: Threads + Wait + Clock + Sync>(
 {
     match options.explain {
         Some(word) => explain_word(alloc, word, sink, errors),
-        None => match options.annotate {
-            Some(rows) => annotate_trace(alloc, options, rows, source, sink, errors),
+        None => match printing(&options) {
+            Some(printing) => print_trace(alloc, options, printing, source, sink, errors),
             None => scan_trace(rt, alloc, options, source, sink, errors),
         },
     }
@@ -332,12 +356,12 @@ pub fn program<S: Input, K: Output, E: Sink, R: Threads + Wait + Clock + Sync>(
     sink: &mut K,
     errors: &mut E,
 ) -> u8
-    // Where the words are right and ask for no explanation and no annotation, the status and the bytes are those of a scan of the trace that
+    // Where the words are right and ask for no explanation and no rows, the status and the bytes are those of a scan of the trace that
     // is named, or of standard input: a scan that follows it where they ask so, and the objects of the report's lines
     // where they ask for JSON. Or it could not be opened, or memory ran out, and nothing was read.
     ensures told { let asked = map (λ word. word.now) words.now in
         let trace = trace_of (named_trace asked) (S.left source.old) (S.named source.old) in
-        words_fault asked ≡ [] → asked_word asked ≡ None → annotates asked ≡ false
+        words_fault asked ≡ [] → asked_word asked ≡ None → annotates asked ≡ false → prints_rows asked ≡ false
         → IsUnread source.old source.new sink.old sink.new result
         ⊎ TellsOf (as_json asked) (follows asked) trace (S.left source.new) (S.before source.new)
         (K.taken sink.old) (K.taken sink.new) (K.failures sink.new ≡ K.failures sink.old) result }
@@ -345,10 +369,20 @@ pub fn program<S: Input, K: Output, E: Sink, R: Threads + Wait + Clock + Sync>(
     // or it was refused. Where they ask for JSON with it, they are refused.
     ensures annotated { let asked = map (λ word. word.now) words.now in
         let trace = trace_of (named_trace asked) (S.left source.old) (S.named source.old) in
-        words_fault asked ≡ [] → asked_word asked ≡ None → annotates asked ≡ true
+        words_fault asked ≡ [] → asked_word asked ≡ None → annotates asked ≡ true → prints_rows asked ≡ false
         → IsUnread source.old source.new sink.old sink.new result
-        ⊎ ((rows : Rows) × AreAskedRows asked rows
+        ⊎ ((rows : AnyRows) × AreAskedRows asked rows
         × IsAnnotateAnswer (as_json asked) rows source.old source.new sink.old sink.new trace
+        (S.left source.new) (S.before source.new) (K.taken sink.old) (K.taken sink.new)
+        (K.failures sink.new ≡ K.failures sink.old) result) }
+    // Where they ask for the rows as objects, of each row or of exactly those that they choose, the sink took these and
+    // those of the report, or the trace was refused. Where they ask for an annotation with it, they are refused.
+    ensures rows { let asked = map (λ word. word.now) words.now in
+        let trace = trace_of (named_trace asked) (S.left source.old) (S.named source.old) in
+        words_fault asked ≡ [] → asked_word asked ≡ None → prints_rows asked ≡ true
+        → IsUnread source.old source.new sink.old sink.new result
+        ⊎ ((rows : AnyRows) × AreAskedRows asked rows
+        × IsRowsAnswer (has_comments asked) rows source.old source.new sink.old sink.new trace
         (S.left source.new) (S.before source.new) (K.taken sink.old) (K.taken sink.new)
         (K.failures sink.new ≡ K.failures sink.old) result) }
     // Where they ask for the explanation of a word or a line the source is not asked, and the table answers.

@@ -57,6 +57,12 @@ returns-in-Ok-clause-annotate c =
     (subst (λ named. AskFor (first_value found (codes "annotate")) named call c.options_in.result.annotate) (value_of c (codes "channel"))
     (subst (λ named. AskFor (first_value found (codes "annotate")) (first_value found (codes "channel")) named c.options_in.result.annotate) (value_of c (codes "call")) c.options_in.ensures.annotate))
 
+pub returns-in-Ok-clause-comments : goal.returns-in-Ok-clause-comments
+returns-in-Ok-clause-comments c = c.options_in.ensures.comments ∙ ap is_given (value_of c (codes "annotate"))
+
+pub returns-in-Ok-clause-rows : goal.returns-in-Ok-clause-rows
+returns-in-Ok-clause-rows c = c.options_in.ensures.rows ∙ ap is_given (value_of c (codes "rows"))
+
 pub returns-in-Ok-clause-explain : goal.returns-in-Ok-clause-explain
 returns-in-Ok-clause-explain c = c.options_in.ensures.explain ∙ value_of c (codes "explain")
 

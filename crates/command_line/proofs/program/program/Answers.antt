@@ -1,9 +1,13 @@
-use Rattle.std.proofs.Common.{◌≡◌, ◌∙◌, sym, refl, option_map, Bool, true, false, true≢false, ℕ, List, Option, Some, None, IfSome, inr, map, subst, ◌⊎◌}
+use Rattle.std.proofs.Common.{◌≡◌, ◌∙◌, sym, refl, option_map, Bool, true, false, true≢false, ℕ, List, Option, Some, None, IfSome, inr, map, subst, codes, ◌⊎◌}
 use Rattle.std.specs.Prelude.{MatchOption}
 use Rattle.annotated_trace.specs.declared.rows.Rows.{Rows}
-use Rattle.command_line.specs.Annotating.{IsAnnotateAnswer}
+use Rattle.annotated_trace.specs.declared.rows.Rows.TheVariants.{All}
+use Rattle.clap.specs.Words.{first_of, matches_of}
 use Rattle.command_line.specs.Explaining.{IsAnswered}
-use Rattle.command_line.specs.Options.{AreAskedRows, annotates, follows, named_trace}
+use Rattle.command_line.specs.Options.{AreAskedRows, AreRowsBy, annotates, annotates_by, command, follows, named_trace}
+use Rattle.command_line.specs.Printing.{IsPrintAnswer, is_refused, printing_of}
+use Rattle.command_line.specs.declared.options.Form.TheVariants.{Comments, Objects}
+use Rattle.command_line.specs.declared.options.Printing.{Printing}
 use Rattle.command_line.specs.Program.{IsTold, IsUnread, trace_of}
 use Rattle.command_line.proofs.program.program.Given.{Over}
 use Rattle.command_line.proofs.program.program.Goals as goal
@@ -20,37 +24,69 @@ Tells g c json followed name =
 AsksFor : (words : List (List ℕ)) → Option Rows → Type 0
 AsksFor words asked = MatchOption asked (annotates words ≡ false) (λ rows. (annotates words ≡ true) × AreAskedRows words rows)
 
-none_asked : (words : List (List ℕ)) (asked : Option Rows) → AsksFor words asked → annotates words ≡ false → asked ≡ None
+-- no rows are printed
+none_printed : (words : List (List ℕ)) (objects : Bool) (asked : Option Rows) → AsksFor words asked → annotates words ≡ false → objects ≡ false → printing_of objects asked ≡ None
 unfolding AsksFor
-none_asked words None h unasked = refl
-none_asked words (Some rows) h unasked = absurd (true≢false (sym h.0 ∙ unasked))
+none_printed words false None h unasked plain = refl
+none_printed words false (Some rows) h unasked plain = absurd (true≢false (sym h.0 ∙ unasked))
+none_printed words true asked h unasked plain = absurd (true≢false plain)
 
-rows_asked : (words : List (List ℕ)) (asked : Option Rows) (P : Rows → Type 0) → AsksFor words asked → annotates words ≡ true → IfSome asked P → (rows : Rows) × AreAskedRows words rows × P rows
+-- they are printed with comments
+with_comments : (words : List (List ℕ)) (objects : Bool) (asked : Option Rows) (P : Printing → Type 0) → AsksFor words asked → annotates words ≡ true → objects ≡ false → IfSome (printing_of objects asked) P
+    → (rows : Rows) × AreAskedRows words rows × P (record { form = Comments; rows = rows })
 unfolding AsksFor
-rows_asked words None P h asked p = absurd (true≢false (sym asked ∙ h))
-rows_asked words (Some rows) P h asked p = (rows, h.1, p)
+with_comments words false None P h asked plain p = absurd (true≢false (sym asked ∙ h))
+with_comments words false (Some rows) P h asked plain p = (rows, h.1, p)
+with_comments words true rows P h asked plain p = absurd (true≢false plain)
+
+-- no rows are named where none are asked for
+none_named : (flag channel call : Option (List ℕ)) → annotates_by flag channel call ≡ false → AreRowsBy channel call All
+none_named flag None None h = (refl, refl)
+none_named flag None (Some call) h = absurd (true≢false h)
+none_named flag (Some channel) call h = absurd (true≢false h)
+
+-- they are printed as objects
+as_objects : (words : List (List ℕ)) (objects : Bool) (asked : Option Rows) (P : Printing → Type 0) → AsksFor words asked → objects ≡ true → IfSome (printing_of objects asked) P
+    → (rows : Rows) × AreAskedRows words rows × P (record { form = Objects; rows = rows })
+unfolding AsksFor
+as_objects words true None P h told p =
+    (All, none_named (first_of (codes "annotate") (matches_of command words)) (first_of (codes "channel") (matches_of command words)) (first_of (codes "call") (matches_of command words)) h, p)
+as_objects words true (Some rows) P h told p = (rows, h.1, p)
+as_objects words false asked P h told p = absurd (true≢false (sym told))
 
 pub returns-in-Ok-clause-told : goal.returns-in-Ok-clause-told
 unfolding Tells AsksFor
-returns-in-Ok-clause-told g c right unasked unannotated =
+returns-in-Ok-clause-told g c right unasked unannotated plain =
     let words : List (List ℕ) = map (λ word. word.now) c.args.words.now in
+    let none = none_printed words c.in-Ok.options.rows c.in-Ok.options.annotate c.in-Ok.ensures.annotate unannotated (c.in-Ok.ensures.rows ∙ plain) in
     subst (λ json. Tells g c json (follows words) (named_trace words)) c.in-Ok.ensures.json
     (subst (λ followed. Tells g c c.in-Ok.options.json followed (named_trace words)) c.in-Ok.ensures.follow
-    (subst (λ name. Tells g c c.in-Ok.options.json c.in-Ok.options.follow name) c.in-Ok.ensures.trace (c.run.ensures.told (c.in-Ok.ensures.explain ∙ unasked) (none_asked words c.in-Ok.options.annotate c.in-Ok.ensures.annotate unannotated))))
+    (subst (λ name. Tells g c c.in-Ok.options.json c.in-Ok.options.follow name) c.in-Ok.ensures.trace (c.run.ensures.told (c.in-Ok.ensures.explain ∙ unasked) none)))
 
--- what is answered where an annotation of a trace of this name is asked for
-Annotates : (g : Over) → (c : goal.After-run g) → (json : Bool) → (name : Option (List ℕ)) → Rows → Type 0
-Annotates g c json name rows =
-    IsAnnotateAnswer json rows c.args.source.now c.run.new.source c.args.sink.now c.run.new.sink
+-- what is answered where rows of a trace of this name are printed
+Prints : (g : Over) → (c : goal.After-run g) → (refused : Bool) → (name : Option (List ℕ)) → Printing → Type 0
+Prints g c refused name printing =
+    IsPrintAnswer refused printing c.args.source.now c.run.new.source c.args.sink.now c.run.new.sink
     (trace_of name (g.S.Source.left c.args.source.now) (g.S.Input.named c.args.source.now)) (g.S.Source.left c.run.new.source) (g.S.Source.before c.run.new.source)
     (g.K.Sink.taken c.args.sink.now) (g.K.Sink.taken c.run.new.sink) (g.K.Sink.failures c.run.new.sink ≡ g.K.Sink.failures c.args.sink.now) c.run.result
 
 pub returns-in-Ok-clause-annotated : goal.returns-in-Ok-clause-annotated
-unfolding Annotates AsksFor
-returns-in-Ok-clause-annotated g c right unasked asked =
+unfolding Prints AsksFor
+returns-in-Ok-clause-annotated g c right unasked asked plain =
     let words : List (List ℕ) = map (λ word. word.now) c.args.words.now in
-    let of = rows_asked words c.in-Ok.options.annotate (λ rows. Annotates g c c.in-Ok.options.json (option_map (λ name. name.now) c.in-Ok.options.trace) rows) c.in-Ok.ensures.annotate asked (c.run.ensures.annotated (c.in-Ok.ensures.explain ∙ unasked)) in
-    inr (of.0, of.1, subst (λ json. Annotates g c json (named_trace words) of.0) c.in-Ok.ensures.json (subst (λ name. Annotates g c c.in-Ok.options.json name of.0) c.in-Ok.ensures.trace of.2))
+    let name : Option (List ℕ) = option_map (λ name. name.now) c.in-Ok.options.trace in
+    let of = with_comments words c.in-Ok.options.rows c.in-Ok.options.annotate (λ printing. Prints g c (is_refused printing.form c.in-Ok.options.json c.in-Ok.options.comments) name printing) c.in-Ok.ensures.annotate asked (c.in-Ok.ensures.rows ∙ plain) (c.run.ensures.printed (c.in-Ok.ensures.explain ∙ unasked)) in
+    let printing : Printing = record { form = Comments; rows = of.0 } in
+    inr (of.0, of.1, subst (λ json. Prints g c json (named_trace words) printing) c.in-Ok.ensures.json (subst (λ named. Prints g c c.in-Ok.options.json named printing) c.in-Ok.ensures.trace of.2))
+
+pub returns-in-Ok-clause-rows : goal.returns-in-Ok-clause-rows
+unfolding Prints AsksFor
+returns-in-Ok-clause-rows g c right unasked asked =
+    let words : List (List ℕ) = map (λ word. word.now) c.args.words.now in
+    let name : Option (List ℕ) = option_map (λ name. name.now) c.in-Ok.options.trace in
+    let of = as_objects words c.in-Ok.options.rows c.in-Ok.options.annotate (λ printing. Prints g c (is_refused printing.form c.in-Ok.options.json c.in-Ok.options.comments) name printing) c.in-Ok.ensures.annotate (c.in-Ok.ensures.rows ∙ asked) (c.run.ensures.printed (c.in-Ok.ensures.explain ∙ unasked)) in
+    let printing : Printing = record { form = Objects; rows = of.0 } in
+    inr (of.0, of.1, subst (λ comments. Prints g c comments (named_trace words) printing) c.in-Ok.ensures.comments (subst (λ named. Prints g c c.in-Ok.options.comments named printing) c.in-Ok.ensures.trace of.2))
 
 pub returns-in-Ok-clause-explained : goal.returns-in-Ok-clause-explained
 returns-in-Ok-clause-explained g c word right asks =

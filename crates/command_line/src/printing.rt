@@ -1,16 +1,18 @@
-//! The trace once more, with comments behind its rows.
+//! The rows of the trace in place of its report: the trace once more with comments, or an object for each row.
 
-ghost use Rattle.std.specs.Prelude.{◌≡◌, ◌<◌, ◌≤◌, ◌+◌, ◌^◌, ◌⊎◌, map, option_map};
-ghost use Rattle.command_line.specs.Annotating.{IsAnnotateAnswer, IsAnnotateStatus};
+ghost use Rattle.std.specs.Prelude.{◌≡◌, ◌<◌, ◌≤◌, ◌+◌, ◌^◌, ◌⊎◌, IfErr, IfOk, map, option_map};
+ghost use Rattle.command_line.specs.Printing.{IsPrintAnswer, IsPrintStatus, Prints, StopsBy, is_refused};
 ghost use Rattle.command_line.specs.Program.{IsUnread, trace_of};
 
 use crate::annotated_scan::annotate;
-use crate::options::Options;
+use crate::options::{Form, Options, Printing};
 use crate::program::{USAGE, summary_status};
 use crate::refusing::{refuse_scan, refuse_trace};
+use crate::rows_scan::print_rows;
 use annotated_trace::rows::Rows;
 use explanations::advice::channels::last_channel;
-use line_model::device::Sink;
+use line_model::device::{Sink, Source};
+use line_model::fault::Fault;
 use line_model::totals::Summary;
 use line_model::write_buffer::write_all;
 use std::alloc::Global;
@@ -64,54 +66,73 @@ fn print_missing<S: Input, E: Sink>(
     }
 }
 
-/// Annotates the trace, and answers the exit status.
-fn run_annotate<S: Input, K: Output, E: Sink>(
+/// Prints the trace in a form, as `annotate` and `print_rows` do.
+fn print<S: Source, K: Sink>(
     alloc: Global,
-    rows: Rows,
+    printing: Printing,
+    source: &mut S,
+    sink: &mut K,
+) -> Result<Summary, Fault>
+    ensures printed { IfOk result (Prints printing (S.left source.old)
+        (S.left source.new) (S.before source.new) (K.taken sink.old) (K.taken sink.new)) }
+    ensures stopped { IfErr result (StopsBy printing (S.left source.old) (S.left source.new) (S.before source.new)
+        (K.taken sink.old) (K.taken sink.new) (K.failures sink.new ≡ K.failures sink.old)) }
+    ensures asked { S.calls source.new ≤ S.calls source.old + (2 ^ 30 + 1) }
+{
+    match printing.form {
+        Form::Comments => annotate(alloc, printing.rows, source, sink),
+        Form::Objects => print_rows(alloc, printing.rows, source, sink),
+    }
+}
+
+/// Prints the trace, and answers the exit status.
+fn run_print<S: Input, K: Output, E: Sink>(
+    alloc: Global,
+    printing: Printing,
     source: &mut S,
     sink: &mut K,
     errors: &mut E,
 ) -> u8
-    ensures status { IsAnnotateStatus rows (S.left source.old) (S.left source.new) (S.before source.new)
+    ensures status { IsPrintStatus printing (S.left source.old) (S.left source.new) (S.before source.new)
         (K.taken sink.old) (K.taken sink.new) (K.failures sink.new ≡ K.failures sink.old) result }
     ensures range { result < 4 }
     ensures asked { S.calls source.new ≤ S.calls source.old + (2 ^ 30 + 1) }
 {
-    match annotate(alloc, rows, source, sink) {
+    match print(alloc, printing, source, sink) {
         Ok(summary) => {
-            print_missing(alloc, rows, source, &summary, errors);
+            print_missing(alloc, printing.rows, source, &summary, errors);
             summary_status(&summary)
         }
         Err(fault) => refuse_scan(alloc, source, sink, errors, fault),
     }
 }
 
-/// Annotates the trace of a name, and answers the exit status.
-fn annotate_named<S: Input, K: Output, E: Sink>(
+/// Prints the trace of a name, and answers the exit status.
+fn print_named<S: Input, K: Output, E: Sink>(
     alloc: Global,
-    rows: Rows,
+    printing: Printing,
     name: &str,
     source: &mut S,
     sink: &mut K,
     errors: &mut E,
 ) -> u8
     ensures status { IsUnread source.old source.new sink.old sink.new result
-        ⊎ IsAnnotateStatus rows (S.named source.old name.now) (S.left source.new) (S.before source.new)
+        ⊎ IsPrintStatus printing (S.named source.old name.now) (S.left source.new) (S.before source.new)
         (K.taken sink.old) (K.taken sink.new) (K.failures sink.new ≡ K.failures sink.old) result }
     ensures range { result < 4 }
     ensures asked { S.calls source.new ≤ S.calls source.old + (2 ^ 30 + 1) }
 {
     match source.open(name) {
-        Ok(()) => run_annotate(alloc, rows, source, sink, errors),
+        Ok(()) => run_print(alloc, printing, source, sink, errors),
         Err(fault) => refuse_trace(alloc, errors, name, fault),
     }
 }
 
-/// Annotates standard input, or the trace that is named, and answers the exit status.
-fn annotate_input<S: Input, K: Output, E: Sink>(
+/// Prints standard input, or the trace that is named, and answers the exit status.
+fn print_input<S: Input, K: Output, E: Sink>(
     alloc: Global,
     options: Options<'_>,
-    rows: Rows,
+    printing: Printing,
     source: &mut S,
     sink: &mut K,
     errors: &mut E,
@@ -119,48 +140,63 @@ fn annotate_input<S: Input, K: Output, E: Sink>(
     ensures status { let name = option_map (λ name. name.now) options.entry.trace in
         let trace = trace_of name (S.left source.old) (S.named source.old) in
         IsUnread source.old source.new sink.old sink.new result
-        ⊎ IsAnnotateStatus rows trace (S.left source.new) (S.before source.new)
+        ⊎ IsPrintStatus printing trace (S.left source.new) (S.before source.new)
         (K.taken sink.old) (K.taken sink.new) (K.failures sink.new ≡ K.failures sink.old) result }
     ensures range { result < 4 }
     ensures asked { S.calls source.new ≤ S.calls source.old + (2 ^ 30 + 1) }
 {
     match options.trace {
-        Some(name) => annotate_named(alloc, rows, name, source, sink, errors),
-        None => run_annotate(alloc, rows, source, sink, errors),
+        Some(name) => print_named(alloc, printing, name, source, sink, errors),
+        None => run_print(alloc, printing, source, sink, errors),
     }
 }
 
-/// Tells that a trace is asked for which is no JSON, as far as it can be told.
-fn refuse_json<E: Sink>(errors: &mut E) -> u8
+/// Prints that a form was asked for with what it can't be printed with.
+fn refuse_form<E: Sink>(errors: &mut E, form: Form) -> u8
     ensures { result ≡ 64 }
 {
-    let _ = write_all(
-        errors,
-        b"error: --json tells a report, and --annotate, --channel and --call write a trace in its place\n",
-    );
+    let text: &[u8] = match form {
+        Form::Comments =>
+            b"error: --json tells a report, and --annotate, --channel and --call write a trace in its place\n",
+        Form::Objects =>
+            b"error: --annotate prints the trace again, and --rows an object for each row: name one of them\n",
+    };
+    let _ = write_all(errors, text);
     USAGE
 }
 
-/// Annotates standard input, or the trace that is named, and answers the exit status. JSON can't be asked for with it.
-pub(crate) fn annotate_trace<S: Input, K: Output, E: Sink>(
+/// Prints standard input, or the trace that is named, in a form, and answers the exit status; refuses where it can't be
+/// printed with what else is asked for.
+pub(crate) fn print_trace<S: Input, K: Output, E: Sink>(
     alloc: Global,
     options: Options<'_>,
-    rows: Rows,
+    printing: Printing,
     source: &mut S,
     sink: &mut K,
     errors: &mut E,
 ) -> u8
     ensures answer { let name = option_map (λ name. name.now) options.entry.trace in
         let trace = trace_of name (S.left source.old) (S.named source.old) in
-        IsAnnotateAnswer options.entry.json rows source.old source.new sink.old sink.new
+        IsPrintAnswer (is_refused printing.form options.entry.json options.entry.comments)
+        printing source.old source.new sink.old sink.new
         trace (S.left source.new) (S.before source.new) (K.taken sink.old) (K.taken sink.new)
         (K.failures sink.new ≡ K.failures sink.old) result }
     ensures unwritten { result ≡ 64 → sink.new ≡ sink.old }
     ensures asked { S.calls source.new ≤ S.calls source.old + (2 ^ 30 + 1) }
 {
-    if options.json {
-        refuse_json(errors)
+    if is_refused(printing.form, options.json, options.comments) {
+        refuse_form(errors, printing.form)
     } else {
-        annotate_input(alloc, options, rows, source, sink, errors)
+        print_input(alloc, options, printing, source, sink, errors)
+    }
+}
+
+/// Whether a form can't be printed with what else is asked for: JSON with comments, or comments with objects.
+fn is_refused(form: Form, json: bool, comments: bool) -> bool
+    ensures { result ≡ is_refused form json comments }
+{
+    match form {
+        Form::Comments => json,
+        Form::Objects => comments,
     }
 }
