@@ -81,6 +81,8 @@ open_is_ready i rs c k s some = at (is_ready (observer i rs).line) refl
 
 -- what a turn makes known of a row
 pub record Judged {B : Type 0} (turn : Turn) (item : Item) (walk : EpochWalk B) (machine : LineState) (rows rows_after : OpenRows) (last : LastRow) (events : List Event) : Type 0 where
+  pub number : last.number ≡ item.row.number
+  pub side : last.side ≡ item.row.side
   pub packet : last.packet ≡ item.packet
   pub channel : last.channel ≡ channel_in turn
   pub before : KnowsBy turn walk walk.machine rows last.before
@@ -115,6 +117,8 @@ last_known {B} i rs c a item step v l last events s grown taken packet is same_i
 
     on_line : (q : Route) → (routed_at c.line item).route ≡ q → is_to_channel q ≡ false → l.channel ≡ None → IsState v.machine.state l.before → IsState step.machine.state l.after → IsLastRow i rs r l events
     on_line q e to none before after = record {
+      number = judged.number;
+      side = judged.side;
       packet = packet_is;
       channel = none ∙ sym (routed_none i (observer i rs).line r (routes q e ∙ to));
       before = subst (λ n. IsKnown i n (observer i rs) l.before) (sym none) (subst (λ x. IsState x l.before) (ap (λ m. m.state) (same_machine ∙ s.line)) before);
@@ -132,6 +136,8 @@ last_known {B} i rs c a item step v l last events s grown taken packet is same_i
         j.came ∙ (λ t. row_events (same_interface t) (same_epoch t) k (channel_so_far (begun_piece (same_interface t) (same_epoch t) k (rows_of c.open_rows k))) r)
         ∙ sym (events_on i rs c r s (ap (λ x. is_to_channel (routing i x r).route) s.line ∙ there)) in
         record {
+          number = j.number;
+          side = j.side;
           packet = packet_is;
           channel = j.channel ∙ sym (routed_to i (observer i rs).line r there);
           before = subst (λ n. IsKnown i n (observer i rs) l.before) (sym j.channel) (seen_at i rs c v k l.before s on.ready same_interface same_epoch j.before);

@@ -32,9 +32,11 @@ abbrev pub IsKnown : Interface → Option ℕ → Observer LineState Channel →
 IsKnown i None o known = IsState o.line.state known
 IsKnown i (Some k) o known = IsSeen i (o.states k) known
 
--- a row after others, as it was judged: its packet, the logical channel that took it, what was known before and after it
+-- a row after others, as it was judged: its number, its side and its packet, the logical channel that took it, what was known before and after it
 -- by the machine that judged it, what it found, and the events on the channel
 pub record IsLastRow (i : Interface) (earlier : List Row) (r : Row) (last : LastRow) (events : List Event) : Type 0 where
+  pub number : last.number ≡ r.number
+  pub side : last.side ≡ r.side
   pub packet : last.packet ≡ packet_of i r.octets
   pub channel : last.channel ≡ routed (x25 i) (observer i earlier).line r
   pub before : IsKnown i last.channel (observer i earlier) last.before

@@ -58,6 +58,8 @@ pub fn step_channel<A: Allocator + Copy, C: Channel<A>>(
         → HasMore channel item.now rows after
         → IsPiece walk.now.interface channel (rows_of after channel)
         → OnOk result (LanesStandFor C.Channel walk.now.interface walk.now.epoch after lanes.new)) }
+    ensures number { IfOk result (λ last. last.number ≡ item.now.row.number) }
+    ensures side { IfOk result (λ last. last.side ≡ item.now.row.side) }
     ensures packet { IfOk result (λ last. last.packet ≡ item.now.packet) }
     ensures channel { IfOk result (λ last. last.channel ≡ Some channel) }
     ensures before { OfLanes C.Channel walk.now lanes.old (λ rows.
@@ -80,6 +82,8 @@ pub fn step_channel<A: Allocator + Copy, C: Channel<A>>(
     let after = live.view();
     lanes.put(channel, live);
     Ok(LastRow {
+        number: item.number,
+        side: item.side,
         packet: item.packet,
         channel: Some(channel),
         before: Known::Channel(before),

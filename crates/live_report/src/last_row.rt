@@ -3,7 +3,7 @@
 use channel_run::run::View;
 use line_model::finding::Finding;
 use line_model::packet::Packet;
-use line_model::state::RState;
+use line_model::state::{RState, Side};
 
 /// What the machine that judged a row knew at one moment.
 #[derive(Clone, Copy)]
@@ -17,6 +17,10 @@ pub enum Known {
 /// A row, as it was judged.
 #[derive(Clone, Copy)]
 pub struct LastRow {
+    /// Its number.
+    pub number: u32,
+    /// The side that sent it.
+    pub side: Side,
     /// Its packet.
     pub packet: Packet,
     /// The logical channel that took it; none where the restart machine judged it.

@@ -27,7 +27,6 @@ use line_model::fault::Fault;
 use line_model::finding::Finding;
 use line_model::interface::Interface;
 use line_model::items::ItemRef;
-use line_model::packet::Packet;
 use line_model::report::Report;
 use line_model::row::Row;
 use line_model::state::RState;
@@ -52,9 +51,11 @@ pub struct Observer<A: Allocator, C: Channel<A>> {
 }
 
 /// A row of a packet that no channel takes, which the restart machine judged in a state.
-fn judged_on_line(packet: Packet, before: RState, step: &Step) -> LastRow
+fn judged_on_line(item: &ItemRef<'_>, before: RState, step: &Step) -> LastRow
     ensures { result ≡ record {
-      packet = packet;
+      number = item.now.row.number;
+      side = item.now.row.side;
+      packet = item.now.packet;
       channel = None;
       before = Known.Restart before;
       after = Known.Restart step.now.machine.state;
@@ -62,7 +63,9 @@ fn judged_on_line(packet: Packet, before: RState, step: &Step) -> LastRow
     } }
 {
     LastRow {
-        packet,
+        number: item.number,
+        side: item.side,
+        packet: item.packet,
         channel: None,
         before: Known::Restart(before),
         after: Known::Restart(step.machine.state()),
@@ -100,6 +103,8 @@ impl<A: Allocator + Copy, C: Channel<A>> Observer<A, C> {
             → self.old.ended ≡ gathered reports
             → OnOk result (self.new.ended ≡ gathered (reports ++ map value (ended_by step.now.turn
             self.old.walk.interface self.old.walk.epoch item.now.row.number (length reports) rows)))) }
+        ensures number { IfOk result (λ last. last.number ≡ item.now.row.number) }
+        ensures side { IfOk result (λ last. last.side ≡ item.now.row.side) }
         ensures packet { IfOk result (λ last. last.packet ≡ item.now.packet) }
         ensures channel { IfOk result (λ last. last.channel ≡ channel_in step.now.turn) }
         ensures before { OfOpen C.Channel self.old.walk self.old.lanes (λ rows. IfOk result (λ last.
@@ -120,9 +125,9 @@ impl<A: Allocator + Copy, C: Channel<A>> Observer<A, C> {
             }
             Turn::Ends => {
                 end_channels(Some(item.number), &mut self.lanes, &mut self.ended)?;
-                Ok(judged_on_line(item.packet, self.walk.machine.state(), step))
+                Ok(judged_on_line(item, self.walk.machine.state(), step))
             }
-            Turn::Stays => Ok(judged_on_line(item.packet, self.walk.machine.state(), step)),
+            Turn::Stays => Ok(judged_on_line(item, self.walk.machine.state(), step)),
         }
     }
 

@@ -76,6 +76,8 @@ returns-clause-stands g c i rs s sound =
     (last_known i rs s.cutting (cutting_after s.cutting one step) one step v last _ _ s.cut (cut_after i rs s.cutting one step s.cut packet is) (is_taken s.cutting one step) packet is
     (same.interface ∙ s.holds.interface) (same.epoch ∙ s.holds.epoch) (same.machine ∙ s.holds.line) refl
     (record {
+      number = c.in_ok-last.ensures.number;
+      side = c.in_ok-last.ensures.side;
       packet = c.in_ok-last.ensures.packet;
       channel = c.in_ok-last.ensures.channel;
       before = c.in_ok-last.ensures.before s.cutting.open_rows here;
