@@ -34,10 +34,16 @@ line_ends x front one =
 pub none_begun : (x front : List ℕ) → begun_line (x ++ (front ++ 10 ∷ [])) ≡ []
 none_begun x front = ap begun_line (sym (append_assoc x front (10 ∷ []))) ∙ begun-lf (x ++ front)
 
+pub ended_by : (x front end : List ℕ) → end ≡ front ++ 10 ∷ [] → IsOneLine front → ended_lines (x ++ end) ≡ ended_lines x ++ (begun_line x ++ front) ∷ []
+ended_by x front end e one = ap (λ xs. ended_lines (x ++ xs)) e ∙ line_ends x front one
+
+pub whole_line : (x front end begun : List ℕ) → end ≡ front ++ 10 ∷ [] → begun ≡ begun_line x → begun ++ end ≡ (begun_line x ++ front) ++ 10 ∷ []
+whole_line x front end begun e b = ap (λ xs. xs ++ end) b ∙ ap (λ xs. begun_line x ++ xs) e ∙ sym (append_assoc (begun_line x) front (10 ∷ []))
+
 pub line_printed : (form : List Line → Line → List ℕ → Type 0) (x front end sent held now : List ℕ) → end ≡ front ++ 10 ∷ [] → IsOneLine front → IsPrintOf form [] (ended_lines x) (sent ++ held) → HasAppended (form (ended_lines x) (begun_line x ++ front)) held now
     → IsPrintOf form [] (ended_lines (x ++ end)) (sent ++ now)
 line_printed form x front end sent held now e one h put =
-    let lines : ended_lines (x ++ end) ≡ ended_lines x ++ (begun_line x ++ front) ∷ [] = ap (λ xs. ended_lines (x ++ xs)) e ∙ line_ends x front one in
+    let lines = ended_by x front end e one in
     let all : sent ++ now ≡ (sent ++ held) ++ put.bytes = ap (λ xs. sent ++ xs) put.appended ∙ sym (append_assoc sent held put.bytes) in
     let more = print_more form [] (ended_lines x) (begun_line x ++ front) (sent ++ held) put.bytes h put.formed in
     subst (λ ls. IsPrintOf form [] ls (sent ++ now)) (sym lines) (subst (IsPrintOf form [] (ended_lines x ++ (begun_line x ++ front) ∷ [])) (sym all) more)

@@ -35,7 +35,7 @@ pub record IsRefusedAfter (is_print : List Line → List ℕ → Type 0) (before
   pub kinds : IsPrinterFault told
   pub failed : told ≡ Write → old < now
 
--- a source gave a text, and of this text the sink took what is said
+-- a source gave a text to its end, and the sink took of it what `whole` says
 pub record HasPassed (whole : (x : List ℕ) (before after : Option (List ℕ)) → Summary → Type 0) (left after asked before taken : Option (List ℕ)) (sums : Summary) : Type 0 where
   pub given : List ℕ
   pub source : IsAllGiven left after asked given

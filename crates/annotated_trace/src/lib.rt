@@ -1,4 +1,4 @@
-//! A trace written again, with comments that say what its rows did.
+//! A trace printed line by line: written again with comments that say what its rows did, or in another form.
 #![tactic(auto)]
 
 pub mod annotating;

@@ -48,7 +48,8 @@ pub trait Printer<A: Allocator, W: Watcher<A>>: Drop {
         ensures printed { (before : List Line) (l : Line) (text : List ℕ)
             → printed self.old before → W.stands_for trace.now text
             → ended_lines text ≡ before ++ l ∷ []
-            → OnOk result (printed self.new (before ++ l ∷ [])) }
+            → found_in (before ++ l ∷ []) ≡ found_in before ++ W.last_found trace.now
+            → line.now ≡ l ++ 10 ∷ [] → OnOk result (printed self.new (before ++ l ∷ [])) }
         ensures rows { rows self.new ≡ rows self.old };
 
     /// Gives a lent sink what comes after the last line. Where the sink fails it took a first part of it.

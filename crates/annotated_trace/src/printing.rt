@@ -78,6 +78,8 @@ impl<A: Allocator + Copy, W: Watcher<A>, P: Printer<A, W>> TracePrinter<A, W, P>
         ensures printed { (before : List Line) (l : Line) (text : List ℕ)
             → P.printed self.old.printer before → W.stands_for self.old.trace text
             → ended_lines text ≡ before ++ l ∷ []
+            → found_in (before ++ l ∷ []) ≡ found_in before ++ W.last_found self.old.trace
+            → self.old.begun.items ++ end.now ≡ l ++ 10 ∷ []
             → OnOk result (P.printed self.new.printer (before ++ l ∷ [])) }
         ensures rows { P.rows self.new.printer ≡ P.rows self.old.printer }
         ensures trace { self.new.trace ≡ self.old.trace }
@@ -282,7 +284,7 @@ impl<A: Allocator + Copy, W: Watcher<A>, P: Printer<A, W>> TracePrinter<A, W, P>
 
     /// The text has ended: writes what its last line becomes, with an LF if it lacks one, and what comes after all lines;
     /// returns the last line of the report as numbers. It refuses by the first faulty line; for want of memory; where the
-    /// sink fails; and where a text is so large that the LF would stand behind the first 2^30 bytes.
+    /// sink fails; and where a text is so large that the LF would stand after the first 2^30 bytes.
     pub fn end<K: Sink>(mut self, sink: &mut K) -> Result<Summary, Fault>
         requires fed { (choice : AnyRows) × (text : List ℕ)
             × WasFed (HasFollowed W.Watcher P.Printer choice) self text }

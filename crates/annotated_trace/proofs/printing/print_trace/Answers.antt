@@ -22,13 +22,16 @@ returns-in_err-read_to_end-clause-stopped g c =
     let fault = c.in_err-read_to_end.field-0.0 in
     let choice = g.P.Printer.rows c.new-printing.result.printer in
     let F = IsPrintOf (g.P.Printer.form choice) [] in
-    passed_on c.from_residual.result fault _ c.from_residual.ensures.1
-    (subst
-    (λ k.
-    StopsPrinting (IsPrintOf (g.P.Printer.form k) []) (HasFirstPrintOf (IsPrintOf (g.P.Printer.form k) []) (g.P.Printer.closing k)) (g.S.Source.left c.args.source.now) (g.S.Source.left c.read_to_end.new.source) (g.S.Source.before c.read_to_end.new.source) (g.K.Sink.taken c.args.sink.now)
-    (g.K.Sink.taken c.read_to_end.new.out) (g.K.Sink.failures c.read_to_end.new.out ≡ g.K.Sink.failures c.args.sink.now) fault) c.new-printing.ensures.fed.trace.2
-    (reading_stops (HasFollowed g.W.Watcher g.P.Printer choice) g.W.Watcher.size F (HasFirstPrintOf F (g.P.Printer.closing choice)) (g.S.Source.left c.args.source.now) (g.S.Source.left c.read_to_end.new.source) (g.S.Source.before c.read_to_end.new.source) (g.K.Sink.taken c.args.sink.now)
-    (g.K.Sink.taken c.read_to_end.new.out) (g.K.Sink.failures c.args.sink.now) (g.K.Sink.failures c.read_to_end.new.out) c.read_to_end.new.consumer fault c.in_err-read_to_end.ensures.stopped))
+    let left = g.S.Source.left c.args.source.now in
+    let after = g.S.Source.left c.read_to_end.new.source in
+    let asked = g.S.Source.before c.read_to_end.new.source in
+    let before = g.K.Sink.taken c.args.sink.now in
+    let taken = g.K.Sink.taken c.read_to_end.new.out in
+    let well = g.K.Sink.failures c.read_to_end.new.out ≡ g.K.Sink.failures c.args.sink.now in
+    passed_on c.from_residual.result fault
+    (StopsPrinting (IsPrintOf (g.P.Printer.form (g.P.Printer.rows c.args.printer)) []) (HasFirstPrintOf (IsPrintOf (g.P.Printer.form (g.P.Printer.rows c.args.printer)) []) (g.P.Printer.closing (g.P.Printer.rows c.args.printer))) left after asked before taken well) c.from_residual.ensures.1
+    (subst (λ k. StopsPrinting (IsPrintOf (g.P.Printer.form k) []) (HasFirstPrintOf (IsPrintOf (g.P.Printer.form k) []) (g.P.Printer.closing k)) left after asked before taken well fault) c.new-printing.ensures.fed.trace.2
+    (reading_stops (HasFollowed g.W.Watcher g.P.Printer choice) g.W.Watcher.size F (HasFirstPrintOf F (g.P.Printer.closing choice)) left after asked before taken (g.K.Sink.failures c.args.sink.now) (g.K.Sink.failures c.read_to_end.new.out) c.read_to_end.new.consumer fault c.in_err-read_to_end.ensures.stopped))
 
 pub returns-clause-printed : goal.returns-clause-printed
 returns-clause-printed g c =

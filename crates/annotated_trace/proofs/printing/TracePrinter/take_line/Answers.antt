@@ -1,18 +1,21 @@
-use Rattle.std.proofs.Common.{◌∙◌, ◌++◌, ◌∷◌, [], ap, append_assoc, subst, sym}
+use Rattle.std.proofs.Common.{◌∙◌, ◌++◌, ap, subst, sym}
 use Rattle.line_model.specs.text.Text.{begun_line, ended_lines}
 use Rattle.trace_text.specs.Watched.{found_in}
 use Rattle.annotated_trace.specs.Printed.{HasAppended}
-use Rattle.annotated_trace.proofs.PrintLemmas.{line_ends, line_printed, none_begun}
+use Rattle.annotated_trace.proofs.PrintLemmas.{ended_by, line_printed, none_begun, whole_line}
 use Rattle.annotated_trace.proofs.printing.TracePrinter.take_line.Goals as goal
 
 pub returns-in-Ok-print_line-clause-fed : goal.returns-in-Ok-print_line-clause-fed
 returns-in-Ok-print_line-clause-fed g c choice text front s k one =
-    let lines = ap (λ e. ended_lines (text ++ e)) k ∙ line_ends text front one in
+    let end = c.args.end.now in
+    let l = begun_line text ++ front in
+    let lines = ended_by text front end k one in
     let read = c.in-Ok.ensures.stands text s.trace.0 in
+    let found = sym (ap found_in lines) ∙ c.in-Ok.ensures.found text s.trace.0 in
     record {
       trace = (
-        subst (λ w. g.W.Watcher.stands_for w (text ++ c.args.end.now)) (sym c.print_line.ensures.trace) read,
-        subst (g.P.Printer.printed c.print_line.new.self.printer) (sym lines) (c.in-Ok-print_line.ensures.printed (ended_lines text) (begun_line text ++ front) (text ++ c.args.end.now) s.trace.1 read lines),
+        subst (λ w. g.W.Watcher.stands_for w (text ++ end)) (sym c.print_line.ensures.trace) read,
+        subst (g.P.Printer.printed c.print_line.new.self.printer) (sym lines) (c.in-Ok-print_line.ensures.printed (ended_lines text) l (text ++ end) s.trace.1 read lines found (whole_line text front end c.args.self.now.begun.items k s.begun)),
         c.print_line.ensures.rows ∙ s.trace.2,
       );
       begun = c.in-Ok-print_line.ensures.begun ∙ sym (ap (λ e. begun_line (text ++ e)) k ∙ none_begun text front);
@@ -20,8 +23,10 @@ returns-in-Ok-print_line-clause-fed g c choice text front s k one =
 
 pub returns-in-Ok-print_line-clause-held : goal.returns-in-Ok-print_line-clause-held
 returns-in-Ok-print_line-clause-held g c choice text front sent s k one h =
-    let lines = ap (λ e. ended_lines (text ++ e)) k ∙ line_ends text front one in
-    let line = ap (λ b. b ++ c.args.end.now) s.begun ∙ ap (λ e. begun_line text ++ e) k ∙ sym (append_assoc (begun_line text) front (10 ∷ [])) in
-    let put = c.in-Ok-print_line.ensures.form (ended_lines text) (begun_line text ++ front) (text ++ c.args.end.now) s.trace.1 (c.in-Ok.ensures.stands text s.trace.0) lines (sym (ap found_in lines) ∙ c.in-Ok.ensures.found text s.trace.0) line in
-    line_printed (g.P.Printer.form choice) text front c.args.end.now sent c.args.self.now.held.items c.print_line.new.self.held.items k one h
-    (subst (λ r. HasAppended (g.P.Printer.form r (ended_lines text) (begun_line text ++ front)) c.args.self.now.held.items c.print_line.new.self.held.items) s.trace.2 put)
+    let end = c.args.end.now in
+    let l = begun_line text ++ front in
+    let lines = ended_by text front end k one in
+    let found = sym (ap found_in lines) ∙ c.in-Ok.ensures.found text s.trace.0 in
+    let put = c.in-Ok-print_line.ensures.form (ended_lines text) l (text ++ end) s.trace.1 (c.in-Ok.ensures.stands text s.trace.0) lines found (whole_line text front end c.args.self.now.begun.items k s.begun) in
+    line_printed (g.P.Printer.form choice) text front end sent c.args.self.now.held.items c.print_line.new.self.held.items k one h
+    (subst (λ r. HasAppended (g.P.Printer.form r (ended_lines text) l) c.args.self.now.held.items c.print_line.new.self.held.items) s.trace.2 put)
