@@ -14,7 +14,7 @@ use trace_text::cuts::split_at_byte;
 pub const WORDS_LIMIT: usize = 8000;
 
 /// Appends words to bytes, a space in place of each LF. For want of memory a first part of them may be appended.
-fn append_plain<A: Allocator>(words: &[u8], out: &mut Vec<u8, A>) -> Result<(), AllocError>
+pub fn append_plain<A: Allocator>(words: &[u8], out: &mut Vec<u8, A>) -> Result<(), AllocError>
     ensures ok { OnOk result (out.new.items ≡ out.old.items ++ plain words.now) }
     ensures kept { BeginsWith out.old.items out.new.items }
 {

@@ -20,6 +20,8 @@ use Rattle.line_model.specs.packets.Classes.{packet_of}
 use Rattle.line_model.specs.text.Text.{Line, head_of, rows_in}
 use Rattle.channel_run.specs.Run.{row_events}
 use Rattle.restart_epochs.specs.Cutting.{observer}
+use Rattle.live_report.specs.declared.last_row.Known.{Known}
+use Rattle.live_report.specs.declared.last_row.Known.TheVariants as known
 use Rattle.annotated_trace.specs.Annotation.{IsOneLine}
 use Rattle.annotated_trace.specs.Rows.{is_told, row_written}
 use Rattle.annotated_trace.specs.declared.rows.Rows.{Rows}
@@ -33,6 +35,11 @@ abbrev pub channel_word : ChannelState → List ℕ
 channel_word (Setup s) = state_word (setup_name s)
 channel_word (Transfer s) = state_word (transfer_name s)
 channel_word Unknown = codes "unknown"
+
+-- the state that is known
+abbrev pub known_word : Known → List ℕ
+known_word (known.Restart s) = state_word (restart_name s)
+known_word (known.Channel v) = channel_word v.state
 
 -- the state of the logical channel that takes a row; of the restart machine where none does
 abbrev pub state_at : (taker : Option ℕ) → Observer LineState Channel → List ℕ

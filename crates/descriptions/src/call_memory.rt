@@ -56,7 +56,8 @@ impl<A: Allocator> CallMemory<A> {
                 return Ok(());
             }
         }
-        self.codes.push(CodeCount { code, count: 1 })
+        self.codes.push(CodeCount { code, count: 1 })?;
+        Ok(())
     }
 }
 

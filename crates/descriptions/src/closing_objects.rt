@@ -1,5 +1,9 @@
 //! The objects after those of the report: what was not counted, and what a call's line does not say.
 
+ghost use Rattle.std.specs.Prelude.{◌≡◌, ◌<◌, IfErr, OnErr};
+ghost use Rattle.annotated_trace.specs.Printed.{HasTaken};
+ghost use Rattle.descriptions.specs.Sent.{IsAnything};
+
 use crate::call_memory::{CallMemory, Calls, Clearing};
 use crate::causes::clearing_cause;
 use crate::diagnostics::diagnostic;
@@ -7,15 +11,80 @@ use crate::json::{Json, Out};
 use crate::packet_members::address_member;
 use crate::row_head::code_digits;
 use crate::row_members::{reason_word, time_member};
+use crate::sending::Sending;
 use crate::times::Time;
 use crate::uncounted::{REASONS, Uncounted};
 use itoa::Buffer;
 use line_model::call::CallRecord;
+use line_model::device::Sink;
 use line_model::event::How;
+use line_model::fault::Fault;
+use line_model::lending::{Borrowed, Origin, take_back};
 use std::alloc::Allocator;
+use std::marker::Brand;
+
+/// What the objects after those of the report are made of.
+#[derive(Drop)]
+pub struct Rest<A: Allocator> {
+    /// What is remembered of the calls.
+    pub calls: Calls<A>,
+    /// What was not counted.
+    pub uncounted: Uncounted,
+}
+
+/// The objects after those of the report.
+fn rest_objects<O: Out, A: Allocator + Copy>(
+    json: &mut Json<O>,
+    rest: &Rest<A>,
+    records: &[CallRecord<A>],
+) {
+    uncounted_objects(json, &rest.uncounted);
+    let mut number: u32 = 0;
+    for record in records {
+        number = number.saturating_add(1);
+        call_object(json, number, record, &rest.calls);
+    }
+}
+
+/// As `write_rest`, to the sink of an origin.
+fn write_to<'a, A: Allocator + Copy, K: Sink, B: Origin>(
+    rest: &Rest<A>,
+    records: &[CallRecord<A>],
+    sink: &'a mut K,
+) -> (&'a mut K, Result<(), Fault>)
+    requires name { sink.ghost_name ≡ B.name }
+    requires before { (K.taken sink.now, K.failures sink.now) ≡ B.before }
+    ensures name { result.0.ghost_name ≡ B.name }
+    ensures taken { HasTaken IsAnything B.before.0 (K.taken result.0.now) }
+    ensures cause { OnErr result.1 (B.before.1 < K.failures result.0.now) }
+    ensures write { IfErr result.1 (λ fault. fault ≡ Fault.Write) }
+{
+    let mut json = Json {
+        out: Sending::new(Borrowed::<K, B>::new(sink)),
+    };
+    rest_objects(&mut json, rest, records);
+    let (lent, answer) = json.out.finish();
+    (lent.give_back(), answer)
+}
+
+/// Gives a sink the objects after those of the report, whose calls these are. Where the sink fails it took a first part of
+/// them.
+pub fn write_rest<A: Allocator + Copy, K: Sink>(
+    rest: &Rest<A>,
+    records: &[CallRecord<A>],
+    sink: &mut K,
+) -> Result<(), Fault>
+    ensures taken { HasTaken IsAnything (K.taken sink.old) (K.taken sink.new) }
+    ensures cause { OnErr result (K.failures sink.old < K.failures sink.new) }
+    ensures write { IfErr result (λ fault. fault ≡ Fault.Write) }
+{
+    let (sink, answer) = write_to::<A, K, Brand>(rest, records, sink);
+    take_back(sink);
+    answer
+}
 
 /// An object for each reason for which data was not counted.
-pub fn uncounted_objects<O: Out>(json: &mut Json<O>, uncounted: &Uncounted) {
+fn uncounted_objects<O: Out>(json: &mut Json<O>, uncounted: &Uncounted) {
     for reason in &REASONS {
         let amount = uncounted.amount(*reason);
         if amount.packets != 0 {
@@ -30,7 +99,7 @@ pub fn uncounted_objects<O: Out>(json: &mut Json<O>, uncounted: &Uncounted) {
 }
 
 /// What a call's line of the report does not say.
-pub fn call_object<O: Out, A: Allocator + Copy>(
+fn call_object<O: Out, A: Allocator + Copy>(
     json: &mut Json<O>,
     number: u32,
     record: &CallRecord<A>,

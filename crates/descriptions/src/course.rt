@@ -210,7 +210,7 @@ impl<A: Allocator + Copy> Course<A> {
             Some(lane) => Ok(lane),
             None => {
                 self.lanes.list(channel)?;
-                Box::new(self.alloc, Lane::fresh())
+                Ok(Box::new(self.alloc, Lane::fresh())?)
             }
         }
     }

@@ -1,16 +1,11 @@
 //! The beginning of the object of a row.
 
-ghost use Rattle.std.specs.Prelude.{◌≡◌, ℕ, ◌++◌, ◌∷◌, List, OnOk};
+ghost use Rattle.std.specs.Prelude.{◌≡◌, ℕ, ◌++◌, List, OnOk, map};
 ghost use Rattle.line_model.specs.basics.Records.{Row};
 ghost use Rattle.line_model.specs.declared.interface.Interface.{Interface};
-ghost use Rattle.line_model.specs.declared.finding.Finding.{Finding as AnyFinding};
-ghost use Rattle.line_model.specs.observer.Machine.{Observer as AnyObserver};
-ghost use Rattle.line_model.specs.channels.Channels.{Channel};
-ghost use Rattle.line_model.specs.channels.RestartMachine.{LineState};
 ghost use Rattle.line_model.specs.observer.Report.{code_word};
-ghost use Rattle.live_report.specs.LastRows.{IsKnown};
 ghost use Rattle.descriptions.specs.Facts.{AreFactsOf, IsFateOf};
-ghost use Rattle.descriptions.specs.RowObjects.{channel_word, counted_word, finding_word, joined, known_word, named_channel, row_head, state_at, state_members};
+ghost use Rattle.descriptions.specs.RowObjects.{channel_word, counted_word, finding_word, joined, known_word, named_channel, number_word, row_head, state_members};
 
 use crate::facts::{Fate, RowFacts};
 use itoa::Buffer;
@@ -66,7 +61,11 @@ fn channel_digits<'a>(packet: &Packet, buffer: &'a mut Buffer) -> &'a [u8]
 fn append_states<A: Allocator>(
     facts: &RowFacts<'_>,
     out: &mut Vec<u8, A>,
-) -> Result<(), AllocError> {
+) -> Result<(), AllocError>
+    ensures { (r : Row) → facts.now.number ≡ r.number → facts.now.side ≡ r.side
+        → OnOk result (out.new.items ≡ out.old.items ++ state_members r
+        (named_channel facts.now.packet) (known_word facts.now.before) (known_word facts.now.after)) }
+{
     let mut number = Buffer::new();
     let mut channel = Buffer::new();
     append_words(

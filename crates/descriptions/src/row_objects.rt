@@ -1,10 +1,22 @@
 //! The rows of a trace as objects.
 
+ghost use Rattle.std.specs.Prelude.{◌≡◌, ℕ, ◌++◌, ◌∷◌, [], List, OnOk, Some, false};
+ghost use Rattle.line_model.specs.basics.Records.{Row};
+ghost use Rattle.line_model.specs.declared.interface.Interface.{Interface};
+ghost use Rattle.line_model.specs.text.Text.{Line, ended_lines, head_of, rows_in};
+ghost use Rattle.live_report.specs.Lives.{WasFed};
+ghost use Rattle.annotated_trace.specs.Printed.{HasAppended};
+ghost use Rattle.annotated_trace.specs.Rows.{row_written};
+ghost use Rattle.descriptions.specs.Facts.{AreFactsOf};
+ghost use Rattle.descriptions.specs.RowObjects.{IsObjectWhere, IsRowObject};
+
 use crate::call_memory::Calls;
 use crate::chosen::Chosen;
-use crate::closing_objects::{call_object, uncounted_objects};
+use crate::closing_objects::{Rest, write_rest};
 use crate::course::Course;
-use crate::json::{Growing, Json, Out};
+use crate::facts::RowFacts;
+use crate::json::{Growing, Json};
+use crate::report_objects::write_report_objects;
 use crate::row_head::append_head;
 use crate::row_members::row_members;
 use crate::times::Time;
@@ -13,28 +25,36 @@ use annotated_trace::notes::append_plain;
 use annotated_trace::printer::Printer;
 use annotated_trace::rows::Rows;
 use channel_run::run::Channel;
-use json_lines::sink::JsonSink;
-use line_model::call::CallRecord;
-use line_model::device::Sink;
 use line_model::fault::Fault;
 use line_model::lending::LentSink;
 use line_model::report::Report;
-use line_model::write_buffer::WriteBuffer;
 use live_report::live::Live;
 use memchr::memrchr;
-use report_merge::text::write_report;
 use std::alloc::{AllocError, Allocator};
+
+/// Appends the object of a row, of which these are the members after its finding's code, on a line of its own.
+fn append_object<A: Allocator>(
+    facts: &RowFacts<'_>,
+    members: &[u8],
+    out: &mut Vec<u8, A>,
+) -> Result<(), AllocError>
+    ensures { (i : Interface) (earlier : List Row) (r : Row) → AreFactsOf i earlier r facts.now
+        → OnOk result (HasAppended (IsRowObject i earlier r) out.old.items out.new.items) }
+{
+    append_head(facts, out)?;
+    append_plain(members, out)?;
+    out.extend_from_slice(b"}\n")
+}
 
 /// What is remembered of the rows before, and of the comments before the next one.
 #[derive(Drop)]
 struct Past<A: Allocator> {
     course: Course<A>,
-    calls: Calls<A>,
-    uncounted: Uncounted,
+    rest: Rest<A>,
     /// The time of the next row.
     time: Option<Time>,
-    /// The members of an object after its head.
-    rest: Vec<u8, A>,
+    /// Room for the members of an object.
+    members: Vec<u8, A>,
 }
 
 impl<A: Allocator + Copy> Past<A> {
@@ -42,10 +62,12 @@ impl<A: Allocator + Copy> Past<A> {
     fn new(alloc: A) -> Self {
         Past {
             course: Course::new(alloc),
-            calls: Calls::new(alloc),
-            uncounted: Uncounted::new(),
+            rest: Rest {
+                calls: Calls::new(alloc),
+                uncounted: Uncounted::new(),
+            },
             time: None,
-            rest: Vec::new(alloc),
+            members: Vec::new(alloc),
         }
     }
 
@@ -56,71 +78,52 @@ impl<A: Allocator + Copy> Past<A> {
         line: &[u8],
         told: bool,
         out: &mut Vec<u8, A>,
-    ) -> Result<(), AllocError> {
+    ) -> Result<(), AllocError>
+        ensures object { (i : Interface) (before : List Line) (l : Line) (r : Row) (text : List ℕ)
+            → WasFed C.Channel text trace.now → ended_lines text ≡ before ++ l ∷ []
+            → head_of before ≡ Some i → row_written before l ≡ Some r → OnOk result
+            (HasAppended (IsObjectWhere told i (rows_in before) r) out.old.items out.new.items) }
+        ensures untold { told ≡ false → out.new.items ≡ out.old.items }
+    {
         let time = self.time.take();
-        let (Some(observer), Some(interface)) = (trace.observer(), trace.interface()) else {
+        let Some(observer) = trace.observer() else {
+            return Ok(());
+        };
+        let Some(interface) = trace.interface() else {
             return Ok(());
         };
         let octets = trace.row().octets.as_slice();
         let Some(facts) = self.course.facts(&interface, octets, observer)? else {
             return Ok(());
         };
-        self.calls.take(&facts, time)?;
-        self.uncounted.take(&facts);
+        self.rest.calls.take(&facts, time)?;
+        self.rest.uncounted.take(&facts);
         if !told {
             return Ok(());
         }
-        append_head(&facts, out)?;
-        self.rest.clear();
-        let mut json = Json {
-            out: Growing::new(&mut self.rest),
-        };
-        row_members(&mut json, &facts, time, last_word(line));
-        json.out.answer()?;
-        append_plain(self.rest.as_slice(), out)?;
-        out.extend_from_slice(b"}\n")
-    }
-
-    /// Gives a sink the objects after those of the report.
-    fn write_closing<S: Sink>(
-        &self,
-        calls: &[CallRecord<A>],
-        sink: &mut S,
-    ) -> Result<(), Fault> {
-        let mut json = Json {
-            out: Sending {
-                sink,
-                buffer: WriteBuffer::new(),
-            },
-        };
-        uncounted_objects(&mut json, &self.uncounted);
-        let mut number: u32 = 0;
-        for call in calls {
-            number = number.saturating_add(1);
-            call_object(&mut json, number, call, &self.calls);
-        }
-        let Sending { sink, buffer } = json.out;
-        buffer.end(sink)
+        write_members(&facts, time, line, &mut self.members)?;
+        append_object(&facts, self.members.as_slice(), out)
     }
 }
 
-/// A sink that takes JSON through a buffer.
-#[derive(Drop)]
-struct Sending<'a, S: Sink> {
-    sink: &'a mut S,
-    buffer: WriteBuffer,
-}
-
-impl<S: Sink> Out for Sending<'_, S> {
-    fn put(&mut self, bytes: &[u8]) {
-        self.buffer.put(self.sink, bytes);
-    }
+/// Writes the members of a row's object after its finding's code, in place of what there was.
+fn write_members<A: Allocator>(
+    facts: &RowFacts<'_>,
+    time: Option<Time>,
+    line: &[u8],
+    members: &mut Vec<u8, A>,
+) -> Result<(), AllocError> {
+    members.clear();
+    let mut json = Json {
+        out: Growing::new(members),
+    };
+    row_members(&mut json, facts, time, last_word(line));
+    json.out.answer()
 }
 
 /// What stands after the last space of a line, without its line feed.
 fn last_word(line: &[u8]) -> &[u8] {
     let words = match line {
-        [words @ .., b'\r', b'\n'] => words,
         [words @ .., b'\n'] => words,
         words => words,
     };
@@ -130,7 +133,7 @@ fn last_word(line: &[u8]) -> &[u8] {
     }
 }
 
-/// Prints an object for each row, or for each of those that are chosen.
+/// Prints an object for each row, or for each of those that are chosen, and after the last one those of the report.
 #[derive(Drop)]
 pub struct RowObjects<A: Allocator> {
     alloc: A,
@@ -139,8 +142,12 @@ pub struct RowObjects<A: Allocator> {
 }
 
 impl<A: Allocator + Copy> RowObjects<A> {
+    ghost use Rattle.std.specs.Prelude.{◌≡◌};
+
     /// No row was printed. It takes no memory.
-    pub fn new(alloc: A, rows: Rows) -> Self {
+    pub fn new(alloc: A, rows: Rows) -> Self
+        ensures { result.chosen.rows ≡ rows }
+    {
         RowObjects {
             alloc,
             chosen: Chosen::new(rows),
@@ -150,6 +157,17 @@ impl<A: Allocator + Copy> RowObjects<A> {
 }
 
 impl<A: Allocator + Copy, C: Channel<A>> Printer<A, Live<A, C>> for RowObjects<A> {
+    ghost use Rattle.descriptions.specs.Choosing.{HasChosen};
+    ghost use Rattle.descriptions.specs.RowObjects.{IsClosing, IsLineObject};
+
+    ghost printed = { λ p lines. HasChosen lines p.chosen };
+
+    ghost rows = { λ p. p.chosen.rows };
+
+    ghost form = { λ rows before l bytes. IsLineObject rows before l bytes };
+
+    ghost closing = { λ rows report bytes. IsClosing rows report bytes };
+
     fn rows(&self) -> Rows {
         self.chosen.rows()
     }
@@ -177,16 +195,13 @@ impl<A: Allocator + Copy, C: Channel<A>> Printer<A, Live<A, C>> for RowObjects<A
     }
 
     fn close<S: LentSink>(&mut self, report: &Report<A>, sink: S) -> (S, Result<(), Fault>) {
-        let mut json = JsonSink::new(sink);
-        let written = write_report(report, &mut json);
-        let (mut sink, answer) = json.finish();
-        if let Err(fault) = written {
-            return (sink, Err(fault));
+        let (mut sink, answer) = write_report_objects(report, sink);
+        match answer {
+            Ok(()) => {
+                let rest = write_rest(&self.past.rest, &report.calls, &mut sink);
+                (sink, rest)
+            }
+            Err(fault) => (sink, Err(fault)),
         }
-        if let Err(fault) = answer {
-            return (sink, Err(fault));
-        }
-        let answer = self.past.write_closing(&report.calls, &mut sink);
-        (sink, answer)
     }
 }

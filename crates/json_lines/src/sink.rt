@@ -23,7 +23,7 @@ pub struct JsonSink<S: LentSink> {
 }
 
 impl<S: LentSink> JsonSink<S> {
-    ghost use Rattle.std.specs.Prelude.{◌++◌, ◌<◌, OnOk, IfErr, Some, Err};
+    ghost use Rattle.std.specs.Prelude.{◌++◌, ◌<◌, ◌≤◌, OnOk, IfErr, Some, Err};
     ghost use Rattle.line_model.specs.basics.Device.{with_more};
     ghost use Rattle.json_lines.specs.Json.{json_text};
 
@@ -49,6 +49,7 @@ impl<S: LentSink> JsonSink<S> {
             × (S.taken result.0 ≡ with_more S.before.0 front) }
         ensures failed { IfErr result.1 (λ fault. (fault ≡ Fault.Write)
             × (S.before.1 < S.failures result.0)) }
+        ensures rising { S.before.1 ≤ S.failures result.0 }
         ensures refused { 0 < ⟦<JsonSink<S> as Sink>⟧.failures self
             → result.1 ≡ Err Fault.Write }
     {
