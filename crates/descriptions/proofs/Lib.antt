@@ -2,3 +2,4 @@ pub mod OpenCalls
 pub mod CallLemmas
 pub mod FollowLemmas
 pub mod ChoiceLemmas
+pub mod ObjectLemmas

@@ -1,0 +1,90 @@
+-- The objects of rows, as they are appended.
+use Rattle.std.proofs.Common.{◌≡◌, ◌∙◌, sym, ap, subst, refl, ℕ, Bool, true, false, List, [], ◌∷◌, ◌++◌, take, drop, length, Option, Some, None, Result, Ok, Err, OnOk, append_assoc, append-nil}
+use Rattle.std.specs.Prelude.{codes, MatchOption}
+use Rattle.std.specs.List.{flat_map}
+use Rattle.line_model.specs.basics.Records.{Row}
+use Rattle.line_model.specs.declared.event.Event.{Event}
+use Rattle.line_model.specs.declared.interface.Interface.{Interface}
+use Rattle.line_model.specs.channels.Channels.{Channel}
+use Rattle.line_model.specs.channels.RestartMachine.{LineState, restart_name}
+use Rattle.line_model.specs.observer.Machine.{Observer, routed}
+use Rattle.line_model.specs.observer.Observer.{x25}
+use Rattle.line_model.specs.observer.Calls.{all_lengths}
+use Rattle.line_model.specs.observer.Report.{state_word}
+use Rattle.line_model.specs.packets.Classes.{packet_of}
+use Rattle.restart_epochs.specs.Cutting.{observer}
+use Rattle.live_report.specs.LastRows.{IsKnown, IsLastRow}
+use Rattle.live_report.specs.declared.last_row.Known.{Known}
+use Rattle.live_report.specs.declared.last_row.Known.TheVariants as known
+use Rattle.live_report.specs.declared.last_row.LastRow.{LastRow}
+use Rattle.annotated_trace.specs.Annotation.{IsOneLine}
+use Rattle.annotated_trace.specs.Printed.{HasAppended}
+use Rattle.annotated_trace.specs.Rows.{is_told, is_told_if}
+use Rattle.annotated_trace.specs.Wording.{plain}
+use Rattle.annotated_trace.specs.declared.rows.Rows.{Rows}
+use Rattle.annotated_trace.proofs.WordingLemmas.{plain_one}
+use Rattle.descriptions.specs.Choosing.{told_where}
+use Rattle.descriptions.specs.Facts.{AreFactsOf, IsFateOf}
+use Rattle.descriptions.specs.RowObjects.{IsObjectOf, IsObjectWhere, IsRowObject, channel_word, counted_word, events_at, finding_word, joined, known_word, named_channel, row_head, state_at, state_members}
+use Rattle.descriptions.specs.declared.facts.Fate.{Fate}
+use Rattle.descriptions.specs.declared.facts.RowFacts.{RowFacts}
+
+-- ---- the state that is known
+
+pub known_is : (i : Interface) (taker : Option ℕ) (o : Observer LineState Channel) (k : Known) → IsKnown i taker o k → known_word k ≡ state_at taker o
+known_is i None o (known.Restart s) h = ap (λ x. state_word (restart_name x)) h
+known_is i None o (known.Channel v) h = absurd h
+known_is i (Some n) o (known.Restart s) h = absurd h
+known_is i (Some n) o (known.Channel v) h = ap channel_word h.state
+
+-- ---- the beginning of an object
+
+four_parts : (out a b c d : List ℕ) → (((out ++ a) ++ b) ++ c) ++ d ≡ out ++ (a ++ (b ++ (c ++ d)))
+four_parts out a b c d =
+    append_assoc ((out ++ a) ++ b) c d ∙ append_assoc (out ++ a) b (c ++ d) ∙ append_assoc out a (b ++ (c ++ d))
+
+pub head_put : (i : Interface) (earlier : List Row) (r : Row) (facts : RowFacts) (out o1 o2 o3 o4 : List ℕ) → AreFactsOf i earlier r facts
+    → o1 ≡ out ++ state_members r (named_channel facts.packet) (known_word facts.before) (known_word facts.after)
+    → o2 ≡ o1 ++ counted_word (all_lengths (events_at i (routed (x25 i) (observer i earlier).line r) (observer i earlier) r))
+    → o3 ≡ o2 ++ codes ",\"finding\":" → o4 ≡ o3 ++ finding_word facts.finding → o4 ≡ out ++ row_head i earlier r facts.finding
+head_put i earlier r facts out o1 o2 o3 o4 h e1 e2 e3 e4 =
+    let taker : Option ℕ = routed (x25 i) (observer i earlier).line r in
+    let counted : List ℕ = counted_word (all_lengths (events_at i taker (observer i earlier) r)) in
+    let before : known_word facts.before ≡ state_at taker (observer i earlier) = known_is i taker (observer i earlier) facts.before h.before in
+    let after : known_word facts.after ≡ state_at taker (observer i (earlier ++ r ∷ [])) = known_is i taker (observer i (earlier ++ r ∷ [])) facts.after h.after in
+    let members : state_members r (named_channel facts.packet) (known_word facts.before) (known_word facts.after)
+        ≡ state_members r (named_channel (packet_of i r.octets)) (state_at taker (observer i earlier)) (state_at taker (observer i (earlier ++ r ∷ []))) =
+        (λ t. state_members r (named_channel (h.packet t)) (before t) (after t)) in
+    e4 ∙ ap (λ xs. xs ++ finding_word facts.finding) (e3 ∙ ap (λ xs. xs ++ codes ",\"finding\":") (e2 ∙ ap (λ xs. xs ++ counted) (e1 ∙ ap (λ xs. out ++ xs) members)))
+    ∙ four_parts out (state_members r (named_channel (packet_of i r.octets)) (state_at taker (observer i earlier)) (state_at taker (observer i (earlier ++ r ∷ [])))) counted (codes ",\"finding\":") (finding_word facts.finding)
+
+-- ---- an object
+
+pub object_put : (i : Interface) (earlier : List Row) (r : Row) (facts : RowFacts) (members out o1 o2 o3 : List ℕ) → AreFactsOf i earlier r facts
+    → o1 ≡ out ++ row_head i earlier r facts.finding → o2 ≡ o1 ++ plain members → o3 ≡ o2 ++ codes "}\n" → HasAppended (IsRowObject i earlier r) out o3
+object_put i earlier r facts members out o1 o2 o3 h e1 e2 e3 = record {
+  bytes = row_head i earlier r facts.finding ++ (plain members ++ codes "}\n");
+  appended = e3 ∙ ap (λ xs. xs ++ codes "}\n") (e2 ∙ ap (λ xs. xs ++ plain members) e1)
+      ∙ append_assoc (out ++ row_head i earlier r facts.finding) (plain members) (codes "}\n") ∙ append_assoc out (row_head i earlier r facts.finding) (plain members ++ codes "}\n");
+  formed = record { found = facts.finding; came = h.finding; rest = plain members; one = plain_one members; written = refl };
+}
+
+-- ---- which rows have one
+
+same_told : (a b : Bool) → Some a ≡ Some b → a ≡ b
+same_told a b e = cc
+
+pub nothing_put : (rows : Rows) (head : Option Interface) (earlier : List Row) (o : Option Row) (out : List ℕ) → None ≡ told_where rows head earlier o → HasAppended (IsObjectOf rows head earlier o) out out
+nothing_put rows None earlier None out e = record { bytes = []; appended = sym (append-nil out); formed = refl }
+nothing_put rows (Some i) earlier None out e = record { bytes = []; appended = sym (append-nil out); formed = refl }
+nothing_put rows head earlier (Some r) out e = absurd (let bad : None ≡ Some (is_told_if rows head earlier (Some r)) = e in cc)
+
+pub row_put : {T E : Type 0} (result : Result T E) (rows : Rows) (head : Option Interface) (earlier : List Row) (o : Option Row) (told : Bool) (out after : List ℕ) → Some told ≡ told_where rows head earlier o
+    → (told ≡ false → after ≡ out) → ((i : Interface) (r : Row) → head ≡ Some i → o ≡ Some r → OnOk result (HasAppended (IsObjectWhere told i earlier r) out after))
+    → OnOk result (HasAppended (IsObjectOf rows head earlier o) out after)
+row_put result rows head earlier None told out after e untold object = absurd (let bad : Some told ≡ None = e in cc)
+row_put (Err x) rows head earlier (Some r) told out after e untold object = tt
+row_put (Ok x) rows None earlier (Some r) told out after e untold object =
+    record { bytes = []; appended = untold (same_told told false e) ∙ sym (append-nil out); formed = refl }
+row_put (Ok x) rows (Some i) earlier (Some r) told out after e untold object =
+    subst (λ b. HasAppended (IsObjectWhere b i earlier r) out after) (same_told told (is_told rows i earlier r) e) (object i r refl refl)
