@@ -8,9 +8,9 @@ use line_model::state::{RState, Side};
 /// What the machine that judged a row knew at one moment.
 #[derive(Clone, Copy)]
 pub enum Known {
-    /// The restart machine knew its state.
+    /// The restart machine: its state.
     Restart(RState),
-    /// The logical channel of the row.
+    /// The row's logical channel: what is known of it.
     Channel(View),
 }
 

@@ -1,4 +1,4 @@
-use Rattle.std.proofs.Common.{◌++◌, ◌∷◌, [], subst, sym}
+use Rattle.std.proofs.Common.{subst, sym}
 use Rattle.line_model.specs.basics.Bounds.{IsPiece}
 use Rattle.channel_run.specs.Live.{StandsFor as IsLive, with_item}
 use Rattle.live_report.specs.Turns.{walked_piece}

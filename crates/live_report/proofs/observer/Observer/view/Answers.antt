@@ -2,8 +2,6 @@ use Rattle.std.proofs.Common.{◌∙◌, ap, subst, sym}
 use Rattle.std.specs.Option.{option_map}
 use Rattle.channel_run.specs.Views.{IsViewOf}
 use Rattle.restart_epochs.specs.Cutting.{observer}
-use Rattle.restart_epochs.specs.OpenRows.{rows_of}
-use Rattle.live_report.specs.Lanes.{begun_piece}
 use Rattle.live_report.specs.Observing.{open_piece}
 use Rattle.live_report.proofs.FindingLemmas.{state_here}
 use Rattle.live_report.proofs.LastLemmas.{open_is_ready}
