@@ -9,7 +9,7 @@ import sys
 import tempfile
 
 from x25trace_lib.captures import is_same
-from x25trace_lib.command import is_open, title
+from x25trace_lib.command import title
 from x25trace_lib.source import Waiting
 from x25trace_lib.told import Ledger, Refusal
 from x25trace_lib.words import Status
@@ -145,18 +145,18 @@ def main(arguments, waiting):
         return Status.INTERRUPTED
 
 
-def close_gaps():
-    """Gives closed standard streams a place, so that no file takes theirs."""
-    for descriptor in (0, 1, 2):
-        if not is_open(descriptor):
+def fill_gaps():
+    """Gives closed standard streams a place, so that no file takes theirs; whoever closed one wants to hear nothing."""
+    for descriptor, stream in enumerate((sys.stdin, sys.stdout, sys.stderr)):
+        if stream is None:
             os.dup2(os.open(os.devnull, os.O_RDWR), descriptor)
-            if descriptor == 2:
-                sys.stderr = open(2, "w", encoding="ascii", errors="replace", closefd=False)
+    if sys.stderr is None:
+        sys.stderr = open(2, "w", encoding="ascii", errors="replace", closefd=False)
 
 
 def program(arguments):
     """Runs as a program: SIGINT ends the reading, and no signal that can be heard leaves a part of a page."""
-    close_gaps()
+    fill_gaps()
     waiting = Waiting()
     # Little that is made for a row refers to itself, so there is little to search for.
     gc.disable()

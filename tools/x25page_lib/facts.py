@@ -3,13 +3,13 @@ from collections import deque
 from dataclasses import dataclass, field
 
 from .calls import Calls
-from .ladders import SIDES, Ladders
+from .ladders import SIDES, Ladders, Row
 from .rows import RowForms, in_seconds, nanoseconds
 from .suspicions import Debts
 from .texts import encoded
 
 # What parts of a page may have, in bytes.
-LADDERS, CALLS, MARKS, ACCOUNTS, SETTINGS = 9_500_000, 6_000_000, 1_000_000, 600_000, 900_000
+LADDERS, CALLS, MARKS, ACCOUNTS, SETTINGS = 8_000_000, 4_500_000, 1_000_000, 500_000, 500_000
 MOST_TIMES = 1024
 CLEARING = ("p6", "p7")
 
@@ -95,7 +95,7 @@ class Facts:
         self.first = self.first or packet
         if told["channel"] is not None:
             self.channels.add(told["channel"])
-        row, key = self.forms.row(told), self.key(told)
+        row, key = Row(told, self.forms), self.key(told)
         if told["time"] is not None:
             self.times.add(packet, self.forms.since_begin(told["time"]))
         if told["finding"]:

@@ -1,13 +1,12 @@
 """The ladders of a page: the rows that are kept of each call, and the sums of those that are left out."""
-import json
 from collections import deque
 from dataclasses import dataclass, field
 
 from .texts import encoded
 
-# Where the digits of the octets stand in the array of a row.
-HEX_AT = 6
 SIDES = "TN"
+# Packets that are no news while all goes well.
+FLOWING = {"data", "rr", "rnr", "interrupt", "interrupt_confirmation"}
 # A ladder keeps its first rows, which show how the call was set up.
 BEGINNING = 2
 
@@ -33,23 +32,31 @@ LEVELS = (
 DROPPING = 2
 
 
-@dataclass(slots=True)
 class Row:
-    """A row that may be kept: its place in sums, and its array in the page."""
+    """A row that may be kept: its place in sums, and its text in the page once it is kept."""
 
-    packet: int
-    side: int
-    octets: int
-    is_data: bool
-    is_marked: bool
-    code: str
-    text: str
+    __slots__ = ("told", "forms", "packet", "side", "octets", "is_data", "is_marked", "code", "text")
 
-    def cut(self, digits):
-        """Leaves out what the octets have above so many digits; findings keep eight times as many."""
-        array = json.loads(self.text)
-        array[HEX_AT] = array[HEX_AT][:digits * 8 if self.code else digits]
-        self.text = encoded(array)
+    def __init__(self, told, forms):
+        self.told, self.forms, self.text = told, forms, ""
+        finding, kind = told["finding"], told["type"]
+        self.packet, self.side = told["packet"], SIDES.index(told["side"])
+        self.octets, self.is_data = told.get("octets", 0), kind == "data"
+        self.code = finding["code"] if finding else ""
+        self.is_marked = bool(
+            finding or kind not in FLOWING or told["before"] != told["after"] or told["begins"] or told["up"] or told["ends"]
+            or told.get("message") or told.get("settings")
+        )
+
+    def write(self, level):
+        """Makes the text with as many digits as a level keeps; a finding keeps eight times as many."""
+        if not self.text:
+            self.text, self.told, self.forms = self.forms.text(self.told), None, None
+        digits = level.digits * 8 if self.code else level.digits
+        begin = self.text.index('"') + 1
+        end = self.text.index('"', begin)
+        if end - begin > digits:
+            self.text = self.text[:begin + digits] + self.text[end:]
 
 
 @dataclass(slots=True)
@@ -62,6 +69,7 @@ class Run:
     data: list = field(default_factory=lambda: [0, 0])
     octets: list = field(default_factory=lambda: [0, 0])
     findings: dict = field(default_factory=dict)
+    text: str = ""
 
     def add(self, row):
         self.first = self.first or row.packet
@@ -84,10 +92,9 @@ class Run:
         for code, count in other.findings.items():
             self.findings[code] = self.findings.get(code, 0) + count
 
-    @property
-    def text(self):
+    def write(self, _level):
         names = ("first", "last", "packets", "data", "octets", "findings")
-        return encoded({name: getattr(self, name) for name in names})
+        self.text = encoded({name: getattr(self, name) for name in names})
 
 
 class Ladder:
@@ -117,34 +124,35 @@ class Ladder:
     def place(self, row, level):
         """Keeps a row, or has it wait for one that is kept, or leaves it out."""
         if self.wants(row, level):
-            self.release()
-            self.keep(row)
+            self.release(level)
+            self.keep(row, level)
             self.following = level.edge if row.is_marked else self.following
         elif self.following and not self.is_closed and not row.is_marked:
             self.following -= 1
-            self.keep(row)
+            self.keep(row, level)
         else:
             self.following = 0
             self.tail.append(row)
             while len(self.tail) > (0 if self.is_closed else level.edge):
                 self.run.add(self.tail.popleft())
 
-    def keep(self, item):
+    def keep(self, item, level):
+        item.write(level)
         self.items.append(item)
         self.size += len(item.text) + 1
 
-    def release(self):
+    def release(self, level):
         """Keeps the sums of what was left out, and the rows that wait."""
         if self.run.packets:
-            self.keep(self.run)
+            self.keep(self.run, level)
             self.run = Run()
         for row in self.tail:
-            self.keep(row)
+            self.keep(row, level)
         self.tail.clear()
 
     def fold(self, level):
         """Keeps by another level what it has kept so far."""
-        self.release()
+        self.release(level)
         items = self.items
         self.begin()
         for item in items:
@@ -154,7 +162,6 @@ class Ladder:
                 self.run.join(item)
                 self.following = 0
             else:
-                item.cut(level.digits)
                 self.place(item, level)
 
     def close(self):
@@ -162,9 +169,9 @@ class Ladder:
         self.is_closed = True
         self.fold(LEVELS[-1])
 
-    def texts(self):
+    def texts(self, level):
         """The texts of what was kept, to its end."""
-        self.release()
+        self.release(level)
         return [item.text for item in self.items]
 
 
@@ -181,10 +188,8 @@ class Ladders:
         ladder = self.ladders.get(key)
         if ladder is None:
             ladder = self.ladders[key] = Ladder()
-        level, before = LEVELS[self.level], ladder.size
-        if self.level:
-            row.cut(level.digits)
-        ladder.add(row, level)
+        before = ladder.size
+        ladder.add(row, LEVELS[self.level])
         self.size += ladder.size - before
         if self.size > self.budget:
             self.shrink()
@@ -194,7 +199,11 @@ class Ladders:
         if key not in self.ladders:
             return
         self.finished.add(key)
-        if self.ladders[key].is_closed:
+        ladder = self.ladders[key]
+        before = ladder.size
+        ladder.release(LEVELS[self.level])
+        self.size += ladder.size - before
+        if ladder.is_closed:
             self.drop(key)
 
     def drop(self, key):
@@ -242,7 +251,7 @@ class Ladders:
     def texts(self):
         """The key of each ladder that has more than sums, and its text."""
         for key, ladder in self.ladders.items():
-            parts = ladder.texts()
+            parts = ladder.texts(LEVELS[self.level])
             if any(isinstance(item, Row) for item in ladder.items):
                 yield key, f"[{','.join(parts)}]"
             else:

@@ -1,11 +1,10 @@
 """The rows of a page: the array of each, with the words that many rows have in tables beside it."""
-from .ladders import SIDES, Row
+from .ladders import SIDES
 from .texts import encoded
 
 # Members that stand in the array by their place, or that say nothing where they are left out.
 PLACED = {"line", "packet", "side", "channel", "before", "after", "counted", "finding", "epoch", "call", "time", "type", "hex"}
 SHORT = {"send": "s", "receive": "r", "octets": "o", "more": "m", "qualified": "q", "delivery": "d"}
-FLOWING = {"data", "rr", "rnr", "interrupt", "interrupt_confirmation"}
 SECOND = 1_000_000_000
 
 
@@ -54,25 +53,19 @@ class RowForms:
             self.begun = time
         return in_seconds(time - self.begun)
 
-    def row(self, told):
-        finding, kind, side = told["finding"], told["type"], SIDES.index(told["side"])
-        array = [
+    def text(self, told):
+        """The array of a row, as the page has it."""
+        return encoded([
             told["packet"],
-            side,
-            self.types.place(kind),
+            SIDES.index(told["side"]),
+            self.types.place(told["type"]),
             self.states.place(told["before"]),
             self.states.place(told["after"]),
             self.since_begin(told["time"]),
             told["hex"],
             0 if told["hex"] == "-" else len(told["hex"]) // 2,
             self.more(told),
-        ]
-        is_marked = bool(
-            kind not in FLOWING or finding or told["begins"] or told["up"] or told["ends"]
-            or told["before"] != told["after"] or told.get("message") or told.get("settings")
-        )
-        code = finding["code"] if finding else ""
-        return Row(told["packet"], side, told.get("octets", 0), kind == "data", is_marked, code, encoded(array))
+        ])
 
     def more(self, told):
         """What an object says besides, without members that are null, false or empty."""

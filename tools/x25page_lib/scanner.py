@@ -26,6 +26,8 @@ TOPICS = {
 HEADING = re.compile(r"(\S.*?) \(([^()]*)\): (.*)")
 PARTS_LEFT_OUT = ("Example: ", "See: ")
 REFUSED = 2
+# Numbers with a point stay texts: times have more digits than a float.
+READER = json.JSONDecoder(parse_float=str)
 
 
 class Scanner:
@@ -38,11 +40,11 @@ class Scanner:
         """The objects of a trace in an open file, one after the other."""
         os.lseek(trace.fileno(), 0, os.SEEK_SET)
         words = [*self.words, "--rows"]
-        with subprocess.Popen(words, stdin=trace, stdout=subprocess.PIPE, stderr=subprocess.PIPE) as running:
+        streams = {"stdin": trace, "stdout": subprocess.PIPE, "stderr": subprocess.PIPE}
+        with subprocess.Popen(words, **streams, encoding="utf-8", errors="replace") as running:
             try:
-                for line in running.stdout:
-                    yield json.loads(line, parse_float=str)
-                said = running.stderr.read().decode(errors="replace")
+                yield from map(READER.decode, running.stdout)
+                said = running.stderr.read()
             except BaseException:
                 running.kill()
                 raise
@@ -54,8 +56,8 @@ class Scanner:
             return
         lines = [line.removeprefix("x25scan: ").strip() for line in said.splitlines()]
         if status == REFUSED:
-            raise Refusal(Why.TRACE, " ".join(lines))
-        raise OSError(f"{self.words[0]} --rows ended with status {status}: {' '.join(lines)}")
+            raise Refusal(Why.TRACE, ": ".join(lines))
+        raise OSError(f"{self.words[0]} --rows ended with status {status}: {': '.join(lines)}")
 
     def explanations(self):
         """The name and the sentences of each word, by its topic."""

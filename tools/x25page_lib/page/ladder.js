@@ -8,6 +8,7 @@ const LINE = 15;
 const LETTERS_OF_A_NOTE = 56;
 const EDGE = 4;
 const LONG_RUN = 12;
+const GAP = "\u00a0\u00a0";
 const ITEMS_AT_ONCE = 250;
 const FLOWING = new Set(["data", "rr", "rnr", "interrupt", "interrupt_confirmation"]);
 const shown = { key: null, items: [], from: 0, packet: null };
@@ -100,12 +101,12 @@ function arrowText(row) {
   const { more } = row;
   const name = typeName(row.type).toUpperCase();
   const parts = [draw("tspan", { class: "type" }, name)];
-  if (more.s !== undefined) parts.push(`  P(S) ${more.s}`);
-  if (more.r !== undefined) parts.push(`  P(R) ${more.r}`);
+  if (more.s !== undefined) parts.push(`${GAP}P(S) ${more.s}`);
+  if (more.r !== undefined) parts.push(`${GAP}P(R) ${more.r}`);
   for (const [bit, letter] of [["m", "M"], ["d", "D"], ["q", "Q"]]) {
-    if (more[bit]) parts.push(" ", draw("tspan", { class: "bit" }, letter));
+    if (more[bit]) parts.push(GAP, draw("tspan", { class: "bit" }, letter));
   }
-  if (more.o !== undefined && row.type === "data") parts.push(`  ${plural(more.o, "octet")}`);
+  if (more.o !== undefined && row.type === "data") parts.push(`${GAP}${plural(more.o, "octet")}`);
   return parts;
 }
 
@@ -217,7 +218,13 @@ function drawLadder() {
   const svg = draw("svg", { class: "ladder", viewBox: `0 0 ${WIDTH} ${y + 16}`, role: "group", "aria-label": `Ladder: ${keyName(shown.key)}` }, parts, ...lifelines(y, 16, state));
   place("ladder-room").replaceChildren(svg);
   place("ladder-pages").replaceChildren(...pageButtons());
-  mark();
+  mark(false);
+}
+
+function phases() {
+  const names = { "set-up": "set-up", transfer: "data transfer", reset: "reset", clear: "clearing", restart: "restart", ready: "ready" };
+  const there = new Set(shown.items.flatMap((item) => (item.row ? [phase(item.row.before), phase(item.row.after)] : [])));
+  return make("p", { class: "legend" }, Object.entries(names).filter(([it]) => there.has(it)).map(([it, name]) => make("span", { class: `key life-${it}` }, name)));
 }
 
 function pageButtons() {
@@ -263,7 +270,7 @@ function neighbours(key) {
 function missingRows(key) {
   const option = key.startsWith("call-") ? `--call ${key.slice(5)}` : `--channel ${key.slice(8)}`;
   return make("div", {}, make("p", {}, "The packets of this ladder are left out to keep the page small. This command shows them:"),
-    make("pre", {}, `x25scan --annotate ${option} ${facts.is_capture ? "day.trace" : facts.name}`));
+    make("pre", {}, `x25scan --annotate ${option} ${facts.is_capture ? "day.trace" : quoted(facts.name)}`));
 }
 
 function openLadder(key, packet) {
@@ -274,7 +281,7 @@ function openLadder(key, packet) {
   const call = key.startsWith("call-") ? callsByNumber.get(Number(key.slice(5))) : null;
   place("ladder").replaceChildren(
     make("div", { class: "section-head" }, make("h2", {}, keyName(key)), neighbours(key)),
-    make("div", { class: "card" }, call && callFacts(call),
+    make("div", { class: "card" }, call && callFacts(call), phases(),
       shown.items.length ? make("div", { class: "ladder-scroll" }, make("div", { class: "ladder-head" }, ladderHead()), make("div", { id: "ladder-room" })) : missingRows(key),
       make("div", { id: "ladder-pages", class: "tools" })),
     make("div", { id: "detail", class: "card", hidden: true }));
@@ -292,10 +299,11 @@ function pageOf(packet) {
   return Math.max(0, Math.floor(at / ITEMS_AT_ONCE) * ITEMS_AT_ONCE);
 }
 
-function mark() {
+// Marks the row that was chosen, and says what is known of it.
+function mark(withDetail = true) {
   for (const element of document.querySelectorAll(".row.chosen")) element.classList.remove("chosen");
   const item = shown.items.find((it) => it.row && it.row.packet === shown.packet);
   if (!item) return;
   place(`row-${shown.packet}`)?.classList.add("chosen");
-  showDetail(item.row);
+  if (withDetail) showDetail(item.row);
 }

@@ -13,7 +13,7 @@ function verdict() {
 function sideCard(side) {
   const most = Math.max(1, ...facts.codes.map((code) => Math.max(...code[3])));
   const rows = facts.codes.filter((code) => code[3][side]).map((code) => codeLine(code, side, most));
-  const kept = "Each packet of it keeps to the state tables.";
+  const kept = "Each of its packets keeps to the protocol.";
   return make("div", { class: `card side ${broken[side] ? "guilty" : "clean"}` },
     make("div", { class: "side-head" },
       make("h2", {}, word("side", LETTERS[side], SIDES[side])),
@@ -24,12 +24,13 @@ function sideCard(side) {
 
 function codeLine([code, name, , counts, first], side, most) {
   const bar = make("span", { class: "bar" });
-  bar.style.width = `${Math.max(2, 100 * counts[side] / most)}%`;
+  bar.style.width = `${Math.max(3, 100 * counts[side] / most)}%`;
   const [packet, key] = first[side];
   return make("li", {},
-    make("div", { class: "code-text" }, word(codeTopic(code), code, `code ${code}`, "code"), " ", name,
-      make("a", { class: "to", href: `#${key}/${packet}` }, `packet ${count(packet)}`)),
-    make("div", { class: "bar-line" }, make("span", { class: "bar-room" }, bar), make("b", {}, count(counts[side]))));
+    make("span", {}, word(codeTopic(code), code, `code ${code}`, "code"), " ", name),
+    make("span", { class: "bar-room" }, bar),
+    make("b", {}, count(counts[side])),
+    make("a", { href: `#${key}/${packet}` }, `${counts[side] > 1 ? "first at " : ""}packet ${count(packet)}`));
 }
 
 function tile(value, name, more = "") {
@@ -63,7 +64,7 @@ function duration() {
 
 function headerLine() {
   const chips = facts.numbers.map(([name, value, source]) => make("span", { class: source ? "chip estimated" : "chip" },
-    word("header", name), value && ` ${value}`, source && make("small", {}, `estimated from ${source}`)));
+    word("header", name), value && ` ${value}`, source && make("small", {}, "estimated from ", make("br"), source)));
   const guessed = facts.numbers.some((it) => it[2]);
   return make("div", { class: "card header" },
     make("h2", {}, "The header"),
@@ -72,19 +73,27 @@ function headerLine() {
       "Give --win and --size where you know them."));
 }
 
+// A name of a file as a shell reads it.
+function quoted(name) {
+  return /^[\w.,+@%:/-]+$/.test(name) ? name : `'${name.replaceAll("'", "'\\''")}'`;
+}
+
 function howToTry([, name, values]) {
   if (!values.length) return null;
   const option = { WIN: "--win", SIZE: "--size" }[name];
   const now = facts.numbers.find((it) => it[0] === name);
   const commands = values.map((value) => (facts.is_capture
-    ? `x25page ${option} ${value} ${facts.name}`
-    : `sed 's/${name} ${now ? now[1] : ""} /${name} ${value} /' ${facts.name} | x25page -o other.html -`));
-  return make("div", {}, "Try another value, and see whether the findings go away:", commands.map((line) => make("pre", {}, line)));
+    ? `x25page ${option} ${value} ${quoted(facts.name)}`
+    : `sed 's/${name} ${now ? now[1] : ""} /${name} ${value} /' ${quoted(facts.name)} | x25page -o other.html -`));
+  return make("div", {}, make("p", {}, `Try another ${name}, and see whether the findings go away:`), commands.map((line) => make("pre", {}, line)));
 }
 
-function alarms() {
-  return facts.warnings.map((it) => make("div", { class: "card alarm", role: "note" },
-    make("h2", {}, "The header may be wrong"), make("p", {}, it[0]), howToTry(it)));
+function alarm() {
+  if (!facts.warnings.length) return null;
+  const tried = new Set();
+  const ways = facts.warnings.filter(([, name]) => !tried.has(name) && tried.add(name)).map(howToTry);
+  return make("div", { class: "card alarm", role: "note" },
+    make("h2", {}, "The header may be wrong"), facts.warnings.map(([sentence]) => make("p", {}, sentence)), ways);
 }
 
 function heard() {
@@ -97,5 +106,5 @@ function showOverview() {
   place("overview").append(
     make("p", { class: `verdict ${broken[0] + broken[1] ? "bad" : "good"}` }, verdict()),
     make("div", { class: "sides" }, sideCard(0), sideCard(1)),
-    tiles(), ...alarms(), make("div", { class: "sides" }, headerLine(), heard()));
+    tiles(), alarm() ?? "", headerLine(), heard() ?? "");
 }

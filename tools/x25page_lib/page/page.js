@@ -19,10 +19,8 @@ function follow() {
   if (!match) return;
   const packet = match[2] ? Number(match[2]) : null;
   if (match[1] !== shown.key || (packet && !place(`row-${packet}`))) openLadder(match[1], packet);
-  else {
-    shown.packet = packet;
-    mark();
-  }
+  shown.packet = packet;
+  mark();
   const row = packet && place(`row-${packet}`);
   if (row) row.scrollIntoView({ block: "center" });
   else place("ladder").scrollIntoView({ block: "start" });

@@ -90,6 +90,7 @@ function callColumns() {
   const hasTimes = facts.times.length > 0;
   return [
     { name: "Call", word: "call", value: (it) => it.call, style: "number", show: (it) => make("a", { href: `#call-${it.call}` }, count(it.call)) },
+    { name: "Findings", word: "findings", value: (it) => it.findings, falls: true, show: codesOf },
     number("Channel", (it) => it.channel, { word: "channel" }),
     { name: "From", word: "calling", value: (it) => it.calling, style: "address" },
     { name: "To", word: "called", value: (it) => it.called, style: "address" },
@@ -103,7 +104,6 @@ function callColumns() {
     number("Segments", (it) => it.segments, { word: "segments", falls: true }),
     { name: "Pays", value: (it) => it.payer, show: (it) => [it.payer ?? "-", make("small", {}, it.pays)] },
     { name: "How it ended", word: "how", style: "ending", value: (it) => it.how, show: howEnded },
-    { name: "Findings", word: "findings", value: (it) => it.findings, falls: true, show: codesOf },
   ];
 }
 

@@ -138,15 +138,14 @@ function faultOf([at, wrong]) {
   return { code, name, then, clause, wrong };
 }
 
-// Calls, by the names of their members.
-const COLUMNS = ["call", "epoch", "channel", "direction", "called", "calling", "opened", "up", "ended", "how", "dataT", "octetsT",
-  "dataN", "octetsN", "segments", "pays", "payer", "clearedBy", "cause", "diagnostic", "codes", "start", "seconds"];
-
+// A call of the page, by name.
 function callOf(array) {
-  const call = Object.fromEntries(COLUMNS.map((name, at) => [name, array[at] ?? null]));
-  call.findings = Object.values(call.codes || {}).reduce((sum, many) => sum + many, 0);
-  call.data = call.dataT + call.dataN;
-  return call;
+  const [call, epoch, channel, direction, called, calling, opened, up, ended, how, dataT, octetsT, dataN, octetsN, segments,
+    pays, payer, clearedBy, cause, diagnostic, codes, start, seconds] = array;
+  let findings = 0;
+  for (const code in codes) findings += codes[code];
+  return { call, epoch, channel, direction, called, calling, opened, up, ended, how, dataT, octetsT, dataN, octetsN, segments,
+    pays, payer, clearedBy, cause, diagnostic, codes, start, seconds, findings, data: dataT + dataN };
 }
 
 const calls = facts.calls.map(callOf);

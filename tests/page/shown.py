@@ -1,0 +1,140 @@
+"""A page in a headless Chromium: its tables, its ladders, what a click does, and that hostile text stays text."""
+import contextlib
+import pathlib
+import sys
+
+from pages import ROOT, Page, run
+
+sys.path.insert(0, str(ROOT / "tools"))
+
+from browser import Browser  # noqa: E402
+
+SEVEN = ROOT / "examples" / "seven-calls.trace"
+TAG = '"><script>hacked=1</script><img src=x onerror=hacked=1>\''
+HOSTILE_NAME = "<img src=x onerror=hacked=1>'\"&amp;.trace"
+
+
+def hostile_trace():
+    """A trace whose comments and user data hold markup."""
+    data = TAG.encode().hex().upper()
+    rows = ["1 T 10010B5445001234500004C0000000" + "3C7363726970743E", "2 N 10010F", f"3 T 100100{data}", "4 T 100102AA", "5 T 100104AA"]
+    head = f"# {TAG}\n# estimated from what was seen: WIN 2 ({TAG.replace('(', '')})\nX25 1 MOD 8 WIN 2 SIZE 128 PVC 0 SVC 4\n"
+    return head + f"# connection 1 is channel 1: {TAG}\n" + "".join(f"{row}\n# {TAG}\n" for row in rows)
+
+
+class Shown:
+    """A page in a browser, and what was wrong so far."""
+
+    def __init__(self, browser):
+        self.browser, self.said = browser, []
+
+    def is_so(self, expression, wanted=True):
+        got = self.browser.value(expression)
+        if got != wanted:
+            self.said.append(f"{expression} is {got!r}, wanted {wanted!r}")
+
+    def texts(self, selector):
+        return self.browser.value(f"[...document.querySelectorAll({selector!r})].map((it) => it.textContent)")
+
+    def faults(self):
+        said, self.said = self.said + self.browser.faults, []
+        self.browser.faults = []
+        return said
+
+
+def tables(shown, page):
+    """The tables have the numbers of the report."""
+    facts = page.facts
+    shown.is_so("document.querySelectorAll('#call-table tbody tr').length", len(facts["calls"]))
+    shown.is_so("document.querySelectorAll('#finding-table tbody tr').length", len(facts["marks"]))
+    shown.is_so("document.querySelector('.verdict').textContent", "The DTE broke the protocol once.")
+    numbers = [text.replace(",", "") for text in shown.texts(".tile b")]
+    sums = facts["sums"]
+    wanted = [str(it) for it in (sums["packets"], sums["calls"], sums["octets"], sums["segments"], facts["peak"][0], 1)]
+    if numbers != wanted:
+        shown.said.append(f"the tiles have {numbers}, wanted {wanted}")
+    accounts = shown.texts("#account-table tbody td")
+    if accounts != ["12345", "4", "13", "67890", "3", "9"]:
+        shown.said.append(f"the accounts are {accounts}")
+
+
+def clicks(shown):
+    """A click on a call, on a bar, on a finding and on a packet opens what belongs to it."""
+    browser = shown.browser
+    browser.click("#call-table tbody tr:nth-child(3) td:nth-child(5)")
+    shown.is_so("document.querySelector('#ladder h2').textContent", "Call 3")
+    shown.is_so("document.querySelectorAll('#ladder-room .row').length", 7)
+    browser.value("document.querySelector('#lanes').scrollIntoView({block: 'center'})")
+    at = browser.value("(() => { const box = document.querySelector('#lanes svg').getBoundingClientRect();"
+                       " return [box.left + (across(callsByNumber.get(2).opened) + across(callsByNumber.get(2).ended)) / 2, box.top + strip.lane * 1.5]; })()")
+    browser.press(*at)
+    shown.is_so("location.hash", "#call-2")
+    browser.click("#finding-table tbody tr td:nth-child(4)")
+    shown.is_so("location.hash", "#call-7/47")
+    shown.is_so("document.querySelector('#ladder-room .row.faulty').id", "row-47")
+    shown.is_so("document.querySelector('#detail .fault-card').textContent.startsWith('Code 1: Invalid P(S)')")
+    browser.value("document.querySelector('#detail details').open = true")
+    shown.is_so("document.querySelector('#detail pre').textContent.startsWith('0000  10 01 24 21')")
+    browser.value("location.hash = '#call-1/4'")
+    shown.is_so("document.querySelector('#detail').textContent.includes('103 octets in hex')", True) if wait(browser, "shown.packet === 4") else shown.said.append("no packet 4")
+
+
+def wait(browser, expression):
+    """Whether something comes to be so."""
+    return any(browser.value(expression) for _ in range(100))
+
+
+def uses(shown):
+    """Tables are filtered and sorted, words explained, colours changed."""
+    browser = shown.browser
+    browser.value("(() => { const it = document.querySelector('#call-filter'); it.value = '67890'; it.dispatchEvent(new Event('input')); })()")
+    shown.is_so("document.querySelectorAll('#call-table tbody tr').length", 3)
+    browser.value("(() => { const it = document.querySelector('#call-filter'); it.value = ''; it.dispatchEvent(new Event('input')); })()")
+    browser.value("[...document.querySelectorAll('#call-table th button')].find((it) => it.textContent === 'Segments').click()")
+    shown.is_so("document.querySelector('#call-table tbody tr td').textContent", "7")
+    browser.value("document.querySelector('.codes .word').scrollIntoView({block: 'center'})")
+    wait(browser, "document.querySelector('#hint').hidden")
+    browser.value("document.querySelector('.codes .word').focus({preventScroll: true})")
+    shown.is_so("document.querySelector('#hint').hidden", False)
+    shown.is_so("document.querySelector('#hint').textContent.includes('The P(S) of a data packet is not the next number')")
+    colour = "getComputedStyle(document.body).backgroundColor"
+    browser.value("document.querySelector('#theme [data-name=light]').click()")
+    light = browser.value(colour)
+    browser.value("document.querySelector('#theme [data-name=dark]').click()")
+    shown.is_so(f"{colour} !== {light!r}")
+
+
+def hostile(shown, folder, scanner):
+    """Markup in a name, in comments and in user data changes nothing, and is shown as it is."""
+    trace = folder / HOSTILE_NAME
+    trace.write_text(hostile_trace())
+    page = folder / "hostile.html"
+    done = run("--scanner", scanner, "-o", page, trace)
+    if done.returncode:
+        shown.said.append(f"hostile: {done.stderr}")
+        return
+    shown.browser.open(page, "#call-1/5")
+    shown.is_so("typeof hacked", "undefined")
+    shown.is_so("document.querySelectorAll('script').length", 2)
+    shown.is_so("document.querySelectorAll('img').length", 0)
+    shown.is_so("document.querySelector('#name').textContent", HOSTILE_NAME)
+    shown.is_so(f"document.querySelector('#about').textContent.includes({TAG!r})")
+    shown.is_so(f"document.querySelector('#ladder').textContent.includes({TAG!r})")
+    shown.is_so("document.querySelectorAll('#ladder-room .row').length", 5)
+
+
+def outcomes(scanner, folder):
+    """Names of tests in the browser, and what is wrong with each."""
+    path = pathlib.Path(folder, "seven.html")
+    run("--scanner", scanner, "-o", path, SEVEN)
+    with Browser() as browser, contextlib.ExitStack():
+        shown = Shown(browser)
+        browser.open(path)
+        tables(shown, Page(path))
+        yield "tables in the browser", shown.faults()
+        clicks(shown)
+        yield "clicks", shown.faults()
+        uses(shown)
+        yield "filters, sorting, words, colours", shown.faults()
+        hostile(shown, pathlib.Path(folder), scanner)
+        yield "hostile text in the browser", shown.faults()
