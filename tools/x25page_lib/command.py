@@ -9,7 +9,7 @@ import sys
 import tempfile
 
 from x25trace_lib.captures import is_same
-from x25trace_lib.command import title
+from x25trace_lib.command import is_open, title
 from x25trace_lib.source import Waiting
 from x25trace_lib.told import Ledger, Refusal
 from x25trace_lib.words import Status
@@ -147,10 +147,11 @@ def main(arguments, waiting):
 
 def fill_gaps():
     """Gives closed standard streams a place, so that no file takes theirs; whoever closed one wants to hear nothing."""
-    for descriptor, stream in enumerate((sys.stdin, sys.stdout, sys.stderr)):
-        if stream is None:
+    is_mute = sys.stderr is None or not is_open(2)
+    for descriptor, is_closed in enumerate((sys.stdin is None, sys.stdout is None, is_mute)):
+        if is_closed:
             os.dup2(os.open(os.devnull, os.O_RDWR), descriptor)
-    if sys.stderr is None:
+    if is_mute:
         sys.stderr = open(2, "w", encoding="ascii", errors="replace", closefd=False)
 
 

@@ -7,6 +7,9 @@ from x25trace_lib.words import Words, header_words, reading_words, side_words
 from .told import Why
 
 REASONS = ", ".join(why.value for why in (*TraceWhy, *Why))
+NAMES_OF_PAGES = """Without -o the page is NAME.html in the current folder, for a file NAME or NAME.pcap, and nothing else is written. It is
+one file: a browser shows it from the disk, and it asks no network for anything. A page that stands there is written
+anew; another file of that name is not."""
 EPILOG = f"""
 examples:
   x25page day.pcap                      writes day.html, of XOT, LAPB or X.25 in a pcap, pcapng or snoop file
@@ -14,9 +17,7 @@ examples:
   x25page -o friday.html day.trace      of a trace, under another name
   x25page day.pcap0 day.pcap1           the files of a rotated capture, in their order
 
-Without -o the page is NAME.html in the current folder, for a file NAME or NAME.pcap; nothing else is written. It is one
-file: a browser shows it from the disk, and it asks no network for anything. A page that stands there is written anew;
-another file of that name is not.
+{NAMES_OF_PAGES}
 
 exit status:
   0   the page is written, and no packet may be missing

@@ -7,7 +7,7 @@ const ARROW = 24;
 const LINE = 15;
 const LETTERS_OF_A_NOTE = 56;
 const EDGE = 4;
-const LONG_RUN = 12;
+const LONG_RUN = 16;
 const GAP = "\u00a0\u00a0";
 const ITEMS_AT_ONCE = 250;
 const FLOWING = new Set(["data", "rr", "rnr", "interrupt", "interrupt_confirmation"]);
@@ -163,10 +163,10 @@ function drawRow(row, y, begun) {
 }
 
 function runText(run) {
-  const parts = SIDES.map((side, at) => (run.data[at] ? `${plural(run.data[at], "data packet")} of the ${side} (${plural(run.octets[at], "octet")})` : null));
+  const parts = SIDES.map((side, at) => (run.data[at] ? `${side}: ${count(run.data[at])} data, ${plural(run.octets[at], "octet")}` : null));
   const other = run.packets - run.data[0] - run.data[1];
   if (other) parts.push(plural(other, "other packet"));
-  return parts.filter(Boolean).join(", ");
+  return parts.filter(Boolean).join(" \u00b7 ");
 }
 
 function sumsOf(rows) {
@@ -182,13 +182,13 @@ function sumsOf(rows) {
 function drawGap(item, y, state) {
   const run = item.run || sumsOf(item.fold);
   const codes = Object.entries(run.findings || {}).map(([code, many]) => `code ${code} ${times(many)}`).join(", ");
-  const what = item.run ? `Packets ${count(run.first)} to ${count(run.last)} are left out of this page` : `${plural(run.packets, "packet")} without a finding: click to see them`;
+  const what = item.run ? `${plural(run.packets, "packet")} left out, ${count(run.first)} to ${count(run.last)}` : `${plural(run.packets, "packet")} without a finding: click to see them`;
   const open = () => unfold(item);
   const attributes = item.fold ? { class: "gap fold", tabindex: 0, role: "button", click: open, keydown: (event) => event.key === "Enter" && open() } : { class: "gap" };
   return [draw("g", attributes, ...lifelines(y, 52, state),
     draw("rect", { class: "gap-room", x: AT.dte + 14, y: y + 5, width: AT.dce - AT.dte - 28, height: 42, rx: 8 }),
     draw("text", { x: (AT.dte + AT.dce) / 2, y: y + 23, "text-anchor": "middle" }, what),
-    draw("text", { class: "faint", x: (AT.dte + AT.dce) / 2, y: y + 39, "text-anchor": "middle" }, codes ? `${runText(run)}; ${codes}` : runText(run))), 52];
+    draw("text", { class: "faint", x: (AT.dte + AT.dce) / 2, y: y + 39, "text-anchor": "middle" }, codes || runText(run))), 52];
 }
 
 function unfold(item) {

@@ -54,7 +54,7 @@ function tiles() {
 }
 
 function notCounted([reason, packets, octets]) {
-  return make("li", {}, `${count(packets)} ${reasonName(reason)}, ${plural(octets, "octet")}`);
+  return make("li", {}, `${count(packets)} ${reasonName(reason)} (${plural(octets, "octet")})`);
 }
 
 function duration() {
@@ -65,11 +65,11 @@ function duration() {
 function headerLine() {
   const chips = facts.numbers.map(([name, value, source]) => make("span", { class: source ? "chip estimated" : "chip" },
     word("header", name), value && ` ${value}`, source && make("small", {}, "estimated from ", make("br"), source)));
-  const guessed = facts.numbers.some((it) => it[2]);
+  const guessed = facts.numbers.some(([name, , source]) => source && ["WIN", "SIZE"].includes(name));
   return make("div", { class: "card header" },
     make("h2", {}, "The header"),
     make("p", { class: "chips" }, chips.length ? chips : make("code", {}, facts.header)),
-    guessed && make("p", { class: "muted" }, "An estimated number is the smallest that fits what was seen, so data that broke a smaller one is not found. ",
+    guessed && make("p", { class: "muted" }, "An estimated WIN or SIZE is the smallest that fits what was seen, so data that broke a smaller one is not found. ",
       "Give --win and --size where you know them."));
 }
 

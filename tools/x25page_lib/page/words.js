@@ -114,7 +114,7 @@ const TYPES = {
 const typeName = (type) => (Object.hasOwn(TYPES, type) ? TYPES[type] : type.replaceAll("_", " "));
 
 const REASONS = {
-  finding: "of a finding",
+  finding: "with a finding",
   indication_owed: "while the DCE owed its indication",
   not_in_data_transfer: "outside of data transfer",
   discarded: "discarded during a reset or a clear",
