@@ -3,6 +3,7 @@ import contextlib
 import gc
 import os
 import pathlib
+import shlex
 import signal
 import stat
 import sys
@@ -18,9 +19,11 @@ from . import inputs, pages
 from .facts import Facts
 from .scanner import Scanner
 from .told import Why
-from .words import of_captures, parsed, parser
+from .words import line_with, of_captures, parsed, parser
 
 TERMINATED = 128 + signal.SIGTERM
+# The options of the numbers that a page may advise to change.
+OPTIONS = {"WIN": "--win", "SIZE": "--size"}
 
 
 def say(words):
@@ -32,7 +35,7 @@ class Told(Ledger):
 
     def __init__(self):
         super().__init__(self.hear)
-        self.heard = []
+        self.heard, self.is_capture = [], False
 
     def hear(self, words):
         self.heard.append(words)
@@ -81,6 +84,7 @@ def written(path):
 def opened_trace(words, ledger, waiting):
     """The trace that is named, or that of the captures that are."""
     if not inputs.is_trace(inputs.start_of(words.captures[0])):
+        ledger.is_capture = True
         with inputs.trace_of(words, ledger, waiting) as trace:
             yield trace
         return
@@ -100,7 +104,15 @@ def say_header(head):
         say(f"estimated from what was seen: {told}")
 
 
-def make(words, ledger, waiting):
+def again(words, arguments, is_capture):
+    """What stands in a command that makes the page again: of a capture by the number that is changed, else its name."""
+    if is_capture:
+        return {name: line_with(arguments, option) for name, option in OPTIONS.items()}
+    name = words.captures[0]
+    return "TRACE" if name == "-" else shlex.quote(os.path.basename(name))
+
+
+def make(words, arguments, ledger, waiting):
     """Reads what is named, and writes the page."""
     path, scanner, facts = path_of(words), Scanner(words.scanner), Facts()
     with opened_trace(words, ledger, waiting) as trace:
@@ -111,19 +123,19 @@ def make(words, ledger, waiting):
         head = inputs.head_of(trace)
         say_header(head)
         facts.take(scanner.objects(trace))
-    page = pages.Page(title(words.captures), head, ledger.heard, facts, scanner.explanations(), ledger.is_capture)
+    words_again = again(words, arguments, ledger.is_capture)
+    page = pages.Page(title(words.captures), head, ledger.heard, facts, scanner.explanations(), words_again)
     with written(path) as out:
         for part in page.parts():
             out.write(part)
     say(f"{path}: {page.summary()}")
 
 
-def run(words, waiting):
+def run(words, arguments, waiting):
     """Makes the page; returns the status."""
     ledger = Told()
-    ledger.is_capture = False
     try:
-        make(words, ledger, waiting)
+        make(words, arguments, ledger, waiting)
     except Refusal as refusal:
         say(refusal)
         return Status.INTERRUPTED if waiting.interrupted else Status.REFUSED
@@ -136,7 +148,7 @@ def main(arguments, waiting):
     """Runs in a process whose streams and signals are as they are."""
     words = parsed(arguments)
     try:
-        return run(words, waiting)
+        return run(words, arguments, waiting)
     except OSError as fault:
         name = f"{fault.filename}: " if isinstance(fault.filename, str) else ""
         say(f"reading or writing failed: {name}{fault.strerror or fault}")

@@ -33,9 +33,9 @@ def read(name):
 class Page:
     """A page of a trace."""
 
-    def __init__(self, name, head, heard, facts, explanations, is_capture):
+    def __init__(self, name, head, heard, facts, explanations, again):
         self.name, self.head, self.heard, self.facts = name, head, heard, facts
-        self.explanations, self.is_capture = explanations, is_capture
+        self.explanations, self.again = explanations, again
         self.size = 0
 
     def parts(self):
@@ -79,7 +79,7 @@ class Page:
         facts, head, codes = self.facts, self.head, self.facts.codes()
         return {
             "name": self.name,
-            "is_capture": self.is_capture,
+            "again": self.again,
             "header": head.header,
             "numbers": [[name, value, head.estimates.get(name)] for name, value in head.numbers.items()],
             "heard": self.heard,

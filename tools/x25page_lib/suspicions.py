@@ -20,7 +20,7 @@ class Debt:
 
 
 class Debts:
-    """The errors of the DTE that the DCE went on after."""
+    """The errors of the DTE that the DCE went on after, of codes that a wrong header gives."""
 
     def __init__(self):
         self.open = {}
@@ -30,13 +30,15 @@ class Debts:
     def see(self, told):
         channel = told["channel"]
         if channel is None:
-            if told["ends"]:
-                self.end()
+            # A restart pays all debts.
+            if told["type"].startswith("restart_") and not told["finding"]:
+                self.open.clear()
             return
         debt = self.open.get(channel)
         if debt is None:
-            if told["finding"] and told["owed"] and told["side"] == "T":
-                self.open[channel] = Debt(told["packet"], told["finding"]["code"])
+            finding = told["finding"]
+            if finding and told["owed"] and told["side"] == "T" and finding["code"] in NUMBERS:
+                self.open[channel] = Debt(told["packet"], finding["code"])
         elif not told["owed"]:
             self.open.pop(channel)
             if told["side"] == "T":
@@ -97,10 +99,10 @@ def of_debts(header, debts):
     if not many:
         return
     code = max(debts.unpaid, key=debts.unpaid.get)
-    yield NUMBERS.get(code, ""), (
-        f"After {number(many, 'finding')} of the DTE (the first is packet {debts.first}) the DCE did not do what it had to: it went on "
-        f"as if nothing was wrong. Then the DTE was right, and the header is not that of the interface. "
-        "Data after such a finding is not counted, so the sums are too low."
+    yield NUMBERS[code], (
+        f"After {number(many, 'finding')} of the DTE (the first is packet {debts.first:,}) the DCE did not do what it had to: "
+        "it went on as if nothing was wrong. Then the DTE was probably right, and the header is not that of the "
+        "interface. Data after such a finding is not counted, so the sums are too low."
     )
 
 

@@ -1,5 +1,6 @@
 """The command line of x25page: its words, and which of them are of captures alone."""
 import argparse
+import shlex
 
 from x25trace_lib.told import Why as TraceWhy
 from x25trace_lib.words import Words, header_words, reading_words, side_words
@@ -69,3 +70,14 @@ def of_captures(words):
             if given[action.dest] != bare[action.dest]:
                 return action.option_strings[0]
     return None
+
+
+def line_with(arguments, option):
+    """The command line that makes the page again under another value of an option, which comes after its beginning."""
+    rest, words = [], iter(arguments)
+    for word in words:
+        if word in ("-o", "--scanner", option):
+            next(words, None)
+        elif not word.startswith((f"{option}=", "--scanner=", "-o")):
+            rest.append(word)
+    return shlex.join(rest)

@@ -246,6 +246,7 @@ function ladderHead() {
 // What a call is, in a line of parts.
 function callFacts(call) {
   const circuit = facts.circuits.filter((it) => it[1] === call.channel && it[0] <= call.opened).at(-1);
+  const settings = facts.settings.filter((it) => it[0] === call.call);
   const fact = (name, ...value) => make("div", {}, make("dt", {}, name), make("dd", {}, ...value));
   return make("dl", { class: "call-facts" },
     fact("from", call.calling ?? "-"), fact("to", call.called ?? "-"),
@@ -257,6 +258,8 @@ function callFacts(call) {
     fact("data", `${count(call.dataT)} of the DTE (${plural(call.octetsT, "octet")}), ${count(call.dataN)} of the DCE (${plural(call.octetsN, "octet")})`),
     fact("segments", count(call.segments)), fact("pays", call.payer ?? "-", ` (the ${call.pays} side)`),
     fact("end", ...howEnded(call)),
+    settings.length > 0 && fact("PAD settings", settings.map(([, side, parameter, how, value]) => [
+      `${SIDES[LETTERS.indexOf(side)]}: `, word("parameter", String(parameter)), ` ${how} ${value}; `])),
     circuit && fact("circuit", circuit[2]));
 }
 
@@ -269,8 +272,9 @@ function neighbours(key) {
 
 function missingRows(key) {
   const option = key.startsWith("call-") ? `--call ${key.slice(5)}` : `--channel ${key.slice(8)}`;
+  const read = typeof facts.again === "string" ? `x25scan < ${facts.again}` : `x25trace ${facts.again.WIN} | x25scan`;
   return make("div", {}, make("p", {}, "The packets of this ladder are left out to keep the page small. This command shows them:"),
-    make("pre", {}, `x25scan --annotate ${option} ${facts.is_capture ? "day.trace" : quoted(facts.name)}`));
+    make("pre", {}, `${read} --annotate ${option}`));
 }
 
 function openLadder(key, packet) {

@@ -73,19 +73,17 @@ function headerLine() {
       "Give --win and --size where you know them."));
 }
 
-// A name of a file as a shell reads it.
-function quoted(name) {
-  return /^[\w.,+@%:/-]+$/.test(name) ? name : `'${name.replaceAll("'", "'\\''")}'`;
-}
-
+// The commands that make the page again under other values of a number of the header.
 function howToTry([, name, values]) {
   if (!values.length) return null;
   const option = { WIN: "--win", SIZE: "--size" }[name];
   const now = facts.numbers.find((it) => it[0] === name);
-  const commands = values.map((value) => (facts.is_capture
-    ? `x25page ${option} ${value} ${quoted(facts.name)}`
-    : `sed 's/${name} ${now ? now[1] : ""} /${name} ${value} /' ${quoted(facts.name)} | x25page -o other.html -`));
-  return make("div", {}, make("p", {}, `Try another ${name}, and see whether the findings go away:`), commands.map((line) => make("pre", {}, line)));
+  const isCapture = typeof facts.again !== "string";
+  const commands = values.map((value) => (isCapture
+    ? `x25page ${option} ${value} -o other.html ${facts.again[name]}`
+    : `sed 's/${name} ${now[1]} /${name} ${value} /' ${facts.again} | x25page -o other.html -`));
+  return make("div", {}, make("p", {}, `Try another ${name}, and see whether the findings go away:`),
+    commands.map((line) => make("pre", {}, line)));
 }
 
 function alarm() {

@@ -22,7 +22,8 @@ function follow() {
   shown.packet = packet;
   mark();
   const row = packet && place(`row-${packet}`);
-  if (row) row.scrollIntoView({ block: "center" });
+  // The row comes to stand above what is said of it.
+  if (row) window.scrollBy({ top: row.getBoundingClientRect().top - 0.3 * window.innerHeight });
   else place("ladder").scrollIntoView({ block: "start" });
 }
 

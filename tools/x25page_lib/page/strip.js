@@ -1,9 +1,9 @@
 // The strip: a lane for each channel over the whole trace, calls as bars, findings as marks, restarts as lines.
 
-const LABELS = 74;
 const AXIS = 34;
 const NEAR = 7;
-const strip = { byTime: false, from: 0, to: 0, width: 0, lanes: new Map(), height: 0, lane: 0, drag: null };
+const RIGHT = 12;
+const strip = { byTime: false, from: 0, to: 0, width: 0, labels: 0, lanes: new Map(), height: 0, lane: 0, drag: null };
 
 function lastPacket(call) {
   return call.ended ?? facts.rows[1];
@@ -26,8 +26,8 @@ function timeAt(packet) {
 }
 
 const value = (packet) => (strip.byTime ? timeAt(packet) : packet);
-const across = (packet) => LABELS + (value(packet) - strip.from) / (strip.to - strip.from || 1) * (strip.width - LABELS - 12);
-const back = (x) => strip.from + (x - LABELS) / (strip.width - LABELS - 12) * (strip.to - strip.from);
+const across = (packet) => strip.labels + (value(packet) - strip.from) / (strip.to - strip.from || 1) * (strip.width - strip.labels - RIGHT);
+const back = (x) => strip.from + (x - strip.labels) / (strip.width - strip.labels - RIGHT) * (strip.to - strip.from);
 
 function wholeView() {
   const [first, last] = facts.rows;
@@ -44,6 +44,7 @@ function layOut() {
   const names = facts.channels.map(String);
   if (facts.restarts.length || facts.marks.some((mark) => mark[2] === null)) names.unshift("interface");
   strip.lane = laneHeight(names.length);
+  strip.labels = 24 + 6.4 * Math.max(9, ...names.map((name) => laneName(name).length));
   strip.lanes = new Map(names.map((name, at) => [name, at]));
   strip.height = Math.max(1, names.length) * strip.lane;
 }
@@ -57,9 +58,9 @@ function barsPath(chosen) {
   for (const call of chosen) {
     const x = across(call.opened);
     const right = Math.max(x + 1.5, across(lastPacket(call)));
-    if (right < LABELS || x > strip.width || right < (ends.get(call.channel) ?? -1) + 0.5) continue;
+    if (right < strip.labels || x > strip.width || right < (ends.get(call.channel) ?? -1) + 0.5) continue;
     ends.set(call.channel, right);
-    const left = Math.max(LABELS, x);
+    const left = Math.max(strip.labels, x);
     const inner = Math.max(2, strip.lane - 6);
     const y = laneOf(call.channel) * strip.lane + (strip.lane - inner) / 2;
     path += `M${left.toFixed(1)} ${y}h${(Math.min(right, strip.width - 4) - left).toFixed(1)}v${inner}H${left.toFixed(1)}z`;
@@ -74,7 +75,7 @@ function marksPath() {
   for (const [packet, , channel] of facts.marks) {
     const x = Math.round(across(packet) * 2) / 2;
     const lane = laneOf(channel);
-    if (x < LABELS || x > strip.width || seen.has(`${x} ${lane}`)) continue;
+    if (x < strip.labels || x > strip.width || seen.has(`${x} ${lane}`)) continue;
     seen.add(`${x} ${lane}`);
     path += `M${x - size} ${lane * strip.lane + strip.lane / 2}l${size} ${-size}l${size} ${size}l${-size} ${size}z`;
   }
@@ -83,7 +84,7 @@ function marksPath() {
 
 function lanesPath() {
   let path = "";
-  for (const at of strip.lanes.values()) path += `M${LABELS} ${at * strip.lane + strip.lane / 2}H${strip.width - 4}`;
+  for (const at of strip.lanes.values()) path += `M${strip.labels} ${at * strip.lane + strip.lane / 2}H${strip.width - 4}`;
   return path;
 }
 
@@ -91,21 +92,23 @@ function restartsPath() {
   let path = "";
   for (const [packet] of facts.restarts) {
     const x = across(packet);
-    if (x >= LABELS && x <= strip.width) path += `M${x.toFixed(1)} 0V${strip.height}`;
+    if (x >= strip.labels && x <= strip.width) path += `M${x.toFixed(1)} 0V${strip.height}`;
   }
   return path;
 }
 
+const laneName = (name) => (name === "interface" ? name : `channel ${name}`);
+
 function laneNames() {
   if (strip.lane < 10) return [];
-  return [...strip.lanes].map(([name, at]) => draw("text", { class: "lane-name", x: LABELS - 8, y: at * strip.lane + strip.lane / 2 + 4, "text-anchor": "end" },
-    name === "interface" ? name : `channel ${name}`.slice(strip.lane < 14 ? 8 : 0)));
+  return [...strip.lanes].map(([name, at]) => draw("text", { class: "lane-name", x: strip.labels - 8, y: at * strip.lane + strip.lane / 2 + 4, "text-anchor": "end" },
+    laneName(name)));
 }
 
 function barNames() {
   if (calls.length > 400 || strip.lane < 14) return [];
   return calls.map((call) => {
-    const [x, right] = [Math.max(LABELS, across(call.opened)), Math.min(strip.width, across(lastPacket(call)))];
+    const [x, right] = [Math.max(strip.labels, across(call.opened)), Math.min(strip.width, across(lastPacket(call)))];
     if (right - x < 12 + 7 * String(call.call).length) return null;
     return draw("text", { class: "bar-name", x: x + 6, y: laneOf(call.channel) * strip.lane + strip.lane / 2 + 4 }, String(call.call));
   });
@@ -121,7 +124,8 @@ function axis() {
   const step = Math.max(strip.byTime ? 1e-6 : 1, niceStep(strip.to - strip.from, strip.width / 130));
   const ticks = [];
   for (let at = Math.ceil(strip.from / step) * step; at < strip.to; at += step) {
-    const x = LABELS + (at - strip.from) / (strip.to - strip.from) * (strip.width - LABELS - 12);
+    const x = strip.labels + (at - strip.from) / (strip.to - strip.from) * (strip.width - strip.labels - RIGHT);
+    if (x > strip.width - 30) break;
     const under = !strip.byTime && facts.times.length ? shortClock(timeAt(at)) : "";
     ticks.push(draw("path", { class: "tick", d: `M${x} 26v8` }),
       draw("text", { class: "tick-name", x, y: 12, "text-anchor": "middle" }, strip.byTime ? shortClock(at) : count(Math.round(at))),
@@ -212,7 +216,7 @@ function release(event) {
   strip.drag = null;
   if (begin === null) return;
   if (Math.abs(at.x - begin) <= NEAR) go(at);
-  else zoomTo(back(Math.max(LABELS, Math.min(at.x, begin))), back(Math.max(at.x, begin)));
+  else zoomTo(back(Math.max(strip.labels, Math.min(at.x, begin))), back(Math.max(at.x, begin)));
 }
 
 function drawStrip() {

@@ -154,7 +154,10 @@ const callsByNumber = new Map(calls.map((call) => [call.call, call]));
 // What a ladder is of.
 function keyName(key) {
   if (key === "interface") return "The interface";
-  return key.startsWith("call-") ? `Call ${key.slice(5)}` : `Channel ${key.slice(8)}, outside of calls`;
+  const number = Number(key.slice(key.indexOf("-") + 1));
+  if (key.startsWith("call-")) return `Call ${number}`;
+  const permanent = facts.numbers.find(([name]) => name === "PVC");
+  return `Channel ${number}, ${permanent && number <= Number(permanent[1]) ? "a permanent circuit" : "outside of calls"}`;
 }
 
 function causeName(at) {
