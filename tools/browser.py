@@ -10,7 +10,8 @@ import tempfile
 import time
 
 NAMES = ("chromium", "chromium-browser", "google-chrome", "chrome")
-WORDS = ("--headless", "--no-sandbox", "--disable-gpu", "--hide-scrollbars", "--no-first-run", "--remote-debugging-pipe", "--disable-dev-shm-usage")
+WORDS = ("--headless", "--no-sandbox", "--disable-gpu", "--hide-scrollbars", "--no-first-run",
+         "--disable-dev-shm-usage", "--remote-debugging-pipe")
 SECONDS = 50
 END = b"\0"
 
@@ -123,4 +124,5 @@ class Browser:
     def picture(self, path, box=None):
         """Writes a picture of the window, or of a part of the page."""
         clip = {"clip": {**box, "scale": 1}, "captureBeyondViewport": True} if box else {}
-        pathlib.Path(path).write_bytes(base64.b64decode(self.ask("Page.captureScreenshot", format="png", **clip)["data"]))
+        told = self.ask("Page.captureScreenshot", format="png", **clip)
+        pathlib.Path(path).write_bytes(base64.b64decode(told["data"]))

@@ -60,13 +60,17 @@ class Called(unittest.TestCase):
     def test_capture(self):
         done = self.run_page(CAPTURE)
         self.assertEqual((done.returncode, self.there()), (0, ["ethernet.html"]), done.stderr)
-        for words in (b"header: X25 1 MOD 8 WIN 1 SIZE 16 PVC 0 SVC 1", b"estimated from what was seen: MOD 8 (", b"WIN 1 and SIZE 16 are estimated, so "):
+        for words in (b"header: X25 1 MOD 8 WIN 1 SIZE 16 PVC 0 SVC 1", b"estimated from what was seen: MOD 8 (",
+                      b"WIN 1 and SIZE 16 are estimated, so "):
             self.assertIn(b"x25page: " + words, done.stderr)
         facts = Page(self.folder / "ethernet.html").facts
         self.assertEqual(facts["numbers"][1][:2], ["WIN", "1"])
         self.assertTrue(facts["numbers"][1][2])
-        given = self.run_page("--win", "2", "--size", "128", "-o", "given.html", CAPTURE)
+        self.assertEqual(facts["again"], {"WIN": "ethernet.pcap", "SIZE": "ethernet.pcap"})
+        given = self.run_page("--win", "2", "--size=128", "-o", "given.html", CAPTURE)
         self.assertIn(b"header: X25 1 MOD 8 WIN 2 SIZE 128 ", given.stderr)
+        facts = Page(self.folder / "given.html").facts
+        self.assertEqual(facts["again"], {"WIN": "--size=128 ethernet.pcap", "SIZE": "--win 2 ethernet.pcap"})
 
     def test_damaged_capture(self):
         done = self.run_page(FILES / "tcp-gap-and-next-connection.pcap")
@@ -136,7 +140,8 @@ class Called(unittest.TestCase):
 
     def test_scanner_that_fails(self):
         scanner = self.scanner("echo 'x25scan: out of memory' >&2; exit 3")
-        self.refused(3, f"reading or writing failed: {scanner} --rows ended with status 3: out of memory", "--scanner", scanner, TRACE)
+        words = f"reading or writing failed: {scanner} --rows ended with status 3: out of memory"
+        self.refused(3, words, "--scanner", scanner, TRACE)
 
     def test_faulty_trace(self):
         scanner = self.scanner("printf 'x25scan: line 4: kind 26\\n  The side is X.\\n' >&2; exit 2")
@@ -171,17 +176,21 @@ class Called(unittest.TestCase):
         self.assertIn(b"interrupted: ", errors)
 
     def test_closed_streams(self):
-        for words, status in ((f"{TRACE} <&-", 0), (f"{TRACE} >&-", 0), (f"{TRACE} 2>&-", 0), (f"{TRACE} <&- >&- 2>&-", 0),
-                              (f"{TRACE} > .", 1), (f"{TRACE} 1< .", 0), (f"{TRACE} < .", 2), ("-o a.html - <&-", 2)):
-            line = f'"$0" --scanner "$1" {words}'
-            done = subprocess.run(["bash", "-c", line, PROGRAM, SCANNER], capture_output=True, cwd=self.folder, timeout=SECONDS)
+        lines = (
+            ("TRACE <&-", 0), ("TRACE >&-", 0), ("TRACE 2>&-", 0), ("TRACE <&- >&- 2>&-", 0),
+            ("TRACE 1< .", 0), ("TRACE < .", 2), ("-o a.html - <&-", 2),
+        )
+        for words, status in lines:
+            command = ["bash", "-c", f'"$0" --scanner "$1" {words.replace("TRACE", str(TRACE))}', PROGRAM, SCANNER]
+            done = subprocess.run(command, capture_output=True, cwd=self.folder, timeout=SECONDS)
             self.assertEqual(done.returncode, status, (words, done.stderr))
             self.assertNotIn(b"Traceback", done.stderr)
 
     def test_name_that_is_no_utf_8(self):
         name = os.path.join(os.fsencode(self.folder), b"day\xff<b>.trace")
         pathlib.Path(os.fsdecode(name)).write_bytes(TRACE.read_bytes())
-        done = subprocess.run([PROGRAM, "--scanner", SCANNER, name], capture_output=True, cwd=self.folder, timeout=SECONDS)
+        command = [PROGRAM, "--scanner", SCANNER, name]
+        done = subprocess.run(command, capture_output=True, cwd=self.folder, timeout=SECONDS)
         self.assertEqual(done.returncode, 0, done.stderr)
         self.assertTrue(os.path.exists(os.path.join(os.fsencode(self.folder), b"day\xff<b>.html")))
 

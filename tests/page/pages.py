@@ -11,9 +11,11 @@ PROGRAM = ROOT / "bin" / "x25page"
 SECONDS = 60
 FACTS = re.compile(r'(<script type="application/json" id="facts">)(.*?)(</script>)', re.DOTALL)
 POLICY = re.compile(r'<meta http-equiv="Content-Security-Policy" content="([^"]*)">')
-OUTSIDE = re.compile(r"""\b(?:src|href|action|data)=|url\(|@import|\bimport\b|\bfetch\b|XMLHttpRequest|innerHTML|outerHTML|insertAdjacentHTML|document\.write|eval\(""")
-# A member of an anchor is made by the script, and leads to a place of the page.
-INSIDE = re.compile(r"""href: [`"']#|href: link""")
+# What asks for something from outside, and what makes markup of a text.
+OUTSIDE = re.compile(
+    r"\b(?:src|href|action|data)=|url\(|@import|\bimport\b|\bfetch\b|XMLHttpRequest"
+    r"|innerHTML|outerHTML|insertAdjacentHTML|document\.write|eval\("
+)
 
 
 class Page:
@@ -69,17 +71,19 @@ def report_complaints(page, report):
     """Where the page has other numbers than the report."""
     facts, (packets, findings, calls, octets, segments) = page.facts, map(int, report["Z"][0])
     wanted = {"packets": packets, "findings": findings, "calls": calls, "octets": octets, "segments": segments}
-    counts = [[sum(words[1:4:2] == [side, code] for words in report["F"]) for side in "TN"] for code, *_ in facts["codes"]]
-    pairs = {
+    pairs = [(words[1], words[3]) for words in report["F"]]
+    counts = [[pairs.count((side, code)) for side in "TN"] for code, *_ in facts["codes"]]
+    marks = [[str(packet), "TN"[side], code] for packet, side, _, code, *_ in facts["marks"]]
+    compared = {
         "sums": (facts["sums"], wanted),
         "peak": (words_of(facts["peak"]), report["P"][0]),
         "calls": ([words_of(call[:15]) for call in facts["calls"]], report["C"]),
         "settings": ([words_of(it) for it in facts["settings"]], report["S"]),
         "accounts": ([words_of(it) for it in facts["accounts"]], report["A"]),
-        "findings": ([[str(it[0]), "TN"[it[1]], it[3]] for it in facts["marks"]], [[it[0], it[1], it[3]] for it in report["F"]]),
+        "findings": (marks, [[it[0], it[1], it[3]] for it in report["F"]]),
         "counts": ([it[3] for it in facts["codes"]], counts),
     }
-    return [f"{name}: got {got}, wanted {want}" for name, (got, want) in pairs.items() if got != want]
+    return [f"{name}: got {got}, wanted {want}" for name, (got, want) in compared.items() if got != want]
 
 
 def row_complaints(page, trace):

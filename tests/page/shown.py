@@ -1,5 +1,4 @@
 """A page in a headless Chromium: its tables, its ladders, what a click does, and that hostile text stays text."""
-import contextlib
 import pathlib
 import sys
 
@@ -9,7 +8,7 @@ sys.path.insert(0, str(ROOT / "tools"))
 
 from browser import Browser  # noqa: E402
 
-SEVEN = ROOT / "examples" / "seven-calls.trace"
+SEVEN, GUESSED = (ROOT / "examples" / f"{name}.trace" for name in ("seven-calls", "window-guessed"))
 TAG = '"><script>hacked=1</script><img src=x onerror=hacked=1>\''
 HOSTILE_NAME = "<img src=x onerror=hacked=1>'\"&amp;.trace"
 
@@ -17,9 +16,11 @@ HOSTILE_NAME = "<img src=x onerror=hacked=1>'\"&amp;.trace"
 def hostile_trace():
     """A trace whose comments and user data hold markup."""
     data = TAG.encode().hex().upper()
-    rows = ["1 T 10010B5445001234500004C0000000" + "3C7363726970743E", "2 N 10010F", f"3 T 100100{data}", "4 T 100102AA", "5 T 100104AA"]
-    head = f"# {TAG}\n# estimated from what was seen: WIN 2 ({TAG.replace('(', '')})\nX25 1 MOD 8 WIN 2 SIZE 128 PVC 0 SVC 4\n"
-    return head + f"# connection 1 is channel 1: {TAG}\n" + "".join(f"{row}\n# {TAG}\n" for row in rows)
+    rows = ["1 T 10010B544500123450003C7363726970743E", "2 N 10010F", f"3 T 100100{data}"]
+    rows += ["4 T 100102AA", "5 T 100104AA"]
+    head = [f"# {TAG}", f"# estimated from what was seen: WIN 2 ({TAG})", "X25 1 MOD 8 WIN 2 SIZE 128 PVC 0 SVC 4"]
+    lines = [*head, f"# connection 1 is channel 1: {TAG}", *(f"{row}\n# {TAG}" for row in rows)]
+    return "\n".join(lines) + "\n"
 
 
 class Shown:
@@ -35,6 +36,11 @@ class Shown:
 
     def texts(self, selector):
         return self.browser.value(f"[...document.querySelectorAll({selector!r})].map((it) => it.textContent)")
+
+    def filter(self, text):
+        """Writes into the filter of the calls."""
+        self.browser.value(f"document.querySelector('#call-filter').value = {text!r}")
+        self.browser.value("document.querySelector('#call-filter').dispatchEvent(new Event('input'))")
 
     def faults(self):
         said, self.said = self.said + self.browser.faults, []
@@ -65,9 +71,9 @@ def clicks(shown):
     shown.is_so("document.querySelector('#ladder h2').textContent", "Call 3")
     shown.is_so("document.querySelectorAll('#ladder-room .row').length", 7)
     browser.value("document.querySelector('#lanes').scrollIntoView({block: 'center'})")
-    at = browser.value("(() => { const box = document.querySelector('#lanes svg').getBoundingClientRect();"
-                       " return [box.left + (across(callsByNumber.get(2).opened) + across(callsByNumber.get(2).ended)) / 2, box.top + strip.lane * 1.5]; })()")
-    browser.press(*at)
+    box = browser.value("document.querySelector('#lanes svg').getBoundingClientRect().toJSON()")
+    middle = browser.value("across((callsByNumber.get(2).opened + callsByNumber.get(2).ended) / 2)")
+    browser.press(box["left"] + middle, box["top"] + 1.5 * browser.value("strip.lane"))
     shown.is_so("location.hash", "#call-2")
     browser.click("#finding-table tbody tr td:nth-child(4)")
     shown.is_so("location.hash", "#call-7/47")
@@ -76,7 +82,8 @@ def clicks(shown):
     browser.value("document.querySelector('#detail details').open = true")
     shown.is_so("document.querySelector('#detail pre').textContent.startsWith('0000  10 01 24 21')")
     browser.value("location.hash = '#call-1/4'")
-    shown.is_so("document.querySelector('#detail').textContent.includes('103 octets in hex')", True) if wait(browser, "shown.packet === 4") else shown.said.append("no packet 4")
+    wait(browser, "shown.packet === 4")
+    shown.is_so("document.querySelector('#detail').textContent.includes('103 octets in hex')")
 
 
 def wait(browser, expression):
@@ -87,16 +94,16 @@ def wait(browser, expression):
 def uses(shown):
     """Tables are filtered and sorted, words explained, colours changed."""
     browser = shown.browser
-    browser.value("(() => { const it = document.querySelector('#call-filter'); it.value = '67890'; it.dispatchEvent(new Event('input')); })()")
+    shown.filter("67890")
     shown.is_so("document.querySelectorAll('#call-table tbody tr').length", 3)
-    browser.value("(() => { const it = document.querySelector('#call-filter'); it.value = ''; it.dispatchEvent(new Event('input')); })()")
-    browser.value("[...document.querySelectorAll('#call-table th button')].find((it) => it.textContent === 'Segments').click()")
+    shown.filter("")
+    browser.value("document.querySelector('#call-table th [data-word=segments]').click()")
     shown.is_so("document.querySelector('#call-table tbody tr td').textContent", "7")
     browser.value("document.querySelector('.codes .word').scrollIntoView({block: 'center'})")
     wait(browser, "document.querySelector('#hint').hidden")
     browser.value("document.querySelector('.codes .word').focus({preventScroll: true})")
     shown.is_so("document.querySelector('#hint').hidden", False)
-    shown.is_so("document.querySelector('#hint').textContent.includes('The P(S) of a data packet is not the next number')")
+    shown.is_so("document.querySelector('#hint').textContent.includes('The P(S) of a data packet is not the next')")
     colour = "getComputedStyle(document.body).backgroundColor"
     browser.value("document.querySelector('#theme [data-name=light]').click()")
     light = browser.value(colour)
@@ -123,11 +130,21 @@ def hostile(shown, folder, scanner):
     shown.is_so("document.querySelectorAll('#ladder-room .row').length", 5)
 
 
+def doubtful(shown, folder, scanner):
+    """A header that does not fit is doubted, with a command that tries another one."""
+    page = folder / "guessed.html"
+    run("--scanner", scanner, "-o", page, GUESSED)
+    shown.browser.open(page)
+    shown.is_so("document.querySelector('.alarm h2').textContent", "The header may be wrong")
+    wanted = "sed 's/WIN 1 /WIN 2 /' window-guessed.trace | x25page -o other.html -"
+    shown.is_so("document.querySelector('.alarm pre').textContent", wanted)
+
+
 def outcomes(scanner, folder):
     """Names of tests in the browser, and what is wrong with each."""
     path = pathlib.Path(folder, "seven.html")
     run("--scanner", scanner, "-o", path, SEVEN)
-    with Browser() as browser, contextlib.ExitStack():
+    with Browser() as browser:
         shown = Shown(browser)
         browser.open(path)
         tables(shown, Page(path))
@@ -138,3 +155,5 @@ def outcomes(scanner, folder):
         yield "filters, sorting, words, colours", shown.faults()
         hostile(shown, pathlib.Path(folder), scanner)
         yield "hostile text in the browser", shown.faults()
+        doubtful(shown, pathlib.Path(folder), scanner)
+        yield "a header that may be wrong", shown.faults()

@@ -91,7 +91,8 @@ def opened_trace(words, ledger, waiting):
     if len(words.captures) > 1:
         parser().error("a trace stands alone; docs/GUIDE.md says how several become one")
     if option := of_captures(words):
-        parser().error(f"{option} is of captures, and {words.captures[0]} is a trace, which has its header and its sides")
+        reason = f"{words.captures[0]} is a trace, which has its header and its sides"
+        parser().error(f"{option} is of captures, and {reason}")
     with inputs.named_trace(words.captures[0]) as trace:
         yield trace
 
@@ -107,7 +108,9 @@ def say_header(head):
 def again(words, arguments, is_capture):
     """What stands in a command that makes the page again: of a capture by the number that is changed, else its name."""
     if is_capture:
-        return {name: line_with(arguments, option) for name, option in OPTIONS.items()}
+        # The page may be for other people: it has no folder of this machine.
+        shown = [os.path.basename(word) if word in words.captures else word for word in arguments]
+        return {name: line_with(shown, option) for name, option in OPTIONS.items()}
     name = words.captures[0]
     return "TRACE" if name == "-" else shlex.quote(os.path.basename(name))
 

@@ -11,6 +11,7 @@ from .texts import encoded
 # What parts of a page may have, in bytes.
 LADDERS, CALLS, MARKS, ACCOUNTS, SETTINGS = 8_000_000, 4_500_000, 1_000_000, 500_000, 500_000
 MOST_TIMES = 1024
+SETTING = ("call", "side", "parameter", "word", "value")
 CLEARING = ("p6", "p7")
 
 
@@ -75,7 +76,7 @@ class Facts:
         self.takers = {
             "row": self.row,
             "call": self.calls.add,
-            "setting": lambda it: self.settings.add([it[name] for name in ("call", "side", "parameter", "word", "value")]),
+            "setting": lambda it: self.settings.add([it[name] for name in SETTING]),
             "account": lambda it: self.accounts.add([it[name] for name in ("address", "calls", "segments")]),
             "peak": lambda it: setattr(self, "peak", [it["count"], it["packet"]]),
             "sums": lambda it: setattr(self, "sums", {name: it[name] for name in it if name != "line"}),

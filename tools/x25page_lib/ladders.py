@@ -44,8 +44,8 @@ class Row:
         self.octets, self.is_data = told.get("octets", 0), kind == "data"
         self.code = finding["code"] if finding else ""
         self.is_marked = bool(
-            finding or kind not in FLOWING or told["before"] != told["after"] or told["begins"] or told["up"] or told["ends"]
-            or told.get("message") or told.get("settings")
+            finding or kind not in FLOWING or told["before"] != told["after"]
+            or told["begins"] or told["up"] or told["ends"] or told.get("message") or told.get("settings")
         )
 
     def write(self, level):

@@ -46,7 +46,8 @@ class Page:
 
     def markup(self):
         style, script = read("page.css"), "".join(map(read, SCRIPTS))
-        policy = f"default-src 'none'; style-src {source_of(style)}; script-src {source_of(script)}; base-uri 'none'; form-action 'none'"
+        allowed = f"style-src {source_of(style)}; script-src {source_of(script)}"
+        policy = f"default-src 'none'; {allowed}; base-uri 'none'; form-action 'none'"
         filled = {"policy": [policy], "style": [style], "facts": self.json(), "script": [script]}
         rest = read("page.html")
         for name, parts in filled.items():
@@ -122,6 +123,6 @@ class Page:
     def summary(self):
         """What is said of the page on standard error."""
         sums, of_sides = self.facts.sums, [self.facts.count_of(side) for side in SIDES]
-        told = f"{number(sums['packets'], 'packet')}, {number(sums['calls'], 'call')}, {number(sums['findings'], 'finding')}"
+        told = ", ".join(number(sums[f"{noun}s"], noun) for noun in ("packet", "call", "finding"))
         told += f" (DTE {of_sides[0]:,}, DCE {of_sides[1]:,})" if sums["findings"] else ""
         return f"{told}; {self.size / 1e6:.1f} MB"

@@ -3,7 +3,8 @@ from .ladders import SIDES
 from .texts import encoded
 
 # Members that stand in the array by their place, or that say nothing where they are left out.
-PLACED = {"line", "packet", "side", "channel", "before", "after", "counted", "finding", "epoch", "call", "time", "type", "hex"}
+PLACED = {"line", "packet", "side", "channel", "before", "after", "counted", "finding", "epoch", "call", "time", "type",
+          "hex"}
 SHORT = {"send": "s", "receive": "r", "octets": "o", "more": "m", "qualified": "q", "delivery": "d"}
 SECOND = 1_000_000_000
 
@@ -69,7 +70,8 @@ class RowForms:
 
     def more(self, told):
         """What an object says besides, without members that are null, false or empty."""
-        more = {SHORT.get(name, name): value for name, value in told.items() if name not in PLACED and (value or value == 0 and value is not False)}
+        members = ((name, value) for name, value in told.items() if name not in PLACED)
+        more = {SHORT.get(name, name): value for name, value in members if value or value == 0 and value is not False}
         more |= {"c": told["counted"]["segments"]} if told["counted"] else {}
         if finding := told["finding"]:
             fault = tuple(finding[name] for name in ("code", "name", "then", "clause"))

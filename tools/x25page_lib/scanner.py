@@ -65,7 +65,7 @@ class Scanner:
 
     def explained(self, topic):
         words = [*self.words, "--explain", topic]
-        done = subprocess.run(words, stdin=subprocess.DEVNULL, capture_output=True, text=True, encoding="utf-8", check=False)
+        done = subprocess.run(words, stdin=subprocess.DEVNULL, capture_output=True, encoding="utf-8", check=False)
         found, sentences = {}, []
         for line in done.stdout.splitlines():
             if match := HEADING.fullmatch(line):

@@ -88,8 +88,9 @@ def of_both_sides(header, codes):
         if code in NUMBERS and min(counts) >= OFTEN:
             words = words_of(header, NUMBERS[code])
             yield NUMBERS[code], (
-                f"Both sides have code {code} ({name}): the DTE {number(counts[0], 'time')}, the DCE {number(counts[1], 'time')}. "
-                f"Where both sides break one rule again and again, {words} of the header may be wrong."
+                f"Both sides have code {code} ({name}): the DTE {number(counts[0], 'time')}, the DCE "
+                f"{number(counts[1], 'time')}. Where both sides break one rule again and again, {words} of the header "
+                "may be wrong."
             )
 
 
@@ -100,9 +101,9 @@ def of_debts(header, debts):
         return
     code = max(debts.unpaid, key=debts.unpaid.get)
     yield NUMBERS[code], (
-        f"After {number(many, 'finding')} of the DTE (the first is packet {debts.first:,}) the DCE did not do what it had to: "
-        "it went on as if nothing was wrong. Then the DTE was probably right, and the header is not that of the "
-        "interface. Data after such a finding is not counted, so the sums are too low."
+        f"After {number(many, 'finding')} of the DTE (the first is packet {debts.first:,}) the DCE did not do what it "
+        "had to: it went on as if nothing was wrong. Then the DTE was probably right, and the header is not that of "
+        "the interface. Data after such a finding is not counted, so the sums are too low."
     )
 
 

@@ -8,7 +8,8 @@ from x25trace_lib.words import Words, header_words, reading_words, side_words
 from .told import Why
 
 REASONS = ", ".join(why.value for why in (*TraceWhy, *Why))
-NAMES_OF_PAGES = """Without -o the page is NAME.html in the current folder, for a file NAME or NAME.pcap, and nothing else is written. It is
+NAMES_OF_PAGES = """\
+Without -o the page is NAME.html in the current folder, for a file NAME or NAME.pcap, and nothing else is written. It is
 one file: a browser shows it from the disk, and it asks no network for anything. A page that stands there is written
 anew; another file of that name is not."""
 EPILOG = f"""
@@ -33,8 +34,9 @@ exit status:
 def parser():
     words = Words(
         prog="x25page",
-        description="Writes a page of HTML of a trace, or of the X.25 packets in a capture: who broke the protocol, the calls and "
-        "what they cost, and a ladder of the packets of each. Standard error has the header and what of it is estimated.",
+        description="Writes a page of HTML of a trace, or of the X.25 packets in a capture: who broke the protocol, "
+        "the calls and what they cost, and a ladder of the packets of each. Standard error has the header and what of "
+        "it is estimated.",
         epilog=EPILOG,
         formatter_class=argparse.RawDescriptionHelpFormatter,
         allow_abbrev=False,
@@ -42,7 +44,8 @@ def parser():
     words.add_argument("captures", metavar="CAPTURE", nargs="+",
                        help="a trace; or a capture, or files of a rotated one in their order; - for standard input")
     words.add_argument("-o", dest="page", metavar="OUT", help="the file of the page, else NAME.html")
-    words.add_argument("--scanner", metavar="PROGRAM", help="the x25scan that is asked, else bin/x25scan beside this program")
+    words.add_argument("--scanner", metavar="PROGRAM",
+                       help="the x25scan that is asked, else bin/x25scan beside this program")
     reading_words(words.add_argument_group("reading of a capture"))
     side_words(words.add_argument_group("sides of a capture"))
     header_words(words.add_argument_group("header of a capture, else estimated from what was seen"))

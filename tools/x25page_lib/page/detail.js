@@ -1,13 +1,15 @@
 // What is known of one packet: all that x25scan says of it, and its octets.
 
 const IN_A_LINE = 16;
-const BITS = { m: "M: more data of the same sequence follows", d: "D: the far side has to confirm it", q: "Q: data for a PAD, not for its user" };
+const BITS = { m: "M: more data of the same sequence follows", d: "D: the far side has to confirm it",
+  q: "Q: data for a PAD, not for its user" };
 
 function dump(hex) {
   const lines = [];
   for (let at = 0; at < hex.length; at += 2 * IN_A_LINE) {
     const octets = hex.slice(at, at + 2 * IN_A_LINE).match(/../g) || [];
-    const text = octets.map((it) => { const code = parseInt(it, 16); return code >= 32 && code < 127 ? String.fromCharCode(code) : "."; }).join("");
+    const text = octets.map((it) => { const code = parseInt(it, 16); return code >= 32 &&
+      code < 127 ? String.fromCharCode(code) : "."; }).join("");
     lines.push(`${(at / 2).toString(16).padStart(4, "0")}  ${octets.join(" ").padEnd(3 * IN_A_LINE)} ${text}`);
   }
   return lines.join("\n");
@@ -16,13 +18,16 @@ function dump(hex) {
 function octetsOf(row) {
   if (!row.octets) return make("p", { class: "muted" }, "The packet has no octet.");
   const rest = row.octets - row.hex.length / 2;
-  return make("details", { class: "octets" }, make("summary", {}, `${plural(row.octets, "octet")} in hex`), make("pre", {}, dump(row.hex)),
-    rest > 0 && make("p", { class: "left-out" }, `${plural(rest, "further octet")} ${rest === 1 ? "is" : "are"} left out to keep the page small.`));
+  return make("details", { class: "octets" }, make("summary", {}, `${plural(row.octets, "octet")} in hex`),
+    make("pre", {}, dump(row.hex)),
+    rest > 0 && make("p", { class: "left-out" },
+      `${plural(rest, "further octet")} ${rest === 1 ? "is" : "are"} left out to keep the page small.`));
 }
 
 function faultCard(fault, side) {
   return make("div", { class: "fault-card" },
-    make("p", {}, make("b", {}, word(codeTopic(fault.code), fault.code, `Code ${fault.code}`), `: ${fault.name}`), ` \u2013 an error of the ${SIDES[side]}`),
+    make("p", {}, make("b", {}, word(codeTopic(fault.code), fault.code, `Code ${fault.code}`), `: ${fault.name}`),
+      ` \u2013 an error of the ${SIDES[side]}`),
     make("p", {}, fault.wrong, " ", fault.then), make("p", { class: "clause" }, fault.clause));
 }
 
@@ -52,7 +57,8 @@ function factsOf(row) {
     ["packet sizes", pair(more.sizes)], ["windows", pair(more.windows)],
     ["user data of the call", more.user_data && [make("code", {}, more.user_data), more.pad ? " (a PAD call)" : ""]],
     ["cause", more.cause && `${more.cause.value} (${more.cause.name})`],
-    ["diagnostic", more.diagnostic !== undefined ? (more.diagnostic.name ? `${more.diagnostic.value} (${more.diagnostic.name})` : more.diagnostic) : null],
+    ["diagnostic", more.diagnostic !== undefined
+      ? (more.diagnostic.name ? `${more.diagnostic.value} (${more.diagnostic.name})` : more.diagnostic) : null],
     ["message", more.message && messageText(more.message)],
     ["settings", settings],
     ["what it began", more.begins && "a call"], ["what it brought up", more.up && "the call"],
@@ -66,9 +72,12 @@ function showDetail(row) {
   const arrow = row.side === 0 ? "DTE \u2192 DCE" : "DCE \u2192 DTE";
   place("detail").hidden = false;
   place("detail").replaceChildren(
-    make("div", { class: "section-head" }, make("h3", {}, `Packet ${count(row.packet)}: ${typeName(row.type)}, ${arrow}`),
+    make("div", { class: "section-head" },
+      make("h3", {}, `Packet ${count(row.packet)}: ${typeName(row.type)}, ${arrow}`),
       make("button", { type: "button", click: close, "aria-label": "Close" }, "close")),
     row.fault ? faultCard(row.fault, row.side) : "",
-    make("dl", { class: "call-facts" }, factsOf(row).map(([name, value]) => make("div", {}, make("dt", {}, name), make("dd", {}, ...[value].flat(3).map((it) => (it instanceof Node ? it : String(it))))))),
+    make("dl", { class: "call-facts" },
+      factsOf(row).map(([name, value]) => make("div", {}, make("dt", {}, name),
+      make("dd", {}, ...[value].flat(3).map((it) => (it instanceof Node ? it : String(it))))))),
     octetsOf(row));
 }

@@ -23,7 +23,8 @@ function phase(state) {
 }
 
 function isPlain(row) {
-  return FLOWING.has(row.type) && !row.fault && row.before === row.after && !row.more.message && !row.more.settings && !row.more.not_counted;
+  return FLOWING.has(row.type) && !row.fault && row.before === row.after && !row.more.message && !row.more.settings &&
+    !row.more.not_counted;
 }
 
 // The rows of a ladder with the restart that ended its call, which stands in the ladder of the interface.
@@ -80,7 +81,10 @@ function notes(row) {
   }
   if (more.cause) say(`cause ${more.cause.value} (${more.cause.name})`);
   if (more.diagnostic?.name) say(`diagnostic ${more.diagnostic.value} (${more.diagnostic.name})`);
-  if (more.calling || more.called) say(`from ${more.calling ?? "-"} to ${more.called ?? "-"}${more.reverse ? ", reverse charging" : ""}${more.fast ? ", fast select" : ""}`);
+  if (more.calling || more.called) {
+    const asked = `${more.reverse ? ", reverse charging" : ""}${more.fast ? ", fast select" : ""}`;
+    say(`from ${more.calling ?? "-"} to ${more.called ?? "-"}${asked}`);
+  }
   if (more.c) say(`counted: ${plural(more.c, "segment")}`, "faint");
   if (more.not_counted && !fault) say(`not counted: ${reasonName(more.not_counted)}`);
   if (more.message) say(messageText(more.message));
@@ -89,12 +93,17 @@ function notes(row) {
 }
 
 function messageText(message) {
-  const pairs = (message.pairs || []).map((it) => `${it.parameter} (${it.name})${it.value === null ? "" : ` = ${it.value}`}`);
+  const pairs = (message.pairs ||
+    []).map((it) => `${it.parameter} (${it.name})${it.value === null ? "" : ` = ${it.value}`}`);
   return `PAD message: ${message.name.replaceAll("_", " ")} ${pairs.join(", ")}`;
 }
 
 function settingsText(settings) {
-  return settings.map((it) => `PAD of the ${SIDES[LETTERS.indexOf(it.side)]}: ${it.parameter} (${it.name}) ${it.word} ${it.value ?? ""}`).join("; ");
+  const text = (it) => {
+    const pad = `PAD of the ${SIDES[LETTERS.indexOf(it.side)]}`;
+    return `${pad}: ${it.parameter} (${it.name}) ${it.word} ${it.value ?? ""}`;
+  };
+  return settings.map(text).join("; ");
 }
 
 function arrowText(row) {
@@ -124,7 +133,8 @@ function arrow(row, y) {
   const [from, to] = row.side === 0 ? [AT.dte + 4, AT.dce - 5] : [AT.dce - 4, AT.dte + 5];
   const back = row.side === 0 ? -9 : 9;
   const [begin, end] = [y + ARROW - 3, y + ARROW + 3];
-  return draw("path", { class: "arrow", d: `M${from} ${begin}L${to} ${end}M${to + back} ${end - 5}L${to} ${end}L${to + back} ${end + 4}` });
+  return draw("path", { class: "arrow",
+    d: `M${from} ${begin}L${to} ${end}M${to + back} ${end - 5}L${to} ${end}L${to + back} ${end + 4}` });
 }
 
 function noteLines(row, y) {
@@ -156,14 +166,17 @@ function drawRow(row, y, begun) {
     ...(changed ? [stateChip(row.after, AT.left, y + ARROW), stateChip(row.after, AT.right, y + ARROW)] : []),
     ...noteLines(row, y),
   ];
-  const name = `Packet ${row.packet}, ${SIDES[row.side]}, ${typeName(row.type)}${row.fault ? `, code ${row.fault.code}` : ""}`;
+  const code = row.fault ? `, code ${row.fault.code}` : "";
+  const name = `Packet ${row.packet}, ${SIDES[row.side]}, ${typeName(row.type)}${code}`;
   const act = () => { location.hash = `${shown.key}/${row.packet}`; };
   const byKey = (event) => event.key === "Enter" && act();
-  return [draw("g", { class: `row ${kind(row)}`, id: `row-${row.packet}`, tabindex: 0, role: "button", "aria-label": name, click: act, keydown: byKey }, parts), height];
+  return [draw("g", { class: `row ${kind(row)}`, id: `row-${row.packet}`, tabindex: 0, role: "button",
+    "aria-label": name, click: act, keydown: byKey }, parts), height];
 }
 
 function runText(run) {
-  const parts = SIDES.map((side, at) => (run.data[at] ? `${side}: ${count(run.data[at])} data, ${plural(run.octets[at], "octet")}` : null));
+  const parts = SIDES.map((side,
+    at) => (run.data[at] ? `${side}: ${count(run.data[at])} data, ${plural(run.octets[at], "octet")}` : null));
   const other = run.packets - run.data[0] - run.data[1];
   if (other) parts.push(plural(other, "other packet"));
   return parts.filter(Boolean).join(" \u00b7 ");
@@ -182,13 +195,16 @@ function sumsOf(rows) {
 function drawGap(item, y, state) {
   const run = item.run || sumsOf(item.fold);
   const codes = Object.entries(run.findings || {}).map(([code, many]) => `code ${code} ${times(many)}`).join(", ");
-  const what = item.run ? `${plural(run.packets, "packet")} left out, ${count(run.first)} to ${count(run.last)}` : `${plural(run.packets, "packet")} without a finding: click to see them`;
+  const what = item.run ? `${plural(run.packets, "packet")} left out, ${count(run.first)} to ${count(run.last)}`
+    : `${plural(run.packets, "packet")} without a finding: click to see them`;
   const open = () => unfold(item);
-  const attributes = item.fold ? { class: "gap fold", tabindex: 0, role: "button", click: open, keydown: (event) => event.key === "Enter" && open() } : { class: "gap" };
+  const attributes = item.fold ? { class: "gap fold", tabindex: 0, role: "button", click: open,
+    keydown: (event) => event.key === "Enter" && open() } : { class: "gap" };
   return [draw("g", attributes, ...lifelines(y, 52, state),
     draw("rect", { class: "gap-room", x: AT.dte + 14, y: y + 5, width: AT.dce - AT.dte - 28, height: 42, rx: 8 }),
     draw("text", { x: (AT.dte + AT.dce) / 2, y: y + 23, "text-anchor": "middle" }, what),
-    draw("text", { class: "faint", x: (AT.dte + AT.dce) / 2, y: y + 39, "text-anchor": "middle" }, codes || runText(run))), 52];
+    draw("text", { class: "faint", x: (AT.dte + AT.dce) / 2, y: y + 39, "text-anchor": "middle" },
+      codes || runText(run))), 52];
 }
 
 function unfold(item) {
@@ -215,31 +231,40 @@ function drawLadder() {
     parts.push(part);
     y += height;
   }
-  const svg = draw("svg", { class: "ladder", viewBox: `0 0 ${WIDTH} ${y + 16}`, role: "group", "aria-label": `Ladder: ${keyName(shown.key)}` }, parts, ...lifelines(y, 16, state));
+  const svg = draw("svg", { class: "ladder", viewBox: `0 0 ${WIDTH} ${y + 16}`, role: "group",
+    "aria-label": `Ladder: ${keyName(shown.key)}` }, parts, ...lifelines(y, 16, state));
   place("ladder-room").replaceChildren(svg);
   place("ladder-pages").replaceChildren(...pageButtons());
   mark(false);
 }
 
 function phases() {
-  const names = { "set-up": "set-up", transfer: "data transfer", reset: "reset", clear: "clearing", restart: "restart", ready: "ready" };
-  const there = new Set(shown.items.flatMap((item) => (item.row ? [phase(item.row.before), phase(item.row.after)] : [])));
-  return make("p", { class: "legend" }, Object.entries(names).filter(([it]) => there.has(it)).map(([it, name]) => make("span", { class: `key life-${it}` }, name)));
+  const names = { "set-up": "set-up", transfer: "data transfer", reset: "reset", clear: "clearing", restart: "restart",
+    ready: "ready" };
+  const there = new Set(shown.items.flatMap((item) => (item.row ? [phase(item.row.before), phase(item.row.after)]
+    : [])));
+  return make("p", { class: "legend" },
+    Object.entries(names).filter(([it]) => there.has(it)).map(([it, name]) => make("span", { class: `key life-${it}` },
+    name)));
 }
 
 function pageButtons() {
   const total = shown.items.length;
   if (total <= ITEMS_AT_ONCE) return [];
-  const button = (name, from) => make("button", { type: "button", disabled: from < 0 || from >= total, click: () => { shown.from = from; drawLadder(); } }, name);
+  const button = (name, from) => make("button",
+    { type: "button", disabled: from < 0 || from >= total, click: () => { shown.from = from; drawLadder(); } }, name);
   return [button("earlier", shown.from - ITEMS_AT_ONCE), button("later", shown.from + ITEMS_AT_ONCE),
-    make("span", { class: "muted" }, `lines ${count(shown.from + 1)} to ${count(Math.min(total, shown.from + ITEMS_AT_ONCE))} of ${count(total)}`)];
+    make("span", { class: "muted" },
+      `lines ${count(shown.from + 1)} to ${count(Math.min(total, shown.from + ITEMS_AT_ONCE))} of ${count(total)}`)];
 }
 
 function ladderHead() {
   const head = (x, name, letter) => drawnWord("side", letter, { class: "head" },
-    draw("rect", { x: x - 46, y: 6, width: 92, height: 28, rx: 6 }), draw("text", { x, y: 25, "text-anchor": "middle" }, name));
+    draw("rect", { x: x - 46, y: 6, width: 92, height: 28, rx: 6 }),
+      draw("text", { x, y: 25, "text-anchor": "middle" }, name));
   const title = (x, name, anchor) => draw("text", { class: "column", x, y: 25, "text-anchor": anchor }, name);
-  return draw("svg", { class: "ladder", viewBox: `0 0 ${WIDTH} 40`, "aria-hidden": "true" }, title(AT.number, "packet", "end"), title(AT.time, facts.times.length ? "time" : "", "end"),
+  return draw("svg", { class: "ladder", viewBox: `0 0 ${WIDTH} 40`, "aria-hidden": "true" },
+    title(AT.number, "packet", "end"), title(AT.time, facts.times.length ? "time" : "", "end"),
     head(AT.dte, "DTE", "T"), head(AT.dce, "DCE", "N"), title(AT.note, "what it did", "start"));
 }
 
@@ -255,7 +280,8 @@ function callFacts(call) {
     fact("packets", `${count(call.opened)} to ${call.ended ? count(call.ended) : "the end"}`),
     call.start !== null && fact("start", clock(call.start)),
     call.seconds !== null && fact("length", length(call.seconds)),
-    fact("data", `${count(call.dataT)} of the DTE (${plural(call.octetsT, "octet")}), ${count(call.dataN)} of the DCE (${plural(call.octetsN, "octet")})`),
+    fact("data of the DTE", `${count(call.dataT)} (${plural(call.octetsT, "octet")})`),
+    fact("data of the DCE", `${count(call.dataN)} (${plural(call.octetsN, "octet")})`),
     fact("segments", count(call.segments)), fact("pays", call.payer ?? "-", ` (the ${call.pays} side)`),
     fact("end", ...howEnded(call)),
     settings.length > 0 && fact("PAD settings", settings.map(([, side, parameter, how, value]) => [
@@ -267,13 +293,15 @@ function neighbours(key) {
   const keys = calls.map((call) => `call-${call.call}`);
   const at = keys.indexOf(key);
   const link = (name, to) => (to ? make("a", { class: "button", href: `#${to}` }, name) : null);
-  return make("div", { class: "tools" }, at >= 0 && [link("\u2190 call before", keys[at - 1]), link("call after \u2192", keys[at + 1])]);
+  return make("div", { class: "tools" },
+    at >= 0 && [link("\u2190 call before", keys[at - 1]), link("call after \u2192", keys[at + 1])]);
 }
 
 function missingRows(key) {
   const option = key.startsWith("call-") ? `--call ${key.slice(5)}` : `--channel ${key.slice(8)}`;
   const read = typeof facts.again === "string" ? `x25scan < ${facts.again}` : `x25trace ${facts.again.WIN} | x25scan`;
-  return make("div", {}, make("p", {}, "The packets of this ladder are left out to keep the page small. This command shows them:"),
+  return make("div", {}, make("p", {},
+    "The packets of this ladder are left out to keep the page small. This command shows them:"),
     make("pre", {}, `${read} --annotate ${option}`));
 }
 
@@ -286,7 +314,8 @@ function openLadder(key, packet) {
   place("ladder").replaceChildren(
     make("div", { class: "section-head" }, make("h2", {}, keyName(key)), neighbours(key)),
     make("div", { class: "card" }, call && callFacts(call), phases(),
-      shown.items.length ? make("div", { class: "ladder-scroll" }, make("div", { class: "ladder-head" }, ladderHead()), make("div", { id: "ladder-room" })) : missingRows(key),
+      shown.items.length ? make("div", { class: "ladder-scroll" }, make("div", { class: "ladder-head" }, ladderHead()),
+        make("div", { id: "ladder-room" })) : missingRows(key),
       make("div", { id: "ladder-pages", class: "tools" })),
     make("div", { id: "detail", class: "card", hidden: true }));
   if (shown.items.length) drawLadder();

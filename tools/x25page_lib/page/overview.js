@@ -47,7 +47,8 @@ function tiles() {
     tile(count(sums.octets), "octets of data", "that were accepted"),
     tile(count(sums.segments), "segments", "of 64 octets, as they are charged"),
     tile(count(peak ? peak[0] : 0), "calls at once", atPeak),
-    tile(count(lost), lost === 1 ? "data packet not counted" : "data packets not counted", lost ? "" : "all data was accepted"),
+    tile(count(lost), lost === 1 ? "data packet not counted" : "data packets not counted",
+      lost ? "" : "all data was accepted"),
   ];
   if (lost) found.at(-1).append(make("ul", {}, facts.not_counted.map(notCounted)));
   return make("div", { class: "tiles" }, found);
@@ -69,7 +70,9 @@ function headerLine() {
   return make("div", { class: "card header" },
     make("h2", {}, "The header"),
     make("p", { class: "chips" }, chips.length ? chips : make("code", {}, facts.header)),
-    guessed && make("p", { class: "muted" }, "An estimated WIN or SIZE is the smallest that fits what was seen, so data that broke a smaller one is not found. ",
+    guessed && make("p", { class: "muted" },
+      "An estimated WIN or SIZE is the smallest that fits what was seen, ",
+      "so data that broke a smaller one is not found. ",
       "Give --win and --size where you know them."));
 }
 

@@ -1,6 +1,7 @@
 // The start of the page: its parts, where its address leads, and its colours.
 
-const PARTS = { overview: "Overview", strip: "Channels", ladder: "Ladder", calls: "Calls", findings: "Findings", accounts: "Who pays", settings: "PADs", words: "Words" };
+const PARTS = { overview: "Overview", strip: "Channels", ladder: "Ladder", calls: "Calls", findings: "Findings",
+  accounts: "Who pays", settings: "PADs", words: "Words" };
 const THEMES = { auto: "Auto", light: "Light", dark: "Dark" };
 const KEY = /^(interface|call-\d+|channel-\d+)(?:\/(\d+))?$/;
 
@@ -49,7 +50,8 @@ function storedTheme() {
 function showTop() {
   document.title = `${facts.name}: x25page`;
   place("name").textContent = facts.name;
-  place("theme").append(...Object.entries(THEMES).map(([name, title]) => make("button", { type: "button", "data-name": name, click: () => setTheme(name) }, title)));
+  place("theme").append(...Object.entries(THEMES).map(([name, title]) => make("button",
+    { type: "button", "data-name": name, click: () => setTheme(name) }, title)));
   setTheme(storedTheme());
 }
 
@@ -61,12 +63,16 @@ function showNav() {
 function leftOutTexts() {
   const { left_out: left } = facts;
   const said = [];
-  if (left.level > 0) said.push("The trace is long: packets that show nothing special are left out of the ladders, and sums stand for them.");
+  const say = (many, noun, rest) => many && said.push(`${plural(many, noun)} ${many === 1 ? "is" : "are"} ${rest}`);
+  if (left.level > 0) {
+    said.push("The trace is long: packets that show nothing special are left out, and sums stand for them.");
+  }
   if (left.level > 1) said.push("Of the octets of each packet only the first ones are here.");
-  if (left.ladders) said.push(`${plural(left.ladders, "ladder")} ${left.ladders === 1 ? "is" : "are"} left out, those without findings first.`);
-  if (left.restarts) said.push(`${plural(left.restarts, "restart")} ${left.restarts === 1 ? "is" : "are"} not drawn over the channels.`);
-  for (const [name, noun] of [["calls", "call"], ["marks", "finding"], ["accounts", "account"], ["settings", "PAD setting"]]) {
-    if (left[name]) said.push(`${plural(left[name], noun)} ${left[name] === 1 ? "is" : "are"} left out of the tables; the sums at the top count them.`);
+  say(left.ladders, "ladder", "left out, those without findings first.");
+  say(left.restarts, "restart", "not drawn over the channels.");
+  const tables = { calls: "call", marks: "finding", accounts: "account", settings: "setting" };
+  for (const [name, noun] of Object.entries(tables)) {
+    say(left[name], noun, "left out of the tables; the sums at the top count them.");
   }
   return said;
 }
@@ -75,10 +81,13 @@ function showAbout() {
   const said = leftOutTexts();
   place("about").append(make("h2", {}, "About this page"),
     make("div", { class: "card" },
-      make("p", {}, "x25page made it of what x25scan says of the trace: an observer reads the packets in their order and judges each by the state tables of X.25."),
-      said.length ? make("ul", {}, said.map((line) => make("li", {}, line))) : make("p", {}, "It has every packet of the trace."),
+      make("p", {}, "x25page made it of what x25scan says of the trace: an observer reads the packets ",
+        "in their order and judges each by the state tables of X.25."),
+      said.length ? make("ul", {}, said.map((line) => make("li", {}, line)))
+        : make("p", {}, "It has every packet of the trace."),
       make("p", {}, "Header: ", make("code", {}, facts.header)),
-      facts.comments.length ? make("details", {}, make("summary", {}, "Comments before the header"), make("ul", { class: "plain" }, facts.comments.map((line) => make("li", {}, line)))) : ""));
+      facts.comments.length ? make("details", {}, make("summary", {}, "Comments before the header"),
+        make("ul", { class: "plain" }, facts.comments.map((line) => make("li", {}, line)))) : ""));
 }
 
 function start() {

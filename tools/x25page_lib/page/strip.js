@@ -26,7 +26,8 @@ function timeAt(packet) {
 }
 
 const value = (packet) => (strip.byTime ? timeAt(packet) : packet);
-const across = (packet) => strip.labels + (value(packet) - strip.from) / (strip.to - strip.from || 1) * (strip.width - strip.labels - RIGHT);
+const across = (packet) => strip.labels + (value(packet) - strip.from) / (strip.to - strip.from ||
+  1) * (strip.width - strip.labels - RIGHT);
 const back = (x) => strip.from + (x - strip.labels) / (strip.width - strip.labels - RIGHT) * (strip.to - strip.from);
 
 function wholeView() {
@@ -63,7 +64,8 @@ function barsPath(chosen) {
     const left = Math.max(strip.labels, x);
     const inner = Math.max(2, strip.lane - 6);
     const y = laneOf(call.channel) * strip.lane + (strip.lane - inner) / 2;
-    path += `M${left.toFixed(1)} ${y}h${(Math.min(right, strip.width - 4) - left).toFixed(1)}v${inner}H${left.toFixed(1)}z`;
+    const long = Math.min(right, strip.width - 4) - left;
+    path += `M${left.toFixed(1)} ${y}h${long.toFixed(1)}v${inner}H${left.toFixed(1)}z`;
   }
   return path;
 }
@@ -84,7 +86,9 @@ function marksPath() {
 
 function lanesPath() {
   let path = "";
-  for (const at of strip.lanes.values()) path += `M${strip.labels} ${at * strip.lane + strip.lane / 2}H${strip.width - 4}`;
+  for (const at of strip.lanes.values()) {
+    path += `M${strip.labels} ${at * strip.lane + strip.lane / 2}H${strip.width - 4}`;
+  }
   return path;
 }
 
@@ -101,7 +105,8 @@ const laneName = (name) => (name === "interface" ? name : `channel ${name}`);
 
 function laneNames() {
   if (strip.lane < 10) return [];
-  return [...strip.lanes].map(([name, at]) => draw("text", { class: "lane-name", x: strip.labels - 8, y: at * strip.lane + strip.lane / 2 + 4, "text-anchor": "end" },
+  return [...strip.lanes].map(([name, at]) => draw("text",
+    { class: "lane-name", x: strip.labels - 8, y: at * strip.lane + strip.lane / 2 + 4, "text-anchor": "end" },
     laneName(name)));
 }
 
@@ -110,7 +115,8 @@ function barNames() {
   return calls.map((call) => {
     const [x, right] = [Math.max(strip.labels, across(call.opened)), Math.min(strip.width, across(lastPacket(call)))];
     if (right - x < 12 + 7 * String(call.call).length) return null;
-    return draw("text", { class: "bar-name", x: x + 6, y: laneOf(call.channel) * strip.lane + strip.lane / 2 + 4 }, String(call.call));
+    return draw("text", { class: "bar-name", x: x + 6, y: laneOf(call.channel) * strip.lane + strip.lane / 2 + 4 },
+      String(call.call));
   });
 }
 
@@ -128,7 +134,8 @@ function axis() {
     if (x > strip.width - 30) break;
     const under = !strip.byTime && facts.times.length ? shortClock(timeAt(at)) : "";
     ticks.push(draw("path", { class: "tick", d: `M${x} 26v8` }),
-      draw("text", { class: "tick-name", x, y: 12, "text-anchor": "middle" }, strip.byTime ? shortClock(at) : count(Math.round(at))),
+      draw("text", { class: "tick-name", x, y: 12, "text-anchor": "middle" },
+        strip.byTime ? shortClock(at) : count(Math.round(at))),
       draw("text", { class: "tick-time", x, y: 24, "text-anchor": "middle" }, under));
   }
   return draw("svg", { class: "axis", width: strip.width, height: AXIS, "aria-hidden": "true" }, ticks,
@@ -138,7 +145,8 @@ function axis() {
 function lanes() {
   const found = calls.filter((call) => call.findings);
   const good = calls.filter((call) => !call.findings);
-  return draw("svg", { class: "lanes", width: strip.width, height: strip.height, role: "img", "aria-label": "Calls, findings and restarts by channel" },
+  return draw("svg", { class: "lanes", width: strip.width, height: strip.height, role: "img",
+    "aria-label": "Calls, findings and restarts by channel" },
     draw("path", { class: "lane-line", d: lanesPath() }),
     draw("path", { class: "bar-good", d: barsPath(good) }),
     draw("path", { class: "bar-found", d: barsPath(found) }),
@@ -172,7 +180,8 @@ function underText({ mark, call }) {
   if (!call) return "";
   const found = call.findings ? `; ${plural(call.findings, "finding")}` : "";
   const packets = `packets ${count(call.opened)} to ${call.ended ? count(call.ended) : "the end"}`;
-  return `Call ${call.call}: ${call.calling ?? "-"} to ${call.called ?? "-"}, ${packets}, ${plural(call.segments, "segment")}${found}`;
+  const ends = `${call.calling ?? "-"} to ${call.called ?? "-"}`;
+  return `Call ${call.call}: ${ends}, ${packets}, ${plural(call.segments, "segment")}${found}`;
 }
 
 function go({ mark, call, channel }) {
@@ -232,16 +241,20 @@ function stripTools() {
   const axes = facts.times.length > 1 ? [
     button("by packets", () => { strip.byTime = false; whole(); }),
     button("by time", () => { strip.byTime = true; whole(); })] : [];
-  return make("div", { class: "tools" }, axes, button("closer", () => zoomBy(0.5)), button("farther", () => zoomBy(2)), button("whole", whole));
+  return make("div", { class: "tools" }, axes, button("closer", () => zoomBy(0.5)), button("farther", () => zoomBy(2)),
+    button("whole", whole));
 }
 
 function showStrip() {
   const legend = make("p", { class: "legend" },
     make("span", { class: "key good" }, "call"), make("span", { class: "key found" }, "call with findings"),
     make("span", { class: "key mark" }, "finding"), make("span", { class: "key restart" }, "restart"));
-  const room = make("div", { id: "strip-room" }, make("div", { id: "axis" }), make("div", { id: "lanes", pointerdown: press, pointermove: move, pointerup: release }));
-  place("strip").append(make("div", { class: "section-head" }, make("h2", {}, "Channels over the trace"), stripTools()), legend,
-    make("div", { class: "card flush" }, room), make("p", { id: "under", class: "muted" }, "A click opens a ladder; a drag makes that part larger."));
+  const room = make("div", { id: "strip-room" }, make("div", { id: "axis" }),
+    make("div", { id: "lanes", pointerdown: press, pointermove: move, pointerup: release }));
+  place("strip").append(make("div", { class: "section-head" }, make("h2", {}, "Channels over the trace"),
+    stripTools()), legend,
+    make("div", { class: "card flush" }, room),
+      make("p", { id: "under", class: "muted" }, "A click opens a ladder; a drag makes that part larger."));
   wholeView();
   drawStrip();
   window.addEventListener("resize", drawStrip);

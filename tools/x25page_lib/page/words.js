@@ -9,9 +9,11 @@ const LETTERS = ["T", "N"];
 function fill(element, attributes, children) {
   for (const [name, value] of Object.entries(attributes)) {
     if (typeof value === "function") element.addEventListener(name, value);
-    else if (value !== undefined && value !== null && value !== false) element.setAttribute(name, value === true ? "" : value);
+    else if (value !== undefined && value !== null && value !== false) element.setAttribute(name,
+      value === true ? "" : value);
   }
-  element.append(...children.flat(Infinity).filter((child) => child !== null && child !== undefined && child !== false && child !== ""));
+  element.append(...children.flat(Infinity).filter((child) => child !== null && child !== undefined &&
+    child !== false && child !== ""));
   return element;
 }
 
@@ -140,11 +142,13 @@ function faultOf([at, wrong]) {
 
 // A call of the page, by name.
 function callOf(array) {
-  const [call, epoch, channel, direction, called, calling, opened, up, ended, how, dataT, octetsT, dataN, octetsN, segments,
+  const [call, epoch, channel, direction, called, calling, opened, up, ended, how, dataT, octetsT, dataN, octetsN,
+    segments,
     pays, payer, clearedBy, cause, diagnostic, codes, start, seconds] = array;
   let findings = 0;
   for (const code in codes) findings += codes[code];
-  return { call, epoch, channel, direction, called, calling, opened, up, ended, how, dataT, octetsT, dataN, octetsN, segments,
+  return { call, epoch, channel, direction, called, calling, opened, up, ended, how, dataT, octetsT, dataN, octetsN,
+    segments,
     pays, payer, clearedBy, cause, diagnostic, codes, start, seconds, findings, data: dataT + dataN };
 }
 
@@ -157,7 +161,8 @@ function keyName(key) {
   const number = Number(key.slice(key.indexOf("-") + 1));
   if (key.startsWith("call-")) return `Call ${number}`;
   const permanent = facts.numbers.find(([name]) => name === "PVC");
-  return `Channel ${number}, ${permanent && number <= Number(permanent[1]) ? "a permanent circuit" : "outside of calls"}`;
+  const isPermanent = permanent && number <= Number(permanent[1]);
+  return `Channel ${number}, ${isPermanent ? "a permanent circuit" : "outside of calls"}`;
 }
 
 function causeName(at) {
