@@ -178,7 +178,7 @@ function runText(run) {
   const parts = SIDES.map((side,
     at) => (run.data[at] ? `${side}: ${count(run.data[at])} data, ${plural(run.octets[at], "octet")}` : null));
   const other = run.packets - run.data[0] - run.data[1];
-  if (other) parts.push(plural(other, "other packet"));
+  if (other) parts.push(plural(other, "other"));
   return parts.filter(Boolean).join(" \u00b7 ");
 }
 
