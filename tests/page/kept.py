@@ -1,4 +1,5 @@
 """Tests of what a page keeps of a long trace: its rows and sums are those of the trace, whatever its budget is."""
+import json
 import pathlib
 import random
 import sys
@@ -7,7 +8,7 @@ import unittest
 sys.path.insert(0, str(pathlib.Path(__file__).resolve().parents[2] / "tools"))
 
 from x25page_lib.calls import COLUMNS, MEMBERS, Calls  # noqa: E402
-from x25page_lib.facts import Times  # noqa: E402
+from x25page_lib.facts import Thinned, Times  # noqa: E402
 from x25page_lib.ladders import Ladders, Row  # noqa: E402
 from x25page_lib.rows import RowForms, nanoseconds  # noqa: E402
 from x25page_lib.suspicions import Debts, warnings  # noqa: E402
@@ -109,6 +110,15 @@ class Kept(unittest.TestCase):
         found = times.all()
         self.assertLess(len(found), 1100)
         self.assertEqual((found[0], found[-1]), ([1, 0.5], [10_000, 5000.0]))
+
+    def test_thinned(self):
+        """What does not fit is left out evenly."""
+        thinned = Thinned(1000)
+        for at in range(10_000):
+            thinned.add(at)
+        kept = json.loads(thinned.text)
+        self.assertLessEqual(len(thinned.text), 1001)
+        self.assertEqual((kept, thinned.left_out), (list(range(0, 10_000, kept[1])), 10_000 - len(kept)))
 
     def test_nanoseconds(self):
         pairs = (

@@ -100,10 +100,10 @@ def uses(shown):
     browser.value("document.querySelector('#call-table th [data-word=segments]').click()")
     shown.is_so("document.querySelector('#call-table tbody tr td').textContent", "7")
     browser.value("document.querySelector('.codes .word').scrollIntoView({block: 'center'})")
-    wait(browser, "document.querySelector('#hint').hidden")
-    browser.value("document.querySelector('.codes .word').focus({preventScroll: true})")
-    shown.is_so("document.querySelector('#hint').hidden", False)
-    shown.is_so("document.querySelector('#hint').textContent.includes('The P(S) of a data packet is not the next')")
+    # A scroll that ends late hides the hint again, so it is looked at in the same step.
+    focused = "document.querySelector('.codes .word').focus({preventScroll: true})"
+    hint = "document.querySelector('#hint')"
+    shown.is_so(f"({focused}, !{hint}.hidden && {hint}.textContent.includes('The P(S) of a data packet is not the next'))")
     colour = "getComputedStyle(document.body).backgroundColor"
     browser.value("document.querySelector('#theme [data-name=light]').click()")
     light = browser.value(colour)

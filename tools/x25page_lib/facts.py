@@ -34,6 +34,31 @@ class Budgeted:
         return f"[{','.join(self.texts)}]"
 
 
+class Thinned:
+    """Texts of a list, evenly over the trace: where its bytes do not allow all, each second one, or fourth one."""
+
+    def __init__(self, budget):
+        self.budget, self.texts, self.size, self.step, self.seen = budget, [], 0, 1, 0
+
+    def add(self, value):
+        if self.seen % self.step == 0:
+            text = encoded(value)
+            self.texts.append(text)
+            self.size += len(text) + 1
+            if self.size > self.budget:
+                self.texts, self.step = self.texts[::2], self.step * 2
+                self.size = sum(map(len, self.texts)) + len(self.texts)
+        self.seen += 1
+
+    @property
+    def left_out(self):
+        return self.seen - len(self.texts)
+
+    @property
+    def text(self):
+        return f"[{','.join(self.texts)}]"
+
+
 class Times:
     """The times of some rows, evenly over the trace."""
 
@@ -68,7 +93,7 @@ class Facts:
     def __init__(self):
         self.forms, self.ladders, self.calls = RowForms(), Ladders(LADDERS), Calls(CALLS)
         self.times, self.debts = Times(), Debts()
-        self.broken, self.marks, self.restarts = {}, Budgeted(MARKS), Budgeted(MARKS // 4)
+        self.broken, self.marks, self.restarts = {}, Thinned(MARKS), Thinned(MARKS // 4)
         self.accounts, self.settings, self.not_counted = Budgeted(ACCOUNTS), Budgeted(SETTINGS), []
         self.sums = self.peak = None
         # The last call of each channel, which its clear confirmation still belongs to.

@@ -20,8 +20,11 @@ from x25trace_lib.words import chosen
 BINARY = (*MAGICS, MAGIC, SNOOP_MAGIC, *COMPRESSED, *OTHER_FORMS)
 ESTIMATED = re.compile(r"estimated from what was seen: (.*)")
 ESTIMATE = re.compile(r"(\w+) (\d+) \(([^()]*)\)")
+ROW = re.compile(r"(\d{1,9}) ", re.ASCII)
 CIRCUIT = re.compile(rb"# (connection \d+ is channel (\d+)\b.*)")
 MOST_COMMENTS, LONGEST_COMMENT, MOST_CIRCUITS = 20, 300, 2000
+# Of a trace that x25scan takes no line is longer.
+LONGEST_LINE = 8501
 
 
 @dataclass
@@ -67,13 +70,13 @@ def is_trace(start):
 def head_of(trace):
     """The head of a trace in an open file, which is left at its beginning."""
     head, circuit = Head(), None
-    for line in trace:
+    while line := trace.readline(LONGEST_LINE):
         if not line.startswith(b"#"):
             text = line.decode(errors="replace").rstrip("\r\n")
             if not head.header:
                 head.header = text[:LONGEST_COMMENT] or "-"
-            elif circuit and len(head.circuits) < MOST_CIRCUITS:
-                head.circuits.append([int(text.split(" ")[0]), *circuit])
+            elif circuit and len(head.circuits) < MOST_CIRCUITS and (row := ROW.match(text)):
+                head.circuits.append([int(row[1]), *circuit])
                 circuit = None
         elif not head.header:
             comment(head, line[1:].decode(errors="replace").strip())

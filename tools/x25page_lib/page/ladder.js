@@ -316,7 +316,7 @@ function openLadder(key, packet) {
     make("div", { class: "card" }, call && callFacts(call), phases(),
       shown.items.length ? make("div", { class: "ladder-scroll" }, make("div", { class: "ladder-head" }, ladderHead()),
         make("div", { id: "ladder-room" })) : missingRows(key),
-      make("div", { id: "ladder-pages", class: "tools" })),
+      make("div", { id: "ladder-pages", class: "tools" }), make("p", { id: "ladder-note", class: "left-out" })),
     make("div", { id: "detail", class: "card", hidden: true }));
   if (shown.items.length) drawLadder();
 }
@@ -336,6 +336,8 @@ function pageOf(packet) {
 function mark(withDetail = true) {
   for (const element of document.querySelectorAll(".row.chosen")) element.classList.remove("chosen");
   const item = shown.items.find((it) => it.row && it.row.packet === shown.packet);
+  const isMissing = shown.packet !== null && !item && shown.items.length;
+  place("ladder-note").textContent = isMissing ? `Packet ${count(shown.packet)} is left out to keep the page small.` : "";
   if (!item) return;
   place(`row-${shown.packet}`)?.classList.add("chosen");
   if (withDetail) showDetail(item.row);

@@ -13,7 +13,7 @@ function verdict() {
 function sideCard(side) {
   const most = Math.max(1, ...facts.codes.map((code) => Math.max(...code[3])));
   const rows = facts.codes.filter((code) => code[3][side]).map((code) => codeLine(code, side, most));
-  const kept = "Each of its packets keeps to the protocol.";
+  const kept = "None of its packets breaks the protocol.";
   return make("div", { class: `card side ${broken[side] ? "guilty" : "clean"}` },
     make("div", { class: "side-head" },
       make("h2", {}, word("side", LETTERS[side], SIDES[side])),

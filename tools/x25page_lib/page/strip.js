@@ -246,6 +246,7 @@ function stripTools() {
 }
 
 function showStrip() {
+  if (!facts.channels.length && !facts.restarts.length && !facts.marks.length) return;
   const legend = make("p", { class: "legend" },
     make("span", { class: "key good" }, "call"), make("span", { class: "key found" }, "call with findings"),
     make("span", { class: "key mark" }, "finding"), make("span", { class: "key restart" }, "restart"));
