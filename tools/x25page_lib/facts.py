@@ -1,5 +1,4 @@
 """What a page shows of a trace: gathered from the objects of x25scan, each of which is looked at once."""
-from collections import deque
 from dataclasses import dataclass, field
 
 from .calls import Calls

@@ -20,7 +20,7 @@ from x25trace_lib.words import chosen
 BINARY = (*MAGICS, MAGIC, SNOOP_MAGIC, *COMPRESSED, *OTHER_FORMS)
 ESTIMATED = re.compile(r"estimated from what was seen: (.*)")
 ESTIMATE = re.compile(r"(\w+) (\d+) \(([^()]*)\)")
-ROW = re.compile(r"(\d{1,9}) ", re.ASCII)
+ROW = re.compile(rb"(\d{1,9}) ")
 CIRCUIT = re.compile(rb"# (connection \d+ is channel (\d+)\b.*)")
 MOST_COMMENTS, LONGEST_COMMENT, MOST_CIRCUITS = 20, 300, 2000
 # Of a trace that x25scan takes no line is longer.
@@ -71,19 +71,25 @@ def head_of(trace):
     """The head of a trace in an open file, which is left at its beginning."""
     head, circuit = Head(), None
     while line := trace.readline(LONGEST_LINE):
-        if not line.startswith(b"#"):
-            text = line.decode(errors="replace").rstrip("\r\n")
-            if not head.header:
-                head.header = text[:LONGEST_COMMENT] or "-"
-            elif circuit and len(head.circuits) < MOST_CIRCUITS and (row := ROW.match(text)):
-                head.circuits.append([int(row[1]), *circuit])
-                circuit = None
-        elif not head.header:
+        is_comment = line.startswith(b"#")
+        if is_comment and not head.header:
             comment(head, line[1:].decode(errors="replace").strip())
-        elif match := CIRCUIT.match(line):
-            circuit = [int(match[2]), match[1].decode(errors="replace")[:LONGEST_COMMENT]]
+        elif not head.header:
+            head.header = shown(line) or "-"
+        elif is_comment and (match := CIRCUIT.match(line)):
+            circuit = [int(match[2]), shown(match[1])]
+        elif circuit and (row := ROW.match(line)):
+            head.circuits.append([int(row[1]), *circuit])
+            circuit = None
+            if len(head.circuits) == MOST_CIRCUITS:
+                break
     trace.seek(0)
     return head
+
+
+def shown(octets):
+    """A line as a page shows it."""
+    return octets.decode(errors="replace").strip()[:LONGEST_COMMENT]
 
 
 def comment(head, text):

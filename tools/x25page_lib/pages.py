@@ -2,8 +2,10 @@
 import base64
 import hashlib
 import pathlib
+from dataclasses import dataclass
 
-from .facts import SIDES
+from .facts import SIDES, Facts
+from .inputs import Head
 from .suspicions import number, warnings
 from .texts import encoded
 
@@ -30,13 +32,17 @@ def read(name):
     return (FOLDER / name).read_text(encoding="ascii")
 
 
+@dataclass
 class Page:
-    """A page of a trace."""
+    """A page of a trace: what it is of, what was said of it, what x25scan says, and how it is made again."""
 
-    def __init__(self, name, head, heard, facts, explanations, again):
-        self.name, self.head, self.heard, self.facts = name, head, heard, facts
-        self.explanations, self.again = explanations, again
-        self.size = 0
+    name: str
+    head: Head
+    heard: list
+    facts: Facts
+    explanations: dict
+    again: dict | str
+    size: int = 0
 
     def parts(self):
         """The text of the page, in parts."""
