@@ -139,12 +139,13 @@ class Called(unittest.TestCase):
         return path
 
     def test_scanner_that_fails(self):
-        scanner = self.scanner("echo 'x25scan: out of memory' >&2; exit 3")
+        self.refused(3, "reading or writing failed: ", "--scanner", self.scanner("exit 3"), TRACE)
+        scanner = self.scanner("[ $1 = --explain ] && exit; echo 'x25scan: out of memory' >&2; exit 3")
         words = f"reading or writing failed: {scanner} --rows ended with status 3: out of memory"
         self.refused(3, words, "--scanner", scanner, TRACE)
 
     def test_faulty_trace(self):
-        scanner = self.scanner("printf 'x25scan: line 4: kind 26\\n  The side is X.\\n' >&2; exit 2")
+        scanner = self.scanner("[ $1 = --explain ] && exit; printf 'x25scan: line 4: kind 26\\n  The side is X.\\n' >&2; exit 2")
         self.refused(2, "Trace: line 4: kind 26: The side is X.", "--scanner", scanner, TRACE)
 
     def test_signals(self):

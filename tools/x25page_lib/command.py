@@ -125,9 +125,10 @@ def make(words, arguments, ledger, waiting):
             ledger.hear(line)
         head = inputs.head_of(trace)
         say_header(head)
+        explanations = scanner.explanations()
         facts.take(scanner.objects(trace))
     words_again = again(words, arguments, ledger.is_capture)
-    page = pages.Page(title(words.captures), head, ledger.heard, facts, scanner.explanations(), words_again)
+    page = pages.Page(title(words.captures), head, ledger.heard, facts, explanations, words_again)
     with written(path) as out:
         for part in page.parts():
             out.write(part)

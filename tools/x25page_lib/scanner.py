@@ -64,8 +64,11 @@ class Scanner:
         return {topic: self.explained(topic) for topic in TOPICS}
 
     def explained(self, topic):
+        """The words of a topic. Where the program is built first, standard error says so."""
         words = [*self.words, "--explain", topic]
-        done = subprocess.run(words, stdin=subprocess.DEVNULL, capture_output=True, encoding="utf-8", check=False)
+        done = subprocess.run(words, stdin=subprocess.DEVNULL, stdout=subprocess.PIPE, encoding="utf-8", check=False)
+        if done.returncode:
+            raise OSError(f"{self.words[0]} --explain ended with status {done.returncode}")
         found, sentences = {}, []
         for line in done.stdout.splitlines():
             if match := HEADING.fullmatch(line):
