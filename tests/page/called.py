@@ -120,7 +120,8 @@ class Called(unittest.TestCase):
 
     def test_failed_writes(self):
         self.refused(3, "reading or writing failed: ", "-o", "/dev/full", TRACE)
-        self.refused(3, "reading or writing failed: ", "-o", "no-folder/a.html", TRACE)
+        words = "reading or writing failed: no-folder/a.html: No such file or directory"
+        self.refused(3, words, "-o", "no-folder/a.html", TRACE)
         self.refused(3, "reading or writing failed: ", "--scanner", "/nowhere/x25scan", TRACE)
 
     def test_part_of_a_page(self):

@@ -10,6 +10,8 @@ FACTS = ("pays", "payer", "cleared_by", "cause", "diagnostic", "findings", "star
 COLUMNS = (*MEMBERS, *FACTS)
 # What the array of a call has at most, mostly.
 BYTES = 130
+# Multiples of the one, modulo the other, lie evenly over the range: the golden section of 2^32.
+SPREADING, RANGE = 2_654_435_769, 1 << 32
 
 
 class Calls:
@@ -26,9 +28,12 @@ class Calls:
         self.findings[call] = self.findings.get(call, 0) + 1
 
     def add(self, told):
-        """Takes what the report says of a call; those with the fewest findings and segments are left out."""
+        """Takes what the report says of a call; those with the fewest findings and segments are left out.
+
+        Of equal ones those are kept that lie evenly over the trace.
+        """
         number = told["call"]
-        rank = (self.findings.get(number, 0), told["segments"], -number)
+        rank = (self.findings.get(number, 0), told["segments"], number * SPREADING % RANGE, number)
         self.kept[number] = [told[name] for name in MEMBERS]
         heapq.heappush(self.waiting, rank)
         if len(self.waiting) > self.most:
@@ -36,7 +41,7 @@ class Calls:
 
     def leave_out(self):
         *_, number = heapq.heappop(self.waiting)
-        del self.kept[-number]
+        del self.kept[number]
         self.left_out += 1
 
     def facts(self, told):
@@ -56,6 +61,6 @@ class Calls:
         size = sum(map(len, texts.values())) + len(texts)
         while size > self.budget:
             *_, number = heapq.heappop(self.waiting)
-            size -= len(texts.pop(-number)) + 1
+            size -= len(texts.pop(number)) + 1
             self.left_out += 1
         return f"[{','.join(texts.values())}]"

@@ -67,7 +67,10 @@ def written(path):
                 yield out
             return
     place = path.resolve()
-    descriptor, name = tempfile.mkstemp(prefix=".x25page-", dir=place.parent)
+    try:
+        descriptor, name = tempfile.mkstemp(prefix=".x25page-", dir=place.parent)
+    except OSError as fault:
+        raise OSError(fault.errno, fault.strerror, str(path)) from fault
     try:
         with open(descriptor, "w", encoding="ascii", newline="\n") as out:
             yield out

@@ -27,7 +27,7 @@ HEADING = re.compile(r"(\S.*?) \(([^()]*)\): (.*)")
 PARTS_LEFT_OUT = ("Example: ", "See: ")
 REFUSED = 2
 # Numbers with a point stay texts: times have more digits than a float.
-READER = json.JSONDecoder(parse_float=str)
+read = json.JSONDecoder(parse_float=str).raw_decode
 
 
 class Scanner:
@@ -43,7 +43,7 @@ class Scanner:
         streams = {"stdin": trace, "stdout": subprocess.PIPE, "stderr": subprocess.PIPE}
         with subprocess.Popen(words, **streams, encoding="utf-8", errors="replace") as running:
             try:
-                yield from map(READER.decode, running.stdout)
+                yield from (read(line)[0] for line in running.stdout)
                 said = running.stderr.read()
             except BaseException:
                 running.kill()

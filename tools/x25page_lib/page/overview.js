@@ -40,13 +40,13 @@ function tile(value, name, more = "") {
 function tiles() {
   const { sums, peak } = facts;
   const lost = facts.not_counted.reduce((sum, it) => sum + it[1], 0);
-  const atPeak = peak && peak[1] ? `first at packet ${count(peak[1])}` : "no call was up";
+  const atPeak = peak[1] ? `first at packet ${count(peak[1])}` : "no call was up";
   const found = [
     tile(count(sums.packets), sums.packets === 1 ? "packet" : "packets", duration()),
     tile(count(sums.calls), sums.calls === 1 ? "call" : "calls"),
     tile(count(sums.octets), "octets of data", "that were accepted"),
     tile(count(sums.segments), "segments", "of 64 octets, as they are charged"),
-    tile(count(peak ? peak[0] : 0), "calls at once", atPeak),
+    tile(count(peak[0]), peak[0] === 1 ? "call at once" : "calls at once", atPeak),
     tile(count(lost), lost === 1 ? "data packet not counted" : "data packets not counted",
       lost ? "" : "all data was accepted"),
   ];

@@ -255,7 +255,8 @@ function showStrip() {
   place("strip").append(make("div", { class: "section-head" }, make("h2", {}, "Channels over the trace"),
     stripTools()), legend,
     make("div", { class: "card flush" }, room),
-      make("p", { id: "under", class: "muted" }, "A click opens a ladder; a drag makes that part larger."));
+      make("p", { id: "under", class: "muted" }, "A click opens a ladder; a drag makes that part larger."),
+    leftOut(facts.left_out.calls, "call", "The lanes do not have them.") ?? "");
   wholeView();
   drawStrip();
   window.addEventListener("resize", drawStrip);
