@@ -28,7 +28,7 @@ function faultCard(fault, side) {
   return make("div", { class: "fault-card" },
     make("p", {}, make("b", {}, word(codeTopic(fault.code), fault.code, `Code ${fault.code}`), `: ${fault.name}`),
       ` \u2013 an error of the ${SIDES[side]}`),
-    make("p", {}, fault.wrong, " ", fault.then), make("p", { class: "clause" }, fault.clause));
+    make("p", {}, upper(fault.wrong), " ", fault.then), make("p", { class: "clause" }, fault.clause));
 }
 
 function stateFact(row) {
@@ -59,7 +59,7 @@ function factsOf(row) {
     ["cause", more.cause && `${more.cause.value} (${more.cause.name})`],
     ["diagnostic", more.diagnostic !== undefined
       ? (more.diagnostic.name ? `${more.diagnostic.value} (${more.diagnostic.name})` : more.diagnostic) : null],
-    ["message", more.message && messageText(more.message)],
+    ["PAD message", more.message && messageText(more.message)],
     ["settings", settings],
     ["what it began", more.begins && "a call"], ["what it brought up", more.up && "the call"],
     ["what it ended", more.ends && more.ends.map((it) => `call ${it.call}`).slice(0, 20).join(", ")],

@@ -75,7 +75,7 @@ function notes(row) {
   const say = (text, style = "") => wrapped(text).forEach((line) => found.push({ text: line, style }));
   if (fault) {
     found.push({ text: `Code ${fault.code}: ${fault.name}`, style: "fault", code: fault.code });
-    say(fault.wrong, "wrong");
+    say(upper(fault.wrong), "wrong");
     if (fault.then) say(fault.then, "wrong");
     say(fault.clause, "clause");
   }
@@ -87,7 +87,7 @@ function notes(row) {
   }
   if (more.c) say(`counted: ${plural(more.c, "segment")}`, "faint");
   if (more.not_counted && !fault) say(`not counted: ${reasonName(more.not_counted)}`);
-  if (more.message) say(messageText(more.message));
+  if (more.message) say(`PAD message: ${messageText(more.message)}`);
   if (!more.message && more.settings) say(settingsText(more.settings));
   return found;
 }
@@ -95,7 +95,7 @@ function notes(row) {
 function messageText(message) {
   const pairs = (message.pairs ||
     []).map((it) => `${it.parameter} (${it.name})${it.value === null ? "" : ` = ${it.value}`}`);
-  return `PAD message: ${message.name.replaceAll("_", " ")} ${pairs.join(", ")}`;
+  return `${message.name.replaceAll("_", " ")} ${pairs.join(", ")}`;
 }
 
 function settingsText(settings) {
@@ -285,7 +285,8 @@ function callFacts(call) {
     fact("segments", count(call.segments)), fact("pays", call.payer ?? "-", ` (the ${call.pays} side)`),
     fact("end", ...howEnded(call)),
     settings.length > 0 && fact("PAD settings", settings.map(([, side, parameter, how, value]) => [
-      `${SIDES[LETTERS.indexOf(side)]}: `, word("parameter", String(parameter)), ` ${how} ${value}; `])),
+      make("div", {}, `${SIDES[LETTERS.indexOf(side)]}: parameter `, word("parameter", String(parameter)),
+        ` ${how} ${value}`)])),
     circuit && fact("circuit", circuit[2]));
 }
 

@@ -161,7 +161,7 @@ function showFindings() {
     { name: "Code", word: "code", value: (it) => it[3],
       show: (it) => [word(codeTopic(it[3]), it[3], it[3], "code"), " ",
       (explained(codeTopic(it[3]), it[3]) || [""])[0]] },
-    { name: "What was wrong", value: (it) => it[5] },
+    { name: "What was wrong", value: (it) => upper(it[5]) },
     { name: "Where", value: (it) => it[4], show: (it) => keyName(it[4]) },
   ];
   const table = new Table("finding-table", columns, facts.marks, { link: (it) => `${it[4]}/${it[0]}` });

@@ -157,7 +157,7 @@ const callsByNumber = new Map(calls.map((call) => [call.call, call]));
 
 // What a ladder is of.
 function keyName(key) {
-  if (key === "interface") return "The interface";
+  if (key === "interface") return "The interface: restarts, and packets of no channel";
   const number = Number(key.slice(key.indexOf("-") + 1));
   if (key.startsWith("call-")) return `Call ${number}`;
   const permanent = facts.numbers.find(([name]) => name === "PVC");
