@@ -1,6 +1,7 @@
 """A page in a headless Chromium: its tables, its ladders, what a click does, and that hostile text stays text."""
 import pathlib
 import sys
+import time
 
 from pages import ROOT, Page, run
 
@@ -9,6 +10,8 @@ sys.path.insert(0, str(ROOT / "tools"))
 from browser import Browser  # noqa: E402
 
 SEVEN, GUESSED = (ROOT / "examples" / f"{name}.trace" for name in ("seven-calls", "window-guessed"))
+# How long something may take to be so.
+SECONDS = 5
 TAG = '"><script>hacked=1</script><img src=x onerror=hacked=1>\''
 HOSTILE_NAME = "<img src=x onerror=hacked=1>'\"&amp;.trace"
 
@@ -30,7 +33,10 @@ class Shown:
         self.browser, self.said = browser, []
 
     def is_so(self, expression, wanted=True):
-        got = self.browser.value(expression)
+        """Looks until it is so: what a click does comes later."""
+        end = time.monotonic() + SECONDS
+        while (got := self.browser.value(expression)) != wanted and time.monotonic() < end:
+            time.sleep(0.05)
         if got != wanted:
             self.said.append(f"{expression} is {got!r}, wanted {wanted!r}")
 
@@ -82,13 +88,7 @@ def clicks(shown):
     browser.value("document.querySelector('#detail details').open = true")
     shown.is_so("document.querySelector('#detail pre').textContent.startsWith('0000  10 01 24 21')")
     browser.value("location.hash = '#call-1/4'")
-    wait(browser, "shown.packet === 4")
     shown.is_so("document.querySelector('#detail').textContent.includes('103 octets in hex')")
-
-
-def wait(browser, expression):
-    """Whether something comes to be so."""
-    return any(browser.value(expression) for _ in range(100))
 
 
 def uses(shown):
@@ -130,6 +130,32 @@ def hostile(shown, folder, scanner):
     shown.is_so("document.querySelectorAll('#ladder-room .row').length", 5)
 
 
+def long_call():
+    """A trace of a call with 20 data packets, each of which is acknowledged: 44 rows."""
+    packets = [("T", "10010B0000"), ("N", "10010F")]
+    for at in range(20):
+        packets += [("T", f"1001{at % 8 << 1:02X}AA"), ("N", f"1001{(at + 1) % 8 << 5 | 1:02X}")]
+    packets += [("T", "1001130000"), ("N", "100117")]
+    rows = [f"{number} {side} {octets}\n" for number, (side, octets) in enumerate(packets, 1)]
+    return "X25 1 MOD 8 WIN 2 SIZE 128 PVC 0 SVC 4\n" + "".join(rows)
+
+
+def folds(shown, folder, scanner):
+    """The middle of a long run of data is folded, and a click shows it; a link to a packet of it does so too."""
+    trace, page = folder / "long.trace", folder / "long.html"
+    trace.write_text(long_call())
+    run("--scanner", scanner, "-o", page, trace)
+    rows = "document.querySelectorAll('#ladder-room .row').length"
+    shown.browser.open(page)
+    shown.is_so(rows, 12)
+    shown.is_so("document.querySelector('.gap.fold text').textContent", "32 packets without a finding: click to see them")
+    shown.browser.click(".gap.fold")
+    shown.is_so(rows, 44)
+    shown.browser.open(page, "#call-1/20")
+    shown.is_so("document.querySelector('#ladder-room .row.chosen').id", "row-20")
+    shown.is_so("document.querySelector('#detail h3').textContent.startsWith('Packet 20: RR')")
+
+
 def doubtful(shown, folder, scanner):
     """A header that does not fit is doubted, with a command that tries another one."""
     page = folder / "guessed.html"
@@ -155,5 +181,7 @@ def outcomes(scanner, folder):
         yield "filters, sorting, words, colours", shown.faults()
         hostile(shown, pathlib.Path(folder), scanner)
         yield "hostile text in the browser", shown.faults()
+        folds(shown, pathlib.Path(folder), scanner)
+        yield "long runs are folded", shown.faults()
         doubtful(shown, pathlib.Path(folder), scanner)
         yield "a header that may be wrong", shown.faults()
