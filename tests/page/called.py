@@ -82,8 +82,20 @@ class Called(unittest.TestCase):
         for name, octets in (("trace", TRACE.read_bytes()), ("capture", CAPTURE.read_bytes())):
             done = self.run_page("-o", f"{name}.html", "-", input=octets)
             self.assertEqual(done.returncode, 0, done.stderr)
+            self.assertEqual(Page(self.folder / f"{name}.html").facts["name"], "standard input")
         self.refused(64, "standard input has no name for the page: -o gives one", "-", input=b"")
         self.refused(2, "Empty: standard input has no octet", "-o", "a.html", "-", input=b"")
+
+    def test_named_pipe(self):
+        pipe = self.folder / "pipe"
+        os.mkfifo(pipe)
+        for octets in (TRACE.read_bytes(), CAPTURE.read_bytes()):
+            writer = subprocess.Popen(["bash", "-c", 'cat > "$0"', pipe], stdin=subprocess.PIPE)
+            writer.stdin.write(octets)
+            writer.stdin.close()
+            done = self.run_page(pipe)
+            self.assertEqual((done.returncode, writer.wait(SECONDS)), (0, 0), done.stderr)
+            self.assertEqual(self.there(), ["pipe", "pipe.html"])
 
     def test_refused_inputs(self):
         (self.folder / "odd").write_bytes(b"\x7fELF\2\1\1" + bytes(100))

@@ -86,6 +86,7 @@ def written(path):
 @contextlib.contextmanager
 def opened_trace(words, ledger, waiting):
     """The trace that is named, or that of the captures that are."""
+    inputs.take_pipe(words)
     if not inputs.is_trace(inputs.start_of(words.captures[0])):
         ledger.is_capture = True
         with inputs.trace_of(words, ledger, waiting) as trace:
@@ -131,7 +132,8 @@ def make(words, arguments, ledger, waiting):
         explanations = scanner.explanations()
         facts.take(scanner.objects(trace))
     words_again = again(words, arguments, ledger.is_capture)
-    page = pages.Page(title(words.captures), head, ledger.heard, facts, explanations, words_again)
+    name = "standard input" if words.captures == ["-"] else title(words.captures)
+    page = pages.Page(name, head, ledger.heard, facts, explanations, words_again)
     with written(path) as out:
         for part in page.parts():
             out.write(part)

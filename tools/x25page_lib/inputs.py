@@ -50,8 +50,18 @@ class Head:
         return found
 
 
+def take_pipe(words):
+    """A pipe that has a name is read as standard input: what it begins with can be looked at there, and is read again."""
+    name = words.captures[0]
+    if len(words.captures) == 1 and name != "-" and is_pipe(name):
+        with open_capture(name) as stream:
+            os.dup2(stream.fileno(), 0)
+        sys.stdin = open(0, encoding="ascii", errors="replace", closefd=False)
+        words.captures = ["-"]
+
+
 def start_of(name):
-    """The first octets of a file, which can be read again."""
+    """The first octets of a file, which can be read again; none of a pipe among several files."""
     if name == "-":
         return b"" if sys.stdin is None else sys.stdin.buffer.peek(LOOK)
     with open_capture(name) as stream:
@@ -102,8 +112,8 @@ def comment(head, text):
 
 @contextlib.contextmanager
 def named_trace(name):
-    """A trace in an open file: the file itself, or a copy of what can be read once."""
-    if name != "-" and not is_pipe(name):
+    """A trace in an open file: the file itself, or a copy of standard input."""
+    if name != "-":
         with open_capture(name) as file:
             yield file
         return
