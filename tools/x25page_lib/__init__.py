@@ -1,5 +1,8 @@
-"""The page of a capture or a trace.
+"""The way from a capture or a trace to its page.
 
-inputs turns what is named into a trace, scanner runs x25scan over it, facts and ladders keep what a page shows of its
-objects, and pages writes the file. The page itself stands in the folder page: its markup, its style and its scripts.
+inputs      what is named, as a trace in an open file, and what its first lines say
+scanner     x25scan: the objects of a trace, and the explanations of words
+facts       what a page keeps of the objects: ladders and their rows, calls, and suspicions of the header
+pages       the file: the markup, the style and the scripts of the folder page, with the facts; texts writes these
+command     the streams, the signals and the exit status; words has the options, told the reasons for no page
 """
