@@ -1,8 +1,8 @@
 #!/usr/bin/env python3
-"""manual_page.py [--check]: writes docs/x25scan.1 and docs/x25trace.1.
+"""manual_page.py [--check]: writes docs/x25scan.1, docs/x25trace.1 and docs/x25page.1.
 
-That of x25scan is made of the words of crates/command_line and the table of crates/explanations, that of x25trace of
-its help. With --check it writes nothing, and says where a page is another one, where the help has other exit statuses
+That of x25scan is made of the words of crates/command_line and the table of crates/explanations, those of
+x25trace and x25page of their help. With --check it writes nothing, and says where a page is another one, where the help has other exit statuses
 than the table, and where the version names another kit than `rt version`. The last line is 'N passed, M failed'.
 """
 import re
@@ -12,7 +12,8 @@ import sys
 sys.dont_write_bytecode = True
 from codes_document import rows  # noqa: E402
 from option_tables import OPTIONS, ROOT, texts_of_scan  # noqa: E402
-from x25trace_lib.words import parser  # noqa: E402
+from x25page_lib import words as page_words  # noqa: E402
+from x25trace_lib import words as trace_words  # noqa: E402
 
 STATUS = re.compile(r"^  (\d+) +(.*)$", re.MULTILINE)
 DOCUMENTS = "/usr/share/doc/x25scan/"
@@ -93,22 +94,40 @@ def scan_page():
     text += statuses((it["word"], it["meaning"]) for it in table if it["topic"] == "Status")
     text += ".SH DIAGNOSTICS\nOn standard error, after \\fBx25scan:\\fR.\n"
     text += "".join(entry(f"\\fB{troff(it['name'])}\\fR", it["meaning"] + " " + it["when"]) for it in table if it["topic"] == "Refusal")
-    return text + ".SH SEE ALSO\n.BR x25trace (1)\n.PP\n" + troff(told["AFTER_HELP"].split("\n\n")[-1]) + "\n"
+    return text + see_also("x25scan", told["AFTER_HELP"].split("\n\n")[-1])
+
+
+def see_also(program, text):
+    """The other programs, and where the documents are."""
+    others = [f".BR {it} (1)" for it in sorted(PAGES) if it != program]
+    return ".SH SEE ALSO\n" + " ,\n".join(others) + "\n.PP\n" + troff(text) + "\n"
+
+
+def python_page(program, summary, words, more, told):
+    """The page of a program whose words are those of a parser."""
+    text = f'.\\" Written by tools/manual_page.py from the help of tools/{program}.\n'
+    text += beginning(program, summary, words.description)
+    text += ".PP\n" + troff(more) + "\n"
+    text += examples(section(words.epilog, "examples"))
+    text += statuses((status, capital(meaning) + ".") for status, meaning in STATUS.findall(section(words.epilog, "exit status")))
+    return text + see_also(program, told)
 
 
 def trace_page():
     """The page of x25trace."""
-    words = parser()
-    text = '.\\" Written by tools/manual_page.py from the help of tools/x25trace.\n'
-    text += beginning("x25trace", "the trace of the X.25 packets in a capture", words.description)
-    text += ".PP\n" + troff(capital(re.search(r"^kinds of --as: .*$", words.epilog, re.MULTILINE)[0])) + ".\n"
-    text += examples(section(words.epilog, "examples"))
-    text += statuses((status, capital(meaning) + ".") for status, meaning in STATUS.findall(words.epilog))
+    words = trace_words.parser()
+    kinds = capital(re.search(r"^kinds of --as: .*$", words.epilog, re.MULTILINE)[0]) + "."
     told = f"{DOCUMENTS}CAPTURES.md says which captures are read and how, and {DOCUMENTS}TRACE.md how a trace is written."
-    return text + ".SH SEE ALSO\n.BR x25scan (1)\n.PP\n" + troff(told) + "\n"
+    return python_page("x25trace", "the trace of the X.25 packets in a capture", words, kinds, told)
 
 
-PAGES = {"x25scan": scan_page, "x25trace": trace_page}
+def page_page():
+    """The page of x25page."""
+    told = f"{DOCUMENTS}GUIDE.md shows a page, {DOCUMENTS}CAPTURES.md says which captures are read, and {DOCUMENTS}REPORT.md what the numbers mean."
+    return python_page("x25page", "a page of HTML of an X.25 capture or trace", page_words.parser(), page_words.NAMES_OF_PAGES, told)
+
+
+PAGES = {"x25scan": scan_page, "x25trace": trace_page, "x25page": page_page}
 
 
 def path_of(program):

@@ -1,13 +1,14 @@
 """The options of the programs that a package installs, as their help has them.
 
-Those of x25scan are read from crates/command_line, and those of x25trace from the parser of its words. The manual
+Those of x25scan are read from crates/command_line, and those of x25trace and x25page from the parsers of their words. The manual
 pages (manual_page.py) and the completions (completions.py) are written from these tables.
 """
 import pathlib
 import re
 from dataclasses import dataclass
 
-from x25trace_lib.words import parser
+from x25page_lib import words as page_words
+from x25trace_lib import words as trace_words
 
 ROOT = pathlib.Path(__file__).resolve().parent.parent
 WORDS = ROOT / "crates" / "command_line" / "src"
@@ -72,7 +73,7 @@ def options_of_scan():
     return [found[name] for name in sorted(found, key=order.index)] + added
 
 
-def option_of_trace(action, group):
+def option_of_action(action, group):
     """The option that an action of a parser is."""
     choices = tuple(map(str, action.choices or ()))
     has_value = action.nargs != 0
@@ -82,11 +83,15 @@ def option_of_trace(action, group):
     return told
 
 
-def options_of_trace():
-    """The options of x25trace in the order of its help."""
-    groups = [(it.title, it._group_actions) for it in parser()._action_groups]
+def options_of_parser(parser):
+    """The options of a parser in the order of its help."""
+    groups = [(it.title, it._group_actions) for it in parser._action_groups]
     named = [("" if title in TITLES_OF_ARGPARSE else title, actions) for title, actions in groups]
-    return [option_of_trace(action, title) for title, actions in named for action in actions]
+    return [option_of_action(action, title) for title, actions in named for action in actions]
 
 
-OPTIONS = {"x25scan": options_of_scan, "x25trace": options_of_trace}
+OPTIONS = {
+    "x25scan": options_of_scan,
+    "x25trace": lambda: options_of_parser(trace_words.parser()),
+    "x25page": lambda: options_of_parser(page_words.parser()),
+}

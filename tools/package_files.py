@@ -1,4 +1,4 @@
-"""The files of a package: programs, manual pages, completions, documents, the traces that these name, and PROVED."""
+"""The files of a package: programs, manual pages, completions, documents with their pictures and traces, and PROVED."""
 import functools
 import gzip
 import hashlib
@@ -17,8 +17,10 @@ READ |= {"CHANGELOG.md": "CHANGELOG.md"}
 EXAMPLES, CAPTURES, TRACES = "examples", "tests/captures/files", "tests/traces"
 LINK = re.compile(r"\[([^\]\n]*)\]\(([^)#\s]*)(#[^)\s]*)?\)")
 INSTALLED_PROGRAM = re.compile(rf"(?<![\w/])(?:bin|tools)/({'|'.join(OPTIONS)})(?![\w/])")
-# x25trace, its library and a link to x25scan stand as in the repository; a link leads to the launcher.
-TRACE = "share/x25scan"
+# The other programs, their libraries and a link to x25scan stand as in the repository; links lead to the launchers.
+SHARED = "share/x25scan"
+LIBRARIES = {"x25trace": ("*.py",), "x25page": ("*.py", "page/*.*")}
+PICTURES = "docs/pictures"
 
 
 class Refusal(Exception):
@@ -66,13 +68,19 @@ def shown():
     return traces | captures | {f"{EXAMPLES}/{it.name}" for it in (ROOT / EXAMPLES).iterdir()}
 
 
+def pictures():
+    """The pictures of the documents, as they are installed, by their place in the repository."""
+    return {f"{PICTURES}/{it.name}": f"pictures/{it.name}" for it in sorted((ROOT / PICTURES).glob("*.png"))}
+
+
 def link_of(match, path):
     """A link of a document as it is where this is installed, or its text where it leads to nothing that is."""
     text, target, part = match[1], match[2], match[3] or ""
     if not target or "://" in target:
         return match[0]
     place = place_of(path, target)
-    installed = place if place in (*shown(), EXAMPLES, CAPTURES) else READ.get(place)
+    known = READ | pictures()
+    installed = place if place in (*shown(), EXAMPLES, CAPTURES) else known.get(place)
     return f"[{text}]({installed}{part})" if installed else text
 
 
@@ -83,14 +91,16 @@ def document(path):
 
 
 def programs(release):
-    """The programs, and what x25trace is made of."""
+    """The programs, and what those in Python are made of."""
     yield File("bin/x25scan", release.program, 0o755)
-    yield File("bin/x25trace", target=f"../{TRACE}/bin/x25trace")
-    yield File(f"{TRACE}/bin/x25scan", target="../../../bin/x25scan")
-    for path in ("bin/x25trace", "tools/x25trace"):
-        yield File(f"{TRACE}/{path}", (ROOT / path).read_bytes(), 0o755)
-    for path in sorted((ROOT / "tools" / "x25trace_lib").glob("*.py")):
-        yield File(f"{TRACE}/tools/x25trace_lib/{path.name}", path.read_bytes())
+    yield File(f"{SHARED}/bin/x25scan", target="../../../bin/x25scan")
+    for name, patterns in LIBRARIES.items():
+        yield File(f"bin/{name}", target=f"../{SHARED}/bin/{name}")
+        for path in (f"bin/{name}", f"tools/{name}"):
+            yield File(f"{SHARED}/{path}", (ROOT / path).read_bytes(), 0o755)
+        library = ROOT / "tools" / f"{name}_lib"
+        for path in sorted(it for pattern in patterns for it in library.glob(pattern)):
+            yield File(f"{SHARED}/{path.relative_to(ROOT)}", path.read_bytes())
 
 
 def pages_and_completions(zsh_folder):
@@ -107,6 +117,8 @@ def documents():
     """The documents, and the traces and captures that they name."""
     for path, name in READ.items():
         yield File(f"{DOCUMENTS}/{name}", document(path))
+    for path, name in pictures().items():
+        yield File(f"{DOCUMENTS}/{name}", (ROOT / path).read_bytes())
     for path in shown():
         yield File(f"{DOCUMENTS}/{path}", (ROOT / path).read_bytes())
 

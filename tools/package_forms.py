@@ -27,7 +27,8 @@ Description: reports which side of a recorded X.25 interface broke the protocol
  settings of their PADs, the peak of calls, and the sums. Every function of it
  is proved to meet its contract.
  .
- x25trace writes the trace that it reads from captures of XOT, LAPB and X.25.
+ x25trace writes the trace that it reads from captures of XOT, LAPB and X.25,
+ and x25page a page of HTML with the ladder of each call.
 """
 
 

@@ -1,0 +1,222 @@
+"""Tests of x25page as it is called: what is refused, its streams, its signals, and what it leaves in its folder."""
+import fcntl
+import os
+import pathlib
+import signal
+import subprocess
+import sys
+import tempfile
+import termios
+import time
+import unittest
+
+from pages import PROGRAM, ROOT, SECONDS, Page, run
+
+sys.path.insert(0, str(ROOT / "tools"))
+
+from x25page_lib.command import written  # noqa: E402
+
+TRACE = ROOT / "examples" / "seven-calls.trace"
+FAULTY = ROOT / "examples" / "no-side.trace"
+FILES = ROOT / "tests" / "captures" / "files"
+CAPTURE = FILES / "ethernet.pcap"
+OLD = b"what stood there"
+# The program that the tests ask, as the suite names it.
+SCANNER = pathlib.Path()
+
+
+class Called(unittest.TestCase):
+    """Each test runs in a folder of its own."""
+
+    def setUp(self):
+        held = tempfile.TemporaryDirectory()
+        self.addCleanup(held.cleanup)
+        self.folder = pathlib.Path(held.name)
+
+    def run_page(self, *words, **how):
+        return run("--scanner", SCANNER, *words, cwd=self.folder, **how)
+
+    def there(self):
+        return sorted(it.name for it in self.folder.iterdir())
+
+    def refused(self, status, words, *line, **how):
+        """A run without a page, which says why in one of its lines."""
+        before = self.there()
+        done = self.run_page(*line, **how)
+        self.assertEqual((done.returncode, done.stdout, self.there()), (status, b"", before), done.stderr)
+        self.assertIn(f"x25page: {words}".encode(), done.stderr)
+        self.assertNotIn(b"Traceback", done.stderr)
+
+    def test_names(self):
+        """Without -o the page is in the current folder, and it alone."""
+        done = self.run_page(TRACE)
+        self.assertEqual((done.returncode, done.stdout, self.there()), (0, b"", ["seven-calls.html"]), done.stderr)
+        self.assertIn(b"x25page: header: X25 1 MOD 8 WIN 2 SIZE 128 PVC 0 SVC 2\n", done.stderr)
+        self.assertIn(b"seven-calls.html: 52 packets, 7 calls, 1 finding (DTE 1, DCE 0)", done.stderr)
+        self.assertEqual(self.run_page(TRACE).returncode, 0, "a page is written anew")
+        self.run_page("-o", "other.html", TRACE)
+        self.assertEqual(Page(self.folder / "other.html").json, Page(self.folder / "seven-calls.html").json)
+
+    def test_capture(self):
+        done = self.run_page(CAPTURE)
+        self.assertEqual((done.returncode, self.there()), (0, ["ethernet.html"]), done.stderr)
+        for words in (b"header: X25 1 MOD 8 WIN 1 SIZE 16 PVC 0 SVC 1", b"estimated from what was seen: MOD 8 (",
+                      b"WIN 1 and SIZE 16 are estimated, so "):
+            self.assertIn(b"x25page: " + words, done.stderr)
+        facts = Page(self.folder / "ethernet.html").facts
+        self.assertEqual(facts["numbers"][1][:2], ["WIN", "1"])
+        self.assertTrue(facts["numbers"][1][2])
+        self.assertEqual(facts["again"], {"WIN": "ethernet.pcap", "SIZE": "ethernet.pcap"})
+        given = self.run_page("--win", "2", "--size=128", "-o", "given.html", CAPTURE)
+        self.assertIn(b"header: X25 1 MOD 8 WIN 2 SIZE 128 ", given.stderr)
+        facts = Page(self.folder / "given.html").facts
+        self.assertEqual(facts["again"], {"WIN": "--size=128 ethernet.pcap", "SIZE": "--win 2 ethernet.pcap"})
+
+    def test_damaged_capture(self):
+        done = self.run_page(FILES / "tcp-gap-and-next-connection.pcap")
+        self.assertEqual(done.returncode, 1, done.stderr)
+        heard = Page(self.folder / "tcp-gap-and-next-connection.html").facts["heard"]
+        self.assertIn("left out: gaps in TCP connections: 1", heard)
+
+    def test_standard_input(self):
+        for name, octets in (("trace", TRACE.read_bytes()), ("capture", CAPTURE.read_bytes())):
+            done = self.run_page("-o", f"{name}.html", "-", input=octets)
+            self.assertEqual(done.returncode, 0, done.stderr)
+            self.assertEqual(Page(self.folder / f"{name}.html").facts["name"], "standard input")
+        self.refused(64, "standard input has no name for the page: -o gives one", "-", input=b"")
+        self.refused(2, "Empty: standard input has no octet", "-o", "a.html", "-", input=b"")
+
+    def test_named_pipe(self):
+        pipe = self.folder / "pipe"
+        os.mkfifo(pipe)
+        for octets in (TRACE.read_bytes(), CAPTURE.read_bytes()):
+            writer = subprocess.Popen(["bash", "-c", 'cat > "$0"', pipe], stdin=subprocess.PIPE)
+            writer.stdin.write(octets)
+            writer.stdin.close()
+            done = self.run_page(pipe)
+            self.assertEqual((done.returncode, writer.wait(SECONDS)), (0, 0), done.stderr)
+            self.assertEqual(self.there(), ["pipe", "pipe.html"])
+
+    def test_refused_inputs(self):
+        (self.folder / "odd").write_bytes(b"\x7fELF\2\1\1" + bytes(100))
+        lines = (
+            ("Absent: there is no file nowhere.pcap", "nowhere.pcap"),
+            ("Folder: ", "-o", "a.html", self.folder),
+            ("UnknownFormat: ", "odd"),
+            ("Compressed: ", FILES / "write-me.pcap.gz"),
+            ("Trace: ", FAULTY),
+            ("Header: WIN 8 is not 1 to 7", "--win", "8", CAPTURE),
+        )
+        for words, *line in lines:
+            if "write-me.pcap.gz" in str(line[-1]):
+                (self.folder / "a.pcap.gz").write_bytes(b"\x1f\x8b" + bytes(30))
+                line = ["a.pcap.gz"]
+            self.refused(2, words, *line)
+
+    def test_refused_words(self):
+        self.refused(64, "--win is of captures, and ", "--win", "2", TRACE)
+        self.refused(64, "a trace stands alone", TRACE, TRACE)
+        self.refused(64, "argument --win: '0' is not a number from 1 to 127", "--win", "0", CAPTURE)
+
+    def test_what_stands_there(self):
+        """What is no page is not written over, unless -o names it; the input never is."""
+        other = self.folder / "seven-calls.html"
+        other.write_bytes(OLD)
+        self.refused(2, "Output: seven-calls.html stands there and is no page of x25page: -o names another file", TRACE)
+        self.assertEqual(other.read_bytes(), OLD)
+        self.assertEqual(self.run_page("-o", other, TRACE).returncode, 0)
+        copy = self.folder / "copy.trace"
+        copy.write_bytes(TRACE.read_bytes())
+        self.refused(2, "Output: copy.trace is what the page is made of", "-o", "copy.trace", "copy.trace")
+        self.refused(2, "Output: . is a folder", "-o", ".", "copy.trace")
+
+    def test_failed_writes(self):
+        self.refused(3, "reading or writing failed: ", "-o", "/dev/full", TRACE)
+        words = "reading or writing failed: no-folder/a.html: No such file or directory"
+        self.refused(3, words, "-o", "no-folder/a.html", TRACE)
+        self.refused(3, "reading or writing failed: ", "--scanner", "/nowhere/x25scan", TRACE)
+
+    def test_part_of_a_page(self):
+        """Where writing ends early, the old file stands, and nothing else."""
+        page = self.folder / "a.html"
+        page.write_bytes(OLD)
+        with self.assertRaises(KeyboardInterrupt), written(page) as out:
+            out.write("a part")
+            raise KeyboardInterrupt
+        self.assertEqual((self.there(), page.read_bytes()), (["a.html"], OLD))
+
+    def scanner(self, script):
+        path = self.folder / "scanner"
+        path.write_text(f"#!/bin/sh\n{script}\n")
+        path.chmod(0o755)
+        return path
+
+    def test_scanner_that_fails(self):
+        self.refused(3, "reading or writing failed: ", "--scanner", self.scanner("exit 3"), TRACE)
+        scanner = self.scanner("[ $1 = --explain ] && exit; echo 'x25scan: out of memory' >&2; exit 3")
+        words = f"reading or writing failed: {scanner} --rows ended with status 3: out of memory"
+        self.refused(3, words, "--scanner", scanner, TRACE)
+
+    def test_faulty_trace(self):
+        scanner = self.scanner("[ $1 = --explain ] && exit; printf 'x25scan: line 4: kind 26\\n  The side is X.\\n' >&2; exit 2")
+        self.refused(2, "Trace: line 4: kind 26: The side is X.", "--scanner", scanner, TRACE)
+
+    def test_signals(self):
+        """A signal while x25scan runs ends the program, and there is no page."""
+        scanner = self.scanner("exec sleep 30")
+        for number, status in ((signal.SIGINT, 130), (signal.SIGTERM, 143)):
+            words = [PROGRAM, "--scanner", scanner, TRACE]
+            running = subprocess.Popen(words, cwd=self.folder, stderr=subprocess.PIPE)
+            line = running.stderr.readline()
+            self.assertIn(b"header: ", line)
+            time.sleep(0.2)
+            running.send_signal(number)
+            self.assertEqual((running.wait(SECONDS), running.stderr.read()), (status, b""))
+            running.stderr.close()
+            self.assertEqual(self.there(), ["scanner"])
+
+    def test_interrupted_reading(self):
+        """SIGINT ends the reading of a capture: the page is of what was read."""
+        words = [PROGRAM, "--scanner", SCANNER, "-o", "a.html", "-"]
+        running = subprocess.Popen(words, cwd=self.folder, stdin=subprocess.PIPE, stderr=subprocess.PIPE)
+        running.stdin.write(CAPTURE.read_bytes())
+        running.stdin.flush()
+        end = time.monotonic() + SECONDS
+        while time.monotonic() < end and not is_waiting(running):
+            time.sleep(0.05)
+        running.send_signal(signal.SIGINT)
+        _, errors = running.communicate(timeout=SECONDS)
+        self.assertEqual((running.returncode, self.there()), (130, ["a.html"]), errors)
+        self.assertIn(b"interrupted: ", errors)
+
+    def test_closed_streams(self):
+        lines = (
+            ("TRACE <&-", 0), ("TRACE >&-", 0), ("TRACE 2>&-", 0), ("TRACE <&- >&- 2>&-", 0),
+            ("TRACE 1< .", 0), ("TRACE < .", 2), ("-o a.html - <&-", 2),
+        )
+        for words, status in lines:
+            command = ["bash", "-c", f'"$0" --scanner "$1" {words.replace("TRACE", str(TRACE))}', PROGRAM, SCANNER]
+            done = subprocess.run(command, capture_output=True, cwd=self.folder, timeout=SECONDS)
+            self.assertEqual(done.returncode, status, (words, done.stderr))
+            self.assertNotIn(b"Traceback", done.stderr)
+
+    def test_name_that_is_no_utf_8(self):
+        name = os.path.join(os.fsencode(self.folder), b"day\xff<b>.trace")
+        pathlib.Path(os.fsdecode(name)).write_bytes(TRACE.read_bytes())
+        command = [PROGRAM, "--scanner", SCANNER, name]
+        done = subprocess.run(command, capture_output=True, cwd=self.folder, timeout=SECONDS)
+        self.assertEqual(done.returncode, 0, done.stderr)
+        self.assertTrue(os.path.exists(os.path.join(os.fsencode(self.folder), b"day\xff<b>.html")))
+
+    def test_help(self):
+        done = run("--help")
+        self.assertEqual((done.returncode, done.stderr), (0, b""))
+        for words in (b"examples:", b"exit status:", b"--win", b"NAME.html in the current folder"):
+            self.assertIn(words, done.stdout)
+
+
+def is_waiting(running):
+    """Whether a process has read all that its pipe holds, and waits for more."""
+    unread = int.from_bytes(fcntl.ioctl(running.stdin, termios.FIONREAD, bytes(4)), sys.byteorder)
+    state = pathlib.Path(f"/proc/{running.pid}/stat").read_text().rpartition(") ")[2].split()[0]
+    return not unread and state == "S"

@@ -1,0 +1,155 @@
+"""Tests of what a page keeps of a long trace: its rows and sums are those of the trace, whatever its budget is."""
+import json
+import pathlib
+import random
+import sys
+import unittest
+
+sys.path.insert(0, str(pathlib.Path(__file__).resolve().parents[2] / "tools"))
+
+from x25page_lib.calls import COLUMNS, MEMBERS, Calls  # noqa: E402
+from x25page_lib.facts import Thinned, Times  # noqa: E402
+from x25page_lib.ladders import Ladders, Row  # noqa: E402
+from x25page_lib.rows import RowForms, nanoseconds  # noqa: E402
+from x25page_lib.suspicions import Debts, warnings  # noqa: E402
+
+FINDING = {"code": "1", "name": "Invalid P(S)", "wrong": "<b>", "then": "", "clause": "X.25"}
+CALLS, LONGEST = 40, 60
+
+
+def told(packet, kind="data", finding=None, octets=100, **more):
+    """The object of a row."""
+    base = {"line": "row", "packet": packet, "side": "TN"[packet % 2], "channel": 1, "before": "d1", "after": "d1",
+            "counted": None, "finding": finding, "epoch": 1, "owed": False, "call": 1, "begins": False, "up": False,
+            "ends": [], "not_counted": None, "time": None, "type": kind, "hex": "00" * octets}
+    return base | ({"octets": octets, "send": 0, "receive": 0} if kind == "data" else {}) | more
+
+
+FAULTY = told(2, side="T", finding=FINDING, owed=True)
+
+
+class Kept(unittest.TestCase):
+    def ladders(self, budget, faulty):
+        """Ladders of calls of random lengths, and what each call had: rows, octets and findings."""
+        random.seed(budget)
+        ladders, forms, wanted, packet = Ladders(budget), RowForms(), {}, 0
+        for call in range(1, CALLS + 1):
+            sums = wanted[f"call-{call}"] = [0, 0, 0]
+            for at in range(random.randint(4, LONGEST)):
+                packet += 1
+                finding = FINDING if call in faulty and at and random.random() < 0.2 else None
+                kind = "data" if at else "call_request"
+                ladders.add(f"call-{call}", Row(told(packet, kind, finding), forms))
+                sums[0] += 1
+                sums[1] += 100 if kind == "data" else 0
+                sums[2] += finding is not None
+            ladders.finish(f"call-{call}")
+        return ladders, wanted
+
+    @staticmethod
+    def sums_of(ladder):
+        """The rows, octets of data and findings of a ladder: of rows that are kept, and of sums."""
+        sums = [0, 0, 0]
+        for item in ladder.items:
+            is_row = isinstance(item, Row)
+            sums[0] += 1 if is_row else item.packets
+            sums[1] += item.octets * item.is_data if is_row else sum(item.octets)
+            sums[2] += bool(item.code) if is_row else sum(item.findings.values())
+        return sums
+
+    def test_sums(self):
+        """What is kept and what is left out of a ladder are together what it had, in the order of the packets."""
+        for budget in (1_000_000, 60_000, 20_000, 6000, 1500):
+            ladders, wanted = self.ladders(budget, {3, 7, 30})
+            texts = dict(ladders.texts())
+            self.assertLessEqual(sum(map(len, texts.values())), budget * 1.2)
+            for key, ladder in ladders.ladders.items():
+                self.assertEqual(self.sums_of(ladder), wanted[key], (budget, key))
+                places = [item.packet if isinstance(item, Row) else item.first for item in ladder.items]
+                self.assertEqual(places, sorted(places))
+            self.assertEqual(len(texts) + ladders.left_out, CALLS)
+
+    def test_findings_first(self):
+        """Ladders without a finding are left out first."""
+        ladders, _ = self.ladders(20_000, {3, 7, 30})
+        texts = dict(ladders.texts())
+        self.assertLess(len(texts), CALLS)
+        self.assertLessEqual({"call-3", "call-7", "call-30"}, set(texts))
+
+    def test_whole(self):
+        """Nothing is left out of a short trace."""
+        ladders, wanted = self.ladders(1_000_000, {3})
+        kept = sum(isinstance(item, Row) for ladder in ladders.ladders.values() for item in ladder.items)
+        self.assertEqual((kept, ladders.left_out, ladders.level), (sum(it[0] for it in wanted.values()), 0, 0))
+
+    def test_no_markup(self):
+        ladders, forms = Ladders(10_000), RowForms()
+        ladders.add("interface", Row(told(1, finding=FINDING), forms))
+        (_, text), = ladders.texts()
+        self.assertNotIn("<", text)
+        self.assertIn("\\u003cb\\u003e", text)
+
+    def test_calls(self):
+        """Calls with findings are kept first, then those with most segments."""
+        calls = Calls(1300)
+        for number in (4, 4, 9):
+            calls.count(number)
+        for number in range(1, 30):
+            calls.add(dict.fromkeys(MEMBERS, 0) | {"call": number, "segments": number})
+        for number in range(1, 30):
+            calls.facts(dict.fromkeys(COLUMNS[len(MEMBERS):]) | {"call": number, "findings": []})
+        text = calls.text()
+        self.assertLessEqual(len(text), 1302)
+        self.assertEqual(sorted(calls.kept)[:2], [4, 9])
+        self.assertEqual(text.count("[") - 1 + calls.left_out, 29)
+
+    def test_times(self):
+        times = Times()
+        for packet in range(1, 10_001):
+            times.add(packet, packet / 2)
+        found = times.all()
+        self.assertLess(len(found), 1100)
+        self.assertEqual((found[0], found[-1]), ([1, 0.5], [10_000, 5000.0]))
+
+    def test_thinned(self):
+        """What does not fit is left out evenly."""
+        thinned = Thinned(1000)
+        for at in range(10_000):
+            thinned.add(at)
+        kept = json.loads(thinned.text)
+        self.assertLessEqual(len(thinned.text), 1001)
+        self.assertEqual((kept, thinned.left_out), (list(range(0, 10_000, kept[1])), 10_000 - len(kept)))
+
+    def test_nanoseconds(self):
+        pairs = (
+            (None, None), (5, 5 * 10**9), ("1700000003.000003", 1_700_000_003_000_003_000),
+            ("-0.25", -250_000_000), ("0.123456789", 123_456_789),
+        )
+        for text, wanted in pairs:
+            self.assertEqual(nanoseconds(text), wanted)
+
+
+class Doubts(unittest.TestCase):
+    HEADER = {"MOD": "8", "WIN": "1", "SIZE": "128", "SVC": "4"}
+
+    def seen(self, rows):
+        debts = Debts()
+        for row in rows:
+            debts.see(row)
+        return debts
+
+    def test_the_dce_went_on(self):
+        rows = [FAULTY, told(3, "rr", side="N", owed=True), told(4, "rr", side="N", owed=True)]
+        (sentence, name, values), = warnings(self.HEADER, [], self.seen(rows))
+        self.assertIn("After 1 finding of the DTE (the first is packet 2)", sentence)
+        self.assertEqual((name, values), ("WIN", [2, 3]))
+
+    def test_the_dce_reset(self):
+        rows = [FAULTY, told(3, "rr", side="N", owed=True), told(4, "reset_indication", side="N")]
+        self.assertEqual(warnings(self.HEADER, [], self.seen(rows)), [])
+
+    def test_both_sides(self):
+        codes = [["39", "Packet too long", "", [5, 9], None], ["20", "", "", [5, 9], None], ["1", "", "", [9, 0], None]]
+        (sentence, name, values), = warnings(self.HEADER, codes, Debts())
+        self.assertIn("SIZE 128", sentence)
+        self.assertEqual((name, values), ("SIZE", [256, 512]))

@@ -1,0 +1,112 @@
+// The start of the page: its parts, where its address leads, and its colours.
+
+const PARTS = { overview: "Overview", strip: "Channels", ladder: "Ladder", calls: "Calls", findings: "Findings",
+  accounts: "Who pays", settings: "PADs", words: "Words" };
+const THEMES = { auto: "Auto", light: "Light", dark: "Dark" };
+const KEY = /^(interface|call-\d+|channel-\d+)(?:\/(\d+))?$/;
+
+// The ladder that is shown first: that of the first finding, else of the first call.
+function firstKey() {
+  const [mark] = facts.marks;
+  if (mark) return [mark[4], mark[0]];
+  if (calls.length) return [`call-${calls[0].call}`, null];
+  const [key] = Object.keys(facts.ladders);
+  return key ? [key, null] : null;
+}
+
+function follow() {
+  hideHint();
+  const match = KEY.exec(decodeURIComponent(location.hash.slice(1)));
+  if (!match) return;
+  const packet = match[2] ? Number(match[2]) : null;
+  if (match[1] !== shown.key || (packet && !place(`row-${packet}`))) openLadder(match[1], packet);
+  shown.packet = packet;
+  mark();
+  const row = packet && place(`row-${packet}`);
+  // The row comes to stand above what is said of it.
+  if (row) window.scrollBy({ top: row.getBoundingClientRect().top - 0.3 * window.innerHeight });
+  else place("ladder").scrollIntoView({ block: "start" });
+}
+
+function setTheme(name) {
+  document.documentElement.dataset.theme = name;
+  try {
+    localStorage.setItem("x25page-theme", name);
+  } catch {
+    // A browser may keep nothing for pages from the disk.
+  }
+  for (const button of place("theme").children) button.setAttribute("aria-pressed", button.dataset.name === name);
+}
+
+function storedTheme() {
+  try {
+    const name = localStorage.getItem("x25page-theme");
+    return Object.hasOwn(THEMES, name) ? name : "auto";
+  } catch {
+    return "auto";
+  }
+}
+
+function showTop() {
+  document.title = `${facts.name}: x25page`;
+  place("name").textContent = facts.name;
+  place("theme").append(...Object.entries(THEMES).map(([name, title]) => make("button",
+    { type: "button", "data-name": name, click: () => setTheme(name) }, title)));
+  setTheme(storedTheme());
+}
+
+function showNav() {
+  const there = Object.keys(PARTS).filter((id) => place(id).childElementCount);
+  place("nav").append(...there.map((id) => make("a", { href: `#${id}` }, PARTS[id])));
+}
+
+function leftOutTexts() {
+  const { left_out: left } = facts;
+  const said = [];
+  const say = (many, noun, rest) => many && said.push(`${plural(many, noun)} ${many === 1 ? "is" : "are"} ${rest}`);
+  if (left.level > 0) {
+    said.push("The trace is long: packets that show nothing special are left out, and sums stand for them.");
+  }
+  if (left.level > 1) said.push("Of the octets of each packet only the first ones are here.");
+  say(left.ladders, "ladder", "left out, those without findings first.");
+  say(left.restarts, "restart", "not drawn over the channels.");
+  const tables = { calls: "call", marks: "finding", accounts: "account", settings: "setting" };
+  for (const [name, noun] of Object.entries(tables)) {
+    say(left[name], noun, "left out of the tables; the sums at the top count them.");
+  }
+  return said;
+}
+
+function showAbout() {
+  const said = leftOutTexts();
+  place("about").append(make("h2", {}, "About this page"),
+    make("div", { class: "card" },
+      make("p", {}, "x25page made it of what x25scan says of the trace: an observer reads the packets ",
+        "in their order and judges each by the state tables of X.25."),
+      said.length ? make("ul", {}, said.map((line) => make("li", {}, line)))
+        : make("p", {}, "It has every packet of the trace."),
+      make("p", {}, "Header: ", make("code", {}, facts.header)),
+      facts.comments.length ? make("details", {}, make("summary", {}, "Comments before the header"),
+        make("ul", { class: "plain" }, facts.comments.map((line) => make("li", {}, line)))) : ""));
+}
+
+function start() {
+  showTop();
+  showOverview();
+  showStrip();
+  showCalls();
+  showFindings();
+  showAccounts();
+  showSettings();
+  showWords();
+  showAbout();
+  listenForWords();
+  const first = firstKey();
+  if (first) openLadder(...first);
+  showNav();
+  window.addEventListener("hashchange", follow);
+  follow();
+  document.documentElement.dataset.ready = "yes";
+}
+
+start();

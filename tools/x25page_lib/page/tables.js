@@ -1,0 +1,232 @@
+// The tables: calls, findings, accounts, PAD settings and words. Each shows so many lines at once, and can be sorted.
+
+const AT_ONCE = 50;
+
+function compare(a, b) {
+  if (a === b) return 0;
+  if (a === null || a === undefined) return 1;
+  if (b === null || b === undefined) return -1;
+  if (typeof a === "number" && typeof b === "number") return a - b;
+  return String(a).localeCompare(String(b), "en", { numeric: true });
+}
+
+// A table: each column has a name, the value that it is sorted by, and what a cell shows.
+class Table {
+  constructor(name, columns, lines, options = {}) {
+    Object.assign(this, { name, columns, all: lines, lines, options, shown: AT_ONCE, by: null, falling: false });
+    this.body = make("tbody");
+    this.head = make("tr", {}, columns.map((column, at) => this.heading(column, at)));
+    this.more = make("p", { class: "more" });
+    this.element = make("div", { class: "table-room" },
+      make("table", { id: name }, make("thead", {}, this.head), this.body), this.more);
+    this.draw();
+  }
+
+  heading(column, at) {
+    const act = () => this.sort(at);
+    const shown = column.word ? word("field", column.word, column.name) : column.name;
+    return make("th", { class: column.style, scope: "col" },
+      make("button", { type: "button", class: "sort", click: act }, shown));
+  }
+
+  sort(at) {
+    this.falling = this.by === at ? !this.falling : Boolean(this.columns[at].falls);
+    this.by = at;
+    const value = this.columns[at].value;
+    this.lines = [...this.lines].sort((a,
+      b) => (this.falling ? compare(value(b), value(a)) : compare(value(a), value(b))));
+    [...this.head.children].forEach((cell, place) => {
+      if (place === at) cell.setAttribute("aria-sort", this.falling ? "descending" : "ascending");
+      else cell.removeAttribute("aria-sort");
+    });
+    this.draw();
+  }
+
+  filter(wanted) {
+    this.lines = this.all.filter(wanted);
+    this.shown = AT_ONCE;
+    if (this.by !== null) {
+      this.falling = !this.falling;
+      this.sort(this.by);
+    }
+    this.draw();
+  }
+
+  draw() {
+    this.body.replaceChildren(...this.lines.slice(0, this.shown).map((line) => this.line(line)));
+    const rest = this.lines.length - this.shown;
+    const act = () => { this.shown += 4 * AT_ONCE; this.draw(); };
+    this.more.replaceChildren(...(rest > 0
+      ? [make("button", { type: "button", click: act },
+      `${count(Math.min(rest, 4 * AT_ONCE))} more of ${count(rest)}`)] : []));
+    if (!this.lines.length) this.body.append(make("tr", {},
+      make("td", { colspan: this.columns.length, class: "muted" }, "None.")));
+  }
+
+  line(line) {
+    const link = this.options.link?.(line);
+    const attributes = link ? { class: "linked",
+      click: (event) => event.target.closest("a, .word") || (location.hash = link) } : {};
+    return make("tr", attributes, this.columns.map((column) => make("td", { class: column.style },
+      column.show ? column.show(line) : column.value(line) ?? "-")));
+  }
+}
+
+function leftOut(many, noun, advice) {
+  return many ? make("p", { class: "left-out" },
+    `${plural(many, noun)} ${many === 1 ? "is" : "are"} left out to keep the page small. ${advice}`) : null;
+}
+
+function howEnded(call) {
+  const parts = [word("end", call.how, (explained("end", call.how) || [call.how])[0])];
+  const cause = causeName(call.cause);
+  const diagnostic = causeName(call.diagnostic);
+  if (cause) parts.push(make("small", {}, `cause ${cause}`));
+  if (diagnostic) parts.push(make("small", {}, `diagnostic ${diagnostic}`));
+  return parts;
+}
+
+function codesOf(call) {
+  const codes = Object.entries(call.codes || {});
+  if (!codes.length) return call.findings ? count(call.findings) : make("span", { class: "muted" }, "none");
+  return codes.map(([code, many]) => make("span", { class: "found-chip" }, word(codeTopic(code), code, `code ${code}`),
+    many > 1 ? ` \u00d7 ${count(many)}` : ""));
+}
+
+const number = (name, value, more = {}) => ({ name, value, style: "number",
+  show: (it) => (value(it) === null ? "-" : count(value(it))), ...more });
+
+function callColumns() {
+  const hasTimes = facts.times.length > 0;
+  return [
+    { name: "Call", word: "call", value: (it) => it.call, style: "number",
+      show: (it) => make("a", { href: `#call-${it.call}` }, count(it.call)) },
+    { name: "Findings", word: "findings", value: (it) => it.findings, falls: true, show: codesOf },
+    number("Channel", (it) => it.channel, { word: "channel" }),
+    { name: "From", word: "calling", value: (it) => it.calling, style: "address" },
+    { name: "To", word: "called", value: (it) => it.called, style: "address" },
+    { name: "By", word: "direction", value: (it) => it.direction,
+      show: (it) => word("direction", it.direction, it.direction === "out" ? "DTE" : "DCE") },
+    hasTimes ? { name: "Start", value: (it) => it.start,
+      show: (it) => (it.start === null ? "-" : clock(it.start).slice(hasDates ? 11 : 0).replace(" UTC", "")) }
+      : number("Packets from", (it) => it.opened, { word: "opened" }),
+    hasTimes ? { name: "Length", value: (it) => it.seconds, falls: true, style: "number",
+      show: (it) => (it.seconds === null ? "-" : length(it.seconds)) }
+      : number("to", (it) => it.ended, { word: "ended" }),
+    number("Data packets", (it) => it.data, { falls: true }),
+    number("Octets", (it) => it.octetsT + it.octetsN, { falls: true }),
+    number("Segments", (it) => it.segments, { word: "segments", falls: true }),
+    { name: "Pays", value: (it) => it.payer, show: (it) => [it.payer ?? "-", make("small", {}, it.pays)] },
+    { name: "How it ended", word: "how", style: "ending", value: (it) => it.how, show: howEnded },
+  ];
+}
+
+function callTexts(call) {
+  const cause = [causeName(call.cause), causeName(call.diagnostic)];
+  return [`call ${call.call}`, `channel ${call.channel}`, call.calling, call.called, call.payer,
+    ...cause].join(" ").toLowerCase();
+}
+
+function showCalls() {
+  const table = new Table("call-table", callColumns(), calls, { link: (call) => `call-${call.call}` });
+  const text = make("input", { type: "search", id: "call-filter", placeholder: "address, channel 3, cause",
+    "aria-label": "Filter of calls" });
+  const found = make("input", { type: "checkbox", id: "call-found" });
+  const how = make("select", { id: "call-how", "aria-label": "How the call ended" },
+    make("option", { value: "" }, "ended in any way"),
+    [...new Set(calls.map((call) => call.how))].sort().map((it) => make("option", { value: it },
+      (explained("end", it) || [it])[0])));
+  const total = make("span", { class: "muted" });
+  const update = () => {
+    const words = text.value.toLowerCase().trim();
+    table.filter((call) => (!words || callTexts(call).includes(words)) && (!found.checked || call.findings) &&
+      (!how.value || call.how === how.value));
+    const segments = table.lines.reduce((sum, call) => sum + call.segments, 0);
+    total.textContent = `${plural(table.lines.length, "call")}, ${plural(segments, "segment")}`;
+  };
+  for (const element of [text, found, how]) element.addEventListener("input", update);
+  place("calls").append(make("div", { class: "section-head" }, make("h2", {}, "Calls"),
+    make("div", { class: "tools" }, text, how, make("label", {}, found, " with findings"), total)),
+  make("div", { class: "card flush" }, table.element),
+    leftOut(facts.left_out.calls, "call", "x25scan --json has all of them.") ?? "");
+  update();
+}
+
+function showFindings() {
+  if (!facts.marks.length) return;
+  const columns = [
+    { name: "Packet", word: "packet", style: "number", value: (it) => it[0],
+      show: (it) => make("a", { href: `#${it[4]}/${it[0]}` }, count(it[0])) },
+    { name: "Side", word: "side", value: (it) => it[1], show: (it) => word("side", LETTERS[it[1]], SIDES[it[1]]) },
+    { name: "Code", word: "code", value: (it) => it[3],
+      show: (it) => [word(codeTopic(it[3]), it[3], it[3], "code"), " ",
+      (explained(codeTopic(it[3]), it[3]) || [""])[0]] },
+    { name: "What was wrong", value: (it) => upper(it[5]) },
+    { name: "Where", value: (it) => it[4], show: (it) => keyName(it[4]) },
+  ];
+  const table = new Table("finding-table", columns, facts.marks, { link: (it) => `${it[4]}/${it[0]}` });
+  place("findings").append(make("h2", {}, "Findings"), make("div", { class: "card flush" }, table.element),
+    leftOut(facts.left_out.marks, "finding", "x25scan prints all of them.") ?? "");
+}
+
+function showAccounts() {
+  const columns = [
+    { name: "Address", word: "address", style: "address", value: (it) => it[0],
+      show: (it) => it[0] ?? make("span", { class: "muted" }, "no address") },
+    number("Calls", (it) => it[1], { word: "calls", falls: true }),
+    number("Segments", (it) => it[2], { word: "segments", falls: true }),
+  ];
+  const table = new Table("account-table", columns, facts.accounts);
+  place("accounts").append(make("h2", {}, "Who pays"),
+    make("p", { class: "muted" },
+      "The called address pays where the call asks for reverse charging, else the calling one."),
+    make("div", { class: "card flush" }, table.element),
+      leftOut(facts.left_out.accounts, "account", "x25scan prints all of them.") ?? "");
+}
+
+function showSettings() {
+  if (!facts.settings.length) return;
+  const columns = [
+    { name: "Call", word: "call", style: "number", value: (it) => it[0],
+      show: (it) => make("a", { href: `#call-${it[0]}` }, count(it[0])) },
+    { name: "PAD of the", word: "side", value: (it) => it[1],
+      show: (it) => word("side", it[1], SIDES[LETTERS.indexOf(it[1])]) },
+    { name: "Parameter", word: "parameter", value: (it) => it[2],
+      show: (it) => [word("parameter", String(it[2]), String(it[2]), "code"), " ",
+      (explained("parameter", String(it[2])) || [""])[0]] },
+    { name: "Known how", word: "word", value: (it) => it[3], show: (it) => word("setting", it[3]) },
+    number("Value", (it) => it[4], { word: "value" }),
+  ];
+  const table = new Table("setting-table", columns, facts.settings);
+  place("settings").append(make("h2", {}, "PAD settings"),
+    make("p", { class: "muted" }, "What is known of each PAD at the end of its call."),
+    make("div", { class: "card flush" }, table.element),
+      leftOut(facts.left_out.settings, "setting", "x25scan prints all of them.") ?? "");
+}
+
+function glossary(topic, title, words) {
+  const known = words.filter((it) => explained(topic, it));
+  if (!known.length) return null;
+  return make("details", { class: "card", open: topic === "code" }, make("summary", {}, title),
+    make("dl", {}, known.map((it) => {
+    const [name, sentences] = explained(topic, it);
+    return [make("dt", {}, make("b", {}, it), " ", name),
+      make("dd", {}, sentences.map((sentence) => make("p",
+      { class: sentence.startsWith("Clause: ") ? "clause" : null }, sentence)))];
+  })));
+}
+
+function showWords() {
+  const codes = facts.codes.map((it) => it[0]);
+  const parameters = [...new Set(facts.settings.map((it) => String(it[2])))];
+  const parts = [
+    glossary("code", "The codes of this trace", codes.filter((it) => codeTopic(it) === "code")),
+    glossary("message", "The codes of PAD messages of this trace", codes.filter((it) => codeTopic(it) === "message")),
+    glossary("state", "The states of this trace", facts.states),
+    glossary("end", "How calls end", Object.keys(facts.texts.end || {})),
+    glossary("parameter", "The PAD parameters of this trace", parameters),
+    glossary("header", "The words of the header", facts.numbers.map((it) => it[0])),
+    glossary("field", "The fields of the tables", Object.keys(facts.texts.field || {})),
+  ];
+  place("words").append(make("h2", {}, "Words"), ...parts.filter(Boolean));
+}

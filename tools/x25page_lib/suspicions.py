@@ -1,0 +1,114 @@
+"""What makes a header doubtful: findings that both sides have, and findings after which the DCE went on."""
+from dataclasses import dataclass
+
+# So many packets of the DCE may be on their way while it does not know of the error yet.
+ON_THEIR_WAY = 3
+# How often each side has a code where a wrong header gives it.
+OFTEN = 2
+# Codes that a wrong number of the header gives, with the number.
+NUMBERS = {"1": "WIN", "2": "WIN", "39": "SIZE", "36": "SVC", "34": "SVC", "40": "MOD"}
+
+
+@dataclass
+class Debt:
+    """An error of the DTE after which the DCE owes an indication: how many packets it sent instead."""
+
+    packet: int
+    code: str
+    sent: int = 0
+    is_counted: bool = False
+
+
+class Debts:
+    """The errors of the DTE that the DCE went on after, of codes that a wrong header gives."""
+
+    def __init__(self):
+        self.open = {}
+        self.unpaid = {}
+        self.first = None
+
+    def see(self, told):
+        channel = told["channel"]
+        if channel is None:
+            # A restart pays all debts.
+            if told["type"].startswith("restart_") and not told["finding"]:
+                self.open.clear()
+            return
+        debt = self.open.get(channel)
+        if debt is None:
+            finding = told["finding"]
+            if finding and told["owed"] and told["side"] == "T" and finding["code"] in NUMBERS:
+                self.open[channel] = Debt(told["packet"], finding["code"])
+        elif not told["owed"]:
+            self.open.pop(channel)
+            if told["side"] == "T":
+                self.count(debt)
+        elif told["side"] == "N":
+            debt.sent += 1
+            if debt.sent == ON_THEIR_WAY:
+                self.count(debt)
+
+    def count(self, debt):
+        if debt.sent and not debt.is_counted:
+            debt.is_counted = True
+            self.unpaid[debt.code] = self.unpaid.get(debt.code, 0) + 1
+            self.first = self.first or debt.packet
+
+    def end(self):
+        """No indication comes any more."""
+        for debt in self.open.values():
+            self.count(debt)
+        self.open.clear()
+
+
+def number(many, noun):
+    """A number with its noun."""
+    return f"{many:,} {noun}{'' if many == 1 else 's'}"
+
+
+def words_of(header, name):
+    """A number of the header as it stands there; where SVC is missing, it is OUT."""
+    name = "OUT" if name == "SVC" and "SVC" not in header else name
+    return f"{name} {header[name]}" if name in header else name
+
+
+def greater(header, name):
+    """Values to try in place of one that is too small."""
+    value, modulus = int(header.get(name, 0)), int(header.get("MOD", 8))
+    if name == "WIN":
+        return [it for it in (value + 1, 2 * value + 1, modulus - 1) if value < it < modulus][:2]
+    if name == "SIZE":
+        return [it for it in (2 * value, 4 * value, 8 * value) if it <= 4096][:2]
+    return []
+
+
+def of_both_sides(header, codes):
+    """Sentences on codes that both sides have so often that the header may be wrong."""
+    for code, name, _, counts, _ in codes:
+        if code in NUMBERS and min(counts) >= OFTEN:
+            words = words_of(header, NUMBERS[code])
+            yield NUMBERS[code], (
+                f"Both sides have code {code} ({name}): the DTE {number(counts[0], 'time')}, the DCE "
+                f"{number(counts[1], 'time')}. Where both sides break one rule again and again, {words} of the header "
+                "may be wrong."
+            )
+
+
+def of_debts(header, debts):
+    """The sentence on errors after which the DCE went on."""
+    many = sum(debts.unpaid.values())
+    if not many:
+        return
+    code = max(debts.unpaid, key=debts.unpaid.get)
+    yield NUMBERS[code], (
+        f"After {number(many, 'finding')} of the DTE (the first is packet {debts.first:,}) the DCE did not do what it "
+        "had to: it went on as if nothing was wrong. Then the DTE was probably right, and the header is not that of "
+        "the interface. Data after such a finding is not counted, so the sums are too low."
+    )
+
+
+def warnings(header, codes, debts):
+    """Each doubt in a sentence, with the number of the header that may be wrong and values to try."""
+    debts.end()
+    found = [*of_both_sides(header, codes), *of_debts(header, debts)]
+    return [[sentence, name, greater(header, name)] for name, sentence in found]

@@ -1,0 +1,86 @@
+"""The command line of x25page: its words, and which of them are of captures alone."""
+import argparse
+import shlex
+
+from x25trace_lib.told import Why as TraceWhy
+from x25trace_lib.words import Words, header_words, reading_words, side_words
+
+from .told import Why
+
+REASONS = ", ".join(why.value for why in (*TraceWhy, *Why))
+NAMES_OF_PAGES = """\
+Without -o the page is NAME.html in the current folder, for a file NAME or NAME.pcap, and nothing else is written. It is
+one file: a browser shows it from the disk, and it asks no network for anything. A page that stands there is written
+anew; another file of that name is not."""
+EPILOG = f"""
+examples:
+  x25page day.pcap                      writes day.html, of XOT, LAPB or X.25 in a pcap, pcapng or snoop file
+  x25page --win 2 --size 128 day.pcap   the same under a header with these numbers
+  x25page -o friday.html day.trace      of a trace, under another name
+  x25page day.pcap0 day.pcap1           the files of a rotated capture, in their order
+
+{NAMES_OF_PAGES}
+
+exit status:
+  0   the page is written, and no packet may be missing
+  1   the page is written, but the capture is damaged or packets are missing: standard error and the page tell which
+  2   there is no page: the reason has a name ({REASONS})
+  3   reading or writing failed
+  64  the command line was refused
+  130 it was interrupted (SIGINT): the page, if there is one, is of what was read before
+"""
+
+
+def parser():
+    words = Words(
+        prog="x25page",
+        description="Writes a page of HTML of a trace, or of the X.25 packets in a capture: who broke the protocol, "
+        "the calls and what they cost, and a ladder of the packets of each. Standard error has the header and what of "
+        "it is estimated.",
+        epilog=EPILOG,
+        formatter_class=argparse.RawDescriptionHelpFormatter,
+        allow_abbrev=False,
+    )
+    words.add_argument("captures", metavar="CAPTURE", nargs="+",
+                       help="a trace; or a capture, or files of a rotated one in their order; - for standard input")
+    words.add_argument("-o", dest="page", metavar="OUT", help="the file of the page, else NAME.html")
+    words.add_argument("--scanner", metavar="PROGRAM",
+                       help="the x25scan that is asked, else bin/x25scan beside this program")
+    reading_words(words.add_argument_group("reading of a capture"))
+    side_words(words.add_argument_group("sides of a capture"))
+    header_words(words.add_argument_group("header of a capture, else estimated from what was seen"))
+    return words
+
+
+def parsed(arguments):
+    """The words of a command line, which may be refused."""
+    words = parser().parse_args(arguments)
+    if words.calls is not None and (words.incoming, words.two_way, words.outgoing) != (None, None, None):
+        parser().error("--svc does not go with --in, --two and --out")
+    if words.captures.count("-") > 1:
+        parser().error("standard input (-) can be read once")
+    if words.page is None and words.captures[0] == "-":
+        parser().error("standard input has no name for the page: -o gives one")
+    return words
+
+
+def of_captures(words):
+    """An option among the words that is of captures alone, or None."""
+    program, given = parser(), vars(words)
+    bare = vars(program.parse_args(["-"]))
+    for action in program._actions:
+        if action.option_strings and action.dest in given and action.dest not in ("page", "scanner"):
+            if given[action.dest] != bare[action.dest]:
+                return action.option_strings[0]
+    return None
+
+
+def line_with(arguments, option):
+    """The command line that makes the page again under another value of an option, which comes after its beginning."""
+    rest, words = [], iter(arguments)
+    for word in words:
+        if word in ("-o", "--scanner", option):
+            next(words, None)
+        elif not word.startswith((f"{option}=", "--scanner=", "-o")):
+            rest.append(word)
+    return shlex.join(rest)
