@@ -3,3 +3,5 @@ pub mod CallLemmas
 pub mod FollowLemmas
 pub mod ChoiceLemmas
 pub mod ObjectLemmas
+pub mod FactLemmas
+pub mod SentLemmas

@@ -1,7 +1,9 @@
 -- The objects of rows, as they are appended.
-use Rattle.std.proofs.Common.{◌≡◌, ◌∙◌, sym, ap, subst, refl, ℕ, Bool, true, false, List, [], ◌∷◌, ◌++◌, take, drop, length, Option, Some, None, Result, Ok, Err, OnOk, append_assoc, append-nil}
+use Rattle.std.proofs.Common.{◌≡◌, ◌∙◌, sym, ap, subst, refl, ℕ, ◌+◌, ◌<◌, map, get_or, Bool, true, false, List, [], ◌∷◌, ◌++◌, take, drop, length, Option, Some, None, Result, Ok, Err, OnOk, append_assoc, append-nil}
 use Rattle.std.specs.Prelude.{codes, MatchOption}
 use Rattle.std.specs.List.{flat_map}
+use Rattle.std.proofs.lemmas.Grind.{flat_map-append}
+use Rattle.std.proofs.lemmas.List.{map-append, take_more}
 use Rattle.line_model.specs.basics.Records.{Row}
 use Rattle.line_model.specs.declared.event.Event.{Event}
 use Rattle.line_model.specs.declared.interface.Interface.{Interface}
@@ -28,6 +30,15 @@ use Rattle.descriptions.specs.Facts.{AreFactsOf, IsFateOf}
 use Rattle.descriptions.specs.RowObjects.{IsObjectOf, IsObjectWhere, IsRowObject, channel_word, counted_word, events_at, finding_word, joined, known_word, named_channel, row_head, state_at, state_members}
 use Rattle.descriptions.specs.declared.facts.Fate.{Fate}
 use Rattle.descriptions.specs.declared.facts.RowFacts.{RowFacts}
+
+-- ---- words, one after the other
+
+pub joined_next : {X : Type 0} (f : X → List ℕ) (xs : List X) (i : ℕ) (x : X) (out o1 o2 : List ℕ) → i < length xs → o1 ≡ out ++ joined (map f (take i xs)) → o2 ≡ o1 ++ f (get_or xs i x) → o2 ≡ out ++ joined (map f (take (i + 1) xs))
+joined_next f xs i x out o1 o2 lt e1 e2 =
+    let one : joined (map f (take (i + 1) xs)) ≡ joined (map f (take i xs)) ++ f (get_or xs i x) =
+        ap (λ ys. joined (map f ys)) (take_more xs i x lt) ∙ ap joined (map-append f (take i xs) (get_or xs i x ∷ [])) ∙ flat_map-append (λ word. word) (map f (take i xs)) (f (get_or xs i x) ∷ [])
+        ∙ ap (λ ys. joined (map f (take i xs)) ++ ys) (append-nil (f (get_or xs i x))) in
+    e2 ∙ ap (λ ys. ys ++ f (get_or xs i x)) e1 ∙ append_assoc out (joined (map f (take i xs))) (f (get_or xs i x)) ∙ ap (λ ys. out ++ ys) (sym one)
 
 -- ---- the state that is known
 

@@ -1,6 +1,6 @@
 //! What is remembered of the rows before: the calls, and which sequences of data go on.
 
-ghost use Rattle.std.specs.Prelude.{◌≡◌, ◌++◌, ◌∷◌, [], List, IfOk, MatchOption};
+ghost use Rattle.std.specs.Prelude.{◌≡◌, ◌<◌, ◌++◌, ◌∷◌, [], List, IfOk, MatchOption, OnOk, length};
 ghost use Rattle.line_model.specs.basics.Records.{Row};
 ghost use Rattle.line_model.specs.declared.interface.Interface.{Interface as AnyInterface};
 ghost use Rattle.line_model.specs.observer.Calls.{all_lengths};
@@ -74,14 +74,6 @@ fn size_from(view: &View, side: Side) -> u16 {
     }
 }
 
-/// A row that an observer took.
-#[derive(Clone, Copy)]
-struct TakenRow<'a> {
-    interface: Interface,
-    octets: &'a [u8],
-    last: LastRow,
-}
-
 /// What a row did.
 #[derive(Clone, Copy)]
 struct Deeds<'a> {
@@ -91,17 +83,52 @@ struct Deeds<'a> {
     message: Option<&'a [u8]>,
 }
 
+/// How many calls were opened, and which of them the last row ended.
+#[derive(Drop)]
+struct CallCount<A: Allocator> {
+    opened: u32,
+    ended: Vec<EndedCall, A>,
+}
+
+impl<A: Allocator> CallCount<A> {
+    /// Takes the events of a row: what it did to the calls of its channel.
+    fn take(&mut self, lane: &mut Lane, events: &[Event]) -> Result<CallMove, AllocError> {
+        let mut calls = CallMove::none();
+        calls.before = lane.call;
+        for event in events {
+            match event.what {
+                What::Open { .. } => {
+                    self.opened = self.opened.saturating_add(1);
+                    calls.opened = self.opened;
+                    lane.call = self.opened;
+                    lane.uncleared = 0;
+                }
+                What::End(how) => {
+                    self.ended.push(EndedCall {
+                        call: lane.call,
+                        how,
+                    })?;
+                    if how == How::T || how == How::N {
+                        lane.uncleared = lane.call;
+                    }
+                    lane.call = 0;
+                }
+                _ => {}
+            }
+        }
+        calls.after = lane.call;
+        Ok(calls)
+    }
+}
+
 /// What is remembered of the rows before.
 #[derive(Drop)]
 pub struct Course<A: Allocator> {
     alloc: A,
-    /// How many calls were opened.
-    calls: u32,
+    calls: CallCount<A>,
     /// The epoch that the next row stands in.
     epoch: u32,
     lanes: ChannelTable<Lane, A>,
-    /// The calls that the last row ended.
-    ended: Vec<EndedCall, A>,
 }
 
 impl<A: Allocator + Copy> Course<A> {
@@ -109,10 +136,12 @@ impl<A: Allocator + Copy> Course<A> {
     pub fn new(alloc: A) -> Self {
         Course {
             alloc,
-            calls: 0,
+            calls: CallCount {
+                opened: 0,
+                ended: Vec::new(alloc),
+            },
             epoch: 1,
             lanes: ChannelTable::new(alloc),
-            ended: Vec::new(alloc),
         }
     }
 
@@ -132,15 +161,14 @@ impl<A: Allocator + Copy> Course<A> {
         };
         let epoch = self.epoch;
         self.epoch = observer.epoch();
-        self.ended.clear();
-        let row = TakenRow {
-            interface: *interface,
-            octets,
-            last,
-        };
-        let deeds = match last.channel {
-            Some(channel) => self.on_channel(channel, &row, observer.events())?,
-            None => self.on_interface(&row)?,
+        self.calls.ended.clear();
+        let channel = last.channel;
+        let deeds = match channel {
+            Some(channel) => {
+                let data = user_data(interface, octets);
+                self.on_channel(channel, &last, data, observer.events())?
+            }
+            None => self.on_interface(&last)?,
         };
         Ok(Some(RowFacts {
             interface: *interface,
@@ -154,29 +182,30 @@ impl<A: Allocator + Copy> Course<A> {
             finding: last.finding,
             events: deeds.events,
             calls: deeds.calls,
-            ended: self.ended.as_slice(),
+            ended: self.calls.ended.as_slice(),
             fate: deeds.fate,
             message: deeds.message,
         }))
     }
 
-    /// What a row did that a logical channel took.
+    /// What a row did that a logical channel took. `data` is its user data.
     fn on_channel<'a>(
         &mut self,
         channel: u16,
-        row: &TakenRow<'a>,
+        last: &LastRow,
+        data: &'a [u8],
         events: &'a [Event],
     ) -> Result<Deeds<'a>, AllocError>
         ensures fate { IfOk result (λ deeds. IsFateOf (all_lengths events.entry.now) deeds.fate) }
     {
         let mut lane = self.lane(channel)?;
-        let mut calls = self.call_move(&mut lane, events)?;
-        if is_clear(&row.last.packet) && (row.last.side == Side::N || !self.ended.is_empty()) {
+        let mut calls = self.calls.take(&mut lane, events)?;
+        if is_clear(&last.packet) && (last.side == Side::N || !self.calls.ended.is_empty()) {
             calls.cleared = lane.uncleared;
             lane.uncleared = 0;
         }
-        let fate = fate(&row.last, events);
-        let message = message(row, fate, &mut lane);
+        let fate = fate(last, events);
+        let message = message(last, fate, data, &mut lane);
         self.lanes.put(channel, lane);
         Ok(Deeds {
             events,
@@ -187,25 +216,24 @@ impl<A: Allocator + Copy> Course<A> {
     }
 
     /// What a row did that the restart machine judged.
-    fn on_interface<'a>(&mut self, row: &TakenRow<'a>) -> Result<Deeds<'a>, AllocError>
+    fn on_interface<'a>(&mut self, last: &LastRow) -> Result<Deeds<'a>, AllocError>
         ensures fate { IfOk result (λ deeds. IsFateOf [] deeds.fate) }
     {
-        match (row.last.before, row.last.after) {
-            (Known::Restart(RState::R1), Known::Restart(after)) if after != RState::R1 => {
-                self.end_all()?
-            }
-            _ => {}
+        if leaves_ready(last) {
+            self.end_all()?;
         }
         Ok(Deeds {
             events: &[],
             calls: CallMove::none(),
-            fate: passed_in_restart(&row.last.packet),
+            fate: passed_in_restart(&last.packet),
             message: None,
         })
     }
 
     /// Takes out what is remembered of a channel.
-    fn lane(&mut self, channel: u16) -> Result<Box<Lane, A>, AllocError> {
+    fn lane(&mut self, channel: u16) -> Result<Box<Lane, A>, AllocError>
+        ensures room { OnOk result (channel < length self.new.lanes.lanes) }
+    {
         match self.lanes.take(channel) {
             Some(lane) => Ok(lane),
             None => {
@@ -215,41 +243,12 @@ impl<A: Allocator + Copy> Course<A> {
         }
     }
 
-    /// The calls of a channel by the events of a row.
-    fn call_move(&mut self, lane: &mut Lane, events: &[Event]) -> Result<CallMove, AllocError> {
-        let mut calls = CallMove::none();
-        calls.before = lane.call;
-        for event in events {
-            match event.what {
-                What::Open { .. } => {
-                    self.calls = self.calls.saturating_add(1);
-                    calls.opened = self.calls;
-                    lane.call = self.calls;
-                    lane.uncleared = 0;
-                }
-                What::End(how) => {
-                    self.ended.push(EndedCall {
-                        call: lane.call,
-                        how,
-                    })?;
-                    if how == How::T || how == How::N {
-                        lane.uncleared = lane.call;
-                    }
-                    lane.call = 0;
-                }
-                _ => {}
-            }
-        }
-        calls.after = lane.call;
-        Ok(calls)
-    }
-
     /// All calls end, and all channels are fresh again.
     fn end_all(&mut self) -> Result<(), AllocError> {
         while let Some((_, lane)) = self.lanes.pop_first() {
             match lane {
                 Some(lane) if lane.call != 0 => {
-                    self.ended.push(EndedCall {
+                    self.calls.ended.push(EndedCall {
                         call: lane.call,
                         how: How::Restart,
                     })?;
@@ -294,18 +293,27 @@ fn passed_in_restart(packet: &Packet) -> Fate
     }
 }
 
-/// The octets of the PAD message that is whole in a data packet.
-fn message<'a>(row: &TakenRow<'a>, fate: Fate, lane: &mut Lane) -> Option<&'a [u8]> {
+/// Whether a row took the restart machine out of r1, so all calls end.
+fn leaves_ready(last: &LastRow) -> bool {
+    match (last.before, last.after) {
+        (Known::Restart(before), Known::Restart(after)) => {
+            before == RState::R1 && after != RState::R1
+        }
+        _ => false,
+    }
+}
+
+/// The octets of the PAD message that is whole in a data packet with this user data.
+fn message<'a>(last: &LastRow, fate: Fate, data: &'a [u8], lane: &mut Lane) -> Option<&'a [u8]> {
     let Fate::Counted { .. } = fate else {
         return None;
     };
-    let Known::Channel(before) = row.last.before else {
+    let Known::Channel(before) = last.before else {
         return None;
     };
-    let header = data_header(&row.last.packet)?;
-    let data = user_data(&row.interface, row.octets);
-    let size = size_from(&before, row.last.side);
-    let is_whole = lane.takes_whole(row.last.side, &header, data.len(), size);
+    let header = data_header(&last.packet)?;
+    let size = size_from(&before, last.side);
+    let is_whole = lane.takes_whole(last.side, &header, data.len(), size);
     if is_whole && header.qualified && before.pad_call {
         Some(data)
     } else {

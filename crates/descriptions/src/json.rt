@@ -140,14 +140,17 @@ impl<O: Out> Json<O> {
 
 impl<O: Out> Prose for Json<O> {
     fn say(&mut self, words: &str) {
-        let mut rest = words.as_bytes();
-        while let Some((front, quote, back)) = split_at_quote(rest) {
-            self.raw(front);
-            self.raw(b"\\");
-            self.raw(&[quote]);
-            rest = back;
+        let bytes = words.as_bytes();
+        if !bytes.iter().any(|byte| wants_escape(*byte)) {
+            self.raw(bytes);
+            return;
         }
-        self.raw(rest);
+        for byte in bytes {
+            if wants_escape(*byte) {
+                self.raw(b"\\");
+            }
+            self.raw(&[*byte]);
+        }
     }
 
     fn number(&mut self, number: u64) {
@@ -165,15 +168,7 @@ impl<O: Out> Prose for Json<O> {
     }
 }
 
-/// What stands before the first byte that wants an escape, the byte, and what stands after it.
-fn split_at_quote(words: &[u8]) -> Option<(&[u8], u8, &[u8])> {
-    let mut place = 0;
-    while place < words.len() {
-        let byte = words[place];
-        if byte == b'"' || byte == b'\\' {
-            return Some((&words[..place], byte, &words[place + 1..]));
-        }
-        place += 1;
-    }
-    None
+/// Whether a byte of a text wants an escape.
+fn wants_escape(byte: u8) -> bool {
+    byte == b'"' || byte == b'\\'
 }

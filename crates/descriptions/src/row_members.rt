@@ -6,7 +6,7 @@ use crate::json::{Json, Out};
 use crate::packet_members::{packet_members, settings_member};
 use crate::packet_types::packet_type;
 use crate::prose::Prose;
-use crate::times::Time;
+use crate::times::{BILLIONTHS, Time};
 use explanations::lookup::code_row;
 use line_model::event::{Event, How, What};
 use line_model::finding::Finding;
@@ -151,11 +151,12 @@ pub fn time_member<O: Out>(json: &mut Json<O>, beginning: &str, time: Option<Tim
 /// The digits after the point, without zeros at the end.
 fn billionths<O: Out>(json: &mut Json<O>, billionths: u32) {
     let mut rest = billionths;
-    let mut worth = 100_000_000;
-    while rest != 0 && worth != 0 {
-        json.value(u64::from(rest / worth));
-        rest %= worth;
-        worth /= 10;
+    for worth in &BILLIONTHS {
+        if rest != 0 {
+            let digit = rest.checked_div(*worth).unwrap_or(0);
+            json.value(u64::from(digit));
+            rest = rest.checked_rem(*worth).unwrap_or(0);
+        }
     }
 }
 

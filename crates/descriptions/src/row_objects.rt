@@ -43,7 +43,8 @@ fn append_object<A: Allocator>(
 {
     append_head(facts, out)?;
     append_plain(members, out)?;
-    out.extend_from_slice(b"}\n")
+    out.extend_from_slice(b"}\n")?;
+    Ok(())
 }
 
 /// What is remembered of the rows before, and of the comments before the next one.

@@ -1,5 +1,7 @@
 //! Times of rows, which stand in comments before them.
 
+use trace_text::cuts::split_at_byte;
+
 /// A time in seconds.
 #[derive(Clone, Copy)]
 pub struct Time {
@@ -10,7 +12,7 @@ pub struct Time {
 }
 
 /// The billionths of a second that a digit counts, by its place after the point.
-const BILLIONTHS: [u32; 9] = [
+pub const BILLIONTHS: [u32; 9] = [
     100_000_000,
     10_000_000,
     1_000_000,
@@ -67,14 +69,10 @@ impl Time {
 
 /// The digits before the first point, and those after it.
 fn split_at_point(digits: &[u8]) -> (&[u8], Option<&[u8]>) {
-    let mut place = 0;
-    while place < digits.len() {
-        if digits[place] == b'.' {
-            return (&digits[..place], Some(&digits[place + 1..]));
-        }
-        place += 1;
+    match split_at_byte(digits, b'.') {
+        Some((whole, part)) => (whole, Some(part)),
+        None => (digits, None),
     }
-    (digits, None)
 }
 
 /// A decimal digit.

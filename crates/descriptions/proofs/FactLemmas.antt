@@ -1,0 +1,44 @@
+-- What was counted of a row's data.
+use Rattle.std.proofs.Common.{◌≡◌, ◌∙◌, sym, ap, subst, refl, ℕ, ◌+◌, ◌<◌, List, [], ◌∷◌, ◌++◌, take, drop, length, get_or, Some, None}
+use Rattle.std.proofs.lemmas.List.{take_more, take-append-drop}
+use Rattle.std.proofs.lemmas.List.Elements.{filter_map-append}
+use Rattle.line_model.specs.declared.event.Event.{Event}
+use Rattle.line_model.specs.declared.event.What.{What}
+use Rattle.line_model.specs.declared.event.What.TheVariants.{Found, Open, Up, End, Data, Setting, Initial}
+use Rattle.line_model.specs.declared.state.Side.{Side}
+use Rattle.line_model.specs.observer.Calls.{all_lengths, segments_of}
+use Rattle.descriptions.specs.Facts.{IsFateOf}
+use Rattle.descriptions.specs.declared.facts.Fate.TheVariants.{Counted}
+
+lengths_of : (first later : List Event) → all_lengths (first ++ later) ≡ all_lengths first ++ all_lengths later
+lengths_of first later = filter_map-append (λ (v : Event). elim v.what [ Data y n ↦ Some n | _ ↦ None ]) first later
+
+-- with one more event
+lengths_next : (es : List Event) (i : ℕ) (e : Event) → i < length es → e ≡ get_or es i e → all_lengths (take (i + 1) es) ≡ all_lengths (take i es) ++ all_lengths (e ∷ [])
+lengths_next es i e lt is = ap all_lengths (take_more es i e lt ∙ ap (λ x. take i es ++ x ∷ []) (sym is)) ∙ lengths_of (take i es) (e ∷ [])
+
+data_lengths : (e : Event) (side : Side) (n : ℕ) → e.what ≡ Data side n → all_lengths (e ∷ []) ≡ n ∷ []
+data_lengths e side n is = ap (λ what. all_lengths (record e { what = what } ∷ [])) is
+
+-- the first data packet among events is the one that counts
+pub counted_at : (es : List Event) (i : ℕ) (e : Event) (side : Side) (n segments : ℕ) → i < length es → e ≡ get_or es i e → e.what ≡ Data side n → all_lengths (take i es) ≡ [] → segments ≡ segments_of (all_lengths (e ∷ []))
+    → IsFateOf (all_lengths es) (Counted n segments)
+counted_at es i e side n segments lt is told none counted =
+    let own = data_lengths e side n told in
+    let first : all_lengths (take (i + 1) es) ≡ n ∷ [] = lengths_next es i e lt is ∙ (λ t. none t ++ own t) in
+    let all : all_lengths es ≡ n ∷ all_lengths (drop (i + 1) es) =
+        ap all_lengths (sym (take-append-drop (i + 1) es)) ∙ lengths_of (take (i + 1) es) (drop (i + 1) es) ∙ ap (λ ns. ns ++ all_lengths (drop (i + 1) es)) first in
+    subst (λ ns. IsFateOf ns (Counted n segments)) (sym all) (refl, counted ∙ ap segments_of own)
+
+other_lengths : (e : Event) (what : What) → e.what ≡ what → ((side : Side) (n : ℕ) → ¬ (what ≡ Data side n)) → all_lengths (e ∷ []) ≡ []
+other_lengths e (Found side state code) is h = ap (λ w. all_lengths (record e { what = w } ∷ [])) is
+other_lengths e (Open out called calling reverse) is h = ap (λ w. all_lengths (record e { what = w } ∷ [])) is
+other_lengths e Up is h = ap (λ w. all_lengths (record e { what = w } ∷ [])) is
+other_lengths e (End how) is h = ap (λ w. all_lengths (record e { what = w } ∷ [])) is
+other_lengths e (Data side n) is h = absurd (h side n refl)
+other_lengths e (Setting pad parameter entry) is h = ap (λ w. all_lengths (record e { what = w } ∷ [])) is
+other_lengths e (Initial pad) is h = ap (λ w. all_lengths (record e { what = w } ∷ [])) is
+
+-- another event counts nothing
+pub none_next : (es : List Event) (i : ℕ) (e : Event) → i < length es → e ≡ get_or es i e → ((side : Side) (n : ℕ) → ¬ (e.what ≡ Data side n)) → all_lengths (take i es) ≡ [] → all_lengths (take (i + 1) es) ≡ []
+none_next es i e lt is other none = lengths_next es i e lt is ∙ (λ t. none t ++ other_lengths e e.what refl other t)
