@@ -49,10 +49,7 @@ impl<A: Allocator> OctetList for Vec<u8, A> {
     }
 
     fn put_all(&mut self, more: &[u8]) -> Result<(), AllocError> {
-        match self.extend_from_slice(more) {
-            Ok(()) => Ok(()),
-            Err(refused) => Err(refused),
-        }
+        self.extend_from_slice(more)
     }
 }
 
