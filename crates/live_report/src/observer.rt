@@ -172,7 +172,7 @@ impl<A: Allocator + Copy, C: Channel<A>> Observer<A, C> {
             packet,
             channel: step.turn.channel(),
         });
-        self.walk.take(step);
+        self.walk.advance(step);
         Ok(found)
     }
 

@@ -97,8 +97,8 @@ impl<A: Allocator> EpochWalk<A> {
         })
     }
 
-    /// Takes the row of a step.
-    pub fn take(&mut self, step: Step)
+    /// Goes past the row of a step.
+    pub fn advance(&mut self, step: Step)
         requires room { vec_len self.old.findings < vec_capacity self.old.findings }
         requires packets { self.old.packets + 1 < 2 ^ 32 }
         ensures { IsAdvanced step self.old self.new }

@@ -64,7 +64,7 @@ fn feed_open_epoch<P: Plan, A: Allocator + Copy, R: Wait + Clock>(
     let given = cutter.given();
     let Cut {
         pieces,
-        line: interface_findings,
+        interface_findings,
         packets,
     } = cutter.end()?;
     let all = given + pieces.len();

@@ -43,13 +43,13 @@ turn-requires-clause-pieces g c =
     let channels = ap (λ l. length l) s.holds.lanes.channels in
     omega (arith, pieces, channels, s.bounds.ids, s.bounds.rows, s.bounds.last)
 
-pub take-requires-clause-packets : goal.take-requires-clause-packets
-take-requires-clause-packets g c =
+pub advance-requires-clause-packets : goal.advance-requires-clause-packets
+advance-requires-clause-packets g c =
     let s = c.requires.room.2 in
     omega (arith, ap (λ w. w.packets) c.in_ok-found.ensures.walk, c.in_ok-step.ensures.same.packets, s.holds.packets, s.bounds.rows, s.bounds.last)
 
-pub take-requires-clause-room : goal.take-requires-clause-room
-take-requires-clause-room g c = subst (λ w. vec_len w.findings < vec_capacity w.findings) (sym c.in_ok-found.ensures.walk) c.in_ok-step.ensures.room
+pub advance-requires-clause-room : goal.advance-requires-clause-room
+advance-requires-clause-room g c = subst (λ w. vec_len w.findings < vec_capacity w.findings) (sym c.in_ok-found.ensures.walk) c.in_ok-step.ensures.room
 
 pub returns-clause-stands : goal.returns-clause-stands
 returns-clause-stands g c i rs s sound =
@@ -64,7 +64,7 @@ returns-clause-stands g c i rs s sound =
     let here : StandsAt g.C.Channel v s.cutting.open_rows o.lanes = (lanes_at g.C.Channel.interface_of g.C.Channel.number_of g.C.Channel.stands_for s.cutting _ o v s.holds same, listing i rs s.cutting s.cut) in
     let may = subst (λ j. MayTurn step.turn j one s.cutting.open_rows) (sym (same.interface ∙ s.holds.interface)) (may_turn g.C.Channel.interface_of g.C.Channel.number_of g.C.Channel.stands_for i rs o one step s sound packet is) in
     stands_after g.C.Channel.interface_of g.C.Channel.number_of g.C.Channel.stands_for i rs o _ one step s sound packet is
-    (holds_after g.C.Channel.interface_of g.C.Channel.number_of g.C.Channel.stands_for i rs s.cutting (map value (given_of i rs)) one step o _ v s.cut packet is s.holds same (subst (λ w. IsAdvanced step w c.take.new.self) c.in_ok-found.ensures.walk c.take.ensures) (length-values (given_of i rs) ∙ sym s.cut.given)
+    (holds_after g.C.Channel.interface_of g.C.Channel.number_of g.C.Channel.stands_for i rs s.cutting (map value (given_of i rs)) one step o _ v s.cut packet is s.holds same (subst (λ w. IsAdvanced step w c.advance.new.self) c.in_ok-found.ensures.walk c.advance.ensures) (length-values (given_of i rs) ∙ sym s.cut.given)
     (c.in_ok-found.ensures.ended s.cutting.open_rows here (map value (given_of i rs)) s.holds.ended)
     (c.in_ok-found.ensures.lanes s.cutting.open_rows here (rows_after step.turn one s.cutting.open_rows) may (has_turned step.turn one s.cutting.open_rows)))
     (last_known i rs s.cutting one step v _ _ s.cut packet is (same.interface ∙ s.holds.interface) (same.epoch ∙ s.holds.epoch) (ap (λ k. Some (record { packet = one.packet; channel = k })) c.channel.ensures)
