@@ -1,6 +1,6 @@
 //! Which reports of pieces are refused.
 
-ghost use Rattle.std.specs.Prelude.{◌≡◌, ℕ, ◌<◌, ◌≤◌, length, IfOk, IfErr, OnOk, Option, Some, None, MatchOption, slice_index_or, true, false, vec_len};
+ghost use Rattle.std.specs.Prelude.{◌≡◌, ℕ, ◌<◌, ◌≤◌, length, IfOk, IfErr, OnOk, None, MatchOption, slice_index_or, true, false, vec_len};
 ghost use Rattle.report_merge.specs.Seen.{double, is_among, IsRefused};
 ghost use Rattle.report_merge.specs.Refusal.{stranger, IsRefusal, IsWhole};
 ghost use Rattle.line_model.specs.work.Book.{ids_of};
