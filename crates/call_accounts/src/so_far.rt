@@ -1,6 +1,6 @@
 //! The calls of one logical channel in one epoch, as its events come.
 
-ghost use Rattle.std.specs.Prelude.{◌≡◌, ℕ, List, [], ◌∷◌, ◌++◌, Option, Some, None, map, IfOk, IfErr, OnOk};
+ghost use Rattle.std.specs.Prelude.{◌≡◌, ℕ, List, [], ◌∷◌, ◌++◌, Some, None, map, IfOk, IfErr, OnOk};
 ghost use Rattle.line_model.specs.declared.event.Event.{Event};
 ghost use Rattle.line_model.specs.declared.event.What.TheVariants.{Open, End};
 ghost use Rattle.call_accounts.specs.Counted.{Counts};

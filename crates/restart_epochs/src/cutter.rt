@@ -70,7 +70,7 @@ impl<A: Allocator + Copy> Cutter<A> {
     ghost use Rattle.line_model.specs.basics.Records as records;
     ghost use Rattle.line_model.specs.declared.interface.Interface.{Interface as AnyInterface};
     ghost use Rattle.line_model.specs.declared.fault.Fault.TheVariants.{Memory};
-    ghost use Rattle.restart_epochs.specs.Cutting.{OfCut, StandsFor, IsCounted, IsKeptOn, IsStepped, IsLeft, IsTaken, HasAppended, given_of};
+    ghost use Rattle.restart_epochs.specs.Cutting.{OfCut, StandsFor, IsCounted, HasAppended, given_of};
 
     /// A cutter before the first row. It takes no memory.
     pub fn new(alloc: A, interface: &Interface) -> Self

@@ -1,7 +1,7 @@
 //! The walk over the rows of a trace, but for what stands on the logical channels: the restart machine, the epoch, and
 //! what it found.
 
-ghost use Rattle.std.specs.Prelude.{option_to_list, ◌≡◌, ℕ, ◌<◌, ◌+◌, ◌^◌, List, [], ◌++◌, IfOk, OnOk, OnErr};
+ghost use Rattle.std.specs.Prelude.{option_to_list, ◌≡◌, ℕ, ◌<◌, ◌+◌, ◌^◌, List, ◌++◌, IfOk, OnOk, OnErr};
 ghost use Rattle.std.specs.Vec.{vec_len, vec_capacity};
 ghost use Rattle.line_model.specs.observer.Observer.{line_in_r1};
 ghost use Rattle.restart_epochs.specs.Walks.{channel_in, epoch_after, route_finding, turn_of, IsAdvanced, IsFresh, IsSameWalk, IsStep};
