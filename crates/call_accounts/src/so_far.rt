@@ -138,8 +138,8 @@ impl<A: Allocator + Clone> CallsSoFar<A> {
         }
     }
 
-    /// Adds the next event of the channel, which has so many segments (`segments_in`). Where memory is refused it stands
-    /// for nothing any more.
+    /// Adds the next event of the channel, which has so many segments (`segments_in`). Where memory is refused it
+    /// stands for nothing any more.
     pub fn add_event(&mut self, event: &Event, segments: u64) -> Result<(), AllocError>
         requires segments { segments ≡ segments_of (all_lengths (event.now ∷ [])) }
         ensures added { AddsEvent self.old event.now self.new result }

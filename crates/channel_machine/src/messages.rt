@@ -43,8 +43,8 @@ impl BothSettings {
         }
     }
 
-    /// Reports the message that a packet of so many octets completes, and keeps its settings; `octets` are the first 1,025
-    /// of the message.
+    /// Reports the message that a packet of so many octets completes, and keeps its settings. `octets` are the first
+    /// 1,025 of the message.
     pub(crate) fn report_message<A: Allocator>(
         &mut self,
         origin: EventOrigin,
@@ -70,7 +70,8 @@ impl BothSettings {
         }
     }
 
-    /// Reports a message without a fault of its own, which a packet of so many octets completes, and keeps its settings.
+    /// Reports a message without a fault of its own, which a packet of so many octets completes, and keeps its
+    /// settings.
     fn report_well_formed<A: Allocator>(
         &mut self,
         origin: EventOrigin,
