@@ -22,7 +22,7 @@ use Rattle.call_accounts.specs.declared.call.Places.{Places}
 use Rattle.call_accounts.specs.Counted.{IsCountable}
 use Rattle.call_accounts.specs.SoFar.{HoldsFor, IsOf, StandsFor, Tells, TellsBy}
 use Rattle.call_accounts.specs.declared.so_far.OpenCall.{OpenCall}
-use Rattle.call_accounts.specs.Places.{AreHeard, AreLeft, IsFound, IsKept, calls_at, own_calls, own_events, place_of, place_order}
+use Rattle.call_accounts.specs.Places.{AreAdded, AreLeft, IsFound, IsKept, calls_at, own_calls, own_events, place_of, place_order}
 use Rattle.call_accounts.proofs.SoFarLemmas.{record_along}
 use Rattle.line_model.proofs.Merged.{filter_twice}
 
@@ -104,7 +104,7 @@ in_hand {A} {X} P old t after own own' epoch channel is_epoch is_channel others 
 -- ---- one event more
 
 pub none_heard : {A : Type 0} → (epoch channel : ℕ) (here : CallsSoFar A) (others : BTreeMap (ℕ × ℕ) (CallsSoFar A)) → ((e c : ℕ) → StandsFor here e c []) → others.entries ≡ []
-    → AreHeard {A = A} (record { epoch = epoch; channel = channel; here = here; others = others }) []
+    → AreAdded {A = A} (record { epoch = epoch; channel = channel; here = here; others = others }) []
 none_heard epoch channel first others here empty e c = at (epoch == e && channel == c)
   where
     at : (b : Bool) → IsKept (λ s. StandsFor s e c) (if b then Some first else get place_order others (e, c)) []
@@ -170,14 +170,14 @@ all_countable es short few = record { packets = omega (arith, lengths_few es, sh
 own_more : (e c : ℕ) (es : List Event) (v : Event) → own_events e c (es ++ v ∷ []) ≡ own_events e c es ++ cond (e == v.epoch && c == v.channel) (v ∷ []) []
 own_more e c es v = filter-append (λ f. e == f.epoch && c == f.channel) es (v ∷ [])
 
--- an event is heard at its place
-pub heard_more : {A : Type 0} → (old t : Places A) (after : CallsSoFar A) (es : List Event) (v : Event)
+-- an event is added at its place
+pub added_more : {A : Type 0} → (old t : Places A) (after : CallsSoFar A) (es : List Event) (v : Event)
     → t.epoch ≡ v.epoch → t.channel ≡ v.channel → IsFound (calls_at old v.epoch v.channel) t.here
     → ((e c : ℕ) → (v.epoch == e && v.channel == c) ≡ false → calls_at t e c ≡ calls_at old e c)
     → ((e c : ℕ) (own : List Event) → StandsFor t.here e c own → IsOf e c v → IsCountable (own ++ v ∷ []) → StandsFor after e c (own ++ v ∷ []))
-    → AreHeard old es → IsCountable (es ++ v ∷ [])
-    → AreHeard {A = A} (record { epoch = t.epoch; channel = t.channel; here = after; others = t.others }) (es ++ v ∷ [])
-heard_more {A} old t after es v epoch channel found others hears kept few =
+    → AreAdded old es → IsCountable (es ++ v ∷ [])
+    → AreAdded {A = A} (record { epoch = t.epoch; channel = t.channel; here = after; others = t.others }) (es ++ v ∷ [])
+added_more {A} old t after es v epoch channel found others hears kept few =
     in_hand (λ e c s own. StandsFor s e c own) old t after (λ e c. own_events e c es) (λ e c. own_events e c (es ++ v ∷ [])) v.epoch v.channel epoch channel others kept
     (subst (StandsFor after v.epoch v.channel) (sym here_more) (hears v.epoch v.channel (own_events v.epoch v.channel es) (before (calls_at old v.epoch v.channel) (kept v.epoch v.channel) found) (refl, refl) few_here))
     (λ e c other. own_more e c es v ∙ ap (λ b. own_events e c es ++ cond b (v ∷ []) []) (flipped e c v.epoch v.channel ∙ other) ∙ append-nil (own_events e c es))
@@ -194,7 +194,7 @@ heard_more {A} old t after es v epoch channel found others hears kept few =
 
 -- ---- the records of each place
 
--- a call hears the events of its place alone
+-- a call has the events of its place alone
 record_alone : (v : Event) (o : Bool) (a b : List ℕ) (r : Bool) (es : List Event) → record_of v o a b r es ≡ record_of v o a b r (own_events v.epoch v.channel es)
 record_alone v o a b r es = record_along v o a b r es (own_events v.epoch v.channel es) (sym (filter_twice (is_alongside v) es))
 
@@ -284,13 +284,13 @@ opens_none v none = at v.what refl
 tells_calls : {A : Type 0} → (s : CallsSoFar A) (e c : ℕ) (es : List Event) → StandsFor s e c es → Tells s (calls_of es)
 tells_calls s e c es h = at s.call h.holds
   where
-    at : (o : Option OpenCall) → HoldsFor s.told.items o es → TellsBy s.told.items o (calls_of es)
+    at : (o : Option OpenCall) → HoldsFor s.closed.items o es → TellsBy s.closed.items o (calls_of es)
     at None holds = holds.earlier
     at (Some x) holds = (e, c, es, h.of_channel, holds, refl)
 
--- all that were heard are left
-pub heard_left : {A : Type 0} → (t : Places A) (es : List Event) → AreHeard t es → AreLeft t (calls_of es)
-heard_left {A} t es heard e c = subst (IsKept Tells (calls_at t e c)) (sym (calls_of_place e c es)) (at (calls_at t e c) (heard e c))
+-- all that were added are left
+pub added_left : {A : Type 0} → (t : Places A) (es : List Event) → AreAdded t es → AreLeft t (calls_of es)
+added_left {A} t es heard e c = subst (IsKept Tells (calls_at t e c)) (sym (calls_of_place e c es)) (at (calls_at t e c) (heard e c))
   where
     at : (o : Option (CallsSoFar A)) → IsKept (λ s. StandsFor s e c) o (own_events e c es) → IsKept Tells o (calls_of (own_events e c es))
     at None none = ap calls_of none

@@ -1,4 +1,4 @@
--- The calls of one channel in one epoch, with one more event behind those that were heard.
+-- The calls of one channel in one epoch, with one more event behind those that were added.
 use Rattle.std.proofs.Common.{◌≡◌, ℕ, suc, zero, ◌<◌, Bool, true, false, cond, not, ◌||◌, ◌==◌, List, [], ◌∷◌, ◌++◌, map, refl, sym, ap, ◌∙◌, subst, Option, Some, None, append_assoc, arith, length, sum, ◌-◌, ◌≤◌, get_or, take, drop}
 use Rattle.std.specs.Prelude.{find, take_while, option_map, option_and_then, is_some}
 use Rattle.std.specs.List.{filter, AllByRecursion}
@@ -73,7 +73,7 @@ of_one epoch channel (e ∷ es) all = at e.what (of_one epoch channel es all.1)
     at (Setting _ _ _) h = h
     at (Initial _) h = h
 
--- a record hears the events alongside alone
+-- a record has the events alongside alone
 pub record_along : (e : Event) (o : Bool) (a b : List ℕ) (r : Bool) (later own : List Event) → filter (is_alongside e) later ≡ filter (is_alongside e) own → record_of e o a b r later ≡ record_of e o a b r own
 unfolding goes_on
 record_along e o a b r later own h = ap (λ l. record_from e o a b r (take_while goes_on l) (find is_end l)) h
@@ -286,9 +286,9 @@ all_more P [] e h k = (k, tt)
 all_more P (x ∷ xs) e h k = (h.0, all_more P xs e h.1 k)
 
 -- the records, and that of the open call, are all calls
-open_calls : (told : List CallRecord) (c : OpenCall) (epoch channel : ℕ) (es : List Event) → AllByRecursion (IsOf epoch channel) es → (h : IsOpenIn told c es) → calls_in es ≡ told ++ call_with c h.own None None ∷ []
+open_calls : (closed : List CallRecord) (c : OpenCall) (epoch channel : ℕ) (es : List Event) → AllByRecursion (IsOf epoch channel) es → (h : IsOpenIn closed c es) → calls_in es ≡ closed ++ call_with c h.own None None ∷ []
 unfolding goes_on
-open_calls told c epoch channel es all h =
+open_calls closed c epoch channel es all h =
     let o : Event = opening_of c in
     let none = within_endless h.own h.within in
     let before : List Event = h.before in
@@ -296,19 +296,19 @@ open_calls told c epoch channel es all h =
     ap calls_in h.whole
     ∙ calls-opening before o h.own refl none
     ∙ ap (λ l. l ++ calls_in (o ∷ h.own)) (sym (h.earlier ∙ of_one epoch channel before of_before))
-    ∙ ap (λ l. told ++ record_from o c.out c.called c.calling c.reverse (take_while goes_on h.own) (find is_end h.own) ∷ l) (within_none h.own h.within)
-    ∙ ap (λ l. told ++ record_from o c.out c.called c.calling c.reverse l (find is_end h.own) ∷ []) (within_taken h.own h.within)
-    ∙ ap (λ x. told ++ record_from o c.out c.called c.calling c.reverse h.own x ∷ []) none
+    ∙ ap (λ l. closed ++ record_from o c.out c.called c.calling c.reverse (take_while goes_on h.own) (find is_end h.own) ∷ l) (within_none h.own h.within)
+    ∙ ap (λ l. closed ++ record_from o c.out c.called c.calling c.reverse l (find is_end h.own) ∷ []) (within_taken h.own h.within)
+    ∙ ap (λ x. closed ++ record_from o c.out c.called c.calling c.reverse h.own x ∷ []) none
 
-pub open_calls_are : (told new : List CallRecord) (c : OpenCall) (epoch channel : ℕ) (es : List Event) → AllByRecursion (IsOf epoch channel) es → IsOpenIn told c es
-    → (r : CallRecord) → ((own : List Event) → Counts c.counts own → r ≡ call_with c own None None) → new ≡ told ++ r ∷ [] → new ≡ calls_of es
-open_calls_are told new c epoch channel es all h r is step =
-    step ∙ ap (λ x. told ++ x ∷ []) (is h.own h.counts) ∙ sym (open_calls told c epoch channel es all h) ∙ sym (of_one epoch channel es all)
+pub open_calls_are : (closed new : List CallRecord) (c : OpenCall) (epoch channel : ℕ) (es : List Event) → AllByRecursion (IsOf epoch channel) es → IsOpenIn closed c es
+    → (r : CallRecord) → ((own : List Event) → Counts c.counts own → r ≡ call_with c own None None) → new ≡ closed ++ r ∷ [] → new ≡ calls_of es
+open_calls_are closed new c epoch channel es all h r is step =
+    step ∙ ap (λ x. closed ++ x ∷ []) (is h.own h.counts) ∙ sym (open_calls closed c epoch channel es all h) ∙ sym (of_one epoch channel es all)
 
--- an event that opens a call, behind calls that are told
-pub opened_behind : (told : List CallRecord) (c : OpenCall) (epoch channel : ℕ) (es : List Event) (e : Event) → AllByRecursion (IsOf epoch channel) es → IsOf epoch channel e
-    → told ≡ calls_of es → opening_of c ≡ e → Counts c.counts [] → IsOpenIn told c (es ++ e ∷ [])
-opened_behind told c epoch channel es e all of earlier is counts = record {
+-- an event that opens a call, behind calls that are closed
+pub opened_behind : (closed : List CallRecord) (c : OpenCall) (epoch channel : ℕ) (es : List Event) (e : Event) → AllByRecursion (IsOf epoch channel) es → IsOf epoch channel e
+    → closed ≡ calls_of es → opening_of c ≡ e → Counts c.counts [] → IsOpenIn closed c (es ++ e ∷ [])
+opened_behind closed c epoch channel es e all of earlier is counts = record {
   before = es;
   own = [];
   whole = ap (λ x. es ++ x ∷ []) (sym is);
@@ -318,32 +318,32 @@ opened_behind told c epoch channel es e all of earlier is counts = record {
 }
 
 -- an event that opens none, where no call is open
-pub stays_closed : (told : List CallRecord) (epoch channel : ℕ) (es : List Event) (e : Event) → AllByRecursion (IsOf epoch channel) es → IsOf epoch channel e → IsClosedIn told es → is_opening e ≡ false
-    → IsClosedIn told (es ++ e ∷ [])
-stays_closed told epoch channel es e all of h k = record {
+pub stays_closed : (closed : List CallRecord) (epoch channel : ℕ) (es : List Event) (e : Event) → AllByRecursion (IsOf epoch channel) es → IsOf epoch channel e → IsClosedIn closed es → is_opening e ≡ false
+    → IsClosedIn closed (es ++ e ∷ [])
+stays_closed closed epoch channel es e all of h k = record {
   earlier =
       h.earlier ∙ of_one epoch channel es all ∙ sym (calls-ended es e h.ended k) ∙ sym (of_one epoch channel (es ++ e ∷ []) (all_more (IsOf epoch channel) es e all of));
   ended = still_ended es e h.ended k;
 }
 
 -- the end of the open call
-pub ends_open : (told ended new : List CallRecord) (c : OpenCall) (epoch channel : ℕ) (es : List Event) (a b n : ℕ) (how : How) → AllByRecursion (IsOf epoch channel) es → IsOf epoch channel (ending_at a b n how) → IsOpenIn told c es
-    → (EndFirst told → ended ≡ map (ended_by n how) told)
+pub ends_open : (closed ended new : List CallRecord) (c : OpenCall) (epoch channel : ℕ) (es : List Event) (a b n : ℕ) (how : How) → AllByRecursion (IsOf epoch channel) es → IsOf epoch channel (ending_at a b n how) → IsOpenIn closed c es
+    → (EndFirst closed → ended ≡ map (ended_by n how) closed)
     → (r : CallRecord) → ((own : List Event) → Counts c.counts own → r ≡ call_with c own (Some n) (Some how)) → new ≡ ended ++ r ∷ []
     → IsClosedIn new (es ++ ending_at a b n how ∷ [])
-ends_open told ended new c epoch channel es a b n how all of h last r is step =
+ends_open closed ended new c epoch channel es a b n how all of h last r is step =
     let e : Event = ending_at a b n how in
     let before : List Event = h.before in
     let of_before : AllByRecursion (IsOf epoch channel) before = all_first (IsOf epoch channel) before (opening_of c ∷ h.own) (subst (AllByRecursion (IsOf epoch channel)) h.whole all) in
-    let first : EndFirst told = subst EndFirst (sym (h.earlier ∙ of_one epoch channel before of_before)) (end_first before) in
+    let first : EndFirst closed = subst EndFirst (sym (h.earlier ∙ of_one epoch channel before of_before)) (end_first before) in
     let one : List CallRecord = call_with c h.own None None ∷ [] in
     record {
       earlier =
           step
           ∙ ap (λ x. ended ++ x ∷ []) (is h.own h.counts)
           ∙ ap (λ l. l ++ call_with c h.own (Some n) (Some how) ∷ []) (last first)
-          ∙ sym (map-append (ended_by n how) told one)
-          ∙ ap (map (ended_by n how)) (sym (open_calls told c epoch channel es all h))
+          ∙ sym (map-append (ended_by n how) closed one)
+          ∙ ap (map (ended_by n how)) (sym (open_calls closed c epoch channel es all h))
           ∙ sym (calls-end es a b n how)
           ∙ sym (of_one epoch channel (es ++ e ∷ []) (all_more (IsOf epoch channel) es e all of));
       ended = all_ended es a b n how;
@@ -352,19 +352,19 @@ ends_open told ended new c epoch channel es a b n how all of h last r is step =
 -- ---- answers
 
 -- the record of an end of the open call
-pub ends_open_at : (told ended new : List CallRecord) (c : OpenCall) (epoch channel : ℕ) (es : List Event) (e : Event) (n : ℕ) (how : How) → AllByRecursion (IsOf epoch channel) es → IsOf epoch channel e → e.packet ≡ n → e.what ≡ End how → IsOpenIn told c es
-    → (EndFirst told → ended ≡ map (ended_by n how) told)
+pub ends_open_at : (closed ended new : List CallRecord) (c : OpenCall) (epoch channel : ℕ) (es : List Event) (e : Event) (n : ℕ) (how : How) → AllByRecursion (IsOf epoch channel) es → IsOf epoch channel e → e.packet ≡ n → e.what ≡ End how → IsOpenIn closed c es
+    → (EndFirst closed → ended ≡ map (ended_by n how) closed)
     → (r : CallRecord) → ((own : List Event) → Counts c.counts own → r ≡ call_with c own (Some n) (Some how)) → new ≡ ended ++ r ∷ []
     → IsClosedIn new (es ++ e ∷ [])
-ends_open_at told ended new c epoch channel es e n how all of packet what h last r is step =
+ends_open_at closed ended new c epoch channel es e n how all of packet what h last r is step =
     let same : ending_at e.epoch e.channel n how ≡ e = λ j. record { epoch = e.epoch; channel = e.channel; packet = sym packet j; what = sym what j } in
-    subst (λ f. IsClosedIn new (es ++ f ∷ [])) same (ends_open told ended new c epoch channel es e.epoch e.channel n how all (of.0, of.1) h last r is step)
+    subst (λ f. IsClosedIn new (es ++ f ∷ [])) same (ends_open closed ended new c epoch channel es e.epoch e.channel n how all (of.0, of.1) h last r is step)
 
 -- where no call is open, an event that opens none changes nothing
-pub stays_none : (told : List CallRecord) (o : Option OpenCall) (epoch channel : ℕ) (es : List Event) (e : Event) → o ≡ None → AllByRecursion (IsOf epoch channel) es → IsOf epoch channel e → HoldsFor told o es → is_opening e ≡ false
-    → HoldsFor told o (es ++ e ∷ [])
-stays_none told o epoch channel es e none all of h k =
-    subst (λ p. HoldsFor told p es → HoldsFor told p (es ++ e ∷ [])) (sym none) (λ w. stays_closed told epoch channel es e all of w k) h
+pub stays_none : (closed : List CallRecord) (o : Option OpenCall) (epoch channel : ℕ) (es : List Event) (e : Event) → o ≡ None → AllByRecursion (IsOf epoch channel) es → IsOf epoch channel e → HoldsFor closed o es → is_opening e ≡ false
+    → HoldsFor closed o (es ++ e ∷ [])
+stays_none closed o epoch channel es e none all of h k =
+    subst (λ p. HoldsFor closed p es → HoldsFor closed p (es ++ e ∷ [])) (sym none) (λ w. stays_closed closed epoch channel es e all of w k) h
 
 pub end_opens_none : (e : Event) (how : How) → e.what ≡ End how → is_opening e ≡ false
 end_opens_none e how is = ap (λ w. elim w [ Open o a b r ↦ true | _ ↦ false ]) is
@@ -385,10 +385,10 @@ pub within_opens_none : (e : Event) → IsWithin e → is_opening e ≡ false
 within_opens_none e h = no_opening (is_end e) (is_opening e) h
 
 -- an event within the open call, by what is counted then
-pub counted_within : (told : List CallRecord) (o : Option OpenCall) (c d : OpenCall) (es : List Event) (e : Event) → o ≡ Some c → HoldsFor told o es → IsWithin e → opening_of d ≡ opening_of c → Adds c.counts d.counts e → IsCountable (es ++ e ∷ [])
-    → IsOpenIn told d (es ++ e ∷ [])
-counted_within told o c d es e is holds k same adds few =
-    let h : IsOpenIn told c es = subst (λ p. HoldsFor told p es) is holds in
+pub counted_within : (closed : List CallRecord) (o : Option OpenCall) (c d : OpenCall) (es : List Event) (e : Event) → o ≡ Some c → HoldsFor closed o es → IsWithin e → opening_of d ≡ opening_of c → Adds c.counts d.counts e → IsCountable (es ++ e ∷ [])
+    → IsOpenIn closed d (es ++ e ∷ [])
+counted_within closed o c d es e is holds k same adds few =
+    let h : IsOpenIn closed c es = subst (λ p. HoldsFor closed p es) is holds in
     let front : List Event = h.before ++ opening_of c ∷ [] in
     let parts : es ++ e ∷ [] ≡ front ++ (h.own ++ e ∷ []) =
     ap (λ l. l ++ e ∷ []) h.whole ∙ append_assoc h.before (opening_of c ∷ h.own) (e ∷ []) ∙ sym (append_assoc h.before (opening_of c ∷ []) (h.own ++ e ∷ [])) in

@@ -25,7 +25,7 @@ place_of r = (r.epoch, r.channel)
 abbrev pub place_order : ℕ × ℕ → ℕ × ℕ → Ordering
 place_order x y = ordering_then (nat_cmp x.0 y.0) (nat_cmp x.1 y.1)
 
--- the calls of a place, where anything was heard of it
+-- the calls of a place, where any event of it was added
 abbrev pub calls_at : {A : Type 0} → Places A → ℕ → ℕ → Option (CallsSoFar A)
 calls_at t e c = if t.epoch == e && t.channel == c then Some t.here else get place_order t.others (e, c)
 
@@ -34,9 +34,9 @@ abbrev pub IsKept : {A X : Type 0} → (CallsSoFar A → List X → Type 0) → 
 IsKept P None xs = xs ≡ []
 IsKept P (Some s) xs = P s xs
 
--- these events were heard, each at its place
-abbrev pub AreHeard : {A : Type 0} → Places A → List Event → Type 0
-AreHeard t es = (e c : ℕ) → IsKept (λ s. StandsFor s e c) (calls_at t e c) (own_events e c es)
+-- these events were added, each at its place
+abbrev pub AreAdded : {A : Type 0} → Places A → List Event → Type 0
+AreAdded t es = (e c : ℕ) → IsKept (λ s. StandsFor s e c) (calls_at t e c) (own_events e c es)
 
 -- these records are left, each at its place
 abbrev pub AreLeft : {A : Type 0} → Places A → List CallRecord → Type 0

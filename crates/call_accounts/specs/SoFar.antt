@@ -59,43 +59,43 @@ EndFirst [] = Unit {0}
 EndFirst (c ∷ cs) = (c.ended ≡ None → AllByRecursion (λ d. d.ended ≡ None) cs) × EndFirst cs
 
 -- a call is open: the events that belong to it stand behind its opening, and the records are those of the calls before it
-pub record IsOpenIn (told : List CallRecord) (c : OpenCall) (es : List Event) : Type 0 where
+pub record IsOpenIn (closed : List CallRecord) (c : OpenCall) (es : List Event) : Type 0 where
   pub before : List Event
   pub own : List Event
   pub whole : es ≡ before ++ opening_of c ∷ own
   pub within : AllByRecursion IsWithin own
-  pub earlier : told ≡ calls_of before
+  pub earlier : closed ≡ calls_of before
   pub counts : Counts c.counts own
 
 -- no call is open, and all have ended
-pub record IsClosedIn (told : List CallRecord) (es : List Event) : Type 0 where
-  pub earlier : told ≡ calls_of es
+pub record IsClosedIn (closed : List CallRecord) (es : List Event) : Type 0 where
+  pub earlier : closed ≡ calls_of es
   pub ended : AllEnded es
 
 -- records and the open call are those of the events of a channel
 abbrev pub HoldsFor : List CallRecord → Option OpenCall → List Event → Type 0
-HoldsFor told None es = IsClosedIn told es
-HoldsFor told (Some c) es = IsOpenIn told c es
+HoldsFor closed None es = IsClosedIn closed es
+HoldsFor closed (Some c) es = IsOpenIn closed c es
 
 -- the calls so far are those of these events, all of one channel in one epoch
 pub record StandsFor {A : Type 0} (s : CallsSoFar A) (epoch channel : ℕ) (es : List Event) : Type 0 where
   pub of_channel : AllByRecursion (IsOf epoch channel) es
-  pub holds : HoldsFor s.told.items s.call es
+  pub holds : HoldsFor s.closed.items s.call es
 
--- the records that are told where a call may be open, which is closed without an end
+-- the records, where a call that may be open is closed without an end
 abbrev pub TellsBy : List CallRecord → Option OpenCall → List CallRecord → Type 0
-TellsBy told None cs = told ≡ cs
-TellsBy told (Some o) cs = (epoch : ℕ) × (channel : ℕ) × (es : List Event) × AllByRecursion (IsOf epoch channel) es × IsOpenIn told o es × (cs ≡ calls_of es)
+TellsBy closed None cs = closed ≡ cs
+TellsBy closed (Some o) cs = (epoch : ℕ) × (channel : ℕ) × (es : List Event) × AllByRecursion (IsOf epoch channel) es × IsOpenIn closed o es × (cs ≡ calls_of es)
 
 -- the records of the calls so far, where no more events come
 abbrev pub Tells : {A : Type 0} → CallsSoFar A → List CallRecord → Type 0
-Tells s cs = TellsBy s.told.items s.call cs
+Tells s cs = TellsBy s.closed.items s.call cs
 
--- of any events that were heard: they were heard with this one behind them, if it is of their channel
-abbrev pub HearsOn : {A T E : Type 0} → (before : CallsSoFar A) → Event → (after : CallsSoFar A) → Result T E → Type 0
-HearsOn before e after result =
+-- of any events that were added: they were added with this one behind them, if it is of their channel
+abbrev pub AddsEvent : {A T E : Type 0} → (before : CallsSoFar A) → Event → (after : CallsSoFar A) → Result T E → Type 0
+AddsEvent before e after result =
     (epoch channel : ℕ) (es : List Event) → StandsFor before epoch channel es → IsOf epoch channel e → IsCountable (es ++ e ∷ []) → OnOk result (StandsFor after epoch channel (es ++ e ∷ []))
 
--- of any events that were heard: these are the records of their calls
+-- of any events that were added: these are the records of their calls
 abbrev pub AreCallsOf : {A : Type 0} → CallsSoFar A → List CallRecord → Type 0
 AreCallsOf s cs = (epoch channel : ℕ) (es : List Event) → StandsFor s epoch channel es → cs ≡ calls_of es

@@ -5,7 +5,7 @@ ghost use Rattle.line_model.specs.declared.event.Event.{Event};
 ghost use Rattle.line_model.specs.basics.Records as records;
 ghost use Rattle.line_model.specs.observer.Calls.{calls_of, all_lengths};
 ghost use Rattle.call_accounts.specs.Counted.{IsCountable};
-ghost use Rattle.call_accounts.specs.Places.{AreHeard, AreLeft, IsFound, calls_at, place_of};
+ghost use Rattle.call_accounts.specs.Places.{AreAdded, AreLeft, IsFound, calls_at, place_of};
 
 use crate::so_far::{CallsSoFar, segments_in};
 use line_model::call::CallRecord;
@@ -25,10 +25,10 @@ struct Places<A: Allocator> {
 }
 
 impl<A: Allocator + Clone> Places<A> {
-    /// Nothing was heard. The place of the first event is in hand, so that the events of one place take no room in the
+    /// Nothing was added. The place of the first event is in hand, so that the events of one place take no room in the
     /// map.
     fn new(alloc: &A, events: &[Event]) -> Result<Self, AllocError>
-        ensures { IfOk result (λ places. AreHeard places []) }
+        ensures { IfOk result (λ places. AreAdded places []) }
     {
         let (epoch, channel) = match events.first() {
             Some(event) => (event.epoch, event.channel),
@@ -63,13 +63,13 @@ impl<A: Allocator + Clone> Places<A> {
         Ok(())
     }
 
-    /// Hears an event at its place.
-    fn hear(&mut self, alloc: &A, event: &Event) -> Result<(), AllocError>
-        ensures { (es : List Event) → AreHeard self.old es → IsCountable (es ++ event.now ∷ [])
-            → OnOk result (AreHeard self.new (es ++ event.now ∷ [])) }
+    /// Adds an event at its place.
+    fn add_event(&mut self, alloc: &A, event: &Event) -> Result<(), AllocError>
+        ensures { (es : List Event) → AreAdded self.old es → IsCountable (es ++ event.now ∷ [])
+            → OnOk result (AreAdded self.new (es ++ event.now ∷ [])) }
     {
         self.turn_to(alloc, event.epoch, event.channel)?;
-        self.here.hear(event, segments_in(event))
+        self.here.add_event(event, segments_in(event))
     }
 
     /// Takes the record of the call that was opened last at a place.
@@ -125,7 +125,7 @@ pub fn calls_of<A: Allocator + Clone>(
     let mut places = Places::new(&alloc, events)?;
     let mut openings = Vec::new(alloc.clone()?);
     for event in events {
-        places.hear(&alloc, event)?;
+        places.add_event(&alloc, event)?;
         if let What::Open { .. } = event.what {
             openings.push((event.epoch, event.channel))?;
         }

@@ -32,7 +32,7 @@ pub struct CallCounts {
 }
 
 impl CallCounts {
-    /// Nothing was heard.
+    /// Nothing was added.
     pub(crate) fn new() -> CallCounts
         ensures { Counts result [] }
     {
@@ -49,14 +49,14 @@ impl CallCounts {
     }
 
     /// Counts the next event, which has so many segments. A sum that would not fit stays at the greatest number.
-    pub(crate) fn hear(&mut self, event: &Event, segments: u64)
+    pub(crate) fn add_event(&mut self, event: &Event, segments: u64)
         requires segments { segments ≡ segments_of (all_lengths (event.now ∷ [])) }
         ensures { Adds self.old self.new event.now }
     {
         match event.what {
             What::Found { .. } | What::Open { .. } | What::End(_) => {}
             What::Up => self.rise(event.packet),
-            What::Data { side, octets } => self.hear_data(side, octets, segments),
+            What::Data { side, octets } => self.add_data(side, octets, segments),
             What::Setting {
                 pad,
                 parameter,
@@ -77,7 +77,7 @@ impl CallCounts {
     }
 
     /// A data packet.
-    fn hear_data(&mut self, side: Side, octets: u32, segments: u64)
+    fn add_data(&mut self, side: Side, octets: u32, segments: u64)
         ensures { (e : Event) → e.what ≡ Data side octets
             → segments ≡ segments_of (all_lengths (e ∷ [])) → Adds self.old self.new e }
     {

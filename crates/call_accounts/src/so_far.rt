@@ -1,10 +1,10 @@
 //! The calls of one logical channel in one epoch, as its events come.
 
-ghost use Rattle.std.specs.Prelude.{◌≡◌, ℕ, List, [], ◌∷◌, ◌++◌, Option, Some, None, map, IfOk, IfErr, OnOk};
+ghost use Rattle.std.specs.Prelude.{◌≡◌, ℕ, List, [], ◌∷◌, ◌++◌, Some, None, map, IfOk, IfErr, OnOk};
 ghost use Rattle.line_model.specs.declared.event.Event.{Event};
 ghost use Rattle.line_model.specs.declared.event.What.TheVariants.{Open, End};
 ghost use Rattle.call_accounts.specs.Counted.{Counts};
-ghost use Rattle.call_accounts.specs.SoFar.{AreCallsOf, HearsOn, IsOf, StandsFor, Tells, call_with, opening_of, ended_by, EndFirst};
+ghost use Rattle.call_accounts.specs.SoFar.{AddsEvent, AreCallsOf, IsOf, StandsFor, Tells, call_with, opening_of, ended_by, EndFirst};
 ghost use Rattle.line_model.specs.basics.Records as records;
 ghost use Rattle.line_model.specs.observer.Calls.{all_lengths, segments_of};
 
@@ -123,26 +123,26 @@ fn push_record<A: Allocator>(
 /// An opening where a call is open, which no channel makes, leaves that call without an end until one comes.
 #[derive(Drop)]
 pub struct CallsSoFar<A: Allocator> {
-    told: Vec<CallRecord<A>, A>,
+    closed: Vec<CallRecord<A>, A>,
     call: Option<OpenCall>,
 }
 
 impl<A: Allocator + Clone> CallsSoFar<A> {
-    /// No event was heard. It takes no memory.
+    /// No event was added. It takes no memory.
     pub fn new(alloc: A) -> Self
         ensures { (epoch channel : ℕ) → StandsFor result epoch channel [] }
     {
         CallsSoFar {
-            told: Vec::new(alloc),
+            closed: Vec::new(alloc),
             call: None,
         }
     }
 
-    /// Hears the next event of the channel, which has so many segments (`segments_in`). Where memory is refused it stands
-    /// for nothing any more.
-    pub fn hear(&mut self, event: &Event, segments: u64) -> Result<(), AllocError>
+    /// Adds the next event of the channel, which has so many segments (`segments_in`). Where memory is refused it
+    /// stands for nothing any more.
+    pub fn add_event(&mut self, event: &Event, segments: u64) -> Result<(), AllocError>
         requires segments { segments ≡ segments_of (all_lengths (event.now ∷ [])) }
-        ensures heard { HearsOn self.old event.now self.new result }
+        ensures added { AddsEvent self.old event.now self.new result }
     {
         match &event.what {
             What::Open {
@@ -158,7 +158,7 @@ impl<A: Allocator + Clone> CallsSoFar<A> {
             What::End(how) => self.end(event.packet, *how),
             _ => {
                 if let Some(call) = &mut self.call {
-                    call.counts.hear(event, segments);
+                    call.counts.add_event(event, segments);
                 }
                 Ok(())
             }
@@ -168,16 +168,16 @@ impl<A: Allocator + Clone> CallsSoFar<A> {
     /// A call that is open is open no more, and has no end.
     fn close(&mut self) -> Result<(), AllocError>
         ensures none { OnOk result (self.new.call ≡ None) }
-        ensures told { OnOk result (AreCallsOf self.old self.new.told.items) }
+        ensures closed { OnOk result (AreCallsOf self.old self.new.closed.items) }
         ensures tells { (cs : List records.CallRecord) → Tells self.old cs
-            → OnOk result (self.new.told.items ≡ cs) }
+            → OnOk result (self.new.closed.items ≡ cs) }
     {
         let Some(call) = &self.call else {
             return Ok(());
         };
-        let alloc = self.told.allocator().clone()?;
+        let alloc = self.closed.allocator().clone()?;
         let record = call.record(alloc, None, None)?;
-        push_record(&mut self.told, record)?;
+        push_record(&mut self.closed, record)?;
         self.call = None;
         Ok(())
     }
@@ -192,10 +192,10 @@ impl<A: Allocator + Clone> CallsSoFar<A> {
         let Some(call) = &self.call else {
             return Ok(());
         };
-        let alloc = self.told.allocator().clone()?;
+        let alloc = self.closed.allocator().clone()?;
         let record = call.record(alloc, Some(packet), Some(how))?;
-        end_last(&mut self.told, packet, how);
-        push_record(&mut self.told, record)?;
+        end_last(&mut self.closed, packet, how);
+        push_record(&mut self.closed, record)?;
         self.call = None;
         Ok(())
     }
@@ -208,7 +208,7 @@ impl<A: Allocator + Clone> CallsSoFar<A> {
             → Tells self.old (cs ++ r ∷ []) → OnOk result (Tells self.new cs) }
     {
         self.close()?;
-        Ok(self.told.pop())
+        Ok(self.closed.pop())
     }
 
     /// The records of the calls so far, in the order in which they were opened. It answers `Memory` alone.
@@ -216,7 +216,7 @@ impl<A: Allocator + Clone> CallsSoFar<A> {
         ensures calls { IfOk result (λ v. AreCallsOf self.now v.items) }
         ensures memory { IfErr result (λ f. f ≡ Fault.Memory) }
     {
-        let mut calls = copies(alloc.clone()?, &self.told)?;
+        let mut calls = copies(alloc.clone()?, &self.closed)?;
         let Some(call) = &self.call else {
             return Ok(calls);
         };
@@ -230,6 +230,6 @@ impl<A: Allocator + Clone> CallsSoFar<A> {
         ensures calls { IfOk result (λ v. AreCallsOf self v.items) }
     {
         self.close()?;
-        Ok(self.told)
+        Ok(self.closed)
     }
 }

@@ -18,6 +18,6 @@ pub record SettingsStand (b : BothSettings) (ts : List Told) : Type 0 where
   pub of_n : settings.StandsFor b.of_n ts
 
 -- what a message of a side reports, on a packet of so many octets (X.29 clause 4; the order is profile)
-abbrev pub told_reports : Side → (length : ℕ) → (ts : List Told) → (message : List ℕ) → List What
-told_reports x n ts m =
+abbrev pub message_reports : Side → (length : ℕ) → (ts : List Told) → (message : List ℕ) → List What
+message_reports x n ts m =
     option_to_list (option_found x (message_fault x ts m)) ++ Data x n ∷ settings_after (message_fault x ts m) x m

@@ -1,9 +1,9 @@
-//! PAD messages on a channel: their findings, and what they tell of the settings.
+//! PAD messages on a channel: their findings, and what they say of the settings.
 
 ghost use Rattle.std.specs.Prelude.{◌≡◌, ◌+◌, ◌<◌, ◌≤◌, ◌++◌, ◌∷◌, [], List, ℕ, length, take, option_to_list, flat_map, vec_len, vec_capacity};
 ghost use Rattle.line_model.specs.channels.Channels.{Told};
 ghost use Rattle.line_model.specs.channels.Pad.{is_parameter, settings_of, settings_after, message_fault};
-ghost use Rattle.line_model.specs.channels.ChannelStep.{option_found, telling};
+ghost use Rattle.line_model.specs.channels.ChannelStep.{option_found};
 ghost use Rattle.pad.specs.Codes.{octets_of};
 ghost use Rattle.pad.specs.Pairs.{shown};
 ghost use Rattle.pad.specs.Effects.{indicated_one, asked_one};
@@ -31,7 +31,7 @@ pub struct BothSettings {
 }
 
 impl BothSettings {
-    ghost use Rattle.channel_machine.specs.Messages.{SettingsStand, told_reports};
+    ghost use Rattle.channel_machine.specs.Messages.{SettingsStand, message_reports};
 
     /// Nothing was told yet.
     pub(crate) fn new() -> BothSettings
@@ -43,8 +43,9 @@ impl BothSettings {
         }
     }
 
-    /// Takes the message that a packet of so many octets completes; `octets` are the first 1,025 of the message.
-    pub(crate) fn tell<A: Allocator>(
+    /// Reports the message that a packet of so many octets completes, and keeps its settings. `octets` are the first
+    /// 1,025 of the message.
+    pub(crate) fn report_message<A: Allocator>(
         &mut self,
         origin: EventOrigin,
         from: Side,
@@ -55,7 +56,7 @@ impl BothSettings {
         requires room { vec_len events.old + 514 ≤ vec_capacity events.old }
         ensures reports { (m : List ℕ) (ts : List Told) → octets.now ≡ take 1025 m
             → SettingsStand self.old ts → Reports origin events.old.items events.new.items
-            (told_reports from size ts m) }
+            (message_reports from size ts m) }
         ensures stands { (m : List ℕ) (ts : List Told) → octets.now ≡ take 1025 m
             → SettingsStand self.old ts → SettingsStand self.new (ts
             ++ record { from = from; message = m } ∷ []) }
@@ -63,14 +64,15 @@ impl BothSettings {
         match read_message(octets) {
             Err(fault) => {
                 report_fault(origin, from, Some(fault), events);
-                events.push_reserved(origin.event(heard(from, size)));
+                events.push_reserved(origin.event(data_packet(from, size)));
             }
-            Ok(message) => self.handle(origin, from, &message, size, events),
+            Ok(message) => self.report_well_formed(origin, from, &message, size, events),
         }
     }
 
-    /// Takes a message without a fault of its own, which a packet of so many octets completes.
-    fn handle<A: Allocator>(
+    /// Reports a message without a fault of its own, which a packet of so many octets completes, and keeps its
+    /// settings.
+    fn report_well_formed<A: Allocator>(
         &mut self,
         origin: EventOrigin,
         from: Side,
@@ -82,19 +84,19 @@ impl BothSettings {
         requires short { length message.now.pairs.now < 1024 }
         ensures reports { (ts : List Told) → SettingsStand self.old ts
             → Reports origin events.old.items events.new.items
-            (told_reports from size ts (told from message.now).message) }
+            (message_reports from size ts (told from message.now).message) }
         ensures stands { (ts : List Told) → SettingsStand self.old ts
             → SettingsStand self.new (ts ++ told from message.now ∷ []) }
     {
-        let fault = self.read(from, message);
+        let fault = self.apply(from, message);
         report_fault(origin, from, fault, events);
-        events.push_reserved(origin.event(heard(from, size)));
+        events.push_reserved(origin.event(data_packet(from, size)));
         report_after(origin, from, fault, message, events);
     }
 
-    /// Hands a message to the settings of both PADs, and tells its fault.
+    /// Applies a message to the settings of both PADs, and returns its fault.
     #[tactic(auto, using(crate::proofs::Faults::both))]
-    fn read(&mut self, from: Side, message: &Message<'_>) -> Option<Xcode>
+    fn apply(&mut self, from: Side, message: &Message<'_>) -> Option<Xcode>
         ensures fault { (ts : List Told) → SettingsStand self.old ts
             → result ≡ message_fault from ts (told from message.now).message }
         ensures stands { (ts : List Told) → SettingsStand self.old ts
@@ -110,7 +112,7 @@ impl BothSettings {
 }
 
 /// A data packet of so many octets.
-pub(crate) fn heard(side: Side, octets: u32) -> What
+pub(crate) fn data_packet(side: Side, octets: u32) -> What
     ensures { result ≡ What.Data side octets }
 {
     What::Data { side, octets }
@@ -145,7 +147,7 @@ fn found(side: Side, fault: Xcode) -> What
     }
 }
 
-/// Reports what a message tells of the settings, after a fault of them: X4 keeps it from telling anything.
+/// Reports what a message says of the settings, after a fault of them: with X4 it says nothing.
 fn report_after<A: Allocator>(
     origin: EventOrigin,
     from: Side,

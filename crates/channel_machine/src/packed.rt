@@ -1,6 +1,6 @@
 //! The status of a channel in one word of 64 bits.
 
-ghost use Rattle.std.specs.Prelude.{ℕ, ◌≡◌, ◌<◌, ◌+◌, ◌*◌, ◌/◌, ◌%◌, ◌^◌, ◌==◌};
+ghost use Rattle.std.specs.Prelude.{ℕ, ◌≡◌, ◌<◌, ◌+◌, ◌/◌, ◌%◌, ◌^◌, ◌==◌};
 ghost use Rattle.packet_decode.specs.Shown.{IsPacketSize};
 ghost use Rattle.channel_machine.specs.Terms.{AreUsable};
 ghost use Rattle.channel_machine.specs.PackedStatus.{state_by, setup_by, call_by, state_in, owed_in, call_in, values_in, status_in, settled};

@@ -44,7 +44,7 @@ impl<A: Allocator + Clone, S: StatusStore> StatusChannel<A, S> {
         ensures unchanged { IsUnchanged result self.old self.new events.old.items events.new.items }
         ensures memory { IsMemory result }
     {
-        match self.hear(judgement.origin, judgement.side, header, user_data, events)? {
+        match self.accept_data(judgement.origin, judgement.side, header, user_data, events)? {
             Some(code) => self.fail(judgement, code, events),
             None => Ok(()),
         }

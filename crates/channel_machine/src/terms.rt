@@ -1,6 +1,6 @@
 //! What was agreed on a channel: its call, and the packet sizes and windows in force.
 
-ghost use Rattle.std.specs.Prelude.{◌≡◌, ◌==◌, false, Some, None, ℕ, List};
+ghost use Rattle.std.specs.Prelude.{◌≡◌, ◌==◌, Some, None, ℕ, List};
 ghost use Rattle.std.specs.Option.{option_map_or};
 ghost use Rattle.line_model.specs.declared.state.Side.TheVariants.{T, N};
 ghost use Rattle.line_model.specs.packets.Facilities.{fields_of};

@@ -1,7 +1,6 @@
 //! A data packet on a channel: its numbers, the sequence that it belongs to, and the message that it may complete.
 
 ghost use Rattle.std.specs.Prelude.{◌≡◌, ◌≤◌, ◌&&◌, length, IfOk, OnSome};
-ghost use Rattle.line_model.specs.declared.interface.Interface.{Interface};
 ghost use Rattle.line_model.specs.channels.Channels.{Channel};
 ghost use Rattle.channel_machine.specs.Transfers.{IsHeard, counted_in_force, packet};
 ghost use Rattle.channel_machine.specs.Channels.{Stands, IsUnchanged, IsMemory};
@@ -9,7 +8,7 @@ ghost use Rattle.channel_machine.specs.Sizes.{largest_size};
 
 use crate::channel::StatusChannel;
 use crate::events::EventOrigin;
-use crate::messages::{ROOM, heard};
+use crate::messages::{ROOM, data_packet};
 use crate::status::StatusStore;
 use crate::terms::is_pad_call;
 use data_transfer::sequence::{DataField, Put};
@@ -21,8 +20,8 @@ use line_model::state::Side;
 use std::alloc::Allocator;
 
 impl<A: Allocator + Clone, S: StatusStore> StatusChannel<A, S> {
-    /// Takes a data packet of a side, or tells its fault: that of its numbers, or of its Q bit.
-    pub(crate) fn hear(
+    /// Accepts a data packet of a side, or returns its fault: that of its numbers, or of its Q bit.
+    pub(crate) fn accept_data(
         &mut self,
         origin: EventOrigin,
         side: Side,
@@ -47,8 +46,8 @@ impl<A: Allocator + Clone, S: StatusStore> StatusChannel<A, S> {
         if let Err(code) = status.data(side, header.send, header.receive) {
             return Ok(Some(code));
         }
-        let is_told = is_message(is_pad_call(self.status.call()), header.qualified);
-        events.reserve(if is_told { ROOM } else { 1 })?;
+        let carries_message = is_message(is_pad_call(self.status.call()), header.qualified);
+        events.reserve(if carries_message { ROOM } else { 1 })?;
         let field = DataField {
             qualified: header.qualified,
             more: header.more,
@@ -60,18 +59,18 @@ impl<A: Allocator + Clone, S: StatusStore> StatusChannel<A, S> {
         match put {
             Put::Mixed => Ok(Some(INCONSISTENT_Q_BIT_SETTING)),
             Put::Going => {
-                events.push_reserved(origin.event(heard(side, length)));
+                events.push_reserved(origin.event(data_packet(side, length)));
                 self.status = status;
                 Ok(None)
             }
             Put::Complete(sequence) => {
                 self.status = status;
-                if is_told {
+                if carries_message {
                     self.settings
-                        .tell(origin, side, sequence.octets.as_slice(), length, events);
+                        .report_message(origin, side, sequence.octets.as_slice(), length, events);
                     return Ok(None);
                 }
-                events.push_reserved(origin.event(heard(side, length)));
+                events.push_reserved(origin.event(data_packet(side, length)));
                 Ok(None)
             }
         }

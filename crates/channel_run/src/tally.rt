@@ -66,7 +66,7 @@ impl<A: Allocator + Clone> Tally<A> {
         self.octets = self.octets.saturating_add(octets_in(event));
         let segments = segments_in(event);
         self.segments = self.segments.saturating_add(segments);
-        self.calls.hear(event, segments)?;
+        self.calls.add_event(event, segments)?;
         Ok(())
     }
 

@@ -201,7 +201,7 @@ impl<A: Allocator + Copy, C: Channel<A>> Observer<A, C> {
         let last = self.turn(&step, &item)?;
         let finding = last.finding;
         self.last = Some(last);
-        self.walk.take(step);
+        self.walk.advance(step);
         Ok(finding)
     }
 

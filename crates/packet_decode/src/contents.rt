@@ -71,10 +71,8 @@ fn call<'a>(interface: &Interface, octets: &'a [u8]) -> Result<Contents<'a>, u8>
     ensures contents { IfOk result (λ r. Says r interface.now Class.Call octets.now) }
     ensures usable { (n : ℕ) → IfOk result (λ r. AreUsable r interface.now n) }
 {
-    match call_fields(interface, octets, false) {
-        Ok(fields) => Ok(Contents::Call(fields)),
-        Err(code) => Err(code),
-    }
+    let fields = call_fields(interface, octets, false)?;
+    Ok(Contents::Call(fields))
 }
 
 /// The fields of a call accepted or connected, or its first fault.
@@ -84,10 +82,8 @@ fn accepted<'a>(interface: &Interface, octets: &'a [u8], fast: bool) -> Result<C
     ensures contents { IfOk result (λ r. Says r interface.now Class.Accepted octets.now) }
     ensures usable { (n : ℕ) → IfOk result (λ r. AreUsable r interface.now n) }
 {
-    match call_fields(interface, octets, fast) {
-        Ok(fields) => Ok(Contents::Accepted(fields)),
-        Err(code) => Err(code),
-    }
+    let fields = call_fields(interface, octets, fast)?;
+    Ok(Contents::Accepted(fields))
 }
 
 /// What a packet of data transfer says, or its first fault.
@@ -105,10 +101,8 @@ fn transfer<'a>(
     ensures contents { IfOk result (λ r. AreOf r interface.now octets.now) }
     ensures usable { IfOk result (λ r. AreUsable r interface.now size) }
 {
-    match read_transfer_kind(interface, kind, octets, size) {
-        Ok(contents) => Ok(Contents::Transfer(contents)),
-        Err(code) => Err(code),
-    }
+    let contents = read_transfer_kind(interface, kind, octets, size)?;
+    Ok(Contents::Transfer(contents))
 }
 
 /// What a packet says beside its class, or the diagnostic code of its first fault of format. A call request has those of

@@ -1,6 +1,6 @@
 //! The fields of call packets (X.25 clauses 5.2.1 and 5.2.2).
 
-ghost use Rattle.std.specs.Prelude.{◌≡◌, ◌≤◌, ◌<◌, ◌^◌, ◌/◌, ◌%◌, ◌∷◌, length, MatchResult, MatchOption, option_map, IfSome, OnOk, IfOk, IfErr, None, Some, true, false, drop, ◌+◌};
+ghost use Rattle.std.specs.Prelude.{◌≡◌, ◌≤◌, ◌^◌, ◌/◌, ◌%◌, length, MatchResult, MatchOption, option_map, IfSome, IfOk, None, Some, true, false, drop, ◌+◌};
 ghost use Rattle.line_model.specs.packets.Classes.{class_of};
 ghost use Rattle.line_model.specs.basics.Octets.{octet};
 ghost use Rattle.line_model.specs.packets.Facilities.{fields_of, no_fields, call_fault, accepted_fault, block_fault, has_a_bit, user_data_limit};

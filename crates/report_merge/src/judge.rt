@@ -1,6 +1,6 @@
 //! Which reports of pieces are refused.
 
-ghost use Rattle.std.specs.Prelude.{◌≡◌, ℕ, ◌<◌, ◌≤◌, length, IfOk, IfErr, OnOk, Option, Some, None, MatchOption, slice_index_or, true, false, vec_len};
+ghost use Rattle.std.specs.Prelude.{◌≡◌, ℕ, ◌<◌, ◌≤◌, length, IfOk, IfErr, OnOk, None, MatchOption, slice_index_or, true, false, vec_len};
 ghost use Rattle.report_merge.specs.Seen.{double, is_among, IsRefused};
 ghost use Rattle.report_merge.specs.Refusal.{stranger, IsRefusal, IsWhole};
 ghost use Rattle.line_model.specs.work.Book.{ids_of};
@@ -71,14 +71,12 @@ pub fn judge<A: Allocator + Clone>(
     ensures few { OnOk result (length reports.now ≤ pieces) }
     ensures refused { IfErr result (λ f. IsRefusal f pieces (ids_of reports.now)) }
 {
-    match first_stranger(reports, pieces) {
-        Some(id) => Err(Fault::Stranger(id)),
-        None => match seen_ids(alloc, reports, pieces) {
-            Err(fault) => Err(fault),
-            Ok(seen) => match first_unmarked(seen.as_slice()) {
-                Some(id) => Err(Fault::Missing(id as u32)),
-                None => Ok(()),
-            },
-        },
+    if let Some(id) = first_stranger(reports, pieces) {
+        return Err(Fault::Stranger(id));
+    }
+    let seen = seen_ids(alloc, reports, pieces)?;
+    match first_unmarked(seen.as_slice()) {
+        Some(id) => Err(Fault::Missing(id as u32)),
+        None => Ok(()),
     }
 }

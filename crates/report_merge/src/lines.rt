@@ -1,6 +1,6 @@
 //! The lines of a report.
 
-ghost use Rattle.std.specs.Prelude.{[], ◌∷◌, ◌++◌, Option, decimal};
+ghost use Rattle.std.specs.Prelude.{[], ◌∷◌, ◌++◌, decimal};
 ghost use Rattle.line_model.specs.observer.Report.{number_word, address_word, finding_line, call_line, setting_line, account_line, peak_line, summary_line, line};
 ghost use Rattle.line_model.specs.basics.Written.{PutsTo};
 

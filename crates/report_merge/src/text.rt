@@ -1,6 +1,6 @@
 //! The text of a report.
 
-ghost use Rattle.std.specs.Prelude.{◌≡◌, ◌<◌, ◌≤◌, ◌+◌, OnOk, OnErr, IfErr};
+ghost use Rattle.std.specs.Prelude.{◌≡◌, ◌<◌, ◌≤◌, OnOk, OnErr, IfErr};
 ghost use Rattle.std.specs.List.{flat_map, enumerate_from};
 ghost use Rattle.line_model.specs.observer.Report.{text_of, call_line, setting_line, setting_lines, account_line};
 ghost use Rattle.report_merge.specs.Parts.{findings_text, rest_text};

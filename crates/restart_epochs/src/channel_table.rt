@@ -1,6 +1,6 @@
 //! A value for each logical channel of the epoch that has not ended.
 
-ghost use Rattle.std.specs.Prelude.{◌≡◌, ℕ, ◌<◌, [], MatchOption, OnOk, OnErr, length};
+ghost use Rattle.std.specs.Prelude.{◌≡◌, ◌<◌, [], MatchOption, OnOk, OnErr, length};
 ghost use Rattle.std.specs.Option.{option_map};
 ghost use Rattle.restart_epochs.specs.OpenLanes.{no_lanes, value_at, IsAlike, HasListed, HasTaken, HasPut, HasPopped};
 

@@ -22,7 +22,8 @@ pub fn cut<A: Allocator + Copy>(
     requires numbers { All (λ r. r.number ≤ 999999999) rows.items }
     requires octets { sum_by (λ r. length r.octets) rows.items ≤ 2 ^ 31 }
     ensures pieces { IfOk result (λ cut. cut.pieces.items ≡ plan interface.now rows.items) }
-    ensures line { IfOk result (λ cut. cut.line.items ≡ line_findings interface.now rows.items) }
+    ensures interface_findings { IfOk result (λ cut. cut.interface_findings.items
+        ≡ line_findings interface.now rows.items) }
     ensures packets { IfOk result (λ cut. cut.packets ≡ length rows.items) }
     ensures few { IfOk result (λ cut. length cut.pieces.items ≤ cut.packets) }
     ensures refused { IfErr result (λ fault. fault ≡ Memory) }
@@ -35,13 +36,13 @@ pub fn cut<A: Allocator + Copy>(
     }
     let Cut {
         pieces: mut open,
-        line,
+        interface_findings,
         packets,
     } = cutter.end()?;
     pieces.append(&mut open)?;
     Ok(Cut {
         pieces,
-        line,
+        interface_findings,
         packets,
     })
 }

@@ -61,7 +61,7 @@ impl<A: Allocator> Model for Cutter<A> {
 #[derive(Drop)]
 pub struct Cut<A: Allocator = Global> {
     pub pieces: Vec<Piece<A>, A>,
-    pub line: Vec<Finding, A>,
+    pub interface_findings: Vec<Finding, A>,
     pub packets: u32,
 }
 
@@ -70,7 +70,7 @@ impl<A: Allocator + Copy> Cutter<A> {
     ghost use Rattle.line_model.specs.basics.Records as records;
     ghost use Rattle.line_model.specs.declared.interface.Interface.{Interface as AnyInterface};
     ghost use Rattle.line_model.specs.declared.fault.Fault.TheVariants.{Memory};
-    ghost use Rattle.restart_epochs.specs.Cutting.{OfCut, StandsFor, IsCounted, IsKeptOn, IsStepped, IsLeft, IsTaken, HasAppended, given_of};
+    ghost use Rattle.restart_epochs.specs.Cutting.{OfCut, StandsFor, IsCounted, HasAppended, given_of};
 
     /// A cutter before the first row. It takes no memory.
     pub fn new(alloc: A, interface: &Interface) -> Self
@@ -113,7 +113,7 @@ impl<A: Allocator + Copy> Cutter<A> {
     {
         let step = self.walk.step(item)?;
         self.pieces.turn(&self.walk, step.turn, item, out)?;
-        self.walk.take(step);
+        self.walk.advance(step);
         self.last = item.number;
         self.octets += item.octets.len() as u32;
         Ok(())
@@ -143,7 +143,7 @@ impl<A: Allocator + Copy> Cutter<A> {
     }
 
     /// The findings of the restart machine so far.
-    pub fn line(&self) -> &[Finding]
+    pub fn interface_findings(&self) -> &[Finding]
         ensures { OfCut self.now (λ i rows. result.now ≡ line_findings i rows) }
     {
         self.walk.findings.as_slice()
@@ -153,8 +153,8 @@ impl<A: Allocator + Copy> Cutter<A> {
     pub fn end(self) -> Result<Cut<A>, Fault>
         ensures pieces { OfCut self (λ i rows.
             IfOk result (λ cut. given_of i rows ++ cut.pieces.items ≡ plan i rows)) }
-        ensures line { OfCut self (λ i rows.
-            IfOk result (λ cut. cut.line.items ≡ line_findings i rows)) }
+        ensures interface_findings { OfCut self (λ i rows.
+            IfOk result (λ cut. cut.interface_findings.items ≡ line_findings i rows)) }
         ensures packets { OfCut self (λ i rows. IfOk result (λ cut. cut.packets ≡ length rows)) }
         ensures few { OfCut self (λ i rows.
             IfOk result (λ cut. length (given_of i rows) + length cut.pieces.items ≤ cut.packets)) }
@@ -177,7 +177,7 @@ impl<A: Allocator + Copy> Cutter<A> {
         );
         Ok(Cut {
             pieces,
-            line: walk.findings,
+            interface_findings: walk.findings,
             packets: walk.packets,
         })
     }

@@ -1,7 +1,7 @@
 //! The walk over the rows of a trace, but for what stands on the logical channels: the restart machine, the epoch, and
 //! what it found.
 
-ghost use Rattle.std.specs.Prelude.{option_to_list, ◌≡◌, ℕ, ◌<◌, ◌+◌, ◌^◌, List, [], ◌++◌, IfOk, OnOk, OnErr};
+ghost use Rattle.std.specs.Prelude.{option_to_list, ◌≡◌, ℕ, ◌<◌, ◌+◌, ◌^◌, List, ◌++◌, IfOk, OnOk, OnErr};
 ghost use Rattle.std.specs.Vec.{vec_len, vec_capacity};
 ghost use Rattle.line_model.specs.observer.Observer.{line_in_r1};
 ghost use Rattle.restart_epochs.specs.Walks.{channel_in, epoch_after, route_finding, turn_of, IsAdvanced, IsFresh, IsSameWalk, IsStep};
@@ -97,8 +97,8 @@ impl<A: Allocator> EpochWalk<A> {
         })
     }
 
-    /// Takes the row of a step.
-    pub fn take(&mut self, step: Step)
+    /// Goes past the row of a step.
+    pub fn advance(&mut self, step: Step)
         requires room { vec_len self.old.findings < vec_capacity self.old.findings }
         requires packets { self.old.packets + 1 < 2 ^ 32 }
         ensures { IsAdvanced step self.old self.new }

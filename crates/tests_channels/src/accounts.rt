@@ -108,32 +108,32 @@ fn calls_of_many_channels_stand_by_their_openings(rt: HostRuntime) -> Result<(),
 }
 
 /// Hears events in their order.
-fn hear_all(calls: &mut CallsSoFar<Global>, events: &[Event]) -> Result<(), Fail> {
+fn add_all(calls: &mut CallsSoFar<Global>, events: &[Event]) -> Result<(), Fail> {
     for event in events {
-        calls.hear(event, segments_in(event))?;
+        calls.add_event(event, segments_in(event))?;
     }
     Ok(())
 }
 
 /// Hears an outgoing call with a set of the DCE.
-fn hear_opening(calls: &mut CallsSoFar<Global>) -> Result<(), Fail> {
+fn add_opening(calls: &mut CallsSoFar<Global>) -> Result<(), Fail> {
     let events = [
         open(1, 1, 1, true),
         event(1, 2, What::Up),
         data(3, Side::N, 65),
         setting(3, Entry::Asked(1)),
     ];
-    hear_all(calls, &events)
+    add_all(calls, &events)
 }
 
 /// Hears the clear request of the call, data behind it, and an incoming call.
-fn hear_end(calls: &mut CallsSoFar<Global>) -> Result<(), Fail> {
+fn add_end(calls: &mut CallsSoFar<Global>) -> Result<(), Fail> {
     let events = [
         event(1, 4, What::End(How::T)),
         data(5, Side::N, 7),
         open(1, 1, 6, false),
     ];
-    hear_all(calls, &events)
+    add_all(calls, &events)
 }
 
 /// The call before its end.
@@ -164,9 +164,9 @@ const AT_LAST: [Call; 2] = [
 #[test]
 fn calls_are_told_as_their_events_come(rt: HostRuntime) -> Result<(), Fail> {
     let mut calls = CallsSoFar::new(rt.alloc());
-    hear_opening(&mut calls)?;
+    add_opening(&mut calls)?;
     assert!(rt; calls_are(&calls.calls(rt.alloc())?, &[SO_FAR]));
-    hear_end(&mut calls)?;
+    add_end(&mut calls)?;
     let calls = calls.finish()?;
     assert!(rt; calls_are(&calls, &AT_LAST));
     assert!(rt; first_settings(&calls) == ASKED.as_slice());

@@ -34,7 +34,6 @@ fn read_by<P: Plan + Send + Sync, R: Threads + Wait + Clock + Sync>(
     let mut source = CutSource::new(text, cuts);
     let reading = ReadingTask {
         source: &mut source,
-        threads: rt,
         alloc,
         outcome: None,
     };

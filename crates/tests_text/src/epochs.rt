@@ -109,7 +109,9 @@ fn push_two(rt: &impl Abort, cutter: &mut Cutter, out: &mut Vec<Piece>) -> Resul
 
 /// Whether there were so many rows, and these pieces and findings.
 fn is_cut(cut: Cut, packets: u32, pieces: &[Shape], line: &[(u32, Code)]) -> bool {
-    cut.packets == packets && shapes_are(&cut.pieces, pieces) && line_is(&cut.line, line)
+    cut.packets == packets
+        && shapes_are(&cut.pieces, pieces)
+        && line_is(&cut.interface_findings, line)
 }
 
 /// At the end the second epoch has a piece, and the last of eight rows a finding.
@@ -186,7 +188,7 @@ fn shows_the_open_epoch(cutter: &Cutter) -> bool {
     match cutter.peek() {
         Ok(pieces) => {
             shapes_are(&pieces, &[(0, 1, 2, 1, None)])
-                && line_is(cutter.line(), &[(2, Code::Number(17))])
+                && line_is(cutter.interface_findings(), &[(2, Code::Number(17))])
         }
         Err(_) => false,
     }

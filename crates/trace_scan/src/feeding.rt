@@ -2,7 +2,6 @@
 
 ghost use Rattle.std.specs.Prelude.{◌≡◌, ℕ, ◌+◌, ◌<◌, ◌≤◌, ◌^◌, [], List, IfErr, IfOk, IfSome, length};
 ghost use Rattle.std.specs.Option.{option_map};
-ghost use Rattle.std.specs.Thread.{IsSync};
 ghost use Rattle.line_model.specs.text.Text.{fault};
 ghost use Rattle.line_model.specs.traces.Traces.{trace_plan};
 ghost use Rattle.line_model.specs.declared.fault.Fault.TheVariants.{Memory};
@@ -26,7 +25,6 @@ use restart_epochs::cutter::Cut;
 use shared_work::queue::{FeederPass, Work};
 use std::alloc::{Allocator, Global};
 use std::sync::Wait;
-use std::thread::Threads;
 use std::time::Clock;
 use trace_text::consumer::{Consumer, read_to_end};
 use workers::{Feed, feed_pieces};
@@ -64,7 +62,7 @@ fn feed_open_epoch<P: Plan, A: Allocator + Copy, R: Wait + Clock>(
     let given = cutter.given();
     let Cut {
         pieces,
-        line: interface_findings,
+        interface_findings,
         packets,
     } = cutter.end()?;
     let all = given + pieces.len();
@@ -162,20 +160,17 @@ fn read_all<P: Plan, A: Allocator + Copy, S: Source, R: Wait + Clock>(
     finish(rt, alloc, text, work, pass)
 }
 
-/// The reading thread's part of a scan with threads: a source, what starts threads that would read beside it (none is
-/// started yet), and what became of reading it: nothing before.
+/// The reading thread's part of a scan with workers: a source, and what became of reading it: nothing before.
 #[derive(Drop)]
-pub struct ReadingTask<'a, A: Allocator, S, T> {
+pub struct ReadingTask<'a, A: Allocator, S> {
     pub source: &'a mut S,
-    pub threads: &'a T,
     pub alloc: A,
     pub outcome: Option<Result<Read<A>, Fault>>,
 }
 
-impl<'a, P: Plan, A: Allocator + Copy, S: Source, T: Threads + Sync> Feed<P, A>
-    for ReadingTask<'a, A, S, T> {
-    // What starts threads may be shared with them. The plan is that of the bytes that the source tells.
-    ghost can_feed = { λ task. IsSync T.row × (P.pieces ≡ option_map trace_plan (S.left task.source.now)) };
+impl<'a, P: Plan, A: Allocator + Copy, S: Source> Feed<P, A> for ReadingTask<'a, A, S> {
+    // The plan is that of the bytes that the source tells.
+    ghost can_feed = { λ task. P.pieces ≡ option_map trace_plan (S.left task.source.now) };
 
     ghost feed_gives = { λ task fed after. (after.source.ghost_name ≡ task.source.ghost_name) × IsOutcome (S.left task.source.now) (S.left after.source.now) (S.before after.source.now) (S.failures task.source.now < S.failures after.source.now) fed after.outcome × (S.calls task.source.now < S.calls after.source.now) × (S.calls after.source.now ≤ S.calls task.source.now + (2 ^ 30 + 1)) };
 
@@ -186,16 +181,10 @@ impl<'a, P: Plan, A: Allocator + Copy, S: Source, T: Threads + Sync> Feed<P, A>
     }
 
     fn feed<R: Wait + Clock>(self, rt: &R, work: &Work<P, A>, pass: &mut FeederPass<A>) -> Self {
-        let ReadingTask {
-            source,
-            threads,
-            alloc,
-            ..
-        } = self;
+        let ReadingTask { source, alloc, .. } = self;
         let outcome = Some(read_all(rt, alloc, source, work, pass));
         ReadingTask {
             source,
-            threads,
             alloc,
             outcome,
         }

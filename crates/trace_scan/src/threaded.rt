@@ -81,7 +81,6 @@ fn work_on_trace<
 {
     let reading = ReadingTask {
         source,
-        threads: rt,
         alloc,
         outcome: None,
     };
@@ -90,7 +89,7 @@ fn work_on_trace<
         capacity,
         gate,
     };
-    match work_through::<P, A, G, R, ReadingTask<A, S, R>>(rt, alloc, crew, reading) {
+    match work_through::<P, A, G, R, ReadingTask<A, S>>(rt, alloc, crew, reading) {
         Ok(worked) => {
             let Worked { task, gathered } = worked;
             let ReadingTask {

@@ -6,7 +6,7 @@ use Rattle.line_model.specs.declared.fault.Fault.{Fault}
 use Rattle.line_model.specs.declared.fault.Fault.TheVariants.{Read}
 use Rattle.line_model.proofs.TextLemmas.{size_kind-none, size_of-ended}
 use Rattle.trace_text.proofs.FeedLemmas.{size-sound}
-use Rattle.trace_text.specs.Sources.{BeginsSo, HasFailed, IsAllGiven, IsFedAll, IsFedUpTo, IsGiven, NoneDecided}
+use Rattle.trace_text.specs.Sources.{BeginsSo, IsFedAll, IsFedUpTo, IsGiven, NoneDecided}
 
 -- what a source gave so far was fed
 pub record Reached (left after : Option (List ℕ)) (was_fed : List ℕ → Type 0) : Type 0 where

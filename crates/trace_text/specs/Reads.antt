@@ -1,9 +1,11 @@
 -- What one line says.
-use Rattle.std.specs.Prelude.{◌≡◌, ℕ, Bool, true, false, List, [], ◌∷◌, ◌++◌, Option, Some}
+use Rattle.std.specs.Prelude.{◌≡◌, ◌≢◌, ◌⊎◌, ℕ, Bool, true, false, List, [], ◌∷◌, ◌++◌, Ok, Option, Some}
+use Rattle.hex.specs.Hex.{decode_of}
 use Rattle.line_model.specs.text.Header.{interface_of}
 use Rattle.line_model.specs.text.RowLine.{rising_number, row_of, side_of}
 use Rattle.line_model.specs.text.Text.{is_comment}
 use Rattle.line_model.specs.declared.fault.Kind.{Kind}
+use Rattle.line_model.specs.declared.fault.Kind.TheVariants.{Hex}
 use Rattle.line_model.specs.basics.Records.{Row}
 use Rattle.line_model.specs.declared.state.Side.{Side}
 use Rattle.trace_text.specs.Cuts.{Lacks}
@@ -22,6 +24,10 @@ ReadsAs after_header last line Packet row = (is_comment line ≡ false) × (afte
 abbrev pub Breaks : Option Kind → LineFault → Type 0
 Breaks kind Memory = Unit {0}
 Breaks kind (Broken k) = kind ≡ Some k
+
+-- why digits were not read: want of memory, or one of them is no hex digit, so they write no octets
+abbrev pub IsDigitFault : List ℕ → LineFault → Type 0
+IsDigitFault digits fault = (fault ≡ Memory) ⊎ ((fault ≡ Broken Hex) × ((octets : List ℕ) → decode_of digits ≢ Ok octets))
 
 -- a line begins as a row's: a number above the last one, a side, and what follows the space behind it
 pub record BeginsRow (last : ℕ) (line : List ℕ) (number : ℕ) (side : Side) (rest : List ℕ) : Type 0 where

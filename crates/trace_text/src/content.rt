@@ -1,10 +1,5 @@
 //! What one line says.
 
-ghost use Rattle.std.specs.Prelude.{◌≡◌, ◌≢◌, ℕ, None, Some, IfOk, IfErr, MatchResult};
-ghost use Rattle.line_model.specs.text.Header.{interface_of};
-ghost use Rattle.line_model.specs.text.RowLine.{row_kind, row_of};
-ghost use Rattle.line_model.specs.text.Text.{header_kind};
-
 use line_model::fault::Kind;
 use line_model::interface::Interface;
 use std::alloc::{AllocError, AllocFailed};

@@ -1,9 +1,9 @@
 //! The header line: `X25 1 MOD m WIN w SIZE s PVC p SVC q`, or `X25 2 .. IN i TWO t OUT o` with ` JOIN` after it or not.
 
-ghost use Rattle.std.specs.Prelude.{◌≡◌, ◌==◌, ◌<◌, ◌^◌, None, Some, MatchResult, MatchOption};
+ghost use Rattle.std.specs.Prelude.{◌≡◌, ◌==◌, None, Some, MatchResult, MatchOption};
 ghost use Rattle.line_model.specs.text.Header.{HeaderNumbers, named, defaults_in, join_in, first_form, second_form, header_numbers, interface_of, interface_with};
 ghost use Rattle.line_model.specs.text.Text.{header_kind};
-ghost use Rattle.line_model.specs.basics.Limits.{is_channels, is_interface, is_numbering, packet_sizes};
+ghost use Rattle.line_model.specs.basics.Limits.{is_channels, is_numbering, packet_sizes};
 ghost use Rattle.std.specs.List.{list_any};
 
 use crate::number::read_number;

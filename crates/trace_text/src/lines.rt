@@ -91,11 +91,10 @@ fn size_fault(start: u32, lf: usize, len: usize) -> Option<Kind>
 }
 
 impl<A: Allocator> Lines<A> {
-    ghost use Rattle.std.specs.Prelude.{◌≡◌, ℕ, Bool, true, ◌+◌, ◌<◌, ◌^◌, ◌++◌, ◌∷◌, [], List, Option, Some, None, Err, OnOk, OnErr, IfErr, IfOk, IfSome, MatchOption, length, is_some, ◌≤◌};
+    ghost use Rattle.std.specs.Prelude.{◌≡◌, ℕ, true, ◌+◌, ◌<◌, ◌^◌, ◌++◌, [], List, Some, None, Err, OnOk, OnErr, IfErr, IfOk, IfSome, MatchOption, length, is_some, ◌≤◌};
     ghost use Rattle.line_model.specs.text.Text.{early, early_head, early_rows, ended_lines as lines_ended, fault, head, lines_of, rows as rows_of_text, rows_in};
     ghost use Rattle.trace_text.specs.Progress.{Progress, bytes_fed};
-    ghost use Rattle.trace_text.specs.StandsFor.{StandsFor, IsFaultOf, IsHeadKept, IsAtLine, IsTextFault, EndsText, AreKnown, ReadsChunk, TakesRow, last_row};
-    ghost use Rattle.trace_text.specs.Cuts.{Lacks};
+    ghost use Rattle.trace_text.specs.StandsFor.{StandsFor, IsFaultOf, IsHeadKept, IsTextFault, EndsText, AreKnown, ReadsChunk, TakesRow, last_row};
     ghost use Rattle.trace_text.specs.EndedPart.{ended_part};
     ghost use Rattle.line_model.specs.declared.fault.Fault.{Fault};
     ghost use Rattle.line_model.specs.declared.fault.Fault.TheVariants.{Trace};
@@ -238,9 +237,7 @@ impl<A: Allocator> Lines<A> {
             self.next_line(front.len());
             return Ok(is_row);
         }
-        if let Err(fault) = self.begin(front) {
-            return Err(fault);
-        }
+        self.begin(front)?;
         let content = self.read(self.begun.as_slice(), 1, row)?;
         let is_row = self.keep(content, row.number);
         let len = self.begun.len();
@@ -269,16 +266,13 @@ impl<A: Allocator> Lines<A> {
     {
         let mut rest = chunk;
         while let Some((front, back)) = split_at_byte(rest, b'\n') {
-            match self.end_line(front, row) {
-                Ok(true) => return Ok(Some(back)),
-                Ok(false) => rest = back,
-                Err(fault) => return Err(fault),
+            if self.end_line(front, row)? {
+                return Ok(Some(back));
             }
+            rest = back;
         }
-        match self.begin(rest) {
-            Ok(()) => Ok(None),
-            Err(fault) => Err(fault),
-        }
+        self.begin(rest)?;
+        Ok(None)
     }
 
     /// Takes the text's next row out of a chunk, and puts it in the place of another, whose octets' room is used again:
@@ -349,10 +343,7 @@ impl<A: Allocator> Lines<A> {
             return Ok((self.ended, false));
         }
         let count = self.ended + 1;
-        let content = match self.read(self.begun.as_slice(), 0, row) {
-            Ok(content) => content,
-            Err(fault) => return Err(fault),
-        };
+        let content = self.read(self.begun.as_slice(), 0, row)?;
         let is_row = self.keep(content, row.number);
         Ok((count, is_row))
     }
@@ -376,10 +367,7 @@ impl<A: Allocator> Lines<A> {
         if let Some(fault) = self.refused {
             return Err(fault);
         }
-        let (count, has_row) = match self.end_begun(row) {
-            Ok(end) => end,
-            Err(fault) => return Err(fault),
-        };
+        let (count, has_row) = self.end_begun(row)?;
         match self.interface {
             Some(interface) => Ok(TextEnd { interface, has_row }),
             None => Err(Fault::Trace(count + 1, Kind::HeaderMissing)),
@@ -411,18 +399,12 @@ impl<A: Allocator + Clone> Lines<A> {
     {
         let mut rest = chunk;
         loop {
-            let mut row = match blank_row(self.begun.allocator()) {
-                Ok(row) => row,
-                Err(_) => return Err(Fault::Memory),
+            let mut row = blank_row(self.begun.allocator())?;
+            let Some(after) = self.find_row(rest, &mut row)? else {
+                return Ok(());
             };
-            match self.find_row(rest, &mut row) {
-                Ok(Some(after)) => match out.push(row) {
-                    Ok(()) => rest = after,
-                    Err(_) => return Err(Fault::Memory),
-                },
-                Ok(None) => return Ok(()),
-                Err(fault) => return Err(fault),
-            }
+            out.push(row)?;
+            rest = after;
         }
     }
 
@@ -484,21 +466,12 @@ impl<A: Allocator + Clone> Lines<A> {
         if let Some(fault) = self.refused {
             return Err(fault);
         }
-        let mut row = match blank_row(self.begun.allocator()) {
-            Ok(row) => row,
-            Err(_) => return Err(Fault::Memory),
-        };
-        let end = match self.end_row(&mut row) {
-            Ok(end) => end,
-            Err(fault) => return Err(fault),
-        };
+        let mut row = blank_row(self.begun.allocator())?;
+        let end = self.end_row(&mut row)?;
         if !end.has_row {
             return Ok(end.interface);
         }
-        match out.push(row) {
-            Ok(()) => {}
-            Err(_) => return Err(Fault::Memory),
-        }
+        out.push(row)?;
         Ok(end.interface)
     }
 }

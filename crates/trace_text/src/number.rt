@@ -1,6 +1,6 @@
 //! Numbers of 1 to 9 digits.
 
-ghost use Rattle.std.specs.Prelude.{◌≡◌, ◌<◌, ◌^◌, IfSome};
+ghost use Rattle.std.specs.Prelude.{◌≡◌};
 ghost use Rattle.line_model.specs.text.Header.{is_number as is_number_word};
 ghost use Rattle.line_model.specs.text.Header.{number_of};
 ghost use Rattle.std.specs.List.{list_all};

@@ -49,20 +49,16 @@ impl<A: Allocator> OctetList for Vec<u8, A> {
     }
 
     fn put_all(&mut self, more: &[u8]) -> Result<(), AllocError> {
-        match self.extend_from_slice(more) {
-            Ok(()) => Ok(()),
-            Err(refused) => Err(refused),
-        }
+        self.extend_from_slice(more)
     }
 }
 
 /// The place of a row, whose octets' room is used again.
 pub trait RowPlace {
-    ghost use Rattle.std.specs.Prelude.{◌≢◌, ◌⊎◌, ◌%◌, Ok, MatchResult};
+    ghost use Rattle.std.specs.Prelude.{◌%◌, Ok, MatchResult};
     ghost use Rattle.hex.specs.Hex.{decode_of};
     ghost use Rattle.line_model.specs.basics.Records as records;
-    ghost use Rattle.line_model.specs.declared.fault.Kind.TheVariants.{Hex};
-    ghost use Rattle.trace_text.specs.declared.content.LineFault.TheVariants.{Memory, Broken};
+    ghost use Rattle.trace_text.specs.Reads.{IsDigitFault};
 
     /// The row that stands there.
     ghost held: { Self → records.Row };
@@ -89,7 +85,7 @@ pub trait RowPlace {
         requires { length digits.now % 2 ≡ 0 }
         ensures { MatchResult result
             (λ _. decode_of digits.now ≡ Ok (held self.new).octets)
-            (λ fault. (fault ≡ Memory) ⊎ ((fault ≡ Broken Hex) × ((octets : List ℕ) → decode_of digits.now ≢ Ok octets))) };
+            (IsDigitFault digits.now) };
 }
 
 impl<A: Allocator> RowPlace for Row<A> {

@@ -1,9 +1,7 @@
 //! What one line says after those before it: a comment, the header, or a row.
 
-ghost use Rattle.std.specs.Prelude.{◌≡◌, ◌<◌, ◌^◌, ℕ, None, Some, MatchResult, IfOk, IfErr};
-ghost use Rattle.line_model.specs.text.Header.{interface_of};
-ghost use Rattle.line_model.specs.text.RowLine.{row_kind, row_of};
-ghost use Rattle.line_model.specs.text.Text.{header_kind, contents_kind, is_comment};
+ghost use Rattle.std.specs.Prelude.{◌≡◌, None, MatchResult};
+ghost use Rattle.line_model.specs.text.Text.{contents_kind, is_comment};
 ghost use Rattle.trace_text.specs.Reads.{ReadsAs, Breaks};
 
 use crate::content::{Content, LineFault};

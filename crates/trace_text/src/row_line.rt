@@ -1,6 +1,6 @@
 //! The line of a row: `number side hex`.
 
-ghost use Rattle.std.specs.Prelude.{◌≡◌, ◌<◌, ◌^◌, None, Some, IfSome, MatchResult, MatchOption, ◌⊎◌};
+ghost use Rattle.std.specs.Prelude.{◌≡◌, None, Some, IfSome, MatchResult, ◌⊎◌};
 ghost use Rattle.std.specs.Bool.{OnTrue};
 ghost use Rattle.line_model.specs.declared.fault.Kind.TheVariants.{Hex};
 ghost use Rattle.trace_text.specs.declared.content.LineFault.TheVariants.{Memory, Broken};
@@ -89,10 +89,7 @@ fn read_octets<P: RowPlace>(word: &[u8], row: &mut P) -> Result<(), LineFault>
     if word.len() % 2 != 0 {
         return Err(LineFault::Broken(Kind::Hex));
     }
-    match row.read_digits(word) {
-        Ok(()) => Ok(()),
-        Err(fault) => Err(fault),
-    }
+    row.read_digits(word)
 }
 
 /// The number and the side of the usual line of a row, and what follows: its digits, unless the line is another. The
@@ -156,9 +153,8 @@ pub fn read_row<P: RowPlace>(last: u32, line: &[u8], row: &mut P) -> Result<(), 
     ensures { MatchResult result (λ _. (row_kind last line.now ≡ None)
         × (row_of line.now ≡ Some (P.held row.new))) (Breaks (row_kind last line.now)) }
 {
-    match read_usual(last, line, row) {
-        Ok(true) => Ok(()),
-        Ok(false) => read_any(last, line, row),
-        Err(fault) => Err(fault),
+    if read_usual(last, line, row)? {
+        return Ok(());
     }
+    read_any(last, line, row)
 }

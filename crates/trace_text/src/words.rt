@@ -1,8 +1,8 @@
 //! The words of a line, parted by single spaces.
 
-ghost use Rattle.std.specs.Prelude.{◌≡◌, ◌∷◌, [], length, MatchOption};
+ghost use Rattle.std.specs.Prelude.{◌≡◌, ◌∷◌, [], MatchOption};
 ghost use Rattle.trace_text.specs.WordsLeft.{words_left};
-ghost use Rattle.line_model.specs.text.Header.{words_of, number_of, is_number, is_space};
+ghost use Rattle.line_model.specs.text.Header.{words_of};
 
 use crate::cuts::split_at_byte;
 use std::marker::Model;

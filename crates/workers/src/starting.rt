@@ -1,7 +1,7 @@
 //! How the workers are started.
 
-ghost use Rattle.std.specs.Prelude.{◌≡◌, ◌≤◌, [], false, All, IsTrue, IfOk, IfErr, IfSome, vec_len, vec_capacity};
-ghost use Rattle.shared_work.specs.queue.Rule.{feeder, worker};
+ghost use Rattle.std.specs.Prelude.{◌≡◌, ◌≤◌, [], All, IsTrue, IfOk, IfErr, IfSome, vec_len, vec_capacity};
+ghost use Rattle.shared_work.specs.queue.Rule.{feeder};
 ghost use Rattle.workers.specs.Workers.{IsWorkerOutcome, IsWorkerStart};
 
 use crate::handler::Handler;
@@ -126,14 +126,12 @@ pub fn start_all<
         return None;
     };
     for start in starts {
-        let WorkerStart { pass, share } = start;
         let started = scope.spawn_with(
             Finishes { work },
             move || -> WorkerOutcome<Share<L>, A>
-                requires { (pass.queue ≡ work.now.queue) × (pass.record_of ≡ worker [] false 0)
-                    × (share.posts ≡ 0) × W.handles handler.now work.now.queue }
+                requires { IsWorkerStart work.now.queue start × W.handles handler.now work.now.queue }
                 ensures { IsWorkerOutcome work.entry.now.queue result }
-            { work_on(rt, alloc, work, handler, pass, share) },
+            { work_on(rt, alloc, work, handler, start) },
         );
         match started.ok() {
             Some(one) => running.push_reserved(one),

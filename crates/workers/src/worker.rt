@@ -1,12 +1,12 @@
 //! What one worker does.
 
-ghost use Rattle.std.specs.Prelude.{◌≡◌, ◌+◌, [], false, None, IfSome, IfNone};
+ghost use Rattle.std.specs.Prelude.{◌≡◌, ◌+◌, None, IfSome, IfNone};
 ghost use Rattle.line_model.specs.work.Book.{IsPlanned};
-ghost use Rattle.shared_work.specs.queue.Rule.{worker};
 ghost use Rattle.workers.specs.Vouching.{HasPiece};
-ghost use Rattle.workers.specs.Workers.{IsWorkerOutcome};
+ghost use Rattle.workers.specs.Workers.{IsWorkerOutcome, IsWorkerStart};
 
 use crate::handler::Handler;
+use crate::starting::WorkerStart;
 use crate::waiting::Backoff;
 use line_model::fault::Fault;
 use line_model::piece::{Piece, Plan};
@@ -17,7 +17,8 @@ use std::sync::Wait;
 use std::thread::Promise;
 use std::time::Clock;
 
-/// What a worker hands back: its pass, which has its end, its share, and its fault where memory ran out.
+/// What a worker has while it works, and hands back: its pass, which then has its end, its share, and its fault where
+/// memory ran out.
 #[derive(Drop)]
 pub struct WorkerOutcome<H, A: Allocator = Global> {
     pub pass: WorkerPass<A>,
@@ -42,21 +43,20 @@ fn handle_unless<P: Plan, L: Ledgers, A: Allocator + Copy, W: Handler<P, A, L>, 
     alloc: A,
     handler: &W,
     piece: &Piece<A>,
-    pass: &mut WorkerPass<A>,
-    share: &mut Share<L>,
-    fault: Option<Fault>,
-) -> Option<Fault>
+    worker: &mut WorkerOutcome<Share<L>, A>,
+)
     requires planned { IsPlanned P.pieces piece.now.id piece.now }
-    requires queue { W.handles handler.now pass.old.queue }
-    requires taken { HasPiece pass.old.pieces piece.now }
-    requires memory { IfSome fault (λ f. f ≡ Fault.Memory) }
-    ensures same { pass.new ≡ pass.old }
-    ensures posted { IfNone result ((fault ≡ None) × (share.new.posts ≡ share.old.posts + 1)) }
-    ensures memory { IfSome result (λ f. f ≡ Fault.Memory) }
+    requires queue { W.handles handler.now worker.old.pass.queue }
+    requires taken { HasPiece worker.old.pass.pieces piece.now }
+    requires memory { IfSome worker.old.fault (λ f. f ≡ Fault.Memory) }
+    ensures same { worker.new.pass ≡ worker.old.pass }
+    ensures posted { IfNone worker.new.fault ((worker.old.fault ≡ None)
+        × (worker.new.share.posts ≡ worker.old.share.posts + 1)) }
+    ensures memory { IfSome worker.new.fault (λ f. f ≡ Fault.Memory) }
 {
-    match fault {
-        Some(fault) => Some(fault),
-        None => handler.handle(rt, alloc, piece, pass, share).err(),
+    if worker.fault.is_none() {
+        let handled = handler.handle(rt, alloc, piece, &mut worker.pass, &mut worker.share);
+        worker.fault = handled.err();
     }
 }
 
@@ -67,24 +67,26 @@ pub fn work_on<P: Plan, L: Ledgers, A: Allocator + Copy, W: Handler<P, A, L>, R:
     alloc: A,
     work: &Work<P, A>,
     handler: &W,
-    mut pass: WorkerPass<A>,
-    mut share: Share<L>,
+    start: WorkerStart<Share<L>, A>,
 ) -> WorkerOutcome<Share<L>, A>
-    requires pass { (pass.queue ≡ work.now.queue) × (pass.record_of ≡ worker [] false 0) }
+    requires start { IsWorkerStart work.now.queue start }
     requires handler { W.handles handler.now work.now.queue }
-    requires share { share.posts ≡ 0 }
     ensures done { IsWorkerOutcome work.now.queue result }
 {
-    let mut fault = None;
+    let mut worker = WorkerOutcome {
+        pass: start.pass,
+        share: start.share,
+        fault: None,
+    };
     let mut backoff = Backoff::new();
     for _ in rt.forever() {
-        match work.take(rt, &mut pass) {
+        match work.take(rt, &mut worker.pass) {
             Taken::Got(piece) => {
                 backoff = Backoff::new();
-                fault = handle_unless(rt, alloc, handler, &piece, &mut pass, &mut share, fault);
+                handle_unless(rt, alloc, handler, &piece, &mut worker);
                 work.give_back(rt, piece);
             }
-            Taken::Finish => return WorkerOutcome { pass, share, fault },
+            Taken::Finish => return worker,
             Taken::Empty => backoff.wait(rt),
         }
     }

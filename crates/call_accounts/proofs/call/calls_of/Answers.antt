@@ -6,8 +6,8 @@ use Rattle.std.proofs.lemmas.List.{take-append-drop, take_all, take_more}
 use Rattle.line_model.specs.declared.event.Event.{Event}
 use Rattle.line_model.specs.observer.Calls.{calls_of}
 use Rattle.call_accounts.specs.Counted.{IsCountable}
-use Rattle.call_accounts.specs.Places.{AreHeard, place_of}
-use Rattle.call_accounts.proofs.PlaceLemmas.{all_countable, countable_before, heard_left, opens_here, opens_none, places_more}
+use Rattle.call_accounts.specs.Places.{AreAdded, place_of}
+use Rattle.call_accounts.proofs.PlaceLemmas.{all_countable, countable_before, added_left, opens_here, opens_none, places_more}
 use Rattle.call_accounts.proofs.call.calls_of.Goals as goal
 use Rattle.call_accounts.proofs.call.calls_of.Goals.{in-Open+in_ok-push, in_default}
 
@@ -22,7 +22,7 @@ loop-event-preserved g c =
     subst IsCountable more (countable_before (take (i + 1) events) (drop (i + 1) events) (subst IsCountable (sym (take-append-drop (i + 1) events)) (all_countable events (omega arith) c.requires.few_octets))) in
     let behind = sym (places_more done v) ∙ ap (λ (es : List Event). map place_of (calls_of es)) (sym more) in
     record {
-      heard = subst (AreHeard c.hear.new.self) (sym more) (c.in_ok-hear.ensures done c.loop-event.invariant.heard few);
+      added = subst (AreAdded c.add_event.new.self) (sym more) (c.in_ok-add_event.ensures done c.loop-event.invariant.added few);
       openings = elim c.match-event.branch [
         | in-Open+in_ok-push w ↦ ap (λ vs. vs.items) w.openings-is ∙ w.in_ok-push.ensures.items ∙ ap (λ l. l ++ (v.epoch, v.channel) ∷ []) c.loop-event.invariant.openings
             ∙ ap (λ l. map place_of (calls_of done) ++ l) (sym (opens_here v _ _ _ _ w.in-Open.is)) ∙ behind
@@ -35,7 +35,7 @@ pub returns-clause-calls : goal.returns-clause-calls
 returns-clause-calls g c =
     let events : List Event = c.args.events.now in
     let whole : take c.loop-event.event-index events ≡ events = take_all c.loop-event.event-index events (omega (arith, c.loop-event-test.false)) in
-    c.in_ok-in_order.ensures (calls_of events) (heard_left c.loop-event.places events (subst (AreHeard c.loop-event.places) whole c.loop-event.invariant.heard))
+    c.in_ok-in_order.ensures (calls_of events) (added_left c.loop-event.places events (subst (AreAdded c.loop-event.places) whole c.loop-event.invariant.added))
     (c.loop-event.invariant.openings ∙ ap (λ (es : List Event). map place_of (calls_of es)) whole)
 
 pub returns-in_err-places-clause-calls : goal.returns-in_err-places-clause-calls
@@ -44,8 +44,8 @@ returns-in_err-places-clause-calls g c = IfOk-from_err _ _ c.from_residual.ensur
 pub returns-in_err-clone-clause-calls : goal.returns-in_err-clone-clause-calls
 returns-in_err-clone-clause-calls g c = IfOk-from_err _ _ c.from_residual-in_err-clone.ensures.0
 
-pub returns-in_err-hear-clause-calls : goal.returns-in_err-hear-clause-calls
-returns-in_err-hear-clause-calls g c = IfOk-from_err _ _ c.from_residual-in_err-hear.ensures.0
+pub returns-in_err-add_event-clause-calls : goal.returns-in_err-add_event-clause-calls
+returns-in_err-add_event-clause-calls g c = IfOk-from_err _ _ c.from_residual-in_err-add_event.ensures.0
 
 pub returns-in_err-in_order-clause-calls : goal.returns-in_err-in_order-clause-calls
 returns-in_err-in_order-clause-calls g c = IfOk-from_err _ _ c.from_residual-in_err-in_order.ensures.0
@@ -60,9 +60,9 @@ returns-in_err-clone-clause-memory g c =
     let p = err_from_is_err_and c.from_residual-in_err-clone.result c.from_residual-in_err-clone.ensures.1 in
     subst (λ r. IfErr r (λ f. f ≡ Memory)) (sym p.1) p.2
 
-pub returns-in_err-hear-clause-memory : goal.returns-in_err-hear-clause-memory
-returns-in_err-hear-clause-memory g c =
-    let p = err_from_is_err_and c.from_residual-in_err-hear.result c.from_residual-in_err-hear.ensures.1 in
+pub returns-in_err-add_event-clause-memory : goal.returns-in_err-add_event-clause-memory
+returns-in_err-add_event-clause-memory g c =
+    let p = err_from_is_err_and c.from_residual-in_err-add_event.result c.from_residual-in_err-add_event.ensures.1 in
     subst (λ r. IfErr r (λ f. f ≡ Memory)) (sym p.1) p.2
 
 pub returns-in_err-in_order-clause-memory : goal.returns-in_err-in_order-clause-memory

@@ -1,5 +1,5 @@
 use Rattle.std.proofs.lemmas.Grind.{common_steps}
-use Rattle.std.proofs.Common.{arith, ◌≡◌, ◌∙◌, sym, ap, subst, ◌<◌, ◌≤◌, ◌+◌, ℕ, List, length, drop}
+use Rattle.std.proofs.Common.{arith, ◌≡◌, subst, ◌<◌, ◌≤◌, ◌+◌, ℕ, List, length, drop}
 use Rattle.std.specs.Prelude.{◌||◌}
 use Rattle.line_model.specs.basics.Octets.{octet}
 use Rattle.line_model.specs.packets.Facilities.{user_data_limit}

@@ -69,9 +69,9 @@ returns-clause-pieces g c =
     appended g c
     ∙ c.in_ok-open.ensures.pieces c.args.interface.now c.loop-row.yielded c.loop-row.invariant.stands ∙ ap (plan c.args.interface.now) (all_yielded g c)
 
-pub returns-clause-line : goal.returns-clause-line
-returns-clause-line g c =
-    c.in_ok-open.ensures.line c.args.interface.now c.loop-row.yielded c.loop-row.invariant.stands ∙ ap (line_findings c.args.interface.now) (all_yielded g c)
+pub returns-clause-interface_findings : goal.returns-clause-interface_findings
+returns-clause-interface_findings g c =
+    c.in_ok-open.ensures.interface_findings c.args.interface.now c.loop-row.yielded c.loop-row.invariant.stands ∙ ap (line_findings c.args.interface.now) (all_yielded g c)
 
 pub returns-clause-packets : goal.returns-clause-packets
 returns-clause-packets g c =
@@ -88,8 +88,8 @@ loop-row-init-derived g c = grind (arith, elements) steps 2000000
 pub returns-in_err-push-clause-pieces : goal.returns-in_err-push-clause-pieces
 returns-in_err-push-clause-pieces g c = IfOk-from_err _ _ c.from_residual.ensures.0
 
-pub returns-in_err-push-clause-line : goal.returns-in_err-push-clause-line
-returns-in_err-push-clause-line g c = IfOk-from_err _ _ c.from_residual.ensures.0
+pub returns-in_err-push-clause-interface_findings : goal.returns-in_err-push-clause-interface_findings
+returns-in_err-push-clause-interface_findings g c = IfOk-from_err _ _ c.from_residual.ensures.0
 
 pub returns-in_err-push-clause-packets : goal.returns-in_err-push-clause-packets
 returns-in_err-push-clause-packets g c = IfOk-from_err _ _ c.from_residual.ensures.0
@@ -105,8 +105,8 @@ returns-in_err-push-clause-refused g c =
 pub returns-in_err-open-clause-pieces : goal.returns-in_err-open-clause-pieces
 returns-in_err-open-clause-pieces g c = IfOk-from_err _ _ c.from_residual-in_err-open.ensures.0
 
-pub returns-in_err-open-clause-line : goal.returns-in_err-open-clause-line
-returns-in_err-open-clause-line g c = IfOk-from_err _ _ c.from_residual-in_err-open.ensures.0
+pub returns-in_err-open-clause-interface_findings : goal.returns-in_err-open-clause-interface_findings
+returns-in_err-open-clause-interface_findings g c = IfOk-from_err _ _ c.from_residual-in_err-open.ensures.0
 
 pub returns-in_err-open-clause-packets : goal.returns-in_err-open-clause-packets
 returns-in_err-open-clause-packets g c = IfOk-from_err _ _ c.from_residual-in_err-open.ensures.0
@@ -122,8 +122,8 @@ returns-in_err-open-clause-refused g c =
 pub returns-in_err-append-clause-pieces : goal.returns-in_err-append-clause-pieces
 returns-in_err-append-clause-pieces g c = IfOk-from_err _ _ c.from_residual-in_err-append.ensures.0
 
-pub returns-in_err-append-clause-line : goal.returns-in_err-append-clause-line
-returns-in_err-append-clause-line g c = IfOk-from_err _ _ c.from_residual-in_err-append.ensures.0
+pub returns-in_err-append-clause-interface_findings : goal.returns-in_err-append-clause-interface_findings
+returns-in_err-append-clause-interface_findings g c = IfOk-from_err _ _ c.from_residual-in_err-append.ensures.0
 
 pub returns-in_err-append-clause-packets : goal.returns-in_err-append-clause-packets
 returns-in_err-append-clause-packets g c = IfOk-from_err _ _ c.from_residual-in_err-append.ensures.0

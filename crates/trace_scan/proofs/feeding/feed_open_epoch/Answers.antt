@@ -36,7 +36,7 @@ returns-clause-cut g c rows h fed =
     record {
       interface = refl;
       all = all;
-      interface_findings = c.in_ok-pieces.ensures.line i rows h.stands;
+      interface_findings = c.in_ok-pieces.ensures.interface_findings i rows h.stands;
       packets = c.in_ok-pieces.ensures.packets i rows h.stands;
       pieces = omega (arith, c.len.ensures, c.in_ok-pieces.field-0.pieces.ok.0, whole, c.given-given.ensures i rows h.stands);
     }

@@ -9,7 +9,7 @@ returns-clause-recorded g c = λ epoch channel es h of few.
     let self = c.args.self.now in
     record {
       findings = findings_told es vs self.findings.items c.push_finding.new.findings.items h.findings c.in_ok-push_finding.ensures.finding;
-      calls = c.in_ok-hear.ensures.heard epoch channel es h.calls of few;
+      calls = c.in_ok-add_event.ensures.added epoch channel es h.calls of few;
       octets = octets_told es vs self.octets c.octets_in.result c.saturating_add-self.result h.octets c.octets_in.ensures c.saturating_add-self.ensures few;
       segments = segments_told es vs self.segments c.segments_in-segments.result c.saturating_add-self-2.result h.segments c.segments_in-segments.ensures c.saturating_add-self-2.ensures few;
     }

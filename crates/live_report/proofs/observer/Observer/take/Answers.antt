@@ -45,13 +45,13 @@ turn-requires-clause-pieces g c =
     let channels = ap (λ l. length l) s.holds.lanes.channels in
     omega (arith, pieces, channels, s.bounds.ids, s.bounds.rows, s.bounds.last)
 
-pub take-requires-clause-packets : goal.take-requires-clause-packets
-take-requires-clause-packets g c =
+pub advance-requires-clause-packets : goal.advance-requires-clause-packets
+advance-requires-clause-packets g c =
     let s = c.requires.room.2 in
     omega (arith, ap (λ w. w.packets) c.in_ok-last.ensures.walk, c.in_ok-step.ensures.same.packets, s.holds.packets, s.bounds.rows, s.bounds.last)
 
-pub take-requires-clause-room : goal.take-requires-clause-room
-take-requires-clause-room g c = subst (λ w. vec_len w.findings < vec_capacity w.findings) (sym c.in_ok-last.ensures.walk) c.in_ok-step.ensures.room
+pub advance-requires-clause-room : goal.advance-requires-clause-room
+advance-requires-clause-room g c = subst (λ w. vec_len w.findings < vec_capacity w.findings) (sym c.in_ok-last.ensures.walk) c.in_ok-step.ensures.room
 
 pub returns-clause-stands : goal.returns-clause-stands
 returns-clause-stands g c i rs s sound =
@@ -70,7 +70,7 @@ returns-clause-stands g c i rs s sound =
     let turned = has_turned step.turn one s.cutting.open_rows in
     let last = c.in_ok-last.last in
     stands_after g.C.Channel.interface_of g.C.Channel.number_of g.C.Channel.stands_for i rs c.args.row.now o _ one step s row_is sound_one packet is
-    (holds_after g.C.Channel.interface_of g.C.Channel.number_of g.C.Channel.stands_for i rs s.cutting (map value (given_of i rs)) one step o _ v s.cut packet is s.holds same (subst (λ w. IsAdvanced step w c.take.new.self) c.in_ok-last.ensures.walk c.take.ensures) (length-values (given_of i rs) ∙ sym s.cut.given)
+    (holds_after g.C.Channel.interface_of g.C.Channel.number_of g.C.Channel.stands_for i rs s.cutting (map value (given_of i rs)) one step o _ v s.cut packet is s.holds same (subst (λ w. IsAdvanced step w c.advance.new.self) c.in_ok-last.ensures.walk c.advance.ensures) (length-values (given_of i rs) ∙ sym s.cut.given)
     (c.in_ok-last.ensures.ended s.cutting.open_rows here (map value (given_of i rs)) s.holds.ended)
     (c.in_ok-last.ensures.lanes s.cutting.open_rows here (rows_after step.turn one s.cutting.open_rows) may turned))
     (last_known i rs s.cutting (cutting_after s.cutting one step) one step v last _ _ s.cut (cut_after i rs s.cutting one step s.cut packet is) (is_taken s.cutting one step) packet is

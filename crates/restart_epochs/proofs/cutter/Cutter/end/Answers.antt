@@ -33,8 +33,8 @@ returns-clause-few g c i rows s =
 pub returns-in_err-reserve-clause-pieces : goal.returns-in_err-reserve-clause-pieces
 returns-in_err-reserve-clause-pieces g c i rows s = IfOk-from_err _ _ c.from_residual.ensures.0
 
-pub returns-in_err-reserve-clause-line : goal.returns-in_err-reserve-clause-line
-returns-in_err-reserve-clause-line g c i rows s = IfOk-from_err _ _ c.from_residual.ensures.0
+pub returns-in_err-reserve-clause-interface_findings : goal.returns-in_err-reserve-clause-interface_findings
+returns-in_err-reserve-clause-interface_findings g c i rows s = IfOk-from_err _ _ c.from_residual.ensures.0
 
 pub returns-in_err-reserve-clause-packets : goal.returns-in_err-reserve-clause-packets
 returns-in_err-reserve-clause-packets g c i rows s = IfOk-from_err _ _ c.from_residual.ensures.0
@@ -48,8 +48,8 @@ append_pieces-requires-clause-room g c = let room = c.in_ok-reserve.ensures.ok i
 pub append_pieces-requires-clause-ids : goal.append_pieces-requires-clause-ids
 append_pieces-requires-clause-ids g c = grind (arith, common_steps) steps 2000000
 
-pub returns-clause-line : goal.returns-clause-line
-returns-clause-line g c i rows s = ap (λ v. v.findings) c.self.view_is ∙ s.findings
+pub returns-clause-interface_findings : goal.returns-clause-interface_findings
+returns-clause-interface_findings g c i rows s = ap (λ v. v.findings) c.self.view_is ∙ s.findings
 
 pub returns-clause-packets : goal.returns-clause-packets
 returns-clause-packets g c i rows s = ap (λ v. v.packets) c.self.view_is ∙ s.packets

@@ -10,13 +10,13 @@ use Rattle.data_transfer.specs.Assembler.{IsPut, begun_by}
 use Rattle.data_transfer.specs.Assembly.{OnMixed}
 use Rattle.data_transfer.specs.declared.sequence.Put.TheVariants.{Going, Complete, Mixed}
 use Rattle.channel_machine.specs.Events.{event_at}
-use Rattle.channel_machine.specs.Messages.{told_reports}
+use Rattle.channel_machine.specs.Messages.{message_reports}
 use Rattle.channel_machine.specs.TermsStand.{is_pad}
 use Rattle.channel_machine.specs.Transfers.{Transfer, IsHeard, packet, counted_in_force}
 use Rattle.channel_machine.specs.Channels.{Known, known, Stands, IsMemory}
 use Rattle.channel_machine.proofs.InForce.{pad_stands}
 use Rattle.channel_machine.proofs.Hearing.{in_force, refused, mixed, accepted, going_is, untold_is, told_is}
-use Rattle.channel_machine.proofs.channel.StatusChannel.hear.Goals as goal
+use Rattle.channel_machine.proofs.channel.StatusChannel.accept_data.Goals as goal
 
 pub returns-in-Err-clause-heard : goal.returns-in-Err-clause-heard
 returns-in-Err-clause-heard g c k s =
@@ -66,10 +66,10 @@ returns-in-Going-clause-heard g c k s =
     (in_force (Unit {0}) (Ok c.in_default.field-0) before.terms.interface old.transfer after.flow k c.args.side c.args.header.now.send c.args.header.now.receive st.transfer (c.in_default.ensures.counts (counts_of k) st.transfer.flow))
     b.0 (going_is before.terms.interface old.transfer k c.args.side h st.transfer b.1) c.data.ensures.rest.modulus c.data.ensures.rest.windows b.2 c.put.ensures.sizes st.transfer.settings
     (λ v. c.push_reserved.ensures.items ∙ ap (λ l. l ++ c.event.result ∷ []) c.in_ok-reserve.ensures.items
-    ∙ ap (λ v. c.args.events.now.items ++ v ∷ []) (c.event.ensures ∙ ap (λ w. event_at c.args.origin w) c.heard.ensures)))
+    ∙ ap (λ v. c.args.events.now.items ++ v ∷ []) (c.event.ensures ∙ ap (λ w. event_at c.args.origin w) c.data_packet.ensures)))
 
-pub returns-else-is_told-2-clause-heard : goal.returns-else-is_told-2-clause-heard
-returns-else-is_told-2-clause-heard g c k s =
+pub returns-else-carries_message-2-clause-heard : goal.returns-else-carries_message-2-clause-heard
+returns-else-carries_message-2-clause-heard g c k s =
     let i = c.self.inside in
     let before = g.S.StatusStore.status i.status in
     let after = g.S.StatusStore.status c.data.new.self in
@@ -85,13 +85,13 @@ returns-else-is_told-2-clause-heard g c k s =
     (accepted c.in_default.field-0 before.terms.interface c.args.origin old.transfer new c.args.events.now.items c.push_reserved-in-Complete.new.self.items
     k c.args.side c.args.header.now.send c.args.header.now.receive h None st.transfer refl
     (in_force (Unit {0}) (Ok c.in_default.field-0) before.terms.interface old.transfer after.flow k c.args.side c.args.header.now.send c.args.header.now.receive st.transfer (c.in_default.ensures.counts (counts_of k) st.transfer.flow))
-    b.0 (untold_is before.terms.interface k c.args.side h (ap (λ a. a && h.qualified) (sym pad) ∙ sym c.is_message-is_told.ensures ∙ c.if-is_told-2.false)) c.data.ensures.rest.modulus c.data.ensures.rest.windows b.2 c.put.ensures.sizes
+    b.0 (untold_is before.terms.interface k c.args.side h (ap (λ a. a && h.qualified) (sym pad) ∙ sym c.is_message-carries_message.ensures ∙ c.if-carries_message-2.false)) c.data.ensures.rest.modulus c.data.ensures.rest.windows b.2 c.put.ensures.sizes
     st.transfer.settings
     (λ v. c.push_reserved-in-Complete.ensures.items ∙ ap (λ l. l ++ c.event-in-Complete.result ∷ []) c.in_ok-reserve.ensures.items
-    ∙ ap (λ v. c.args.events.now.items ++ v ∷ []) (c.event-in-Complete.ensures ∙ ap (λ w. event_at c.args.origin w) c.heard-in-Complete.ensures)))
+    ∙ ap (λ v. c.args.events.now.items ++ v ∷ []) (c.event-in-Complete.ensures ∙ ap (λ w. event_at c.args.origin w) c.data_packet-in-Complete.ensures)))
 
-pub returns-then-is_told-2-clause-heard : goal.returns-then-is_told-2-clause-heard
-returns-then-is_told-2-clause-heard g c k s =
+pub returns-then-carries_message-2-clause-heard : goal.returns-then-carries_message-2-clause-heard
+returns-then-carries_message-2-clause-heard g c k s =
     let i = c.self.inside in
     let before = g.S.StatusStore.status i.status in
     let after = g.S.StatusStore.status c.data.new.self in
@@ -103,16 +103,16 @@ returns-then-is_told-2-clause-heard g c k s =
     subst (λ q. IsPut q i.assembler c.put.new.self c.args.side h k.heard) c.in-Complete.is (c.in_ok-put.ensures.put k.heard st.transfer.sequences) in
     let pad : c.is_pad_call.result ≡ is_pad_call k = c.is_pad_call.ensures ∙ ap (λ o. is_pad o) c.call.ensures ∙ pad_stands before.terms k st.terms in
     let m : List ℕ = sequence_octets (begun_by i.assembler c.args.side k.heard ++ h ∷ []) in
-    let told : (is_pad_call k && h.qualified) ≡ true = ap (λ a. a && h.qualified) (sym pad) ∙ sym c.is_message-is_told.ensures ∙ c.if-is_told-2.true in
+    let told : (is_pad_call k && h.qualified) ≡ true = ap (λ a. a && h.qualified) (sym pad) ∙ sym c.is_message-carries_message.ensures ∙ c.if-carries_message-2.true in
     let octets = c.as_slice.ensures ∙ b.5 in
-    let new : Transfer = record { flow = after.flow; assembler = c.put.new.self; settings = c.tell.new.self } in
-    subst (λ o. IsHeard None o.terms.interface c.args.origin o.transfer new c.args.events.now.items c.tell.new.events.items c.args.side h (counted_in_force o.terms.interface c.args.side c.args.header.now.send c.args.header.now.receive k) k) c.self.view_is
-    (accepted c.in_default.field-0 before.terms.interface c.args.origin old.transfer new c.args.events.now.items c.tell.new.events.items
+    let new : Transfer = record { flow = after.flow; assembler = c.put.new.self; settings = c.report_message.new.self } in
+    subst (λ o. IsHeard None o.terms.interface c.args.origin o.transfer new c.args.events.now.items c.report_message.new.events.items c.args.side h (counted_in_force o.terms.interface c.args.side c.args.header.now.send c.args.header.now.receive k) k) c.self.view_is
+    (accepted c.in_default.field-0 before.terms.interface c.args.origin old.transfer new c.args.events.now.items c.report_message.new.events.items
     k c.args.side c.args.header.now.send c.args.header.now.receive h (Some m) st.transfer refl
     (in_force (Unit {0}) (Ok c.in_default.field-0) before.terms.interface old.transfer after.flow k c.args.side c.args.header.now.send c.args.header.now.receive st.transfer (c.in_default.ensures.counts (counts_of k) st.transfer.flow))
     b.0 (told_is before.terms.interface old.transfer k c.args.side h st.transfer told b.1) c.data.ensures.rest.modulus c.data.ensures.rest.windows b.2 c.put.ensures.sizes
-    (c.tell.ensures.stands m k.told octets st.transfer.settings)
-    (λ v. c.tell.ensures.reports m k.told octets st.transfer.settings ∙ ap (λ l. l ++ map (event_at c.args.origin) (told_reports c.args.side (length c.args.user_data.now) k.told m)) c.in_ok-reserve.ensures.items))
+    (c.report_message.ensures.stands m k.told octets st.transfer.settings)
+    (λ v. c.report_message.ensures.reports m k.told octets st.transfer.settings ∙ ap (λ l. l ++ map (event_at c.args.origin) (message_reports c.args.side (length c.args.user_data.now) k.told m)) c.in_ok-reserve.ensures.items))
 
 pub returns-in-Err-clause-unchanged : goal.returns-in-Err-clause-unchanged
 returns-in-Err-clause-unchanged g c = tt
@@ -120,11 +120,11 @@ returns-in-Err-clause-unchanged g c = tt
 pub returns-in-Err-clause-memory : goal.returns-in-Err-clause-memory
 returns-in-Err-clause-memory g c = tt
 
-pub returns-then-is_told-2-clause-unchanged : goal.returns-then-is_told-2-clause-unchanged
-returns-then-is_told-2-clause-unchanged g c = tt
+pub returns-then-carries_message-2-clause-unchanged : goal.returns-then-carries_message-2-clause-unchanged
+returns-then-carries_message-2-clause-unchanged g c = tt
 
-pub returns-then-is_told-2-clause-memory : goal.returns-then-is_told-2-clause-memory
-returns-then-is_told-2-clause-memory g c = tt
+pub returns-then-carries_message-2-clause-memory : goal.returns-then-carries_message-2-clause-memory
+returns-then-carries_message-2-clause-memory g c = tt
 
 pub returns-in-Mixed-clause-unchanged : goal.returns-in-Mixed-clause-unchanged
 returns-in-Mixed-clause-unchanged g c = tt
@@ -138,20 +138,20 @@ returns-in-Going-clause-unchanged g c = tt
 pub returns-in-Going-clause-memory : goal.returns-in-Going-clause-memory
 returns-in-Going-clause-memory g c = tt
 
-pub returns-else-is_told-2-clause-unchanged : goal.returns-else-is_told-2-clause-unchanged
-returns-else-is_told-2-clause-unchanged g c = tt
+pub returns-else-carries_message-2-clause-unchanged : goal.returns-else-carries_message-2-clause-unchanged
+returns-else-carries_message-2-clause-unchanged g c = tt
 
-pub returns-else-is_told-2-clause-memory : goal.returns-else-is_told-2-clause-memory
-returns-else-is_told-2-clause-memory g c = tt
+pub returns-else-carries_message-2-clause-memory : goal.returns-else-carries_message-2-clause-memory
+returns-else-carries_message-2-clause-memory g c = tt
 
-pub returns-then-is_told-2-clause-faulted : goal.returns-then-is_told-2-clause-faulted
-returns-then-is_told-2-clause-faulted g c = tt
+pub returns-then-carries_message-2-clause-faulted : goal.returns-then-carries_message-2-clause-faulted
+returns-then-carries_message-2-clause-faulted g c = tt
 
 pub returns-in-Going-clause-faulted : goal.returns-in-Going-clause-faulted
 returns-in-Going-clause-faulted g c = tt
 
-pub returns-else-is_told-2-clause-faulted : goal.returns-else-is_told-2-clause-faulted
-returns-else-is_told-2-clause-faulted g c = tt
+pub returns-else-carries_message-2-clause-faulted : goal.returns-else-carries_message-2-clause-faulted
+returns-else-carries_message-2-clause-faulted g c = tt
 
 pub returns-in-Err-clause-rest : goal.returns-in-Err-clause-rest
 returns-in-Err-clause-rest g c = refl
@@ -166,19 +166,19 @@ returns-in-Going-clause-rest g c =
     ap (λ s. known i.channel s c.put.new.self i.settings) c.data.ensures.rest.rest
     ∙ ap (λ (o : Known). record o { transfer = record { flow = after.flow; assembler = c.put.new.self; settings = i.settings } }) c.self.view_is
 
-pub returns-else-is_told-2-clause-rest : goal.returns-else-is_told-2-clause-rest
-returns-else-is_told-2-clause-rest g c =
+pub returns-else-carries_message-2-clause-rest : goal.returns-else-carries_message-2-clause-rest
+returns-else-carries_message-2-clause-rest g c =
     let i = c.self.inside in
     let after = g.S.StatusStore.status c.data.new.self in
     ap (λ s. known i.channel s c.put.new.self i.settings) c.data.ensures.rest.rest
     ∙ ap (λ (o : Known). record o { transfer = record { flow = after.flow; assembler = c.put.new.self; settings = i.settings } }) c.self.view_is
 
-pub returns-then-is_told-2-clause-rest : goal.returns-then-is_told-2-clause-rest
-returns-then-is_told-2-clause-rest g c =
+pub returns-then-carries_message-2-clause-rest : goal.returns-then-carries_message-2-clause-rest
+returns-then-carries_message-2-clause-rest g c =
     let i = c.self.inside in
     let after = g.S.StatusStore.status c.data.new.self in
-    ap (λ s. known i.channel s c.put.new.self c.tell.new.self) c.data.ensures.rest.rest
-    ∙ ap (λ (o : Known). record o { transfer = record { flow = after.flow; assembler = c.put.new.self; settings = c.tell.new.self } }) c.self.view_is
+    ap (λ s. known i.channel s c.put.new.self c.report_message.new.self) c.data.ensures.rest.rest
+    ∙ ap (λ (o : Known). record o { transfer = record { flow = after.flow; assembler = c.put.new.self; settings = c.report_message.new.self } }) c.self.view_is
 
 pub returns-in-Mixed-clause-rest : goal.returns-in-Mixed-clause-rest
 returns-in-Mixed-clause-rest g c =
@@ -242,5 +242,5 @@ push_reserved-requires g c = search rules
 pub push_reserved-requires-in-Complete : goal.push_reserved-requires-in-Complete
 push_reserved-requires-in-Complete g c = search rules
 
-pub tell-requires : goal.tell-requires
-tell-requires g c = search rules
+pub report_message-requires : goal.report_message-requires
+report_message-requires g c = search rules

@@ -5,7 +5,7 @@ use Rattle.line_model.specs.packets.Formats.{or_other}
 use Rattle.pad.specs.Effects.{own_fault}
 use Rattle.pad.specs.Told.{told}
 use Rattle.channel_machine.proofs.Faults.{both}
-use Rattle.channel_machine.proofs.messages.BothSettings.read.Goals as goal
+use Rattle.channel_machine.proofs.messages.BothSettings.apply.Goals as goal
 
 pub returns-in-Some-clause-fault : goal.returns-in-Some-clause-fault
 returns-in-Some-clause-fault c ts s =

@@ -7,10 +7,10 @@ use Rattle.line_model.specs.channels.ChannelStep.{option_found}
 use Rattle.line_model.specs.channels.Pad.{form_fault, message_fault, settings_after}
 use Rattle.pad.proofs.Applied.{faulty}
 use Rattle.channel_machine.specs.Events.{Reports, event_at}
-use Rattle.channel_machine.specs.Messages.{SettingsStand, told_reports}
+use Rattle.channel_machine.specs.Messages.{SettingsStand, message_reports}
 use Rattle.channel_machine.proofs.Kept.{kept_fault, kept_whole, own_message_fault, faulted_settings, unfaulted_short}
 use Rattle.channel_machine.proofs.Reporting.{three}
-use Rattle.channel_machine.proofs.messages.BothSettings.tell.Goals as goal
+use Rattle.channel_machine.proofs.messages.BothSettings.report_message.Goals as goal
 
 pub returns-in-Err-clause-reports : goal.returns-in-Err-clause-reports
 returns-in-Err-clause-reports g c m ts kept stands =
@@ -20,7 +20,7 @@ returns-in-Err-clause-reports g c m ts kept stands =
     let done : Reports c.args.origin c.args.events.now.items c.push_reserved.new.self.items (fs (Some c.in-Err.fault) ++ Data x c.args.size ∷ []) =
     three c.args.origin c.args.events.now.items c.report_fault.new.events.items c.push_reserved.new.self.items c.push_reserved.new.self.items
     (fs (Some c.in-Err.fault)) [] (Data x c.args.size) c.report_fault.ensures.reports
-    (c.push_reserved.ensures.items ∙ ap (λ v. c.report_fault.new.events.items ++ v ∷ []) (c.event.ensures ∙ ap (λ w. event_at c.args.origin w) c.heard.ensures))
+    (c.push_reserved.ensures.items ∙ ap (λ v. c.report_fault.new.events.items ++ v ∷ []) (c.event.ensures ∙ ap (λ w. event_at c.args.origin w) c.data_packet.ensures))
     (sym (append-nil c.push_reserved.new.self.items)) in
     subst (λ o. Reports c.args.origin c.args.events.now.items c.push_reserved.new.self.items (fs o ++ Data x c.args.size ∷ settings_after (message_fault x ts m) x m))
     (sym (own_message_fault x ts m c.in-Err.fault e))
@@ -42,11 +42,11 @@ returns-in-Err-clause-stands g c m ts kept stands =
 pub returns-in-Ok-clause-reports : goal.returns-in-Ok-clause-reports
 returns-in-Ok-clause-reports g c m ts kept stands =
     let whole : c.args.octets.now ≡ m = kept_whole m c.args.octets.now kept (unfaulted_short c.args.octets.now c.in-Ok.ensures.fault) in
-    subst (λ l. Reports c.args.origin c.args.events.now.items c.handle.new.events.items (told_reports c.args.from c.args.size ts l))
-    (c.in-Ok.ensures.message ∙ whole) (c.handle.ensures.reports ts stands)
+    subst (λ l. Reports c.args.origin c.args.events.now.items c.report_well_formed.new.events.items (message_reports c.args.from c.args.size ts l))
+    (c.in-Ok.ensures.message ∙ whole) (c.report_well_formed.ensures.reports ts stands)
 
 pub returns-in-Ok-clause-stands : goal.returns-in-Ok-clause-stands
 returns-in-Ok-clause-stands g c m ts kept stands =
     let whole : c.args.octets.now ≡ m = kept_whole m c.args.octets.now kept (unfaulted_short c.args.octets.now c.in-Ok.ensures.fault) in
-    subst (λ l. SettingsStand c.handle.new.self (ts ++ record { from = c.args.from; message = l } ∷ []))
-    (c.in-Ok.ensures.message ∙ whole) (c.handle.ensures.stands ts stands)
+    subst (λ l. SettingsStand c.report_well_formed.new.self (ts ++ record { from = c.args.from; message = l } ∷ []))
+    (c.in-Ok.ensures.message ∙ whole) (c.report_well_formed.ensures.stands ts stands)
