@@ -1,6 +1,6 @@
 //! Where the program reads its trace.
 
-ghost use Rattle.std.specs.Prelude.{◌≡◌, ℕ, List, Option, OnOk, OnErr};
+ghost use Rattle.std.specs.Prelude.{◌≡◌, ◌⊎◌, ℕ, List, Option, None, Some, OnOk, OnErr, option_map};
 
 use crate::last_bytes::LastBytes;
 use crate::progress::Telling;
@@ -39,15 +39,20 @@ pub trait Input: Source {
     /// The bytes of the trace of a name, where it tells them.
     ghost named: { Self → List ℕ → Option (List ℕ) };
 
+    /// The name of the trace that it turned to; none where it is standard input, or where memory for the name was refused.
+    ghost name_of: { Self → Option (List ℕ) };
+
     /// Turns to the trace of this name, or stays as it was.
     fn open(&mut self, name: &str) -> Result<(), OpenRefusal>
         ensures opened { OnOk result (Self.left self.new ≡ named self.old name.now) }
+        ensures name { OnOk result ((name_of self.new ≡ Some name.now) ⊎ (name_of self.new ≡ None)) }
         ensures calls { Self.calls self.new ≡ Self.calls self.old }
         ensures failures { Self.failures self.new ≡ Self.failures self.old }
         ensures refused { OnErr result (self.new ≡ self.old) };
 
     /// The name of the trace that was opened; none where it is standard input, or where memory for the name was refused.
-    fn name(&self) -> Option<&str>;
+    fn name(&self) -> Option<&str>
+        ensures { option_map (λ name. name.now) result ≡ name_of self.now };
 
     /// What the system said of the last read that failed; none where it said nothing.
     fn failure(&self) -> Option<io::Error>;
@@ -61,6 +66,7 @@ pub trait Input: Source {
     /// Chooses when it tells how far the reading is.
     fn tell_progress(&mut self, telling: Telling)
         ensures left { Self.left self.new ≡ Self.left self.old }
+        ensures name { name_of self.new ≡ name_of self.old }
         ensures calls { Self.calls self.new ≡ Self.calls self.old }
         ensures failures { Self.failures self.new ≡ Self.failures self.old };
 }

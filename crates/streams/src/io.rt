@@ -27,8 +27,8 @@ pub struct FileInput<'a, R: Files + Clock, I: Read + Drop, W: Write + Drop> {
     // That standard input is a terminal is still to be told.
     is_terminal: bool,
     file: Option<R::File>,
-    // The name of the file; empty where memory for it was refused.
-    name: String,
+    // The name of the file; none where memory for it was refused.
+    name: Option<String>,
     begun: Vec<u8>,
     heard: LastBytes,
     progress: Progress<W>,
@@ -56,7 +56,7 @@ impl<'a, R: Files + Clock, I: Read + Drop, W: Write + Drop> FileInput<'a, R, I, 
             standard,
             is_terminal,
             file: None,
-            name: String::new(alloc),
+            name: None,
             begun: Vec::new(alloc),
             heard: LastBytes::new(alloc),
             progress,
@@ -157,23 +157,23 @@ fn open_file<R: Files>(files: &R, name: &str) -> Result<R::File, OpenRefusal> {
 }
 
 impl<R: Files + Clock, I: Read + Drop, W: Write + Drop> Input for FileInput<'_, R, I, W> {
-    ghost use Rattle.std.specs.Prelude.{None};
+    ghost use Rattle.std.specs.Prelude.{None, option_map, string_bytes};
 
     ghost named = { λ s name. None };
+
+    ghost name_of = { λ s. option_map string_bytes s.name };
 
     fn open(&mut self, name: &str) -> Result<(), OpenRefusal> {
         let file = open_file(self.system, name)?;
         self.file = Some(file);
-        self.name.clear();
-        let _ = self.name.push_str(name);
+        self.name = String::from_str(*self.begun.allocator(), name).ok();
         Ok(())
     }
 
     fn name(&self) -> Option<&str> {
-        if self.name.is_empty() {
-            None
-        } else {
-            Some(self.name.as_str())
+        match &self.name {
+            Some(name) => Some(name.as_str()),
+            None => None,
         }
     }
 

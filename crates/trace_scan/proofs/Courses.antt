@@ -1,5 +1,5 @@
 -- A text whose pieces are fed while it is read from a source.
-use Rattle.std.proofs.Common.{◌≡◌, ◌∙◌, sym, ap, subst, refl, ℕ, List, [], ◌++◌, length, Option, Some, None, Result, Ok, Err, append-nil, inl, inr, ◌⊎◌}
+use Rattle.std.proofs.Common.{◌≡◌, ◌∙◌, sym, ap, subst, refl, ℕ, ◌≤◌, ◌^◌, List, [], ◌++◌, length, Option, Some, None, Result, Ok, Err, append-nil, inl, inr, ◌⊎◌}
 use Rattle.std.specs.Prelude.{IfOk, IfErr, IfSome}
 use Rattle.std.specs.Option.{option_map}
 use Rattle.line_model.specs.work.Book.{KnownPlan}
@@ -11,7 +11,8 @@ use Rattle.line_model.specs.declared.fault.Fault.TheVariants.{Memory, Trace, Rea
 use Rattle.line_model.proofs.TextLemmas.{early_rows-nothing}
 use Rattle.trace_text.specs.Sources.{BeginsSo, HasFailed, IsAllGiven, IsFedAll, IsFedUpTo, IsRefusedBy, MayBeFed}
 use Rattle.trace_text.specs.StandsFor.{IsFaultOf, IsTextFault}
-use Rattle.trace_text.proofs.SourceLemmas.{all_sound, sound_before}
+use Rattle.trace_text.proofs.DecidedLemmas.{all_sound, decided_before}
+use Rattle.trace_text.proofs.SourceLemmas.{all_sound as sound_at_end, sound_before}
 use Rattle.shared_work.specs.queue.Passes.{PassView, QueueId}
 use Rattle.shared_work.specs.declared.queue.rule.Record.{Record}
 use Rattle.workers.specs.Workers.{HasFed}
@@ -64,15 +65,15 @@ reading_fault _ h = absurd h
 pub no_read_fault : (f : Fault) → IsTextFault f → f ≡ ReadFailed → ⊥
 no_read_fault f h e = subst IsTextFault e h
 
-at_end : (text : List ℕ) (f : Fault) → IsFaultOf (fault text) f → IsRefusal text [] f
-at_end text Memory h = tt
-at_end text (Trace line kind) h = inr (refl, h)
-at_end text _ h = absurd h
+at_end : (text : List ℕ) (f : Fault) → early text ≡ None → IsFaultOf (fault text) f → IsRefusal text [] f
+at_end text Memory sound h = all_sound text sound
+at_end text (Trace line kind) sound h = (all_sound text sound, inr (refl, h))
+at_end text _ sound h = absurd h
 
-on_the_way : (given rest : List ℕ) (f : Fault) → IsFaultOf (early given) f → IsRefusal given rest f
-on_the_way given rest Memory h = tt
-on_the_way given rest (Trace line kind) h = inl h
-on_the_way given rest _ h = absurd h
+on_the_way : (fed last rest : List ℕ) (f : Fault) → early fed ≡ None → length last ≤ 2 ^ 16 → IsFaultOf (early (fed ++ last)) f → IsRefusal (fed ++ last) rest f
+on_the_way fed last rest Memory sound few h = decided_before fed last sound few
+on_the_way fed last rest (Trace line kind) sound few h = (decided_before fed last sound few, inl h)
+on_the_way fed last rest _ sound few h = absurd h
 
 pub has_read : {A : Type 0} (before after asked : Option (List ℕ)) (failed : Type 0) (was_fed : List ℕ → Type 0) (fed : List Piece) (r : Result (Read A) Fault) → (w : IsFedAll before after asked was_fed) → IfOk r (IsReadOf w.text fed) → IfErr r (IsFaultOf (fault w.text)) → IfErr r IsTextFault
     → HasRead before after asked failed fed r
@@ -89,7 +90,7 @@ has_read before after asked failed was_fed fed (Err f) w ok refused kinds = reco
   kinds = reading_fault f kinds;
   refused = λ all e.
       let at = w.source all e in
-      record { given = w.text; rest = []; whole = at.0 ∙ sym (append-nil w.text); left = at.1; order = inr (all_sound before after asked was_fed all w e); refusal = at_end w.text f refused };
+      record { given = w.text; rest = []; whole = at.0 ∙ sym (append-nil w.text); left = at.1; order = inr (sound_at_end before after asked was_fed all w e); refusal = at_end w.text f w.sound refused };
   read_failed = λ e. let same : f ≡ ReadFailed = cc in absurd (no_read_fault f kinds same);
 }
 
@@ -97,10 +98,10 @@ stop_kinds : (was_fed : List ℕ → Type 0) (start pass : PassView) (fed last :
 stop_kinds was_fed start pass fed last f (inl why) = subst IsReadingFault (sym why.failure) tt
 stop_kinds was_fed start pass fed last f (inr why) = reading_fault f why.kinds
 
-stop_refusal : (was_fed : List ℕ → Type 0) (refused : (fed last : List ℕ) → Fault → Type 0) (fed last rest : List ℕ) (f : Fault) → early fed ≡ None → (refused fed last f → IsFaultOf (early (fed ++ last)) f) → HasFailed was_fed fed last f ⊎ refused fed last f → IsRefusal (fed ++ last) rest f
-stop_refusal was_fed refused fed last rest f sound is (inl why) =
+stop_refusal : (was_fed : List ℕ → Type 0) (refused : (fed last : List ℕ) → Fault → Type 0) (fed last rest : List ℕ) (f : Fault) → early fed ≡ None → length last ≤ 2 ^ 16 → (refused fed last f → IsFaultOf (early (fed ++ last)) f) → HasFailed was_fed fed last f ⊎ refused fed last f → IsRefusal (fed ++ last) rest f
+stop_refusal was_fed refused fed last rest f sound few is (inl why) =
     subst (IsRefusal (fed ++ last) rest) (sym why.failure) (subst (λ xs. early (fed ++ xs) ≡ None) (sym why.none) (subst (λ xs. early xs ≡ None) (sym (append-nil fed)) sound))
-stop_refusal was_fed refused fed last rest f sound is (inr why) = on_the_way (fed ++ last) rest f (is why)
+stop_refusal was_fed refused fed last rest f sound few is (inr why) = on_the_way fed last rest f sound few (is why)
 
 -- what the bytes say that were given where reading stopped
 pub refused_by : (before after asked : Option (List ℕ)) (was_fed : List ℕ → Type 0) (refused : (fed last : List ℕ) → Fault → Type 0) (f : Fault) (text : List ℕ) → (u : IsFedUpTo before after asked was_fed refused f) → (refused u.fed u.last f → IsFaultOf (early (u.fed ++ u.last)) f) → before ≡ Some text
@@ -113,7 +114,7 @@ refused_by before after asked was_fed refused f text u is told =
       whole = at.1;
       left = at.2;
       order = inr (sound_before before after asked was_fed refused f text u told);
-      refusal = stop_refusal was_fed refused u.fed u.last at.0 f u.sound is u.why;
+      refusal = stop_refusal was_fed refused u.fed u.last at.0 f u.sound u.few is u.why;
     }
 
 pub has_stopped : {A : Type 0} (before after asked : Option (List ℕ)) (failed : Type 0) (was_fed : List ℕ → Type 0) (start pass : PassView) (fed : List Piece) (f : Fault) → IsFedUpTo before after asked was_fed (IsRefusedText start pass) f → (f ≡ ReadFailed → failed)

@@ -13,6 +13,7 @@ use Rattle.live_report.specs.Reports.{IsRefusal as IsReportRefusal, IsReportFaul
 use Rattle.trace_text.specs.Watched.{IsReportOf}
 use Rattle.trace_text.specs.Sources.{HasFailed, IsFedAll, IsFedUpTo, IsRefusedBy}
 use Rattle.trace_text.specs.StandsFor.{IsFaultOf, IsTextFault}
+use Rattle.trace_text.proofs.DecidedLemmas.{all_sound}
 use Rattle.live_report.proofs.LawLemmas.{no_fault_so_far}
 use Rattle.trace_scan.specs.Readings.{IsRefusal}
 use Rattle.trace_scan.specs.Scan.{IsPartTaken, IsScanFault}
@@ -22,17 +23,17 @@ report_is text i made sound h is = record { sound = sound; interface = i; header
 
 -- ---- where the whole text was read
 
-at_end : (text : List ℕ) (f : Fault) → IsReportRefusal text f → IsRefusal text [] f
-at_end text Memory h = tt
-at_end text (Trace line kind) h = inr (refl, h)
-at_end text Write h = (refl, h)
-at_end text _ h = absurd h
+at_end : (text : List ℕ) (f : Fault) → early text ≡ None → IsReportRefusal text f → IsRefusal text [] f
+at_end text Memory sound h = all_sound text sound
+at_end text (Trace line kind) sound h = (all_sound text sound, inr (refl, h))
+at_end text Write sound h = (refl, h)
+at_end text _ sound h = absurd h
 
 -- the last call of the source gave nothing
 refused_at_end : (text : List ℕ) (left asked : Option (List ℕ)) (f : Fault) → early text ≡ None → IsReportRefusal text f → left ≡ Some [] → asked ≡ Some [] → IsRefusedBy IsRefusal text left asked f
 refused_at_end text left asked f sound h e none =
     let whole = sym (append-nil text) in
-    record { given = text; rest = []; whole = whole; left = e; order = inr (record { before = text; last = []; whole = whole; left = none; sound = sound }); refusal = at_end text f h }
+    record { given = text; rest = []; whole = whole; left = e; order = inr (record { before = text; last = []; whole = whole; left = none; sound = sound }); refusal = at_end text f sound h }
 
 pub end_refused : (r : Result Summary Fault) (before left asked : Option (List ℕ)) (was_fed : List ℕ → Type 0) (text : List ℕ) → (w : IsFedAll before left asked was_fed) → before ≡ Some text → IfErr r (IsReportRefusal w.text) → IfErr r (IsRefusedBy IsRefusal text left asked)
 end_refused (Ok sums) before left asked was_fed text w told h = tt

@@ -17,7 +17,9 @@ use Rattle.line_model.specs.traces.Traces.{trace_report}
 use Rattle.line_model.specs.pieces.Plans.{plan, channel_totals}
 use Rattle.line_model.specs.work.Book.{KnownPlan, AreOf}
 use Rattle.line_model.proofs.Posts.{whole}
+use Rattle.line_model.proofs.TextLemmas.{early-nothing}
 use Rattle.line_model.proofs.BookTotals.{totals_law}
+use Rattle.trace_text.proofs.DecidedLemmas.{all_sound}
 use Rattle.trace_text.proofs.RowsOfText.{text_rises}
 use Rattle.report_merge.specs.Merged.{IsOfWalk}
 use Rattle.report_merge.proofs.Posted.{permuted_posts}
@@ -76,7 +78,7 @@ worker_stopped (Some (Ok read)) before after asked failed fed f k h m = record {
 
 -- the task came back without its turn: no byte was given
 unfed_refusal : (rest : List ℕ) (f : Fault) → (f ≡ Memory) ⊎ (f ≡ Start) → IsRefusal [] rest f
-unfed_refusal rest f (inl m) = subst (IsRefusal [] rest) (sym m) tt
+unfed_refusal rest f (inl m) = subst (IsRefusal [] rest) (sym m) (all_sound [] early-nothing)
 unfed_refusal rest f (inr s) = subst (IsRefusal [] rest) (sym s) refl
 
 unfed_stops : (f : Fault) → (f ≡ Memory) ⊎ (f ≡ Start) → IsStopFault f

@@ -4,6 +4,7 @@ use Rattle.line_model.specs.basics.Records.{Row, Piece}
 use Rattle.line_model.specs.declared.interface.Interface.{Interface}
 use Rattle.line_model.specs.text.Text.{early, fault, head, rows}
 use Rattle.line_model.specs.pieces.Plans.{plan, line_findings}
+use Rattle.trace_text.specs.Decided.{NoneDecidedButLast}
 use Rattle.trace_text.specs.Sources.{IsRefusedBy}
 use Rattle.trace_text.specs.StandsFor.{IsFaultOf, IsTextFault}
 use Rattle.line_model.specs.declared.fault.Fault.{Fault}
@@ -28,11 +29,12 @@ pub record IsReadOf {A : Type 0} (text : List ℕ) (fed : List Piece) (r : Read 
   pub header : head text ≡ Some r.interface
   pub cut : IsCutOf r.interface (rows text) fed r
 
--- what a refusal says of the bytes that were given: the first faulty line is told as soon as they show it, else at the end of the text; the
--- source failed while they showed none; the sink failed on the report of a text without a fault; where no thread was made, none was given
+-- what a refusal says of the bytes that were given: the first faulty line is told as soon as they show it, else at the end of the text, and
+-- all but at most the last 65,536 show none; where memory ran out so too; the source failed while they showed none; the sink failed on the
+-- report of a text without a fault; where no thread was made, none was given
 abbrev pub IsRefusal : (given rest : List ℕ) → Fault → Type 0
-IsRefusal given rest Memory = Unit {0}
-IsRefusal given rest (Trace line kind) = (early given ≡ Some (line, kind)) ⊎ ((rest ≡ []) × (fault given ≡ Some (line, kind)))
+IsRefusal given rest Memory = NoneDecidedButLast given
+IsRefusal given rest (Trace line kind) = NoneDecidedButLast given × ((early given ≡ Some (line, kind)) ⊎ ((rest ≡ []) × (fault given ≡ Some (line, kind))))
 IsRefusal given rest ReadFailed = early given ≡ None
 IsRefusal given rest Write = (rest ≡ []) × (fault given ≡ None)
 IsRefusal given rest Start = given ≡ []

@@ -30,7 +30,8 @@ pub fn scan_alone<A: Allocator + Copy, S: Source, K: Sink>(
     // So it is with a source that does not tell its bytes.
     ensures of_text { IfOk result (λ sums. (text : List ℕ)
         × IsReported text (K.taken sink.old) (K.taken sink.new) sums) }
-    // A refusal is by the bytes that were given, and those before the last call of the source show no faulty line.
+    // A refusal is by the bytes that were given. Those before the last call of the source show no faulty line, and all but
+    // at most the last 65,536 show none.
     ensures refused { (text : List ℕ) → S.left source.old ≡ Some text
         → IfErr result (IsRefusedBy IsRefusal text (S.left source.new) (S.before source.new)) }
     ensures kinds { IfErr result IsScanFault }

@@ -158,7 +158,8 @@ pub fn scan_with<
         × (scan.totals ≡ trace_totals text)) }
     ensures shares { IfOk result (λ scan. (vec_len scan.shares ≡ workers)
         × (scan.totals ≡ sum_of scan.shares.items)) }
-    // A refusal is by the bytes that were given, and those before the last call of the source show no faulty line.
+    // A refusal is by the bytes that were given. Those before the last call of the source show no faulty line, and all but
+    // at most the last 65,536 show none.
     ensures refused { (text : List ℕ) → S.left source.old ≡ Some text
         → IfErr result (IsRefusedBy IsRefusal text (S.left source.new) (S.before source.new)) }
     ensures read_failed { result ≡ Err Fault.Read → S.failures source.old < S.failures source.new }

@@ -56,9 +56,11 @@ impl Source for CutInput<'_> {
 }
 
 impl Input for CutInput<'_> {
-    ghost use Rattle.std.specs.Prelude.{Some};
+    ghost use Rattle.std.specs.Prelude.{None, Some};
 
     ghost named = { λ s name. Some s.file.text.now };
+
+    ghost name_of = { λ s. None };
 
     fn open(&mut self, name: &str) -> Result<(), OpenRefusal> {
         if name != self.file.name {
