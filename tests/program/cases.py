@@ -64,7 +64,7 @@ def word_cases():
     version = pattern(rb"x25scan \d+\.\d+\.\d+\nproved with rattle-kit-\S+ logic [0-9a-f]{16}\n")
     yield Case("the version", ("--version",), report=version)
     yield Case("the version by its letter", ("-V",), report=version)
-    helped = pattern(rb"Reports what .*Usage: x25scan \[OPTIONS\] \[FILE\].*--workers.*--alone.*--follow.*--json.*--annotate.*--channel.*--call.*--progress.*--explain.*Examples:\n.*Exit status:\n  0 .*\n  64 .*TRACE.md.*\n")
+    helped = pattern(rb"Reports what .*Usage: x25scan \[OPTIONS\] \[FILE\].*--workers.*--alone.*--follow.*--json.*--annotate.*--rows.*--channel.*--call.*--progress.*--explain.*Examples:\n.*Exit status:\n  0 .*\n  64 .*TRACE.md.*\n")
     yield Case("help", ("--help",), report=helped)
     yield Case("help by its letter", ("-h",), report=helped)
     yield Case("an explanation reads no file", ("--explain", "22", "day.trace"), report=pattern(rb"22 \(.*"))
@@ -124,6 +124,9 @@ def annotation_cases():
     both = b"error: --json tells a report, and --annotate, --channel and --call write a trace in its place\n"
     for words in (("--annotate", "--json"), ("--json", "--call", "7")):
         yield Case(f"JSON of a trace {words}", words, FOUND, 64, b"", both)
+    neither = b"error: --annotate prints the trace again, and --rows an object for each row: name one of them\n"
+    for words in (("--annotate", "--rows"), ("--rows", "--annotate", "--call", "7")):
+        yield Case(f"two forms of the rows {words}", words, FOUND, 64, b"", neither)
     for words in (("--channel", "0"), ("--channel", "4096"), ("--call", "0"), ("--call", "x")):
         yield Case(f"a choice that is none {words}", words, FOUND, 64, b"", pattern(rb"error: invalid value.*"))
     yield Case("a full device at an annotation", ("--annotate",), FOUND, 3, b"", FULL, output="/dev/full")

@@ -15,6 +15,7 @@ Examples:
   tail -n +1 -F line.trace | x25scan --follow
                                         follow a line while it is recorded
   x25scan --json day.trace              print an object for each line of the report
+  x25scan --rows --call 7 day.trace     print an object for each row of call 7
   x25scan --annotate --call 7 day.trace print the trace, with comments on the rows of call 7
   x25trace day.pcap | x25scan           read a capture
   x25scan --explain 22                  explain a word of the report or of a refusal

@@ -104,7 +104,7 @@ fn channel<'a>(alloc: Global) -> Arg<'a>
     Arg::new(alloc, "channel")
         .long("channel")
         .value_name("N")
-        .help("Only the rows of this logical channel: their objects with --rows, else the trace with comments on them")
+        .help("As --annotate, or with --rows, only the rows of this logical channel")
         .action(ArgAction::Set)
         .value_parser(value_parser!(u16).range(1..=4095))
 }
@@ -117,7 +117,7 @@ fn call<'a>(alloc: Global) -> Arg<'a>
     Arg::new(alloc, "call")
         .long("call")
         .value_name("N")
-        .help("Only the rows of this call of the report: their objects with --rows, else the trace with comments on them")
+        .help("As --annotate, or with --rows, only the rows of this call of the report")
         .action(ArgAction::Set)
         .value_parser(value_parser!(u32).range(1..=999_999_999))
 }

@@ -27,7 +27,7 @@ counted_at es i e side n segments lt is told none counted =
     let own = data_lengths e side n told in
     let first : all_lengths (take (i + 1) es) ≡ n ∷ [] = lengths_next es i e lt is ∙ (λ t. none t ++ own t) in
     let all : all_lengths es ≡ n ∷ all_lengths (drop (i + 1) es) =
-        ap all_lengths (sym (take-append-drop (i + 1) es)) ∙ lengths_of (take (i + 1) es) (drop (i + 1) es) ∙ ap (λ ns. ns ++ all_lengths (drop (i + 1) es)) first in
+    ap all_lengths (sym (take-append-drop (i + 1) es)) ∙ lengths_of (take (i + 1) es) (drop (i + 1) es) ∙ ap (λ ns. ns ++ all_lengths (drop (i + 1) es)) first in
     subst (λ ns. IsFateOf ns (Counted n segments)) (sym all) (refl, counted ∙ ap segments_of own)
 
 other_lengths : (e : Event) (what : What) → e.what ≡ what → ((side : Side) (n : ℕ) → ¬ (what ≡ Data side n)) → all_lengths (e ∷ []) ≡ []

@@ -36,8 +36,8 @@ use Rattle.descriptions.specs.declared.facts.RowFacts.{RowFacts}
 pub joined_next : {X : Type 0} (f : X → List ℕ) (xs : List X) (i : ℕ) (x : X) (out o1 o2 : List ℕ) → i < length xs → o1 ≡ out ++ joined (map f (take i xs)) → o2 ≡ o1 ++ f (get_or xs i x) → o2 ≡ out ++ joined (map f (take (i + 1) xs))
 joined_next f xs i x out o1 o2 lt e1 e2 =
     let one : joined (map f (take (i + 1) xs)) ≡ joined (map f (take i xs)) ++ f (get_or xs i x) =
-        ap (λ ys. joined (map f ys)) (take_more xs i x lt) ∙ ap joined (map-append f (take i xs) (get_or xs i x ∷ [])) ∙ flat_map-append (λ word. word) (map f (take i xs)) (f (get_or xs i x) ∷ [])
-        ∙ ap (λ ys. joined (map f (take i xs)) ++ ys) (append-nil (f (get_or xs i x))) in
+    ap (λ ys. joined (map f ys)) (take_more xs i x lt) ∙ ap joined (map-append f (take i xs) (get_or xs i x ∷ [])) ∙ flat_map-append (λ word. word) (map f (take i xs)) (f (get_or xs i x) ∷ [])
+    ∙ ap (λ ys. joined (map f (take i xs)) ++ ys) (append-nil (f (get_or xs i x))) in
     e2 ∙ ap (λ ys. ys ++ f (get_or xs i x)) e1 ∙ append_assoc out (joined (map f (take i xs))) (f (get_or xs i x)) ∙ ap (λ ys. out ++ ys) (sym one)
 
 -- ---- the state that is known
@@ -55,29 +55,29 @@ four_parts out a b c d =
     append_assoc ((out ++ a) ++ b) c d ∙ append_assoc (out ++ a) b (c ++ d) ∙ append_assoc out a (b ++ (c ++ d))
 
 pub head_put : (i : Interface) (earlier : List Row) (r : Row) (facts : RowFacts) (out o1 o2 o3 o4 : List ℕ) → AreFactsOf i earlier r facts
-    → o1 ≡ out ++ state_members r (named_channel facts.packet) (known_word facts.before) (known_word facts.after)
+    → o1 ≡ out ++ state_members r (named_channel facts.last.now.packet) (known_word facts.last.now.before) (known_word facts.last.now.after)
     → o2 ≡ o1 ++ counted_word (all_lengths (events_at i (routed (x25 i) (observer i earlier).line r) (observer i earlier) r))
-    → o3 ≡ o2 ++ codes ",\"finding\":" → o4 ≡ o3 ++ finding_word facts.finding → o4 ≡ out ++ row_head i earlier r facts.finding
+    → o3 ≡ o2 ++ codes ",\"finding\":" → o4 ≡ o3 ++ finding_word facts.last.now.finding → o4 ≡ out ++ row_head i earlier r facts.last.now.finding
 head_put i earlier r facts out o1 o2 o3 o4 h e1 e2 e3 e4 =
     let taker : Option ℕ = routed (x25 i) (observer i earlier).line r in
     let counted : List ℕ = counted_word (all_lengths (events_at i taker (observer i earlier) r)) in
-    let before : known_word facts.before ≡ state_at taker (observer i earlier) = known_is i taker (observer i earlier) facts.before h.before in
-    let after : known_word facts.after ≡ state_at taker (observer i (earlier ++ r ∷ [])) = known_is i taker (observer i (earlier ++ r ∷ [])) facts.after h.after in
-    let members : state_members r (named_channel facts.packet) (known_word facts.before) (known_word facts.after)
-        ≡ state_members r (named_channel (packet_of i r.octets)) (state_at taker (observer i earlier)) (state_at taker (observer i (earlier ++ r ∷ []))) =
-        (λ t. state_members r (named_channel (h.packet t)) (before t) (after t)) in
-    e4 ∙ ap (λ xs. xs ++ finding_word facts.finding) (e3 ∙ ap (λ xs. xs ++ codes ",\"finding\":") (e2 ∙ ap (λ xs. xs ++ counted) (e1 ∙ ap (λ xs. out ++ xs) members)))
-    ∙ four_parts out (state_members r (named_channel (packet_of i r.octets)) (state_at taker (observer i earlier)) (state_at taker (observer i (earlier ++ r ∷ [])))) counted (codes ",\"finding\":") (finding_word facts.finding)
+    let before : known_word facts.last.now.before ≡ state_at taker (observer i earlier) = known_is i taker (observer i earlier) facts.last.now.before h.before in
+    let after : known_word facts.last.now.after ≡ state_at taker (observer i (earlier ++ r ∷ [])) = known_is i taker (observer i (earlier ++ r ∷ [])) facts.last.now.after h.after in
+    let members : state_members r (named_channel facts.last.now.packet) (known_word facts.last.now.before) (known_word facts.last.now.after)
+    ≡ state_members r (named_channel (packet_of i r.octets)) (state_at taker (observer i earlier)) (state_at taker (observer i (earlier ++ r ∷ []))) =
+    (λ t. state_members r (named_channel (h.packet t)) (before t) (after t)) in
+    e4 ∙ ap (λ xs. xs ++ finding_word facts.last.now.finding) (e3 ∙ ap (λ xs. xs ++ codes ",\"finding\":") (e2 ∙ ap (λ xs. xs ++ counted) (e1 ∙ ap (λ xs. out ++ xs) members)))
+    ∙ four_parts out (state_members r (named_channel (packet_of i r.octets)) (state_at taker (observer i earlier)) (state_at taker (observer i (earlier ++ r ∷ [])))) counted (codes ",\"finding\":") (finding_word facts.last.now.finding)
 
 -- ---- an object
 
 pub object_put : (i : Interface) (earlier : List Row) (r : Row) (facts : RowFacts) (members out o1 o2 o3 : List ℕ) → AreFactsOf i earlier r facts
-    → o1 ≡ out ++ row_head i earlier r facts.finding → o2 ≡ o1 ++ plain members → o3 ≡ o2 ++ codes "}\n" → HasAppended (IsRowObject i earlier r) out o3
+    → o1 ≡ out ++ row_head i earlier r facts.last.now.finding → o2 ≡ o1 ++ plain members → o3 ≡ o2 ++ codes "}\n" → HasAppended (IsRowObject i earlier r) out o3
 object_put i earlier r facts members out o1 o2 o3 h e1 e2 e3 = record {
-  bytes = row_head i earlier r facts.finding ++ (plain members ++ codes "}\n");
+  bytes = row_head i earlier r facts.last.now.finding ++ (plain members ++ codes "}\n");
   appended = e3 ∙ ap (λ xs. xs ++ codes "}\n") (e2 ∙ ap (λ xs. xs ++ plain members) e1)
-      ∙ append_assoc (out ++ row_head i earlier r facts.finding) (plain members) (codes "}\n") ∙ append_assoc out (row_head i earlier r facts.finding) (plain members ++ codes "}\n");
-  formed = record { found = facts.finding; came = h.finding; rest = plain members; one = plain_one members; written = refl };
+      ∙ append_assoc (out ++ row_head i earlier r facts.last.now.finding) (plain members) (codes "}\n") ∙ append_assoc out (row_head i earlier r facts.last.now.finding) (plain members ++ codes "}\n");
+  formed = record { found = facts.last.now.finding; came = h.finding; rest = plain members; one = plain_one members; written = refl };
 }
 
 -- ---- which rows have one
@@ -99,3 +99,15 @@ row_put (Ok x) rows None earlier (Some r) told out after e untold object =
     record { bytes = []; appended = untold (same_told told false e) ∙ sym (append-nil out); formed = refl }
 row_put (Ok x) rows (Some i) earlier (Some r) told out after e untold object =
     subst (λ b. HasAppended (IsObjectWhere b i earlier r) out after) (same_told told (is_told rows i earlier r) e) (object i r refl refl)
+
+-- ---- a row that was taken
+
+pub no_row : (o : Option Row) (r : Row) → o ≡ None → o ≡ Some r → ⊥
+no_row None r e f = cc
+no_row (Some x) r e f = cc
+
+pub same_interface : (o : Option Interface) (i j : Interface) → o ≡ Some i → o ≡ Some j → i ≡ j
+same_interface o i j e f = inner i j (sym e ∙ f)
+  where
+    inner : (a b : Interface) → Some a ≡ Some b → a ≡ b
+    inner a b h = cc

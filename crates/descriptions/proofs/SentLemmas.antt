@@ -1,5 +1,5 @@
 -- What a sink took of JSON that went to it in parts, known by its bytes alone.
-use Rattle.std.proofs.Common.{◌≡◌, ◌∙◌, sym, ap, refl, ℕ, ◌<◌, List, [], ◌++◌, length, drop, Option, Some, None, Result, Ok, Err, OnOk, OnErr}
+use Rattle.std.proofs.Common.{◌≡◌, ◌∙◌, sym, ap, refl, ℕ, ◌<◌, List, [], ◌++◌, length, drop, append-nil, Option, Some, None, Result, Ok, Err, OnOk, OnErr}
 use Rattle.std.specs.Coded.{Coded-set, coded_list, coded_option, coded_ℕ}
 use Rattle.std.proofs.Props.{props}
 use Rattle.std.proofs.Math.Logic.{∥∥₁_elim, ∥∥₁_map}
@@ -7,7 +7,13 @@ use Rattle.std.proofs.Math.Seq.{drop-append_seam}
 use Rattle.line_model.specs.basics.Device.{with_more}
 use Rattle.line_model.specs.basics.Written.{HasFront, Writes}
 use Rattle.line_model.specs.declared.write_buffer.WriteBuffer.{WriteBuffer}
-use Rattle.annotated_trace.specs.Printed.{HasTaken}
+use Rattle.line_model.specs.basics.Records.{Report}
+use Rattle.line_model.specs.observer.Report.{text_of}
+use Rattle.line_model.proofs.DeviceLemmas.{with_more-append}
+use Rattle.json_lines.specs.Json.{json_text}
+use Rattle.annotated_trace.specs.Printed.{HasTaken, HasTakenFirst}
+use Rattle.annotated_trace.specs.declared.rows.Rows.{Rows}
+use Rattle.descriptions.specs.RowObjects.{IsClosing}
 use Rattle.descriptions.specs.Sent.{HasSent, IsAnything}
 
 -- it took some bytes
@@ -42,3 +48,37 @@ sent_taken r start now buffer after t ok part = taken_of start.0 after (∥∥�
 pub sent_cause : {T E : Type 0} (r : Result T E) (start now : Option (List ℕ) × ℕ) (buffer : WriteBuffer) (before after : ℕ) → ∥ HasSent start now buffer ∥₁ → ((text : List ℕ) → Writes start now buffer text → OnErr r (before < after)) → OnErr r (before < after)
 sent_cause (Ok x) start now buffer before after t cause = tt
 sent_cause (Err e) start now buffer before after t cause = ∥∥₁_elim t (hlevel props) (λ h. cause h.text h.writes)
+
+-- ---- the objects of the report, and those after them
+
+pub closes : (rows : Rows) (report : Report) (before mid after : Option (List ℕ)) → mid ≡ with_more before (json_text (text_of report)) → HasTaken IsAnything mid after → HasTaken (IsClosing rows report) before after
+closes rows report before mid after e t = record {
+  bytes = json_text (text_of report) ++ t.bytes;
+  taken = t.taken ∙ ap (λ m. with_more m t.bytes) e ∙ with_more-append before (json_text (text_of report)) t.bytes;
+  formed = record { rest = t.bytes; written = refl };
+}
+
+pub first_of_closing : (rows : Rows) (report : Report) (before mid after : Option (List ℕ)) → mid ≡ with_more before (json_text (text_of report)) → HasTaken IsAnything mid after → HasTakenFirst (IsClosing rows report) before after
+first_of_closing rows report before mid after e t =
+    let whole = closes rows report before mid after e t in
+    record { bytes = whole.bytes; front = whole.bytes; left = []; whole = sym (append-nil whole.bytes); taken = whole.taken; formed = whole.formed }
+
+pub first_of_report : (rows : Rows) (report : Report) (before after : Option (List ℕ)) → HasFront before after (json_text (text_of report)) → HasTakenFirst (IsClosing rows report) before after
+first_of_report rows report before after h = record {
+  bytes = json_text (text_of report);
+  front = h.0;
+  left = h.1;
+  whole = h.2;
+  taken = h.3;
+  formed = record { rest = []; written = sym (append-nil (json_text (text_of report))) };
+}
+
+-- whatever is answered
+
+pub any_ok : {T E : Type 0} (r : Result T E) (P : Type 0) → P → OnOk r P
+any_ok (Ok x) P p = p
+any_ok (Err e) P p = tt
+
+pub any_err : {T E : Type 0} (r : Result T E) (P : Type 0) → P → OnErr r P
+any_err (Ok x) P p = tt
+any_err (Err e) P p = p

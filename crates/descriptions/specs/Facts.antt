@@ -24,10 +24,10 @@ IsFateOf (n ∷ ns) _ = ⊥
 
 -- a row after others, what was known before and after it by the machine that judged it, what it found, and what it counted
 pub record AreFactsOf (i : Interface) (earlier : List Row) (r : Row) (facts : RowFacts) : Type 0 where
-  pub number : facts.number ≡ r.number
-  pub side : facts.side ≡ r.side
-  pub packet : facts.packet ≡ packet_of i r.octets
-  pub before : IsKnown i (routed (x25 i) (observer i earlier).line r) (observer i earlier) facts.before
-  pub after : IsKnown i (routed (x25 i) (observer i earlier).line r) (observer i (earlier ++ r ∷ [])) facts.after
-  pub finding : (report_of i (earlier ++ r ∷ [])).findings ≡ (report_of i earlier).findings ++ option_to_list facts.finding
+  pub number : facts.last.now.number ≡ r.number
+  pub side : facts.last.now.side ≡ r.side
+  pub packet : facts.last.now.packet ≡ packet_of i r.octets
+  pub before : IsKnown i (routed (x25 i) (observer i earlier).line r) (observer i earlier) facts.last.now.before
+  pub after : IsKnown i (routed (x25 i) (observer i earlier).line r) (observer i (earlier ++ r ∷ [])) facts.last.now.after
+  pub finding : (report_of i (earlier ++ r ∷ [])).findings ≡ (report_of i earlier).findings ++ option_to_list facts.last.now.finding
   pub fate : IsFateOf (all_lengths (events_at i (routed (x25 i) (observer i earlier).line r) (observer i earlier) r)) facts.fate

@@ -1,6 +1,6 @@
 //! What is remembered of each call for the objects after the report.
 
-use crate::facts::RowFacts;
+use crate::facts::{EndedCall, RowFacts};
 use crate::times::Time;
 use line_model::event::What;
 use line_model::finding::Code;
@@ -87,19 +87,24 @@ impl<A: Allocator + Copy> Calls<A> {
         self.calls.get_mut((number as usize).checked_sub(1)?)
     }
 
-    /// Takes a row with its time.
-    pub fn take(&mut self, facts: &RowFacts<'_>, time: Option<Time>) -> Result<(), AllocError> {
+    /// Takes a row with the calls that it ended and its time.
+    pub fn take(
+        &mut self,
+        facts: &RowFacts<'_>,
+        ended: &[EndedCall],
+        time: Option<Time>,
+    ) -> Result<(), AllocError> {
         for event in facts.events {
             if let What::Open { .. } = event.what {
                 self.calls.push(CallMemory::new(self.alloc, time))?;
             }
         }
-        if let Some(finding) = &facts.finding {
+        if let Some(finding) = &facts.last.finding {
             if let Some(call) = self.get_mut(facts.calls.of_row()) {
                 call.count(finding.code)?;
             }
         }
-        for ended in facts.ended {
+        for ended in ended {
             if let Some(call) = self.get_mut(ended.call) {
                 call.end = time;
             }

@@ -1,10 +1,10 @@
 //! What is remembered of the rows before: the calls, and which sequences of data go on.
 
-ghost use Rattle.std.specs.Prelude.{◌≡◌, ◌<◌, ◌++◌, ◌∷◌, [], List, IfOk, MatchOption, OnOk, length};
+ghost use Rattle.std.specs.Prelude.{◌≡◌, ◌<◌, ◌++◌, ◌∷◌, [], List, IfOk, OnOk, length};
 ghost use Rattle.line_model.specs.basics.Records.{Row};
 ghost use Rattle.line_model.specs.declared.interface.Interface.{Interface as AnyInterface};
 ghost use Rattle.line_model.specs.observer.Calls.{all_lengths};
-ghost use Rattle.live_report.specs.Observing.{HasWalked};
+ghost use Rattle.live_report.specs.LastRows.{IsLastRow};
 ghost use Rattle.descriptions.specs.Facts.{AreFactsOf, IsFateOf};
 
 use crate::facts::{
@@ -145,47 +145,43 @@ impl<A: Allocator + Copy> Course<A> {
         }
     }
 
-    /// The facts of the last row of an observer, if it took one.
+    /// The facts of the last row of an observer.
     pub fn facts<'a, C: Channel<A>>(
-        &'a mut self,
-        interface: &Interface,
+        &mut self,
+        interface: &'a Interface,
         octets: &'a [u8],
+        last: &'a LastRow,
         observer: &'a Observer<A, C>,
-    ) -> Result<Option<RowFacts<'a>>, AllocError>
+    ) -> Result<RowFacts<'a>, AllocError>
         ensures facts { (i : AnyInterface) (earlier : List Row) (r : Row)
-            → HasWalked C.Channel i (earlier ++ r ∷ []) observer.entry.now
-            → IfOk result (λ found. MatchOption found ⊥ (AreFactsOf i earlier r)) }
+            → IsLastRow i earlier r last.entry.now observer.entry.now.events.items
+            → IfOk result (AreFactsOf i earlier r) }
     {
-        let Some(last) = observer.last_row() else {
-            return Ok(None);
-        };
         let epoch = self.epoch;
         self.epoch = observer.epoch();
         self.calls.ended.clear();
-        let channel = last.channel;
-        let deeds = match channel {
+        let deeds = match last.channel {
             Some(channel) => {
                 let data = user_data(interface, octets);
-                self.on_channel(channel, &last, data, observer.events())?
+                self.on_channel(channel, last, data, observer.events())?
             }
-            None => self.on_interface(&last)?,
+            None => self.on_interface(last)?,
         };
-        Ok(Some(RowFacts {
-            interface: *interface,
-            number: last.number,
-            side: last.side,
+        Ok(RowFacts {
+            interface,
             octets,
-            packet: last.packet,
+            last,
             epoch,
-            before: last.before,
-            after: last.after,
-            finding: last.finding,
             events: deeds.events,
             calls: deeds.calls,
-            ended: self.calls.ended.as_slice(),
             fate: deeds.fate,
             message: deeds.message,
-        }))
+        })
+    }
+
+    /// The calls that the last row ended.
+    pub fn ended(&self) -> &[EndedCall] {
+        self.calls.ended.as_slice()
     }
 
     /// What a row did that a logical channel took. `data` is its user data.

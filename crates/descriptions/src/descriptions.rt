@@ -47,10 +47,11 @@ impl<A: Allocator + Copy> Past<A> {
             return Ok(());
         };
         let octets = trace.row().octets.as_slice();
-        let Some(facts) = self.course.facts(&interface, octets, observer)? else {
+        let Some(last) = observer.last_row() else {
             return Ok(());
         };
-        if facts.finding.is_some() {
+        let facts = self.course.facts(&interface, octets, &last, observer)?;
+        if facts.last.finding.is_some() {
             self.before = Some(Before::of_row(&facts));
         }
         self.uncounted.take(&facts);

@@ -7,11 +7,10 @@ ghost use Rattle.descriptions.specs.Facts.{IsFateOf};
 use call_accounts::so_far::segments_in;
 use channel_run::run::View;
 use line_model::event::{Event, How, What};
-use line_model::finding::Finding;
 use line_model::interface::Interface;
 use line_model::packet::{DataHeader, Packet, PacketKind};
-use line_model::state::{ChannelState, Side};
-use live_report::last_row::Known;
+use line_model::state::ChannelState;
+use live_report::last_row::{Known, LastRow};
 use packet_decode::transfer::header_length;
 
 /// Why data was not counted.
@@ -100,32 +99,20 @@ pub struct EndedCall {
 }
 
 /// What a row is and did.
-#[derive(Drop)]
+#[derive(Clone, Copy)]
 pub struct RowFacts<'a> {
     /// The interface.
-    pub interface: Interface,
-    /// The number of the row.
-    pub number: u32,
-    /// The side that sent it.
-    pub side: Side,
+    pub interface: &'a Interface,
     /// Its octets.
     pub octets: &'a [u8],
-    /// Its packet.
-    pub packet: Packet,
+    /// The row as the observer judged it.
+    pub last: &'a LastRow,
     /// The stretch between restarts that it stands in.
     pub epoch: u32,
-    /// What was known before it.
-    pub before: Known,
-    /// What is known after it.
-    pub after: Known,
-    /// What is wrong with it.
-    pub finding: Option<Finding>,
     /// The events of the logical channel that took it.
     pub events: &'a [Event],
     /// The calls of that channel.
     pub calls: CallMove,
-    /// The calls that it ended.
-    pub ended: &'a [EndedCall],
     /// What became of its data.
     pub fate: Fate,
     /// The octets of the PAD message that is whole in it.
@@ -135,7 +122,7 @@ pub struct RowFacts<'a> {
 impl RowFacts<'_> {
     /// What was known before it of the logical channel that took it.
     pub fn view_before(&self) -> Option<View> {
-        match self.before {
+        match self.last.before {
             Known::Channel(view) => Some(view),
             Known::Restart(_) => None,
         }
@@ -143,7 +130,7 @@ impl RowFacts<'_> {
 
     /// Whether the call that was open before it asked fast select.
     pub fn was_fast(&self) -> bool {
-        match self.before {
+        match self.last.before {
             Known::Channel(view) => view.fast,
             Known::Restart(_) => false,
         }

@@ -33,9 +33,9 @@ impl Before {
     /// What stands before a row.
     pub fn of_row(facts: &RowFacts<'_>) -> Self {
         Before {
-            interface: facts.interface,
+            interface: *facts.interface,
             view: facts.view_before(),
-            packet: facts.packet,
+            packet: facts.last.packet,
         }
     }
 }

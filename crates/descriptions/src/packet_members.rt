@@ -28,7 +28,7 @@ pub fn side_word(side: Side) -> &'static str {
 
 /// The members that say what the packet of a row has.
 pub fn packet_members<O: Out>(json: &mut Json<O>, facts: &RowFacts<'_>) {
-    match &facts.packet {
+    match &facts.last.packet {
         Packet::Restart => cause_members(json, facts.octets, Causes::Restarting),
         Packet::Diagnostic => match facts.octets {
             [_, _, _, code, ..] => diagnostic_member(json, *code),
@@ -106,7 +106,7 @@ fn data_members<O: Out>(json: &mut Json<O>, facts: &RowFacts<'_>, header: &DataH
     json.flag_member(",\"more\":", header.more);
     json.flag_member(",\"qualified\":", header.qualified);
     json.flag_member(",\"delivery\":", header.delivery);
-    let data = user_data(&facts.interface, facts.octets);
+    let data = user_data(facts.interface, facts.octets);
     json.number_member(",\"octets\":", data.len() as u64);
     if let Some(octets) = facts.message {
         message_member(json, octets);
@@ -134,22 +134,22 @@ fn pairs<O: Out>(json: &mut Json<O>, message: &Message<'_>) {
     match message.code {
         MessageCode::Indication | MessageCode::Set | MessageCode::Read | MessageCode::SetAndRead =>
             {
-            let read = message.code == MessageCode::Read;
-            let mut is_first = true;
-            for pair in message.standard_pairs() {
-                if !is_first {
-                    json.raw(b",");
+                let read = message.code == MessageCode::Read;
+                let mut is_first = true;
+                for pair in message.standard_pairs() {
+                    if !is_first {
+                        json.raw(b",");
+                    }
+                    is_first = false;
+                    parameter(json, pair.reference % 128);
+                    if read {
+                        json.null_member(",\"value\":");
+                    } else {
+                        json.number_member(",\"value\":", u64::from(pair.value));
+                    }
+                    json.raw(b"}");
                 }
-                is_first = false;
-                parameter(json, pair.reference % 128);
-                if read {
-                    json.null_member(",\"value\":");
-                } else {
-                    json.number_member(",\"value\":", u64::from(pair.value));
-                }
-                json.raw(b"}");
             }
-        }
         _ => {}
     }
     json.raw(b"]");
@@ -181,12 +181,12 @@ pub fn address_member<O: Out>(json: &mut Json<O>, beginning: &str, address: &Add
 
 /// The members of a call packet without a fault.
 fn call_members<O: Out>(json: &mut Json<O>, facts: &RowFacts<'_>) {
-    let fast_before = match class_of(&facts.interface, facts.octets) {
+    let fast_before = match class_of(facts.interface, facts.octets) {
         Class::Call => false,
         Class::Accepted => facts.was_fast(),
         _ => return,
     };
-    if let Ok(fields) = call_fields(&facts.interface, facts.octets, fast_before) {
+    if let Ok(fields) = call_fields(facts.interface, facts.octets, fast_before) {
         field_members(json, &fields);
     }
 }

@@ -12,19 +12,13 @@ use packet_decode::transfer::header_length;
 
 /// The packet of a row, with its side, its logical channel and its fields.
 pub fn packet<P: Prose>(out: &mut P, facts: &RowFacts<'_>) {
-    let side = facts.side;
-    match &facts.packet {
+    let side = facts.last.side;
+    match &facts.last.packet {
         Packet::Channel { channel, kind } => {
             say_number(out, names::side_on_channel(side), u64::from(*channel));
             out.say(": ");
-            out.say(names::packet(side, &facts.packet));
-            channel_fields(
-                out,
-                &facts.interface,
-                facts.octets,
-                kind,
-                facts.was_fast(),
-            )
+            out.say(names::packet(side, &facts.last.packet));
+            channel_fields(out, facts.interface, facts.octets, kind, facts.was_fast())
         }
         packet => {
             out.say(names::side(side));

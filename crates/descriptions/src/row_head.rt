@@ -58,28 +58,25 @@ fn channel_digits<'a>(packet: &Packet, buffer: &'a mut Buffer) -> &'a [u8]
 }
 
 /// Appends the members of a row up to its states.
-fn append_states<A: Allocator>(
-    facts: &RowFacts<'_>,
-    out: &mut Vec<u8, A>,
-) -> Result<(), AllocError>
-    ensures { (r : Row) → facts.now.number ≡ r.number → facts.now.side ≡ r.side
+fn append_states<A: Allocator>(facts: &RowFacts<'_>, out: &mut Vec<u8, A>) -> Result<(), AllocError>
+    ensures { (r : Row) → facts.now.last.now.number ≡ r.number → facts.now.last.now.side ≡ r.side
         → OnOk result (out.new.items ≡ out.old.items ++ state_members r
-        (named_channel facts.now.packet) (known_word facts.now.before) (known_word facts.now.after)) }
+        (named_channel facts.now.last.now.packet) (known_word facts.now.last.now.before) (known_word facts.now.last.now.after)) }
 {
     let mut number = Buffer::new();
     let mut channel = Buffer::new();
     append_words(
         &[
             b"{\"line\":\"row\",\"packet\":",
-            number.format(facts.number).as_bytes(),
+            number.format(facts.last.number).as_bytes(),
             b",\"side\":\"",
-            side_word(facts.side),
+            side_word(facts.last.side),
             b"\",\"channel\":",
-            channel_digits(&facts.packet, &mut channel),
+            channel_digits(&facts.last.packet, &mut channel),
             b",\"before\":\"",
-            known_word(&facts.before),
+            known_word(&facts.last.before),
             b"\",\"after\":\"",
-            known_word(&facts.after),
+            known_word(&facts.last.after),
             b"\",\"counted\":",
         ],
         out,
@@ -130,11 +127,7 @@ fn append_finding<A: Allocator>(
     };
     let mut code = Buffer::new();
     append_words(
-        &[
-            b"{\"code\":\"",
-            code_digits(finding.code, &mut code),
-            b"\"",
-        ],
+        &[b"{\"code\":\"", code_digits(finding.code, &mut code), b"\""],
         out,
     )
 }
@@ -145,10 +138,10 @@ pub fn append_head<A: Allocator>(
     out: &mut Vec<u8, A>,
 ) -> Result<(), AllocError>
     ensures { (i : Interface) (earlier : List Row) (r : Row) → AreFactsOf i earlier r facts.now
-        → OnOk result (out.new.items ≡ out.old.items ++ row_head i earlier r facts.now.finding) }
+        → OnOk result (out.new.items ≡ out.old.items ++ row_head i earlier r facts.now.last.now.finding) }
 {
     append_states(facts, out)?;
     append_counted(facts.fate, out)?;
     out.extend_from_slice(b",\"finding\":")?;
-    append_finding(facts.finding, out)
+    append_finding(facts.last.finding, out)
 }

@@ -1,6 +1,6 @@
 //! What a row did, as members of an object.
 
-use crate::facts::{Fate, Reason, RowFacts};
+use crate::facts::{EndedCall, Fate, Reason, RowFacts};
 use crate::faults::{Before, consequence, wrong};
 use crate::json::{Json, Out};
 use crate::packet_members::{packet_members, settings_member};
@@ -16,30 +16,30 @@ use live_report::last_row::Known;
 pub fn row_members<O: Out>(
     json: &mut Json<O>,
     facts: &RowFacts<'_>,
+    ended: &[EndedCall],
     time: Option<Time>,
     hex: &[u8],
 ) {
-    if let Some(finding) = &facts.finding {
+    if let Some(finding) = &facts.last.finding {
         finding_members(json, facts, finding);
     }
     json.number_member(",\"epoch\":", u64::from(facts.epoch));
     json.flag_member(",\"owed\":", is_owed(facts));
     call_members(json, facts);
-    ends_member(json, facts);
+    ends_member(json, ended);
     not_counted_member(json, facts);
     time_member(json, ",\"time\":", time);
-    json.word_member(",\"type\":", packet_type(facts.side, &facts.packet));
+    json.word_member(
+        ",\"type\":",
+        packet_type(facts.last.side, &facts.last.packet),
+    );
     hex_member(json, facts, hex);
     packet_members(json, facts);
     settings_member(json, facts.events);
 }
 
 /// The rest of the object of a finding after its code.
-fn finding_members<O: Out>(
-    json: &mut Json<O>,
-    facts: &RowFacts<'_>,
-    finding: &Finding,
-) {
+fn finding_members<O: Out>(json: &mut Json<O>, facts: &RowFacts<'_>, finding: &Finding) {
     if let Some(row) = code_row(finding.code) {
         json.text_member(",\"name\":", row.name);
         json.member(",\"wrong\":");
@@ -57,7 +57,7 @@ fn finding_members<O: Out>(
 
 /// Whether the DCE owes an indication on the channel after the row.
 fn is_owed(facts: &RowFacts<'_>) -> bool {
-    match facts.after {
+    match facts.last.after {
         Known::Channel(view) => view.owed,
         Known::Restart(_) => false,
     }
@@ -95,11 +95,11 @@ pub fn how_word(how: How) -> &'static str {
 }
 
 /// The calls that a row ended.
-fn ends_member<O: Out>(json: &mut Json<O>, facts: &RowFacts<'_>) {
+fn ends_member<O: Out>(json: &mut Json<O>, ended: &[EndedCall]) {
     json.member(",\"ends\":");
     json.raw(b"[");
     let mut is_first = true;
-    for ended in facts.ended {
+    for ended in ended {
         if !is_first {
             json.raw(b",");
         }

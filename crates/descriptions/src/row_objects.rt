@@ -14,7 +14,7 @@ use crate::call_memory::Calls;
 use crate::chosen::Chosen;
 use crate::closing_objects::{Rest, write_rest};
 use crate::course::Course;
-use crate::facts::RowFacts;
+use crate::facts::{EndedCall, RowFacts};
 use crate::json::{Growing, Json};
 use crate::report_objects::write_report_objects;
 use crate::row_head::append_head;
@@ -94,15 +94,17 @@ impl<A: Allocator + Copy> Past<A> {
             return Ok(());
         };
         let octets = trace.row().octets.as_slice();
-        let Some(facts) = self.course.facts(&interface, octets, observer)? else {
+        let Some(last) = observer.last_row() else {
             return Ok(());
         };
-        self.rest.calls.take(&facts, time)?;
+        let facts = self.course.facts(&interface, octets, &last, observer)?;
+        self.rest.calls.take(&facts, self.course.ended(), time)?;
         self.rest.uncounted.take(&facts);
         if !told {
             return Ok(());
         }
-        write_members(&facts, time, line, &mut self.members)?;
+        let ended = self.course.ended();
+        write_members(&facts, ended, time, line, &mut self.members)?;
         append_object(&facts, self.members.as_slice(), out)
     }
 }
@@ -110,6 +112,7 @@ impl<A: Allocator + Copy> Past<A> {
 /// Writes the members of a row's object after its finding's code, in place of what there was.
 fn write_members<A: Allocator>(
     facts: &RowFacts<'_>,
+    ended: &[EndedCall],
     time: Option<Time>,
     line: &[u8],
     members: &mut Vec<u8, A>,
@@ -118,7 +121,7 @@ fn write_members<A: Allocator>(
     let mut json = Json {
         out: Growing::new(members),
     };
-    row_members(&mut json, facts, time, last_word(line));
+    row_members(&mut json, facts, ended, time, last_word(line));
     json.out.answer()
 }
 

@@ -22,7 +22,7 @@ pub fn row<P: Page>(facts: &RowFacts<'_>, notes: &mut P) {
 
 /// Says how the state changed.
 fn moved<P: Page>(facts: &RowFacts<'_>, notes: &mut P) {
-    match (facts.before, facts.after) {
+    match (facts.last.before, facts.last.after) {
         (Known::Restart(before), Known::Restart(after)) => restart_move(notes, before, after),
         (Known::Channel(before), Known::Channel(after)) => {
             channel_move(notes, before.state, after.state)

@@ -75,7 +75,7 @@ impl Uncounted {
         let Fate::NotCounted(reason) = facts.fate else {
             return;
         };
-        let octets = user_data(&facts.interface, facts.octets).len() as u64;
+        let octets = user_data(facts.interface, facts.octets).len() as u64;
         match reason {
             Reason::Finding => self.faulty.add(octets),
             Reason::Owed => self.owed.add(octets),

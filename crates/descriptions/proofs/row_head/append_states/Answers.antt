@@ -9,9 +9,9 @@ returns g c r number side =
     let facts = c.args.facts.now in
     let digits : c.as_bytes.result.now ≡ decimal r.number = c.as_bytes.ensures.value ∙ c.format.ensures.text ∙ ap decimal number in
     let sides : c.side_word.result.now ≡ side_word r.side = c.side_word.ensures ∙ ap side_word side in
-    let channel : c.channel_digits.result.now ≡ number_word (named_channel facts.packet) = c.channel_digits.ensures in
-    let before : c.known_word.result.now ≡ known_word facts.before = c.known_word.ensures in
-    let after : c.known_word-2.result.now ≡ known_word facts.after = c.known_word-2.ensures in
+    let channel : c.channel_digits.result.now ≡ number_word (named_channel facts.last.now.packet) = c.channel_digits.ensures in
+    let before : c.known_word.result.now ≡ known_word facts.last.now.before = c.known_word.ensures in
+    let after : c.known_word-2.result.now ≡ known_word facts.last.now.after = c.known_word-2.ensures in
     on_ok c.append_words.result _ _ c.append_words.ensures (λ e.
     e ∙ (λ t. c.args.out.now.items ++ joined (codes "{\"line\":\"row\",\"packet\":" ∷ digits t ∷ codes ",\"side\":\"" ∷ sides t ∷ codes "\",\"channel\":" ∷ channel t
     ∷ codes ",\"before\":\"" ∷ before t ∷ codes "\",\"after\":\"" ∷ after t ∷ codes "\",\"counted\":" ∷ [])))
