@@ -12,7 +12,7 @@ from option_tables import OPTIONS, ROOT
 DOCUMENTS = "share/doc/x25scan"
 # What is installed below the folder of the documents, by its place in the repository.
 READ = {f"docs/{name}.md": f"{name}.md" for name in ("GUIDE", "REPORT", "CODES", "TRACE", "RULES", "CAPTURES")}
-READ |= {"CHANGELOG.md": "CHANGELOG.md"}
+READ |= {"CHANGELOG.md": "CHANGELOG.md", "docs/rows.schema.json": "rows.schema.json"}
 # Folders of which the documents name files; what is installed of them keeps its place in the repository.
 EXAMPLES, CAPTURES, TRACES = "examples", "tests/captures/files", "tests/traces"
 LINK = re.compile(r"\[([^\]\n]*)\]\(([^)#\s]*)(#[^)\s]*)?\)")
