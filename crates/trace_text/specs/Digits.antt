@@ -1,5 +1,5 @@
 -- Hex digits, and two of them as an octet (profile).
-use Rattle.std.specs.Prelude.{◌≡◌, ◌⊎◌, ◌<◌, ℕ, ◌+◌, ◌*◌, List, [], ◌∷◌, ◌++◌, length, Option, Some, None, slice_index}
+use Rattle.std.specs.Prelude.{◌≡◌, ◌⊎◌, ◌<◌, ℕ, ◌+◌, ◌*◌, List, [], ◌∷◌, ◌++◌, length, slice_index, Option, Some, None}
 use Rattle.std.specs.Option.{option_and_then}
 use Rattle.hex.specs.Hex.{hex_digit_value}
 
@@ -17,14 +17,16 @@ AreOctets [] [] = Unit {0}
 AreOctets (high ∷ low ∷ digits) (octet ∷ octets) = (octet_of high low ≡ Some octet) × AreOctets digits octets
 AreOctets _ _ = ⊥
 
--- one of some bytes is no hex digit
-abbrev pub HasOther : List ℕ → Type 0
-HasOther bytes = (i : ℕ) × (i < length bytes) × (hex_digit_value (slice_index bytes i) ≡ None)
-
--- the octets of these digits were appended
-abbrev pub Appends : List ℕ → List ℕ → List ℕ → Type 0
-Appends before after digits = (octets : List ℕ) × (after ≡ before ++ octets) × AreOctets digits octets
-
--- the value of a digit, or 16 for another byte
+-- the value of a digit, or 16 and more for another byte
 abbrev pub IsDigitValue : ℕ → ℕ → Type 0
-IsDigitValue digit value = ((value < 16) × (hex_digit_value digit ≡ Some value)) ⊎ ((value ≡ 16) × (hex_digit_value digit ≡ None))
+IsDigitValue digit value = ((value < 16) × (hex_digit_value digit ≡ Some value)) ⊎ ((15 < value) × (hex_digit_value digit ≡ None))
+
+-- each of some bytes has its value
+abbrev pub AreDigitValues : List ℕ → List ℕ → Type 0
+AreDigitValues bytes values = (length values ≡ length bytes) × ((i : ℕ) → i < length bytes → IsDigitValue (slice_index bytes i) (slice_index values i))
+
+-- a text begins with digits that write these octets, and an LF after them
+pub record BeginsDigits (text octets rest : List ℕ) : Type 0 where
+  pub digits : List ℕ
+  pub whole : text ≡ digits ++ 10 ∷ rest
+  pub octets_are : AreOctets digits octets

@@ -1,11 +1,9 @@
 -- What one line says.
-use Rattle.std.specs.Prelude.{◌≡◌, ◌≢◌, ◌⊎◌, ℕ, Bool, true, false, List, [], ◌∷◌, ◌++◌, Ok, Option, Some}
-use Rattle.hex.specs.Hex.{decode_of}
-use Rattle.line_model.specs.text.Header.{interface_of}
-use Rattle.line_model.specs.text.RowLine.{rising_number, row_of, side_of}
+use Rattle.std.specs.Prelude.{◌≡◌, ℕ, Bool, true, false, List, [], ◌∷◌, ◌++◌, Option, None, Some}
+use Rattle.line_model.specs.text.Header.{interface_of, number_of}
+use Rattle.line_model.specs.text.RowLine.{rising_number, row_kind, row_of, side_of}
 use Rattle.line_model.specs.text.Text.{is_comment}
 use Rattle.line_model.specs.declared.fault.Kind.{Kind}
-use Rattle.line_model.specs.declared.fault.Kind.TheVariants.{Hex}
 use Rattle.line_model.specs.basics.Records.{Row}
 use Rattle.line_model.specs.declared.state.Side.{Side}
 use Rattle.trace_text.specs.Cuts.{Lacks}
@@ -25,9 +23,12 @@ abbrev pub Breaks : Option Kind → LineFault → Type 0
 Breaks kind Memory = Unit {0}
 Breaks kind (Broken k) = kind ≡ Some k
 
--- why digits were not read: want of memory, or one of them is no hex digit, so they write no octets
-abbrev pub IsDigitFault : List ℕ → LineFault → Type 0
-IsDigitFault digits fault = (fault ≡ Memory) ⊎ ((fault ≡ Broken Hex) × ((octets : List ℕ) → decode_of digits ≢ Ok octets))
+-- a text begins with a number that is a word, and a space after it
+pub record BeginsNumber (text : List ℕ) (number : ℕ) (rest : List ℕ) : Type 0 where
+  pub word : List ℕ
+  pub whole : text ≡ word ++ 32 ∷ rest
+  pub one_word : Lacks 32 word
+  pub value : number_of word ≡ Some number
 
 -- a line begins as a row's: a number above the last one, a side, and what follows the space behind it
 pub record BeginsRow (last : ℕ) (line : List ℕ) (number : ℕ) (side : Side) (rest : List ℕ) : Type 0 where
@@ -38,3 +39,12 @@ pub record BeginsRow (last : ℕ) (line : List ℕ) (number : ℕ) (side : Side)
   pub no_space : Lacks 32 (letter ∷ [])
   pub rises : rising_number last word ≡ Some number
   pub names : side_of (letter ∷ []) ≡ Some side
+
+-- a text begins with a line that writes this row, and its LF
+pub record BeginsLine (last : ℕ) (text : List ℕ) (row : Row) (rest : List ℕ) : Type 0 where
+  pub line : List ℕ
+  pub whole : text ≡ line ++ 10 ∷ rest
+  pub one_line : Lacks 10 line
+  pub no_comment : is_comment line ≡ false
+  pub sound : row_kind last line ≡ None
+  pub writes : row_of line ≡ Some row

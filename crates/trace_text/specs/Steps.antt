@@ -6,6 +6,7 @@ use Rattle.line_model.specs.declared.fault.Kind.{Kind}
 use Rattle.line_model.specs.declared.fault.Fault.{Fault}
 use Rattle.line_model.specs.declared.fault.Fault.TheVariants.{Memory, Trace}
 use Rattle.line_model.specs.basics.Records.{Row}
+use Rattle.trace_text.specs.Cuts.{Lacks}
 use Rattle.trace_text.specs.Progress.{Progress}
 use Rattle.trace_text.specs.Reads.{ReadsAs}
 use Rattle.trace_text.specs.declared.content.Content.{Content}
@@ -54,3 +55,10 @@ pub record EndsLine (before after : Progress) (row : Row) (is_row : Bool) : Type
   pub reads : ReadsAs (is_some before.interface) before.last before.begun content row
   pub reader : after ≡ after_line (length before.begun) (after_content content row.number before)
   pub told : is_row ≡ is_packet content
+
+-- a chunk begins with the rest of the line begun, which its LF ends, and which writes this row
+pub record TakesLine (before after : Progress) (chunk rest : List ℕ) (row : Row) : Type 0 where
+  pub front : List ℕ
+  pub whole : chunk ≡ front ++ 10 ∷ rest
+  pub one_line : Lacks 10 front
+  pub ends : EndsLine (with_more before front) after row true

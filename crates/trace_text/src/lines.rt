@@ -6,6 +6,7 @@ ghost use Rattle.line_model.specs.text.Text.{size_kind};
 use crate::content::{Content, LineFault};
 use crate::cuts::split_at_byte;
 use crate::reading::read_line;
+use crate::usual_row::read_usual;
 use line_model::fault::{Fault, Kind};
 use line_model::interface::Interface;
 use line_model::row::Row;
@@ -99,7 +100,7 @@ impl<A: Allocator> Lines<A> {
     ghost use Rattle.line_model.specs.declared.fault.Fault.{Fault};
     ghost use Rattle.line_model.specs.declared.fault.Fault.TheVariants.{Trace};
     ghost use Rattle.line_model.specs.declared.fault.Kind.TheVariants.{HeaderMissing};
-    ghost use Rattle.trace_text.specs.Steps.{RefusedBy, EndsLine, ended_kind, after_content, after_line, is_packet, with_more};
+    ghost use Rattle.trace_text.specs.Steps.{RefusedBy, EndsLine, TakesLine, ended_kind, after_content, after_line, is_packet, with_more};
     ghost use Rattle.trace_text.specs.Reads.{ReadsAs};
 
     /// A reader that was fed nothing. It takes no memory.
@@ -231,7 +232,7 @@ impl<A: Allocator> Lines<A> {
         ensures kept { OnErr result (self.new.interface ≡ self.old.interface) }
     {
         if self.begun.is_empty() {
-            // The usual line lies whole in the chunk, and is read there.
+            // The line lies whole in the chunk, and is read there.
             let content = self.read(front, 1, row)?;
             let is_row = self.keep(content, row.number);
             self.next_line(front.len());
@@ -243,6 +244,26 @@ impl<A: Allocator> Lines<A> {
         let len = self.begun.len();
         self.next_line(len);
         Ok(is_row)
+    }
+
+    /// Takes the usual row that a chunk begins with, if no line is begun and the text has room for it, and returns what
+    /// is still to be read of the chunk. `None`: nothing was taken, and what the row holds is not said.
+    #[inline(never)]
+    fn take_usual<'a>(&mut self, chunk: &'a [u8], row: &mut Row<A>) -> Option<&'a [u8]>
+        ensures { MatchOption result (self.new ≡ self.old) (λ rest.
+            TakesLine self.old self.new chunk.now rest.now row.new) }
+    {
+        if self.interface.is_none() || !self.begun.is_empty() {
+            return None;
+        }
+        let rest = read_usual(self.last, chunk, row)?;
+        let len = chunk.len() - rest.len() - 1;
+        if size_fault(self.start, 1, len).is_some() {
+            return None;
+        }
+        self.last = row.number;
+        self.next_line(len);
+        Some(rest)
     }
 
     /// Takes lines up to the first row, or the whole chunk.
@@ -265,7 +286,13 @@ impl<A: Allocator> Lines<A> {
         ensures kinds { IfErr result IsTextFault }
     {
         let mut rest = chunk;
-        while let Some((front, back)) = split_at_byte(rest, b'\n') {
+        loop {
+            if let Some(back) = self.take_usual(rest, row) {
+                return Ok(Some(back));
+            }
+            let Some((front, back)) = split_at_byte(rest, b'\n') else {
+                break;
+            };
             if self.end_line(front, row)? {
                 return Ok(Some(back));
             }

@@ -6,8 +6,9 @@ ghost use Rattle.trace_text.specs.Reads.{ReadsAs, Breaks};
 
 use crate::content::{Content, LineFault};
 use crate::header::read_header;
-use crate::places::RowPlace;
 use crate::row_line::read_row;
+use line_model::row::Row;
+use std::alloc::Allocator;
 
 fn is_comment_line(line: &[u8]) -> bool
     ensures { result ≡ is_comment line.now }
@@ -21,14 +22,14 @@ fn is_comment_line(line: &[u8]) -> bool
 /// What a line says that stands before the header, or after it and after a row of the number `last`. A row is put in the
 /// place of another.
 #[tactic(auto, unfolding(line_model::specs::text::Text::contents_kind))]
-pub fn read_line<P: RowPlace>(
+pub fn read_line<A: Allocator>(
     after_header: bool,
     last: u32,
     line: &[u8],
-    row: &mut P,
+    row: &mut Row<A>,
 ) -> Result<Content, LineFault>
     ensures { MatchResult result
-        (λ content. (contents_kind after_header last line.now ≡ None) × ReadsAs after_header last line.now content (P.held row.new))
+        (λ content. (contents_kind after_header last line.now ≡ None) × ReadsAs after_header last line.now content row.new)
         (Breaks (contents_kind after_header last line.now)) }
 {
     if is_comment_line(line) {

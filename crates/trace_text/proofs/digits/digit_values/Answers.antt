@@ -1,21 +1,16 @@
-use Rattle.std.proofs.Common.{ap, ◌∙◌, length, refl}
-use Rattle.std.proofs.lemmas.List.{length-map}
-use Rattle.trace_text.proofs.LaneLemmas.{all_values, itself, joined, selected, splat_is}
+use Rattle.std.proofs.Common.{refl, cond, ltb, w8}
+use Rattle.std.proofs.lemmas.Simd.{below_from_Fits}
+use Rattle.trace_text.proofs.LaneLemmas.{all_values, changed, itself, joined, selected, splat_is}
 use Rattle.trace_text.proofs.digits.digit_values.Goals as goal
 
-pub returns-clause-len : goal.returns-clause-len
-returns-clause-len c =
-    let v = c.args.digits in
-    let n = c.requires.len in
-    let letter = joined _ _ _ v (joined _ _ _ v (itself v) (splat_is v 16 32 n)) (splat_is v 16 97 n) in
-    let digit = joined _ _ _ v (itself v) (splat_is v 16 48 n) in
-    ap length (selected _ _ _ v (joined _ _ _ v digit (splat_is v 16 10 n)) digit (selected _ _ _ v (joined _ _ _ v letter (splat_is v 16 6 n)) (joined _ _ _ v letter (splat_is v 16 10 n)) (splat_is v 16 16 n))) ∙ length-map v _ ∙ n
-
-pub returns-clause-values : goal.returns-clause-values
-returns-clause-values c =
-    let v = c.args.digits in
-    let n = c.requires.len in
-    let letter = joined _ _ _ v (joined _ _ _ v (itself v) (splat_is v 16 32 n)) (splat_is v 16 97 n) in
-    let digit = joined _ _ _ v (itself v) (splat_is v 16 48 n) in
-    all_values _ v _ n c.requires.bytes
-    (selected _ _ _ v (joined _ _ _ v digit (splat_is v 16 10 n)) digit (selected _ _ _ v (joined _ _ _ v letter (splat_is v 16 6 n)) (joined _ _ _ v letter (splat_is v 16 10 n)) (splat_is v 16 16 n))) refl
+pub returns : goal.returns
+returns c =
+    let v = c.args.bytes in
+    let n = c.fits-bytes.0 in
+    let sum = joined _ _ _ v (itself v) (splat_is v 32 198 n) in
+    let most = selected _ _ _ v (joined (λ a b. cond (ltb a b) 255 0) _ _ v sum (splat_is v 32 6 n)) (splat_is v 32 6 n) sum in
+    let digit = joined _ _ _ v (joined _ _ _ v most (splat_is v 32 6 n)) (splat_is v 32 240 n) in
+    let upper = joined _ _ _ v (joined _ _ _ v (itself v) (splat_is v 32 223 n)) (splat_is v 32 65 n) in
+    let room = changed _ _ v upper in
+    let letter = joined _ _ _ v upper (selected _ _ _ v (joined (λ a b. cond (ltb a b) 255 0) _ _ v (splat_is v 32 10 n) room) (splat_is v 32 10 n) room) in
+    all_values _ v _ (below_from_Fits w8 v c.fits-bytes.1) (selected _ _ _ v (joined (λ a b. cond (ltb a b) 255 0) _ _ v digit letter) digit letter) refl

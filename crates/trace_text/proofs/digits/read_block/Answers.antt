@@ -1,25 +1,23 @@
-use Rattle.std.proofs.Common.{arith, w8}
-use Rattle.std.proofs.lemmas.Simd.{below_from_Fits, chunk-fits, length-chunk}
+use Rattle.std.proofs.Common.{◌≡◌, ◌≤◌, ◌∙◌, ℕ, ap, arith, subst, sym, get_or, length, take_all}
+use Rattle.std.proofs.lemmas.Simd.{get_or-chunk, length-chunk}
+use lib.Count.{count_trailing_zeros, trailing_le, trailing_of_zero}
 use lib.Lanes.{chunk}
-use Rattle.trace_text.proofs.LaneLemmas.{block-octets, first-other, second-other}
+use Rattle.trace_text.specs.Digits.{AreOctets, IsDigitValue}
+use Rattle.trace_text.proofs.LaneLemmas.{block-octets, lane_octets}
 use Rattle.trace_text.proofs.digits.read_block.Goals as goal
 
-pub digit_values-first-requires-clause-bytes : goal.digit_values-first-requires-clause-bytes
-digit_values-first-requires-clause-bytes c = below_from_Fits w8 (chunk 0 16 c.args.digits.now) (chunk-fits w8 0 16 c.args.digits.now c.type_inv.digits)
+pub returns-clause-pairs : goal.returns-clause-pairs
+returns-clause-pairs c k =
+    let size : length (chunk 0 32 c.args.bytes.now) ≡ 32 = length-chunk 0 32 c.args.bytes.now (omega (arith, c.requires)) in
+    block-octets c.args.bytes.now c.digit_values-values.result _ k c.requires (c.digit_values-values.ensures.0 ∙ size)
+    (λ i h. subst (λ (b : ℕ). IsDigitValue b (get_or c.digit_values-values.result i 0)) (get_or-chunk 0 32 c.args.bytes.now i 0 h ∙ ap (λ m. get_or c.args.bytes.now m 0) (omega arith)) (c.digit_values-values.ensures.1 i (omega (arith, h, size))))
+    c.others.ensures (trailing_le 32 c.others.result)
 
-pub digit_values-second-requires-clause-len : goal.digit_values-second-requires-clause-len
-digit_values-second-requires-clause-len c = length-chunk 16 16 c.args.digits.now (omega (arith, c.requires))
-
-pub digit_values-second-requires-clause-bytes : goal.digit_values-second-requires-clause-bytes
-digit_values-second-requires-clause-bytes c = below_from_Fits w8 (chunk 16 16 c.args.digits.now) (chunk-fits w8 16 16 c.args.digits.now c.type_inv.digits)
-
-pub returns-then-not-are_digits : goal.returns-then-not-are_digits
-returns-then-not-are_digits c = first-other c.args.digits.now c.digit_values-first.result c.requires c.digit_values-first.ensures.values c.if-not-are_digits.ensures.other
-
-pub returns-then-not-are_digits-2 : goal.returns-then-not-are_digits-2
-returns-then-not-are_digits-2 c = second-other c.args.digits.now c.digit_values-second.result c.requires c.digit_values-second.ensures.values c.if-not-are_digits-2.ensures.other
-
-pub returns : goal.returns
-returns c =
-    block-octets c.args.digits.now c.digit_values-first.result c.digit_values-second.result c.requires c.digit_values-first.ensures.len c.digit_values-second.ensures.len
-    c.digit_values-first.ensures.values c.digit_values-second.ensures.values c.if-not-are_digits.ensures.all c.if-not-are_digits-2.ensures.all
+pub returns-clause-whole : goal.returns-clause-whole
+returns-clause-whole c none =
+    let size : length (chunk 0 32 c.args.bytes.now) ≡ 32 = length-chunk 0 32 c.args.bytes.now (omega (arith, c.requires)) in
+    let all : 32 ≤ count_trailing_zeros 32 c.others.result = subst (λ (m : ℕ). 32 ≤ count_trailing_zeros 32 m) (sym none) (omega (arith, trailing_of_zero 32)) in
+    let pairs = block-octets c.args.bytes.now c.digit_values-values.result (count_trailing_zeros 32 c.others.result) 16 c.requires (c.digit_values-values.ensures.0 ∙ size)
+    (λ i h. subst (λ (b : ℕ). IsDigitValue b (get_or c.digit_values-values.result i 0)) (get_or-chunk 0 32 c.args.bytes.now i 0 h ∙ ap (λ m. get_or c.args.bytes.now m 0) (omega arith)) (c.digit_values-values.ensures.1 i (omega (arith, h, size))))
+    c.others.ensures (trailing_le 32 c.others.result) all in
+    subst (λ bytes. AreOctets bytes (lane_octets c.digit_values-values.result)) (take_all 32 c.args.bytes.now (omega (arith, c.requires))) pairs
