@@ -14,5 +14,6 @@ pub mod Entries
 pub mod Reached
 pub mod Usable
 pub mod PackedLemmas
+pub mod UsualLemmas
 pub mod Changes
 pub mod Reading

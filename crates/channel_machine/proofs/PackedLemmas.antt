@@ -6,8 +6,12 @@ use Rattle.line_model.specs.declared.interface.Interface.{Interface}
 use Rattle.data_transfer.specs.Packed.{Packed}
 use Rattle.channel_machine.specs.declared.terms.Values.{Values}
 use Rattle.channel_machine.specs.Terms.{AreUsable}
-use Rattle.channel_machine.specs.Status.{CountsAlone}
-use Rattle.channel_machine.specs.PackedStatus.{settled, state_by, state_in, owed_in, call_by, call_in, values_in, status_in}
+use Rattle.channel_machine.specs.Status.{CountsAlone, Status, view_of}
+use Rattle.std.specs.Prelude.{◌&&◌, cond, Option, Some, None}
+use Rattle.channel_run.specs.StatusWord.{state_by, state_in, owed_in, pad_call_in, fast_in, view_in}
+use Rattle.channel_machine.specs.declared.terms.Opened.{Opened}
+use Rattle.channel_machine.specs.TermsStand.{is_fast, is_pad}
+use Rattle.channel_machine.specs.PackedStatus.{settled, call_by, call_in, values_in, status_in}
 
 -- five fields, one above the other: the states, whether an indication is owed, the call, and the logarithms of both sizes
 abbrev pub owner_bits_of : (s o c t n : ℕ) → ℕ
@@ -147,3 +151,57 @@ counted_usable m old new owner_bits windows usable =
       window_t = (windows j).of_t;
       window_n = (windows j).of_n;
     })) usable
+
+-- the bits of a call, one by one
+open_bit : (a : ℕ) → a / 64 % 16 / 8 ≡ a / 2 ^ 9 % 2
+open_bit a = omega arith
+
+pad_bit : (a : ℕ) → a / 64 % 16 % 2 ≡ a / 2 ^ 6 % 2
+pad_bit a = omega arith
+
+fast_bit : (a : ℕ) → a / 64 % 16 / 2 % 2 ≡ a / 2 ^ 7 % 2
+fast_bit a = omega arith
+
+pad_if : (b : Bool) (o : Opened) → is_pad (cond b (Some o) None) ≡ (b && o.pad_call)
+pad_if true o = refl
+pad_if false o = refl
+
+fast_if : (b : Bool) (o : Opened) → is_fast (cond b (Some o) None) ≡ (b && o.fast)
+fast_if true o = refl
+fast_if false o = refl
+
+abbrev opened_by : ℕ → Opened
+opened_by n = record { out = n / 4 % 2 == 1; fast = n / 2 % 2 == 1; pad_call = n % 2 == 1 }
+
+pub pad_of_call : (a : ℕ) → is_pad (call_in a) ≡ pad_call_in a
+pad_of_call a = pad_if (a / 64 % 16 / 8 == 1) (opened_by (a / 64 % 16)) ∙ (λ j. (open_bit a j == 1) && (pad_bit a j == 1))
+
+pub fast_of_call : (a : ℕ) → is_fast (call_in a) ≡ fast_in a
+fast_of_call a = fast_if (a / 64 % 16 / 8 == 1) (opened_by (a / 64 % 16)) ∙ (λ j. (open_bit a j == 1) && (fast_bit a j == 1))
+
+-- what is known of a channel by its word
+pub view_of_word : (i : Interface) (w : Packed) → view_in w ≡ view_of (status_in i w)
+view_of_word i w = λ j. record {
+  state = state_in w.owner_bits;
+  owed = owed_in w.owner_bits;
+  pad_call = sym (pad_of_call w.owner_bits) j;
+  fast = sym (fast_of_call w.owner_bits) j;
+  size_t = 2 ^ (w.owner_bits / 1024 % 16);
+  size_n = 2 ^ (w.owner_bits / 16384 % 16);
+  flow = w.flow;
+}
+
+-- and by one that was made of a status
+pub view_new : (w : Packed) (a : ℕ) (s : Status) → w.owner_bits ≡ a → w.flow ≡ s.flow → state_in a ≡ s.state → owed_in a ≡ s.owed → call_in a ≡ s.terms.call
+    → 2 ^ (a / 1024 % 16) ≡ s.terms.values.size_t → 2 ^ (a / 16384 % 16) ≡ s.terms.values.size_n → view_in w ≡ view_of s
+view_new w a s owner_bits flow state owed call size_t size_n =
+    (λ j. view_in (record { flow = flow j; owner_bits = owner_bits j }))
+    ∙ (λ j. record {
+      state = state j;
+      owed = owed j;
+      pad_call = (sym (pad_of_call a) ∙ ap (λ o. is_pad o) call) j;
+      fast = (sym (fast_of_call a) ∙ ap (λ o. is_fast o) call) j;
+      size_t = size_t j;
+      size_n = size_n j;
+      flow = s.flow;
+    })

@@ -8,6 +8,7 @@ pub mod Transfers
 pub mod Status
 pub mod Reached
 pub mod PackedStatus
+pub mod Usual
 pub mod Channels
 pub mod Moves
 pub mod Entries

@@ -4,7 +4,8 @@ use Rattle.line_model.specs.declared.state.ChannelState.{ChannelState}
 use Rattle.line_model.specs.channels.Channels.{Sides}
 use Rattle.line_model.specs.channels.FlowControl.{no_counts}
 use Rattle.data_transfer.specs.FlowResidues.{FlowResidues, Stands}
-use Rattle.channel_machine.specs.TermsStand.{Agreed}
+use Rattle.channel_run.specs.declared.run.View.{View}
+use Rattle.channel_machine.specs.TermsStand.{Agreed, is_fast, is_pad}
 
 -- the state, whether an indication is owed, what was agreed, and the windows and interrupts
 pub record Status : Type 0 where
@@ -31,3 +32,15 @@ pub record CountsAlone (old new : Status) : Type 0 where
   pub rest : new ≡ record old { flow = new.flow }
   pub modulus : new.flow.modulus ≡ old.flow.modulus
   pub windows : new.flow.windows ≡ old.flow.windows
+
+-- what is known of a channel of a status
+abbrev pub view_of : Status → View
+view_of s = record {
+  state = s.state;
+  owed = s.owed;
+  pad_call = is_pad s.terms.call;
+  fast = is_fast s.terms.call;
+  size_t = s.terms.values.size_t;
+  size_n = s.terms.values.size_n;
+  flow = s.flow;
+}

@@ -9,6 +9,7 @@ use crate::status::StatusStore;
 use crate::terms::{Terms, is_pad_call, was_fast};
 use channel_run::run::{Channel, View};
 use data_transfer::assembler::Assembler;
+use data_transfer::packed::FlowWord;
 use line_model::event::Event;
 use line_model::fault::Fault;
 use line_model::interface::Interface;
@@ -52,6 +53,10 @@ impl<A: Allocator + Clone, S: StatusStore + Drop> Channel<A> for StatusChannel<A
             size_n: self.status.size(Side::N),
             flow: self.status.flow(),
         }
+    }
+
+    fn word(&self) -> FlowWord {
+        self.status.word()
     }
 
     fn is_open(&self) -> bool {

@@ -3,29 +3,18 @@
 ghost use Rattle.std.specs.Prelude.{ℕ, ◌≡◌, ◌<◌, ◌+◌, ◌/◌, ◌%◌, ◌^◌, ◌==◌};
 ghost use Rattle.packet_decode.specs.Shown.{IsPacketSize};
 ghost use Rattle.channel_machine.specs.Terms.{AreUsable};
-ghost use Rattle.channel_machine.specs.PackedStatus.{state_by, setup_by, call_by, state_in, owed_in, call_in, values_in, status_in, settled};
+ghost use Rattle.channel_run.specs.StatusWord.{state_by, state_in, owed_in};
+ghost use Rattle.channel_machine.specs.PackedStatus.{call_by, call_in, values_in, status_in, settled};
 
 use crate::status::StatusStore;
 use crate::terms::{Opened, Terms, Values};
+use channel_run::status_word::{bit, power, state_in};
 use data_transfer::flow::Flow;
 use data_transfer::packed::FlowWord;
 use line_model::interface::Interface;
 use line_model::state::{ChannelState, DState, PState, Side};
 
-/// The status of a channel in one word, beside its interface (profile). Bits 0 to 44 are the word of the windows and
-/// interrupts, as `Flow::pack` makes it; above them stand
-///
-/// ```text
-///   63  62      59 58      55   54   53    52    51     50   49 48 47  45
-/// +----+----------+----------+------+-----+------+-----+------+-----+-----+
-/// | 0  |  size N  |  size T  | open | out | fast | PAD | owed |  d  |  p  |
-/// +----+----------+----------+------+-----+------+-----+------+-----+-----+
-/// ```
-///
-/// p is 1 to 7 for p1 to p7, and 0 on a permanent circuit and on an unknown virtual channel; d is 1 to 3 for d1 to d3,
-/// and 0 outside them and on an unknown permanent circuit. `owed` is 1 where an indication of the DCE is owed. `open`
-/// is 1 while a call is open, and then `out`, `fast` and `PAD` say whether it goes out, asked fast select, and names a
-/// PAD. The packet sizes in force for data from T and from N stand by their logarithms.
+/// The status of a channel in one word, beside its interface (profile): `channel_run::status_word::view_in` has its layout.
 #[derive(Clone, Copy)]
 pub struct PackedStatus {
     word: FlowWord,
@@ -89,6 +78,10 @@ impl StatusStore for PackedStatus {
         self.word.flow()
     }
 
+    fn word(&self) -> FlowWord {
+        self.word
+    }
+
     fn size(&self, side: Side) -> u16 {
         match side {
             Side::T => power((self.word.owner_bits() >> 10) % 16),
@@ -114,7 +107,7 @@ impl StatusStore for PackedStatus {
 }
 
 /// What stands above the windows and interrupts.
-fn owner_bits_of(state: u32, owed: bool, terms: &Terms) -> u32
+pub(crate) fn owner_bits_of(state: u32, owed: bool, terms: &Terms) -> u32
     requires state { state < 32 }
     ensures fits { result < 2 ^ 19 }
     ensures state { state_in result ≡ state_by (state % 8) (state / 8 % 4) }
@@ -137,7 +130,7 @@ fn settled(owner_bits: u32) -> u32
 
 /// The bits of a state: three for p1 to p7, which are those of p4 on a virtual channel in data transfer, and two for d1
 /// to d3.
-fn state_bits(permanent: bool, state: ChannelState) -> u32
+pub(crate) fn state_bits(permanent: bool, state: ChannelState) -> u32
     ensures below { result < 32 }
     ensures state { state_by (result % 8) (result / 8 % 4) ≡ state }
 {
@@ -172,34 +165,6 @@ fn transfer_bits(state: DState) -> u32
     }
 }
 
-/// The state of the owner's number.
-fn state_in(owner_bits: u32) -> ChannelState
-    ensures { result ≡ state_in owner_bits }
-{
-    match (owner_bits >> 3) % 4 {
-        1 => ChannelState::Transfer(DState::D1),
-        2 => ChannelState::Transfer(DState::D2),
-        3 => ChannelState::Transfer(DState::D3),
-        _ => setup(owner_bits % 8),
-    }
-}
-
-/// A state of call set-up, and unknown where it is none of them.
-fn setup(bits: u32) -> ChannelState
-    ensures { result ≡ setup_by bits }
-{
-    match bits {
-        1 => ChannelState::Setup(PState::P1),
-        2 => ChannelState::Setup(PState::P2),
-        3 => ChannelState::Setup(PState::P3),
-        4 => ChannelState::Setup(PState::P4),
-        5 => ChannelState::Setup(PState::P5),
-        6 => ChannelState::Setup(PState::P6),
-        7 => ChannelState::Setup(PState::P7),
-        _ => ChannelState::Unknown,
-    }
-}
-
 /// The bits of a call.
 fn call_bits(call: Option<Opened>) -> u32
     ensures below { result < 16 }
@@ -230,14 +195,6 @@ fn call_in(owner_bits: u32) -> Option<Opened>
     })
 }
 
-/// Bit `at` of a number.
-fn bit(number: u32, at: u32) -> bool
-    requires { at < 32 }
-    ensures { result ≡ (number / 2 ^ at % 2 == 1) }
-{
-    (number >> at) % 2 == 1
-}
-
 /// The logarithm of a packet size.
 fn logarithm(size: u16) -> u32
     requires { IsPacketSize size }
@@ -255,12 +212,4 @@ fn logarithm(size: u16) -> u32
         2048 => 11,
         _ => 12,
     }
-}
-
-/// A packet size by its logarithm.
-fn power(logarithm: u32) -> u16
-    requires { logarithm < 16 }
-    ensures { result ≡ 2 ^ logarithm }
-{
-    1 << logarithm
 }

@@ -2,9 +2,11 @@
 
 ghost use Rattle.channel_machine.specs.Agreed.{agreed_of};
 
+use crate::packed::{owner_bits_of, state_bits};
 use crate::status::StatusStore;
 use crate::terms::{Opened, Terms};
 use data_transfer::flow::Flow;
+use data_transfer::packed::FlowWord;
 use line_model::interface::Interface;
 use line_model::state::{ChannelState, Side};
 
@@ -59,6 +61,11 @@ impl StatusStore for PlainStatus {
 
     fn flow(&self) -> Flow {
         self.flow
+    }
+
+    fn word(&self) -> FlowWord {
+        let state = state_bits(false, self.state);
+        FlowWord::new(&self.flow, owner_bits_of(state, self.owed, &self.terms))
     }
 
     fn size(&self, side: Side) -> u16 {

@@ -4,12 +4,14 @@ ghost use Rattle.std.specs.Prelude.{◌≡◌, OnErr, false};
 ghost use Rattle.line_model.specs.channels.Channels.{of_side};
 ghost use Rattle.line_model.specs.channels.FlowControl.{Counts, count_interrupt, count_receive, count_confirm, count_data};
 ghost use Rattle.data_transfer.specs.FlowResidues as windows;
-ghost use Rattle.channel_machine.specs.Status.{Status, IsEntered, CountsAlone};
+ghost use Rattle.channel_run.specs.StatusWord.{view_in};
+ghost use Rattle.channel_machine.specs.Status.{Status, IsEntered, CountsAlone, view_of};
 ghost use Rattle.channel_machine.specs.Agreed.{agreed_of};
 ghost use Rattle.channel_machine.specs.TermsStand.{size_of};
 
 use crate::terms::{Opened, Terms};
 use data_transfer::flow::Flow;
+use data_transfer::packed::FlowWord;
 use line_model::interface::Interface;
 use line_model::state::{ChannelState, Side};
 
@@ -50,6 +52,10 @@ pub trait StatusStore: Copy {
     /// The windows and interrupts.
     fn flow(&self) -> Flow
         ensures { result ≡ (status self.now).flow };
+
+    /// What is known of the channel, in one word.
+    fn word(&self) -> FlowWord
+        ensures { view_in result ≡ view_of (status self.now) };
 
     /// The packet size in force for data from a side.
     fn size(&self, side: Side) -> u16

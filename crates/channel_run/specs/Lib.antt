@@ -1,4 +1,5 @@
 pub mod Run
 pub mod Tally
 pub mod Live
+pub mod StatusWord
 pub mod Views

@@ -3,4 +3,5 @@
 
 pub mod live;
 pub mod run;
+pub mod status_word;
 mod tally;

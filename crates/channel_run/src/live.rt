@@ -9,10 +9,12 @@ ghost use Rattle.line_model.specs.observer.Report.{findings_of};
 ghost use Rattle.channel_run.specs.Tally.{Counts};
 ghost use Rattle.channel_run.specs.Live.{StandsFor, channel_so_far, so_far, with_item};
 ghost use Rattle.channel_run.specs.Run.{row_events};
+ghost use Rattle.channel_run.specs.StatusWord.{view_in};
 ghost use Rattle.channel_run.specs.Views.{IsViewOf};
 
 use crate::run::{Channel, View};
 use crate::tally::Tally;
+use data_transfer::packed::FlowWord;
 use line_model::event::{Event, How, What};
 use line_model::fault::Fault;
 use line_model::finding::Finding;
@@ -82,6 +84,14 @@ impl<A: Allocator + Clone, C: Channel<A>> LiveChannel<A, C> {
             → IsViewOf p.interface (channel_so_far p) result }
     {
         self.machine.view()
+    }
+
+    /// The same in one word, which `status_word::view_in` reads.
+    pub fn word(&self) -> FlowWord
+        ensures { (p : Piece) → StandsFor C.interface_of C.number_of C.stands_for self.now p
+            → IsViewOf p.interface (channel_so_far p) (view_in result) }
+    {
+        self.machine.word()
     }
 
     /// The findings so far.

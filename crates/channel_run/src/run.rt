@@ -8,10 +8,12 @@ ghost use Rattle.line_model.specs.channels.ChannelStep.{channel_step};
 ghost use Rattle.line_model.specs.basics.Bounds.{IsItem};
 ghost use Rattle.line_model.specs.pieces.Plans as plans;
 ghost use Rattle.channel_run.specs.Run.{row_events};
+ghost use Rattle.channel_run.specs.StatusWord.{view_in};
 ghost use Rattle.channel_run.specs.Views.{IsViewOf};
 
 use crate::live::LiveChannel;
 use data_transfer::flow::Flow;
+use data_transfer::packed::FlowWord;
 use line_model::event::Event;
 use line_model::fault::Fault;
 use line_model::interface::Interface;
@@ -68,6 +70,11 @@ pub trait Channel<A: Allocator>: Drop {
     fn view(&self) -> View
         ensures { (c : channels.Channel) → stands_for self.now c
             → IsViewOf (interface_of self.now) c result };
+
+    /// What is known of the channel, in one word, which `status_word::view_in` reads.
+    fn word(&self) -> FlowWord
+        ensures { (c : channels.Channel) → stands_for self.now c
+            → IsViewOf (interface_of self.now) c (view_in result) };
 
     /// Whether a call is open.
     fn is_open(&self) -> bool

@@ -2,6 +2,7 @@ pub mod Lanes
 pub mod Turns
 pub mod Telling
 pub mod LastRows
+pub mod KeptRows
 pub mod Observing
 pub mod Reports
 pub mod Found

@@ -9,7 +9,7 @@ ghost use Rattle.channel_run.specs.Run.{row_events};
 ghost use Rattle.live_report.specs.Lanes.{FindsOn, IsOut, LanesStandFor};
 ghost use Rattle.live_report.specs.Turns.{walked_piece, OfLanes, SeesOn};
 
-use crate::last_row::{Known, LastRow};
+use crate::last_row::{Kept, KeptRow};
 use channel_run::live::LiveChannel;
 use channel_run::run::Channel;
 use line_model::event::Event;
@@ -50,7 +50,7 @@ pub fn step_channel<A: Allocator + Copy, C: Channel<A>>(
     item: &ItemRef<'_>,
     events: &mut Vec<Event, A>,
     lanes: &mut ChannelTable<LiveChannel<A, C>, A>,
-) -> Result<LastRow, Fault>
+) -> Result<KeptRow, Fault>
     requires room { (rows : OpenRows)
         × LanesStandFor C.Channel walk.now.interface walk.now.epoch rows lanes.old
         × IsPiece walk.now.interface channel (rows_of rows channel ++ item.now ∷ []) }
@@ -77,17 +77,17 @@ pub fn step_channel<A: Allocator + Copy, C: Channel<A>>(
 {
     let alloc = *events.allocator();
     let mut live = take_out(alloc, &walk.interface, walk.epoch, channel, lanes)?;
-    let before = live.view();
+    let before = live.word();
     let finding = live.take(item, events)?;
-    let after = live.view();
+    let after = live.word();
     lanes.put(channel, live);
-    Ok(LastRow {
+    Ok(KeptRow {
         number: item.number,
         side: item.side,
         packet: item.packet,
         channel: Some(channel),
-        before: Known::Channel(before),
-        after: Known::Channel(after),
+        before: Kept::Channel(before),
+        after: Kept::Channel(after),
         finding,
     })
 }

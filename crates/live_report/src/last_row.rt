@@ -1,9 +1,15 @@
 //! The row that an observer took last.
 
+ghost use Rattle.std.specs.Prelude.{◌≡◌};
+ghost use Rattle.live_report.specs.KeptRows.{known_by};
+
 use channel_run::run::View;
+use channel_run::status_word::view_in;
+use data_transfer::packed::FlowWord;
 use line_model::finding::Finding;
 use line_model::packet::Packet;
 use line_model::state::{RState, Side};
+use std::marker::Model;
 
 /// What the machine that judged a row knew at one moment.
 #[derive(Clone, Copy)]
@@ -31,4 +37,76 @@ pub struct LastRow {
     pub after: Known,
     /// What it found.
     pub finding: Option<Finding>,
+}
+
+/// What the machine that judged a row knew at one moment, as it is kept of each row: a channel's by its word, which costs
+/// less to copy than what it says.
+#[derive(Clone, Copy)]
+pub(crate) enum Kept {
+    Restart(RState),
+    Channel(FlowWord),
+}
+
+impl Kept {
+    fn known(&self) -> Known
+        ensures { result ≡ known_by self.now }
+    {
+        match self {
+            Kept::Restart(state) => Known::Restart(*state),
+            Kept::Channel(word) => Known::Channel(view_in(word)),
+        }
+    }
+}
+
+/// A row, as it was judged, as it is kept.
+#[derive(Drop)]
+pub struct KeptRow {
+    pub(crate) number: u32,
+    pub(crate) side: Side,
+    pub(crate) packet: Packet,
+    pub(crate) channel: Option<u16>,
+    pub(crate) before: Kept,
+    pub(crate) after: Kept,
+    pub(crate) finding: Option<Finding>,
+}
+
+impl Model for KeptRow {
+    ghost use Rattle.live_report.specs.declared.last_row.LastRow.{LastRow};
+    ghost use Rattle.live_report.specs.KeptRows.{known_by};
+
+    ghost Value = { LastRow };
+
+    ghost view = { λ row. record {
+      number = row.number;
+      side = row.side;
+      packet = row.packet;
+      channel = row.channel;
+      before = known_by row.before;
+      after = known_by row.after;
+      finding = row.finding;
+    } };
+}
+
+impl KeptRow {
+    /// The row that is kept.
+    pub(crate) fn row(&self) -> LastRow
+        ensures { result ≡ self.now }
+    {
+        LastRow {
+            number: self.number,
+            side: self.side,
+            packet: self.packet,
+            channel: self.channel,
+            before: self.before.known(),
+            after: self.after.known(),
+            finding: self.finding,
+        }
+    }
+
+    /// What it found.
+    pub(crate) fn finding(&self) -> Option<Finding>
+        ensures { result ≡ self.now.finding }
+    {
+        self.finding
+    }
 }

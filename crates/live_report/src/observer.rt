@@ -13,12 +13,13 @@ ghost use Rattle.channel_run.specs.Live.{channel_so_far};
 ghost use Rattle.channel_run.specs.Views.{IsViewOf};
 ghost use Rattle.live_report.specs.Lanes.{LanesStandFor};
 ghost use Rattle.live_report.specs.LastRows.{IsLastRow};
+ghost use Rattle.live_report.specs.declared.last_row.Known.TheVariants.{Restart};
 ghost use Rattle.live_report.specs.Turns.{FindsBy, HasEvents, KnowsBy, MayTurn, OfOpen, StandsAt};
 ghost use Rattle.live_report.specs.Observing.{open_piece, HasWalked, IsHolding, IsObserver, MayWalk, TellsFinding, TellsReport, WalksOn};
 
 use crate::ending::end_channels;
 use crate::lanes::step_channel;
-use crate::last_row::{Known, LastRow};
+use crate::last_row::{Kept, KeptRow, LastRow};
 use crate::telling::tell_channels;
 use channel_run::live::LiveChannel;
 use channel_run::run::{Channel, View};
@@ -45,30 +46,30 @@ pub struct Observer<A: Allocator, C: Channel<A>> {
     /// The channels that have rows in the epoch that has not ended.
     lanes: ChannelTable<LiveChannel<A, C>, A>,
     /// The row that was taken last, as it was judged.
-    last: Option<LastRow>,
+    last: Option<KeptRow>,
     /// The events of the last row that a channel took.
     events: Vec<Event, A>,
 }
 
 /// A row of a packet that no channel takes, which the restart machine judged in a state.
-fn judged_on_line(item: &ItemRef<'_>, before: RState, step: &Step) -> LastRow
+fn judged_on_line(item: &ItemRef<'_>, before: RState, step: &Step) -> KeptRow
     ensures { result ≡ record {
       number = item.now.row.number;
       side = item.now.row.side;
       packet = item.now.packet;
       channel = None;
-      before = Known.Restart before;
-      after = Known.Restart step.now.machine.state;
+      before = Restart before;
+      after = Restart step.now.machine.state;
       finding = step.now.finding;
     } }
 {
-    LastRow {
+    KeptRow {
         number: item.number,
         side: item.side,
         packet: item.packet,
         channel: None,
-        before: Known::Restart(before),
-        after: Known::Restart(step.machine.state()),
+        before: Kept::Restart(before),
+        after: Kept::Restart(step.machine.state()),
         finding: step.finding,
     }
 }
@@ -89,7 +90,7 @@ impl<A: Allocator + Copy, C: Channel<A>> Observer<A, C> {
 
     /// Steps the channel that a row goes to, or ends the channels that it ends, and returns the row as it was judged. It
     /// refuses for want of memory alone.
-    fn turn(&mut self, step: &Step, item: &ItemRef<'_>) -> Result<LastRow, Fault>
+    fn turn(&mut self, step: &Step, item: &ItemRef<'_>) -> Result<KeptRow, Fault>
         requires room { (rows : OpenRows) × (reports : List records.PieceReport)
             × StandsAt C.Channel self.old.walk rows self.old.lanes × (self.old.ended ≡ gathered reports)
             × MayTurn step.now.turn self.old.walk.interface item.now rows }
@@ -162,7 +163,10 @@ impl<A: Allocator + Copy, C: Channel<A>> Observer<A, C> {
             → HasWalked C.Channel i (before ++ row ∷ []) self.now
             → MatchOption result ⊥ (λ last. IsLastRow i before row last self.now.events.items) }
     {
-        self.last
+        match &self.last {
+            Some(last) => Some(last.row()),
+            None => None,
+        }
     }
 
     /// The events of the last row that a channel took.
@@ -199,7 +203,7 @@ impl<A: Allocator + Copy, C: Channel<A>> Observer<A, C> {
         let item = row.with_packet(decode(&self.walk.interface, row.octets.as_slice()));
         let step = self.walk.step(&item)?;
         let last = self.turn(&step, &item)?;
-        let finding = last.finding;
+        let finding = last.finding();
         self.last = Some(last);
         self.walk.advance(step);
         Ok(finding)

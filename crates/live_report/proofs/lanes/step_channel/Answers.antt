@@ -31,14 +31,14 @@ returns-clause-stands g c rows f after more small =
 pub returns-clause-before : goal.returns-clause-before
 returns-clause-before g c rows f =
     let p = walked_piece c.args.walk.now c.args.channel rows in
-    c.view-before.ensures p (subst (λ live. IsLive g.C.Channel.interface_of g.C.Channel.number_of g.C.Channel.stands_for live p) (sym c.deref.ensures) (c.in_ok-live.ensures.out rows f).stands)
+    c.word-before.ensures p (subst (λ live. IsLive g.C.Channel.interface_of g.C.Channel.number_of g.C.Channel.stands_for live p) (sym c.deref.ensures) (c.in_ok-live.ensures.out rows f).stands)
 
 pub returns-clause-after : goal.returns-clause-after
 returns-clause-after g c rows f after more small =
     let walk = c.args.walk.now in
     let p = walked_piece walk c.args.channel rows in
     let out = c.in_ok-live.ensures.out rows f in
-    c.view-after.ensures (walked_piece walk c.args.channel after)
+    c.word-after.ensures (walked_piece walk c.args.channel after)
     (subst (λ items. IsLive g.C.Channel.interface_of g.C.Channel.number_of g.C.Channel.stands_for c.deref-2.result.now (record p { items = items })) (sym more.row)
     (subst (λ live. IsLive g.C.Channel.interface_of g.C.Channel.number_of g.C.Channel.stands_for live (with_item p c.args.item.now)) (sym c.deref-2.ensures)
     (c.in_ok-finding.ensures.stands p (subst (λ live. IsLive g.C.Channel.interface_of g.C.Channel.number_of g.C.Channel.stands_for live p) (sym c.deref_mut.ensures.value) out.stands)

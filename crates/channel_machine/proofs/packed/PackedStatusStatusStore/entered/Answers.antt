@@ -2,7 +2,8 @@ use Rattle.std.proofs.Common.{◌≡◌, sym, ◌∙◌, ap, subst}
 use Rattle.line_model.specs.channels.FlowControl.{no_counts}
 use Rattle.data_transfer.specs.FlowResidues.{Stands}
 use Rattle.channel_machine.specs.Terms.{AreUsable}
-use Rattle.channel_machine.specs.PackedStatus.{state_in, owed_in, call_in, values_in}
+use Rattle.channel_run.specs.StatusWord.{state_in, owed_in}
+use Rattle.channel_machine.specs.PackedStatus.{call_in, values_in}
 use Rattle.channel_machine.proofs.PackedLemmas.{values_new}
 use Rattle.channel_machine.proofs.packed.PackedStatusStatusStore.entered.Goals as goal
 

@@ -98,5 +98,6 @@ returns-clause-finding g c i rs s =
     let packet : one.packet ≡ packet_of s.cutting.interface one.row.octets = ap (λ x. x.packet) c.with_packet-item.ensures ∙ c.decode.ensures ∙ (λ t. packet_of (s.holds.interface t) ((octets ∙ ap (λ x. x.octets) (sym row_is)) t)) in
     let is = step_of g.C.Channel.interface_of g.C.Channel.number_of g.C.Channel.stands_for s.cutting _ o one step s.holds c.in_ok-step.ensures.step in
     let here : StandsAt g.C.Channel v s.cutting.open_rows o.lanes = (lanes_at g.C.Channel.interface_of g.C.Channel.number_of g.C.Channel.stands_for s.cutting _ o v s.holds same, listing i rs s.cutting s.cut) in
-    subst (λ r. (report_of i (rs ++ r ∷ [])).findings ≡ (report_of i rs).findings ++ option_to_list c.in_ok-last.last.finding) row_is
-    (finds_after i rs s.cutting one step v _ s.cut packet is (same.interface ∙ s.holds.interface) (same.epoch ∙ s.holds.epoch) (c.in_ok-last.ensures.finding s.cutting.open_rows here))
+    subst (λ r. (report_of i (rs ++ r ∷ [])).findings ≡ (report_of i rs).findings ++ option_to_list c.finding-finding.result) row_is
+    (subst (λ found. (report_of i (rs ++ one.row ∷ [])).findings ≡ (report_of i rs).findings ++ option_to_list found) (sym c.finding-finding.ensures)
+    (finds_after i rs s.cutting one step v _ s.cut packet is (same.interface ∙ s.holds.interface) (same.epoch ∙ s.holds.epoch) (c.in_ok-last.ensures.finding s.cutting.open_rows here)))
