@@ -1,8 +1,10 @@
 //! The restart machine.
 
 ghost use Rattle.std.specs.Prelude.{◌≡◌, false, true};
+ghost use Rattle.std.specs.Bool.{OnTrue};
 ghost use Rattle.line_model.specs.packets.Classes.{packet_class};
 ghost use Rattle.line_model.specs.observer.Observer.{line_in_r1};
+ghost use Rattle.restart_epochs.specs.HandedOn.{IsHandedOn};
 ghost use Rattle.line_model.specs.channels.RestartMachine.{restart_fault, restart_move, restart_error, restart_step, passes_joining, line_step};
 
 use line_model::diagnostic::{PACKET_TOO_LONG, PACKET_TOO_SHORT};
@@ -79,6 +81,9 @@ impl Restart {
             ≡ line_step self.old side (packet_class packet.now) length }
     {
         let class = packet.class();
+        if self.hands_on(class) {
+            return Route::ToChannel;
+        }
         let name = self.state.name();
         let action = match side {
             Side::T => table_t(name, class),
@@ -93,6 +98,16 @@ impl Restart {
             Route::Pass
         } else {
             self.act(class, length, side, action)
+        }
+    }
+
+    /// Whether a packet goes to its channel as most do: data or RR in r1, where no indication is owed.
+    fn hands_on(&self, class: Class) -> bool
+        ensures { OnTrue result (IsHandedOn self.now class) }
+    {
+        match self.state {
+            RState::R1 if !self.owed => matches!(class, Class::Data | Class::Rr),
+            _ => false,
         }
     }
 
