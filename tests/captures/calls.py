@@ -108,7 +108,7 @@ class Called(unittest.TestCase):
             self.assertEqual(done.stdout, (FILES / name).with_suffix(".trace").read_bytes())
             self.assertIn(b"x25trace: left out: ", done.stderr)
         piped = run("-", input=capture)
-        want = (FILES / "ethernet.trace").read_bytes().replace(b"from ethernet.pcap", b"from -")
+        want = (FILES / "ethernet.trace").read_bytes().replace(b"from ethernet.pcap", b"from standard input")
         self.assertEqual((piped.returncode, piped.stdout), (0, want))
 
     def test_only_one_carrier(self):
@@ -247,7 +247,7 @@ class Rotated(unittest.TestCase):
     def test_parts_of_a_capture(self):
         frames = [ethernet(one) for one in conversation()]
         blocks = section() + interface(1) + b"".join(map(enhanced, frames[5:]))
-        done = self.run_on(("day.pcap0", pcap(1, frames[:3])), ("day.pcap1", pcap(1, frames[3:5], ">")),
+        done = self.run_on(("day.pcap0", pcap(1, frames[:3])), ("day.pcap1", pcap(1, frames[3:5], ">", begin=3)),
                            ("day.pcap2", pcap(1, [])), ("day.pcapng", blocks))
         whole = run("ethernet.pcap", cwd=FILES)
         self.assertEqual((done.returncode, self.rows_of(done)), (0, self.rows_of(whole)))
@@ -256,9 +256,17 @@ class Rotated(unittest.TestCase):
         for number, name in ((1, "day.pcap0"), (4, "day.pcap1"), (6, "day.pcap2"), (6, "day.pcapng")):
             self.assertIn(f"\n# frames from {number} on are of {name}\n".encode(), done.stdout)
 
+    def test_order_of_times(self):
+        """Files that are not in the order of their times are read as they come, and a message says so."""
+        frames = [ethernet(one) for one in conversation()]
+        done = self.run_on(("day.pcap10", pcap(1, frames[:6], begin=6)), ("day.pcap2", pcap(1, frames[6:])))
+        words = b"x25trace: day.pcap2 begins before the file before it ends: give the files in the order of their times\n"
+        self.assertEqual(done.returncode, 0)
+        self.assertIn(words, done.stderr)
+
     def test_damage_of_one(self):
         frames = [ethernet(one) for one in conversation()]
-        done = self.run_on(("a", pcap(1, frames[:6]) + b"abc"), ("b", pcap(1, frames[6:])))
+        done = self.run_on(("a", pcap(1, frames[:6]) + b"abc"), ("b", pcap(1, frames[6:], begin=6)))
         self.assertEqual(done.returncode, 1)
         self.assertIn(b"x25trace: a, offset 468: the file ends inside of a record's header", done.stderr)
 

@@ -7,11 +7,11 @@ DTE, DCE = "192.0.2.1", "192.0.2.2"
 
 # Files ---------------------------------------------------------------------------------------------------------------
 
-def pcap(link, frames, order="<", nano=False, snap=262_144, network=None):
-    """A pcap file; a frame is its octets, or the octets kept and the length on the line."""
+def pcap(link, frames, order="<", nano=False, snap=262_144, network=None, begin=0):
+    """A pcap file; a frame is its octets, or the octets kept and the length on the line. Each is a second later."""
     magic = 0xA1B23C4D if nano else 0xA1B2C3D4
     file = struct.pack(order + "IHHIIII", magic, 2, 4, 0, 0, snap, link if network is None else network)
-    for at, frame in enumerate(frames):
+    for at, frame in enumerate(frames, begin):
         file += record(frame, at, order)
     return file
 

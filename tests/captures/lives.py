@@ -59,7 +59,7 @@ class Rows(unittest.TestCase):
 
     def test_xot(self):
         frames = [record(ethernet(one), at) for at, one in enumerate(conversation())]
-        start = ["# from - by x25trace, as its frames come; a row has the number of its frame",
+        start = ["# from standard input by x25trace, as its frames come; a row has the number of its frame",
                  "X25 2 MOD 8 WIN 2 SIZE 128 PVC 0 IN 0 TWO 4 OUT 4 JOIN", CHANNEL, "4 T 10010B0000"]
         steps = [(pcap(1, []) + b"".join(frames[:3]), []), (frames[3], start), (frames[4], ["5 N 10010F"]),
                  (frames[5], ["6 T 100100AA"]), (frames[6][:20], []), (frames[6][20:], ["7 N 100121"]),
@@ -68,7 +68,7 @@ class Rows(unittest.TestCase):
 
     def test_pcapng_and_times(self):
         frames = [enhanced(one, flags=2 if side == "T" else 1, time=at) for at, (side, one) in enumerate(packets_of())]
-        start = ["# from - by x25trace, as its frames come; a row has the number of its frame",
+        start = ["# from standard input by x25trace, as its frames come; a row has the number of its frame",
                  "X25 1 MOD 8 WIN 2 SIZE 128 PVC 0 SVC 4", "#@ 0", "1 T 1000FB0700"]
         steps = [(section() + interface(147), []), (frames[0], start), (frames[1], ["#@ 0.000001", "2 N 1000FF"]),
                  (frames[2], ["#@ 0.000002", "3 T 10010B0000"])]

@@ -66,11 +66,20 @@ class Called(unittest.TestCase):
         facts = Page(self.folder / "ethernet.html").facts
         self.assertEqual(facts["numbers"][1][:2], ["WIN", "1"])
         self.assertTrue(facts["numbers"][1][2])
-        self.assertEqual(facts["again"], {"WIN": "ethernet.pcap", "SIZE": "ethernet.pcap"})
+        self.assertEqual(facts["again"], dict.fromkeys(("all", "WIN", "SIZE"), "ethernet.pcap"))
         given = self.run_page("--win", "2", "--size=128", "-o", "given.html", CAPTURE)
         self.assertIn(b"header: X25 1 MOD 8 WIN 2 SIZE 128 ", given.stderr)
         facts = Page(self.folder / "given.html").facts
-        self.assertEqual(facts["again"], {"WIN": "--size=128 ethernet.pcap", "SIZE": "--win 2 ethernet.pcap"})
+        wanted = {"all": "--win 2 --size=128", "WIN": "--size=128", "SIZE": "--win 2"}
+        self.assertEqual(facts["again"], {name: f"{words} ethernet.pcap" for name, words in wanted.items()})
+        self.assertEqual(facts["trial"], "x25trace --win 2 --size=128 ethernet.pcap | x25scan --try-headers")
+
+    def test_header_that_may_be_wrong(self):
+        """Standard error names the command that tries others."""
+        done = self.run_page(ROOT / "examples" / "window-guessed.trace")
+        self.assertIn(b"the header may be wrong, and the page says why: "
+                      b"x25scan --try-headers window-guessed.trace tries others", done.stderr)
+        self.assertNotIn(b"may be wrong", self.run_page(TRACE).stderr)
 
     def test_damaged_capture(self):
         done = self.run_page(FILES / "tcp-gap-and-next-connection.pcap")
@@ -156,6 +165,13 @@ class Called(unittest.TestCase):
         scanner = self.scanner("[ $1 = --explain ] && exit; echo 'x25scan: out of memory' >&2; exit 3")
         words = f"reading or writing failed: {scanner} --rows ended with status 3: out of memory"
         self.refused(3, words, "--scanner", scanner, TRACE)
+
+    def test_strange_scanner(self):
+        row = '{"line":"row","packet":1}'
+        for line in ("x", "[1]", "{}", row, r"\377"):
+            scanner = self.scanner(f"[ $1 = --explain ] && exit; printf '{line}\\n'")
+            words = f"reading or writing failed: {scanner} --rows printed what is no object of this x25scan"
+            self.refused(3, words, "--scanner", scanner, TRACE)
 
     def test_faulty_trace(self):
         scanner = self.scanner("[ $1 = --explain ] && exit; printf 'x25scan: line 4: kind 26\\n  The side is X.\\n' >&2; exit 2")

@@ -9,20 +9,22 @@ sys.path.insert(0, str(pathlib.Path(__file__).resolve().parents[2] / "tools"))
 
 from x25page_lib.calls import COLUMNS, MEMBERS, Calls  # noqa: E402
 from x25page_lib.facts import Thinned, Times  # noqa: E402
-from x25page_lib.ladders import Ladders, Row  # noqa: E402
-from x25page_lib.rows import RowForms, nanoseconds  # noqa: E402
+from x25page_lib.ladders import Ladders  # noqa: E402
+from x25page_lib.rows import ROW, Row, RowForms, nanoseconds  # noqa: E402
 from x25page_lib.suspicions import Debts, warnings  # noqa: E402
 
 FINDING = {"code": "1", "name": "Invalid P(S)", "wrong": "<b>", "then": "", "clause": "X.25"}
 CALLS, LONGEST = 40, 60
 
 
-def told(packet, kind="data", finding=None, octets=100, **more):
-    """The object of a row."""
+def told(packet, kind="data", finding=None, octets=100, forms=None, **more):
+    """A row, as x25scan says it."""
     base = {"line": "row", "packet": packet, "side": "TN"[packet % 2], "channel": 1, "before": "d1", "after": "d1",
             "counted": None, "finding": finding, "epoch": 1, "owed": False, "call": 1, "begins": False, "up": False,
             "ends": [], "not_counted": None, "time": None, "type": kind, "hex": "00" * octets}
-    return base | ({"octets": octets, "send": 0, "receive": 0} if kind == "data" else {}) | more
+    rest = {"send": 0, "receive": 0, "octets": octets} if kind == "data" else {}
+    line = json.dumps(base | more | rest, separators=(",", ":"))
+    return Row(ROW.match(line).groups(), forms or RowForms())
 
 
 FAULTY = told(2, side="T", finding=FINDING, owed=True)
@@ -39,7 +41,7 @@ class Kept(unittest.TestCase):
                 packet += 1
                 finding = FINDING if call in faulty and at and random.random() < 0.2 else None
                 kind = "data" if at else "call_request"
-                ladders.add(f"call-{call}", Row(told(packet, kind, finding), forms))
+                ladders.add(f"call-{call}", told(packet, kind, finding, forms=forms))
                 sums[0] += 1
                 sums[1] += 100 if kind == "data" else 0
                 sums[2] += finding is not None
@@ -76,6 +78,23 @@ class Kept(unittest.TestCase):
         self.assertLess(len(texts), CALLS)
         self.assertLessEqual({"call-3", "call-7", "call-30"}, set(texts))
 
+    def test_late_finding(self):
+        """A call after many others is whole where it has a finding, and left out where it has none."""
+        ladders, forms, packet = Ladders(20_000), RowForms(), 0
+        for call in range(1, 301):
+            for at in range(8):
+                packet += 1
+                finding = FINDING if call == 300 and at == 7 else None
+                ladders.add(f"call-{call}", told(packet, "data" if at else "call_request", finding, 10, forms))
+            if call < 299:
+                ladders.finish(f"call-{call}")
+        self.assertTrue(ladders.is_full)
+        texts = dict(ladders.texts())
+        self.assertIn("call-1", texts)
+        self.assertNotIn("call-250", texts)
+        self.assertEqual(len(json.loads(texts["call-300"])), 8)
+        self.assertEqual(len(texts) + ladders.left_out, 300)
+
     def test_whole(self):
         """Nothing is left out of a short trace."""
         ladders, wanted = self.ladders(1_000_000, {3})
@@ -83,8 +102,8 @@ class Kept(unittest.TestCase):
         self.assertEqual((kept, ladders.left_out, ladders.level), (sum(it[0] for it in wanted.values()), 0, 0))
 
     def test_no_markup(self):
-        ladders, forms = Ladders(10_000), RowForms()
-        ladders.add("interface", Row(told(1, finding=FINDING), forms))
+        ladders = Ladders(10_000)
+        ladders.add("interface", told(1, finding=FINDING))
         (_, text), = ladders.texts()
         self.assertNotIn("<", text)
         self.assertIn("\\u003cb\\u003e", text)
@@ -104,12 +123,13 @@ class Kept(unittest.TestCase):
         self.assertEqual(text.count("[") - 1 + calls.left_out, 29)
 
     def test_times(self):
-        times = Times()
+        times, forms = Times(), RowForms()
+        forms.begin("0.5")
         for packet in range(1, 10_001):
-            times.add(packet, packet / 2)
-        found = times.all()
+            times.add(packet, f"{packet // 2}.{packet % 2 * 5}")
+        found = times.all(forms)
         self.assertLess(len(found), 1100)
-        self.assertEqual((found[0], found[-1]), ([1, 0.5], [10_000, 5000.0]))
+        self.assertEqual((found[0], found[-1]), ([1, 0.0], [10_000, 4999.5]))
 
     def test_thinned(self):
         """What does not fit is left out evenly."""

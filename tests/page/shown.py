@@ -157,13 +157,15 @@ def folds(shown, folder, scanner):
 
 
 def doubtful(shown, folder, scanner):
-    """A header that does not fit is doubted, with a command that tries another one."""
+    """A header that does not fit is doubted, with a command that tries all others, and one for a number of it."""
     page = folder / "guessed.html"
     run("--scanner", scanner, "-o", page, GUESSED)
     shown.browser.open(page)
     shown.is_so("document.querySelector('.alarm h2').textContent", "The header may be wrong")
-    wanted = "sed 's/WIN 1 /WIN 2 /' window-guessed.trace | x25page -o other.html -"
-    shown.is_so("document.querySelector('.alarm pre').textContent", wanted)
+    wanted = ["x25scan --try-headers window-guessed.trace",
+              "sed 's/WIN 1 /WIN 2 /' window-guessed.trace | x25page -o other.html -"]
+    shown.is_so("[...document.querySelectorAll('.alarm pre')].slice(0, 2).map((it) => it.textContent).join('|')",
+                "|".join(wanted))
 
 
 def outcomes(scanner, folder):

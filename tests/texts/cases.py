@@ -1,6 +1,12 @@
 """Texts that are refused or taken, with what is wanted of the program."""
+import pathlib
+import sys
 from dataclasses import dataclass
 from typing import Optional
+
+sys.path.insert(0, str(pathlib.Path(__file__).resolve().parents[2] / "tools"))
+
+from x25trace_lib import captures, pcap, pcapng, snoop  # noqa: E402
 
 HEADER = b"X25 1 MOD 8 WIN 2 SIZE 128 PVC 0 SVC 4\n"
 TEXT_LIMIT = 1 << 30
@@ -11,6 +17,8 @@ LONG_LINE = "The line has more than 8,500 bytes without its line feed, comments 
 EMPTY = "The line is empty: sed '/^$/d' FILE | x25scan reads the text without empty lines."
 LAST_EMPTY = "The last line that was read is empty: sed '/^$/d' FILE | x25scan reads the text without empty lines."
 SECOND_HEADER = "A second header stands here, as in joined traces. Where the row numbers go on, awk '!/^X25 / || !n++' FILE.. | x25scan reads them as one trace."
+CAPTURE = "This is a capture: x25page FILE shows it, and x25trace FILE | x25scan prints its report."
+TURNED = "This is {} {} file: editcap -F pcapng FILE OUT.pcapng, of Wireshark, turns it into one that x25page reads."
 TOO_LARGE = "The text has more than 2^30 bytes: cut it after a restart confirmation, and begin each part with the header (/usr/share/doc/x25scan/GUIDE.md has the command)."
 # More rows, and more comments, than the last bytes that a refusal is explained by.
 MANY = b"".join(b"%d T 1000FB0000\n" % number for number in range(1, 20000))
@@ -103,10 +111,10 @@ HEADERS = [
     (b"X25 2 MOD 8 WIN 2 SIZE 128 PVC 0 IN 5 TWO 4 OUT 4", 1, HEADER_RANGE, "The header's IN is 5: 0 to 4 belongs there."),
     (b"X25 2 MOD 8 WIN 2 SIZE 128 PVC 1 IN 0 TWO 4 OUT 4", 1, HEADER_RANGE, None),
     (b"\xef\xbb\xbfX25 1", 1, HEADER_FORM, "The text begins with a byte order mark: tail -c +4 FILE | x25scan reads it."),
+    (b"\x04\x22\x4d\x18\x64", 1, HEADER_FORM, "This is an lz4 file: lz4 -dc FILE | x25scan reads what is in it."),
     (b"\x1f\x8b\x08\x00", 1, HEADER_FORM, "This is a gzip file: gzip -dc FILE | x25scan reads what is in it."),
-    (b"\xd4\xc3\xb2\xa1\x02\x00", 1, HEADER_FORM, "This is a capture: x25trace FILE | x25scan reads it."),
-    (b"\xd4\xc3\xb2\xa1\x02\x00\x04\x00\n", 1, HEADER_FORM, "This is a capture: x25trace FILE | x25scan reads it."),
-    (b"\x0a\x0d\x0d\x0a\x1c\x00\x00\x00", 1, HEADER_FORM, "This is a capture: x25trace FILE | x25scan reads it."),
+    (b"\xd4\xc3\xb2\xa1\x02\x00\x04\x00\n", 1, HEADER_FORM, CAPTURE),
+    (b"\x0a\x0d\x0d\x0a\x1c\x00\x00\x00", 1, HEADER_FORM, CAPTURE),
 ]
 
 # Texts that are taken, with the number of their rows.
@@ -142,6 +150,14 @@ LAST_LINES = [
 ]
 
 
+def recordings():
+    """Captures that x25trace reads, and files that it names, by their first bytes."""
+    for magic in (*pcap.MAGICS, pcapng.MAGIC, snoop.MAGIC):
+        yield Text(magic + b"\2\0", 1, HEADER_FORM, CAPTURE)
+    for magic, form in captures.OTHER_FORMS.items():
+        yield Text(magic + b"\2\0", 1, HEADER_FORM, TURNED.format("an" if form[0] in "AEIOU" else "a", form))
+
+
 def texts():
     """All texts."""
     for rows, line, kind, said in ROWS:
@@ -150,6 +166,7 @@ def texts():
         yield Text(text, line, kind, said)
     for text, rows in TAKEN:
         yield Text(text, rows=rows)
+    yield from recordings()
 
 
 def texts_at_the_limit():

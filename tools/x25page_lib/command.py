@@ -18,6 +18,7 @@ from x25trace_lib.words import Status
 from . import inputs, pages
 from .facts import Facts
 from .scanner import Scanner
+from .suspicions import trial
 from .told import Why
 from .words import line_with, of_captures, parsed, parser
 
@@ -110,11 +111,11 @@ def say_header(head):
 
 
 def again(words, arguments, is_capture):
-    """What stands in a command that makes the page again: of a capture by the number that is changed, else its name."""
+    """What stands in a command that reads the same again: of a capture, also without a number that is changed."""
     if is_capture:
         # The page may be for other people: it has no folder of this machine.
         shown = [os.path.basename(word) if word in words.captures else word for word in arguments]
-        return {name: line_with(shown, option) for name, option in OPTIONS.items()}
+        return {"all": line_with(shown), **{name: line_with(shown, option) for name, option in OPTIONS.items()}}
     name = words.captures[0]
     return "TRACE" if name == "-" else shlex.quote(os.path.basename(name))
 
@@ -130,14 +131,15 @@ def make(words, arguments, ledger, waiting):
         head = inputs.head_of(trace)
         say_header(head)
         explanations = scanner.explanations()
-        facts.take(scanner.objects(trace))
+        scanner.tell(facts, trace)
     words_again = again(words, arguments, ledger.is_capture)
-    name = "standard input" if words.captures == ["-"] else title(words.captures)
-    page = pages.Page(name, head, ledger.heard, facts, explanations, words_again)
+    page = pages.Page(title(words.captures), head, ledger.heard, facts, explanations, words_again)
     with written(path) as out:
         for part in page.parts():
             out.write(part)
     say(f"{path}: {page.summary()}")
+    if page.warnings:
+        say(f"the header may be wrong, and the page says why: {trial(words_again)} tries others")
 
 
 def run(words, arguments, waiting):

@@ -2,8 +2,9 @@
 from dataclasses import dataclass, field
 
 from .calls import Calls
-from .ladders import SIDES, Ladders, Row
-from .rows import RowForms, in_seconds, nanoseconds
+from .ladders import Ladders
+from .rows import NOTHING, ROW, SIDES, Row, RowForms, in_seconds, nanoseconds
+from .scanner import read
 from .suspicions import Debts
 from .texts import encoded
 
@@ -72,8 +73,10 @@ class Times:
         self.seen += 1
         self.last = [packet, time]
 
-    def all(self):
-        return [*self.pairs, self.last] if self.pairs else []
+    def all(self, forms):
+        """The pairs of a row and its time after the first one."""
+        pairs = [*self.pairs, self.last] if self.pairs else []
+        return [[packet, forms.since_begin(time)] for packet, time in pairs]
 
 
 @dataclass
@@ -86,6 +89,14 @@ class Broken:
     first: list = field(default_factory=lambda: [None, None])
 
 
+@dataclass(slots=True)
+class LastCall:
+    """The last call of a channel, which its clear confirmation still belongs to, and the key of its ladder."""
+
+    number: str
+    key: str
+
+
 class Facts:
     """The facts of a page so far."""
 
@@ -95,10 +106,8 @@ class Facts:
         self.broken, self.marks, self.restarts = {}, Thinned(MARKS), Thinned(MARKS // 4)
         self.accounts, self.settings, self.not_counted = Budgeted(ACCOUNTS), Budgeted(SETTINGS), []
         self.sums = self.peak = None
-        # The last call of each channel, which its clear confirmation still belongs to.
         self.last_calls, self.channels, self.first, self.last = {}, set(), None, 0
         self.takers = {
-            "row": self.row,
             "call": self.calls.add,
             "setting": lambda it: self.settings.add([it[name] for name in SETTING]),
             "account": lambda it: self.accounts.add([it[name] for name in ("address", "calls", "segments")]),
@@ -108,59 +117,71 @@ class Facts:
             "call_facts": self.call_facts,
         }
 
-    def take(self, objects):
-        """Takes all objects of a trace."""
-        takers = self.takers
-        for it in objects:
+    def take(self, lines):
+        """Takes all objects of a trace, a line each."""
+        match, take_row, takers, forms = ROW.match, self.row, self.takers, self.forms
+        for line in lines:
+            if found := match(line):
+                take_row(Row(found.groups(), forms))
+                continue
+            it = read(line)[0]
+            if it["line"] == "row":
+                raise ValueError("a row with other members")
             if taker := takers.get(it["line"]):
                 taker(it)
 
-    def row(self, told):
-        packet = self.last = told["packet"]
+    def row(self, row):
+        packet = self.last = row.packet
         self.first = self.first or packet
-        if told["channel"] is not None:
-            self.channels.add(told["channel"])
-        row, key = Row(told, self.forms), self.key(told)
-        if told["time"] is not None:
-            self.times.add(packet, self.forms.since_begin(told["time"]))
-        if told["finding"]:
-            self.finding(told, row.side, key)
-        elif told["channel"] is None and told["type"].startswith("restart_") and told["after"] in ("r2", "r3"):
+        self.channels.add(row.channel)
+        key = self.key(row)
+        if row.time != NOTHING:
+            self.forms.begin(row.time)
+            self.times.add(packet, row.time)
+        if row.code:
+            self.finding(row, key)
+        elif row.channel == NOTHING and row.kind.startswith("restart_") and row.after in ("r2", "r3"):
             self.restarts.add([packet, row.side])
-        self.debts.see(told)
+        if row.code or row.channel == NOTHING or row.channel in self.debts.open:
+            self.debts.see(row)
         self.ladders.add(key, row)
 
-    def key(self, told):
+    def key(self, row):
         """Which ladder a row stands in."""
-        channel, call = told["channel"], told["call"]
-        if channel is None:
-            if told["ends"]:
+        channel, call = row.channel, row.call
+        last = self.last_calls.get(channel)
+        if last is not None and call == last.number:
+            return last.key
+        if channel == NOTHING:
+            if '"ends":[]' not in row.course:
                 self.end_all()
             return "interface"
-        last = self.last_calls.get(channel)
-        if call is not None:
-            if last not in (None, call):
-                self.ladders.finish(f"call-{last}")
-            self.last_calls[channel] = call
-        elif last is not None and told["before"] in CLEARING:
-            call = last
-        return f"channel-{channel}" if call is None else f"call-{call}"
+        if call != NOTHING:
+            if last is not None:
+                self.ladders.finish(last.key)
+            last = self.last_calls[channel] = LastCall(call, f"call-{call}")
+        elif last is None or row.before not in CLEARING:
+            return f"channel-{channel}"
+        return last.key
 
     def end_all(self):
         """A restart ended the calls."""
         for call in self.last_calls.values():
-            self.ladders.finish(f"call-{call}")
+            self.ladders.finish(call.key)
         self.last_calls.clear()
 
-    def finding(self, told, side, key):
-        finding, packet = told["finding"], told["packet"]
-        broken = self.broken.setdefault(finding["code"], Broken(finding["name"], finding["clause"]))
+    def finding(self, row, key):
+        finding, packet, side = row.finding, row.packet, row.side
+        broken = self.broken.get(row.code)
+        if broken is None:
+            broken = self.broken[row.code] = Broken(finding["name"], finding["clause"])
         broken.counts[side] += 1
         if broken.first[side] is None:
             broken.first[side] = [packet, key]
-        if told["call"] is not None:
-            self.calls.count(told["call"])
-        self.marks.add([packet, side, told["channel"], finding["code"], key, finding["wrong"]])
+        if row.call != NOTHING:
+            self.calls.count(int(row.call))
+        channel = None if row.channel == NOTHING else int(row.channel)
+        self.marks.add([packet, side, channel, row.code, key, finding["wrong"]])
 
     def call_facts(self, told):
         time = nanoseconds(told["start"])

@@ -81,18 +81,18 @@ def head_of(trace):
     """The head of a trace in an open file, which is left at its beginning."""
     head, circuit = Head(), None
     while line := trace.readline(LONGEST_LINE):
-        is_comment = line.startswith(b"#")
-        if is_comment and not head.header:
-            comment(head, line[1:].decode(errors="replace").strip())
+        if not line.startswith(b"#"):
+            if not head.header:
+                head.header = shown(line) or "-"
+            elif circuit and (row := ROW.match(line)):
+                head.circuits.append([int(row[1]), *circuit])
+                circuit = None
+                if len(head.circuits) == MOST_CIRCUITS:
+                    break
         elif not head.header:
-            head.header = shown(line) or "-"
-        elif is_comment and (match := CIRCUIT.match(line)):
+            comment(head, line[1:].decode(errors="replace").strip())
+        elif match := CIRCUIT.match(line):
             circuit = [int(match[2]), shown(match[1])]
-        elif circuit and (row := ROW.match(line)):
-            head.circuits.append([int(row[1]), *circuit])
-            circuit = None
-            if len(head.circuits) == MOST_CIRCUITS:
-                break
     trace.seek(0)
     return head
 

@@ -2,13 +2,13 @@
 from collections import deque
 from dataclasses import dataclass, field
 
+from .rows import SIDES, Row
 from .texts import encoded
 
-SIDES = "TN"
-# Packets that are no news while all goes well.
-FLOWING = {"data", "rr", "rnr", "interrupt", "interrupt_confirmation"}
 # A ladder keeps its first rows, which show how the call was set up.
 BEGINNING = 2
+# So many rows of a ladder that is probably left out wait for a finding, before their texts are made.
+WAITING = 16
 
 
 @dataclass(frozen=True)
@@ -21,8 +21,9 @@ class Level:
     most: int
 
 
+EVERYTHING = Level(1 << 30, 8400, 1 << 30)
 LEVELS = (
-    Level(1 << 30, 8400, 1 << 30),
+    EVERYTHING,
     Level(8, 64, 1 << 30),
     Level(2, 32, 4000),
     Level(2, 32, 400),
@@ -30,33 +31,6 @@ LEVELS = (
 )
 # From this level on ladders without a finding go before more is left out of others.
 DROPPING = 2
-
-
-class Row:
-    """A row that may be kept: its place in sums, and its text in the page once it is kept."""
-
-    __slots__ = ("told", "forms", "packet", "side", "octets", "is_data", "is_marked", "code", "text")
-
-    def __init__(self, told, forms):
-        self.told, self.forms, self.text = told, forms, ""
-        finding, kind = told["finding"], told["type"]
-        self.packet, self.side = told["packet"], SIDES.index(told["side"])
-        self.octets, self.is_data = told.get("octets", 0), kind == "data"
-        self.code = finding["code"] if finding else ""
-        self.is_marked = bool(
-            finding or kind not in FLOWING or told["before"] != told["after"]
-            or told["begins"] or told["up"] or told["ends"] or told.get("message") or told.get("settings")
-        )
-
-    def write(self, level):
-        """Makes the text with as many digits as a level keeps; a finding keeps eight times as many."""
-        if not self.text:
-            self.text, self.told, self.forms = self.forms.text(self.told), None, None
-        digits = level.digits * 8 if self.code else level.digits
-        begin = self.text.index('"') + 1
-        end = self.text.index('"', begin)
-        if end - begin > digits:
-            self.text = self.text[:begin + digits] + self.text[end:]
 
 
 @dataclass(slots=True)
@@ -100,52 +74,70 @@ class Run:
 class Ladder:
     """The rows of a call, of a channel outside of calls, or of the interface."""
 
-    __slots__ = ("items", "run", "tail", "following", "findings", "size", "is_closed")
+    __slots__ = ("items", "run", "tail", "following", "findings", "size", "is_closed", "is_waiting")
 
-    def __init__(self):
+    def __init__(self, is_waiting=False):
         self.begin()
-        self.findings, self.is_closed = 0, False
+        self.findings, self.is_closed, self.is_waiting = 0, False, is_waiting
 
     def begin(self):
         """Forgets all rows."""
-        self.items, self.run, self.tail = [], Run(), deque()
+        self.items, self.run, self.tail = [], None, deque()
         self.following = self.size = 0
 
     def wants(self, row, level):
         """Whether a row is kept for itself, and not for those beside it."""
-        if self.is_closed or len(self.items) >= (level.most if row.code else level.most // 2):
+        many = len(self.items)
+        if many >= (level.most if row.code else level.most // 2):
             return False
-        return row.is_marked or len(self.items) < BEGINNING
-
-    def add(self, row, level):
-        self.findings += bool(row.code)
-        self.place(row, level)
+        return row.is_marked or level is EVERYTHING or many < BEGINNING
 
     def place(self, row, level):
         """Keeps a row, or has it wait for one that is kept, or leaves it out."""
-        if self.wants(row, level):
-            self.release(level)
+        if self.is_closed:
+            self.sum_up(row)
+        elif self.wants(row, level):
+            if self.tail or self.run:
+                self.release(level)
             self.keep(row, level)
-            self.following = level.edge if row.is_marked else self.following
-        elif self.following and not self.is_closed and not row.is_marked:
+            if row.is_marked:
+                self.following = level.edge
+        elif self.following and not row.is_marked:
             self.following -= 1
             self.keep(row, level)
         else:
             self.following = 0
             self.tail.append(row)
-            while len(self.tail) > (0 if self.is_closed else level.edge):
-                self.run.add(self.tail.popleft())
+            if len(self.tail) > level.edge:
+                self.sum_up(self.tail.popleft())
+
+    def sum_up(self, row):
+        """Leaves a row out."""
+        if self.run is None:
+            self.run = Run()
+        self.run.add(row)
 
     def keep(self, item, level):
-        item.write(level)
         self.items.append(item)
+        if self.is_waiting:
+            if len(self.items) > WAITING:
+                self.show(level)
+            return
+        item.write(level)
         self.size += len(item.text) + 1
+
+    def show(self, level):
+        """Makes the texts of what waited."""
+        self.is_waiting = False
+        for item in self.items:
+            item.write(level)
+            self.size += len(item.text) + 1
 
     def release(self, level):
         """Keeps the sums of what was left out, and the rows that wait."""
-        if self.run.packets:
+        if self.run:
             self.keep(self.run, level)
-            self.run = Run()
+            self.run = None
         for row in self.tail:
             self.keep(row, level)
         self.tail.clear()
@@ -158,7 +150,8 @@ class Ladder:
         for item in items:
             if isinstance(item, Run):
                 while self.tail:
-                    self.run.add(self.tail.popleft())
+                    self.sum_up(self.tail.popleft())
+                self.run = self.run or Run()
                 self.run.join(item)
                 self.following = 0
             else:
@@ -183,28 +176,35 @@ class Ladders:
         self.ladders = {}
         self.finished = set()
         self.left_out = 0
+        # Whether a ladder without a finding was left out, as all further ones are then.
+        self.is_full = False
 
     def add(self, key, row):
         ladder = self.ladders.get(key)
         if ladder is None:
-            ladder = self.ladders[key] = Ladder()
+            ladder = self.ladders[key] = Ladder(self.is_full)
         before = ladder.size
-        ladder.add(row, LEVELS[self.level])
+        if row.code:
+            ladder.findings += 1
+            if ladder.is_waiting:
+                ladder.show(LEVELS[self.level])
+        ladder.place(row, LEVELS[self.level])
         self.size += ladder.size - before
         if self.size > self.budget:
             self.shrink()
 
     def finish(self, key):
         """No more rows will come for a ladder."""
-        if key not in self.ladders:
+        ladder = self.ladders.get(key)
+        if ladder is None:
+            return
+        if ladder.is_closed or self.is_full and not ladder.findings:
+            self.drop(key)
             return
         self.finished.add(key)
-        ladder = self.ladders[key]
         before = ladder.size
         ladder.release(LEVELS[self.level])
         self.size += ladder.size - before
-        if ladder.is_closed:
-            self.drop(key)
 
     def drop(self, key):
         self.size -= self.ladders.pop(key).size
@@ -236,12 +236,15 @@ class Ladders:
             if self.size <= enough:
                 break
             self.drop(key)
+            self.is_full = True
 
     def close_some(self, enough):
         for key in sorted(self.ladders, key=lambda it: self.ladders[it].findings):
+            ladder = self.ladders[key]
             if self.size <= enough:
                 break
-            ladder = self.ladders[key]
+            if ladder.is_waiting:
+                continue
             before = ladder.size
             ladder.close()
             self.size += ladder.size - before
@@ -250,9 +253,12 @@ class Ladders:
 
     def texts(self):
         """The key of each ladder that has more than sums, and its text."""
+        level = LEVELS[self.level]
         for key, ladder in self.ladders.items():
-            parts = ladder.texts(LEVELS[self.level])
-            if any(isinstance(item, Row) for item in ladder.items):
-                yield key, f"[{','.join(parts)}]"
+            if ladder.is_waiting and self.size < self.budget:
+                ladder.show(level)
+                self.size += ladder.size
+            if not ladder.is_waiting and any(isinstance(item, Row) for item in ladder.items):
+                yield key, f"[{','.join(ladder.texts(level))}]"
             else:
                 self.left_out += 1

@@ -2,11 +2,12 @@
 import base64
 import hashlib
 import pathlib
-from dataclasses import dataclass
+from dataclasses import dataclass, field
 
-from .facts import SIDES, Facts
+from .facts import Facts
 from .inputs import Head
-from .suspicions import number, warnings
+from .rows import NOTHING, SIDES
+from .suspicions import number, trial, warnings
 from .texts import encoded
 
 FOLDER = pathlib.Path(__file__).resolve().parent / "page"
@@ -43,6 +44,7 @@ class Page:
     explanations: dict
     again: dict | str
     size: int = 0
+    warnings: list = field(default_factory=list)
 
     def parts(self):
         """The text of the page, in parts."""
@@ -84,9 +86,11 @@ class Page:
 
     def small(self):
         facts, head, codes = self.facts, self.head, self.facts.codes()
+        self.warnings = warnings(head.numbers, codes, facts.debts)
         return {
             "name": self.name,
             "again": self.again,
+            "trial": trial(self.again),
             "header": head.header,
             "numbers": [[name, value, head.estimates.get(name)] for name, value in head.numbers.items()],
             "heard": self.heard,
@@ -95,11 +99,11 @@ class Page:
             "sums": facts.sums,
             "peak": facts.peak,
             "codes": codes,
-            "warnings": warnings(head.numbers, codes, facts.debts),
+            "warnings": self.warnings,
             "not_counted": facts.not_counted,
             "rows": [facts.first, facts.last],
-            "channels": sorted(facts.channels),
-            "times": facts.times.all(),
+            "channels": sorted(int(channel) for channel in facts.channels if channel != NOTHING),
+            "times": facts.times.all(facts.forms),
             "begun": None if facts.forms.begun is None else str(facts.forms.begun),
             "types": facts.forms.types.values(),
             "states": facts.forms.states.values(),

@@ -1,12 +1,28 @@
-"""The rows of a page: the array of each, with the words that many rows have in tables beside it."""
-from .ladders import SIDES
+"""The rows of a page: what x25scan says of each, and its array; words that many rows have stand in tables beside it."""
+import json
+import re
+from functools import lru_cache
+
 from .texts import encoded
 
-# Members that stand in the array by their place, or that say nothing where they are left out.
-PLACED = {"line", "packet", "side", "channel", "before", "after", "counted", "finding", "epoch", "call", "time", "type",
-          "hex"}
+SIDES = "TN"
+NOTHING = "null"
+# The object of a row, whose members stand in this order; those of its kind of packet come last.
+ROW = re.compile(
+    r'\{"line":"row","packet":([^,]*),"side":"([^"]*)","channel":([^,]*),"before":"([^"]*)","after":"([^"]*)",'
+    r'"counted":(?:null|\{"octets":[^,]*,"segments":([^}]*)\}),"finding":(?:null|(\{"code":"([^"]*)",[^}]*\})),'
+    r'"epoch":[^,]*,"owed":([^,]*),"call":([^,]*),("begins":[^[]*\[[^]]*\]),"not_counted":([^,]*),"time":([^,]*),'
+    r'"type":"([^"]*)","hex":"(.*)\}'
+)
+QUIET_COURSE = '"begins":false,"up":false,"ends":[]'
+# Packets that are no news while all goes well, and members that are.
+FLOWING = {"data", "rr", "rnr", "interrupt", "interrupt_confirmation"}
+NEWS = ('"message":', '"settings":')
+OCTETS = re.compile(r'"octets":(\d+)')
 SHORT = {"send": "s", "receive": "r", "octets": "o", "more": "m", "qualified": "q", "delivery": "d"}
 SECOND = 1_000_000_000
+# Many rows say the same: so many different texts are remembered.
+REMEMBERED = 1 << 13
 
 
 def nanoseconds(seconds):
@@ -25,6 +41,73 @@ def in_seconds(time):
     return None if time is None else time / SECOND
 
 
+@lru_cache(REMEMBERED)
+def octets_and_news(members):
+    """What the members of a kind of packet say of its user data, and whether one of them is news."""
+    octets = OCTETS.search(members)
+    return int(octets[1]) if octets else 0, any(it in members for it in NEWS)
+
+
+@lru_cache(REMEMBERED)
+def spoken(owed, course, lost, members):
+    """Members of a row without those that are null, false or empty."""
+    told = json.loads(f'{{"owed":{owed},{course},"not_counted":{lost}{members}}}')
+    return {SHORT.get(name, name): value for name, value in told.items() if value or value == 0 and value is not False}
+
+
+@lru_cache(REMEMBERED)
+def finding_of(text):
+    """What a finding says."""
+    return json.loads(text)
+
+
+class Row:
+    """A row that may be kept: what x25scan says of it, its place in sums, and its text in the page once it is kept."""
+
+    __slots__ = (
+        "packet", "side", "channel", "before", "after", "segments", "fault", "code", "owed", "call", "course", "lost",
+        "time", "kind", "hex", "members", "octets", "is_data", "is_marked", "forms", "text",
+    )
+
+    def __init__(self, found, forms):
+        (
+            packet, side, self.channel, self.before, self.after, self.segments, self.fault, self.code, self.owed,
+            self.call, self.course, self.lost, self.time, self.kind, rest,
+        ) = found
+        self.hex, _, self.members = rest.partition('"')
+        self.packet, self.side = int(packet), SIDES.index(side)
+        self.forms, self.text = forms, ""
+        self.octets, is_news = octets_and_news(self.members)
+        self.is_data = self.kind == "data"
+        self.is_marked = (
+            self.code is not None or self.before != self.after or self.kind not in FLOWING or is_news
+            or self.course != QUIET_COURSE
+        )
+
+    @property
+    def finding(self):
+        """What is wrong with the row."""
+        return finding_of(self.fault)
+
+    def forget(self):
+        """Forgets what its text says."""
+        self.channel = self.before = self.after = self.segments = self.fault = self.owed = self.call = None
+        self.course = self.lost = self.time = self.kind = self.hex = self.members = self.forms = None
+
+    def write(self, level):
+        """Makes the text with as many digits as a level keeps; a finding keeps eight times as many."""
+        if not self.text:
+            self.text = self.forms.text(self)
+            self.forget()
+        digits = level.digits * 8 if self.code else level.digits
+        if len(self.text) <= digits:
+            return
+        begin = self.text.index('"') + 1
+        end = self.text.index('"', begin)
+        if end - begin > digits:
+            self.text = self.text[:begin + digits] + self.text[end:]
+
+
 class Table:
     """Values that have a place each."""
 
@@ -39,41 +122,41 @@ class Table:
 
 
 class RowForms:
-    """Makes the rows of a page from objects."""
+    """Makes the arrays of rows."""
 
     def __init__(self):
         self.types, self.states, self.faults = Table(), Table(), Table()
         self.begun = None
+        self.step, self.more = map(lru_cache(REMEMBERED), (self.step, self.more))
+
+    def begin(self, seconds):
+        """Takes the first time of the trace."""
+        if self.begun is None:
+            self.begun = nanoseconds(seconds)
 
     def since_begin(self, seconds):
-        """The time after the first one of the trace, in seconds."""
-        time = nanoseconds(seconds)
-        if time is None:
-            return None
-        if self.begun is None:
-            self.begun = time
-        return in_seconds(time - self.begun)
+        """A time after the first one, in seconds."""
+        return in_seconds(nanoseconds(seconds) - self.begun)
 
-    def text(self, told):
+    def text(self, row):
         """The array of a row, as the page has it."""
-        return encoded([
-            told["packet"],
-            SIDES.index(told["side"]),
-            self.types.place(told["type"]),
-            self.states.place(told["before"]),
-            self.states.place(told["after"]),
-            self.since_begin(told["time"]),
-            told["hex"],
-            0 if told["hex"] == "-" else len(told["hex"]) // 2,
-            self.more(told),
-        ])
+        time = row.time if row.time == NOTHING else self.since_begin(row.time)
+        octets = 0 if row.hex == "-" else len(row.hex) // 2
+        step = self.step(row.kind, row.before, row.after)
+        more = self.more(row.owed, row.course, row.lost, row.members, row.segments, row.fault)
+        return f"[{row.packet},{row.side},{step},{time},{encoded(row.hex)},{octets},{more}]"
 
-    def more(self, told):
-        """What an object says besides, without members that are null, false or empty."""
-        members = ((name, value) for name, value in told.items() if name not in PLACED)
-        more = {SHORT.get(name, name): value for name, value in members if value or value == 0 and value is not False}
-        more |= {"c": told["counted"]["segments"]} if told["counted"] else {}
-        if finding := told["finding"]:
-            fault = tuple(finding[name] for name in ("code", "name", "then", "clause"))
-            more["f"] = [self.faults.place(fault), finding["wrong"]]
-        return more or 0
+    def step(self, kind, before, after):
+        """The kind of packet and the states before and after it, by their places."""
+        return f"{self.types.place(kind)},{self.states.place(before)},{self.states.place(after)}"
+
+    def more(self, owed, course, lost, members, segments, fault):
+        """What a row says besides."""
+        more = dict(spoken(owed, course, lost, members))
+        if segments is not None:
+            more["c"] = int(segments)
+        if fault is not None:
+            finding = finding_of(fault)
+            place = self.faults.place(tuple(finding[name] for name in ("code", "name", "then", "clause")))
+            more["f"] = [place, finding["wrong"]]
+        return encoded(more or 0)

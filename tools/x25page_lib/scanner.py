@@ -26,6 +26,7 @@ TOPICS = {
 HEADING = re.compile(r"(\S.*?) \(([^()]*)\): (.*)")
 PARTS_LEFT_OUT = ("Example: ", "See: ")
 REFUSED = 2
+CHUNK = 1 << 18
 # Numbers with a point stay texts: times have more digits than a float.
 read = json.JSONDecoder(parse_float=str).raw_decode
 
@@ -36,19 +37,26 @@ class Scanner:
     def __init__(self, program):
         self.words = [str(program or PROGRAM)]
 
-    def objects(self, trace):
-        """The objects of a trace in an open file, one after the other."""
+    def lines(self, trace):
+        """The objects of a trace in an open file, a line each."""
         os.lseek(trace.fileno(), 0, os.SEEK_SET)
         words = [*self.words, "--rows"]
         streams = {"stdin": trace, "stdout": subprocess.PIPE, "stderr": subprocess.PIPE}
-        with subprocess.Popen(words, **streams, encoding="utf-8", errors="replace") as running:
+        with subprocess.Popen(words, **streams, bufsize=CHUNK) as running:
             try:
-                yield from (read(line)[0] for line in running.stdout)
-                said = running.stderr.read()
+                yield from map(bytes.decode, running.stdout)
+                said = running.stderr.read().decode(errors="replace")
             except BaseException:
                 running.kill()
                 raise
         self.judge(running.returncode, said)
+
+    def tell(self, facts, trace):
+        """Has facts take the objects of a trace."""
+        try:
+            facts.take(self.lines(trace))
+        except (ValueError, TypeError, LookupError) as fault:
+            raise OSError(f"{self.words[0]} --rows printed what is no object of this x25scan") from fault
 
     def judge(self, status, said):
         """Refuses a trace that the program refused."""

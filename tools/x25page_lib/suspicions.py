@@ -1,6 +1,9 @@
 """What makes a header doubtful: findings that both sides have, and findings after which the DCE went on."""
 from dataclasses import dataclass
 
+from .rows import NOTHING, SIDES
+
+DTE = SIDES.index("T")
 # So many packets of the DCE may be on their way while it does not know of the error yet.
 ON_THEIR_WAY = 3
 # How often each side has a code where a wrong header gives it.
@@ -27,23 +30,21 @@ class Debts:
         self.unpaid = {}
         self.first = None
 
-    def see(self, told):
-        channel = told["channel"]
-        if channel is None:
+    def see(self, row):
+        if row.channel == NOTHING:
             # A restart pays all debts.
-            if told["type"].startswith("restart_") and not told["finding"]:
+            if row.kind.startswith("restart_") and not row.code:
                 self.open.clear()
             return
-        debt = self.open.get(channel)
+        debt, is_owed = self.open.get(row.channel), row.owed == "true"
         if debt is None:
-            finding = told["finding"]
-            if finding and told["owed"] and told["side"] == "T" and finding["code"] in NUMBERS:
-                self.open[channel] = Debt(told["packet"], finding["code"])
-        elif not told["owed"]:
-            self.open.pop(channel)
-            if told["side"] == "T":
+            if is_owed and row.side == DTE and row.code in NUMBERS:
+                self.open[row.channel] = Debt(row.packet, row.code)
+        elif not is_owed:
+            self.open.pop(row.channel)
+            if row.side == DTE:
                 self.count(debt)
-        elif told["side"] == "N":
+        elif row.side != DTE:
             debt.sent += 1
             if debt.sent == ON_THEIR_WAY:
                 self.count(debt)
@@ -105,6 +106,12 @@ def of_debts(header, debts):
         "had to: it went on as if nothing was wrong. Then the DTE was probably right, and the header is not that of "
         "the interface. Data after such a finding is not counted, so the sums are too low."
     )
+
+
+def trial(again):
+    """The command that tries other headers on what is read again."""
+    tried = "x25scan --try-headers"
+    return f"{tried} {again}" if isinstance(again, str) else f"x25trace {again['all']} | {tried}"
 
 
 def warnings(header, codes, debts):

@@ -75,12 +75,13 @@ def of_captures(words):
     return None
 
 
-def line_with(arguments, option):
-    """The command line that makes the page again under another value of an option, which comes after its beginning."""
+def line_with(arguments, *options):
+    """The command line that reads the same captures again, without the options of a page and without these others."""
+    left_out = ("-o", "--scanner", *options)
     rest, words = [], iter(arguments)
     for word in words:
-        if word in ("-o", "--scanner", option):
+        if word in left_out:
             next(words, None)
-        elif not word.startswith((f"{option}=", "--scanner=", "-o")):
+        elif not word.startswith((*(f"{option}=" for option in left_out), "-o")):
             rest.append(word)
     return shlex.join(rest)

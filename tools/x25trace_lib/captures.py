@@ -106,6 +106,8 @@ class Captures:
         self.names, self.kinds, self.ledger, self.waiting = names, kinds, ledger, waiting
         self.several = len(names) > 1
         self.number = 0
+        # The time of the last frame that was read, where the capture says it.
+        self.time = None
 
     def frames(self):
         """The frames of all files, up to an interruption."""
@@ -129,10 +131,22 @@ class Captures:
 
     def frames_of(self, name):
         with self.opened(name) as form:
+            frame, before = None, self.time
             for frame in form.frames():
+                if before is not None:
+                    self.compare(name, frame.time, before)
+                    before = None
                 self.number = frame.number
                 yield frame
             self.number = form.number
+            if frame:
+                self.time = frame.time
+
+    def compare(self, name, time, before):
+        """Tells where a file begins before the one before it ends; a recorder without a clock says 0."""
+        if time and time < before:
+            words = f"{os.path.basename(name)} begins before the file before it ends"
+            self.ledger.tell(Topic.ORDER, f"{words}: give the files in the order of their times")
 
     def forms(self):
         """What reads each file, open while it is asked for; the numbers of its frames go on from the file before."""

@@ -8,7 +8,7 @@ import sys
 import tempfile
 
 from . import comments
-from .captures import Captures, is_pipe
+from .captures import Captures, is_pipe, said
 from .live import Live
 from .reading import Reading
 from .source import Waiting
@@ -23,7 +23,7 @@ def say(words):
 
 def title(names):
     """What the trace says that it is from."""
-    return pathlib.PurePath(names[0]).name if len(names) == 1 else f"{len(names)} captures"
+    return said(pathlib.PurePath(names[0]).name) if len(names) == 1 else f"{len(names)} captures"
 
 
 def is_live(words, wishes):

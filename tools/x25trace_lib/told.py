@@ -85,6 +85,7 @@ class Topic(enum.Enum):
     CHANNEL = "logical channels that change inside of a connection"
     PVC_SETUP = "set-ups of permanent circuits"
     PORT = "ports that look like XOT"
+    ORDER = "files that are not in the order of their times"
 
 
 def nobody(_words):

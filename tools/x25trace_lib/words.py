@@ -94,8 +94,8 @@ def sender(word):
 def parser():
     words = Words(
         prog="x25trace",
-        description="Writes the trace, as x25scan reads it, of the X.25 packets in a capture: pcap, pcapng or a hex "
-        "dump; XOT, LAPB or packets. Messages and counts go to standard error, and into the trace as comments.",
+        description="Writes the trace, as x25scan reads it, of the X.25 packets in a capture: pcap, pcapng, snoop or a "
+        "hex dump; XOT, LAPB or packets. Messages and counts go to standard error, and into the trace as comments.",
         epilog=EPILOG,
         formatter_class=argparse.RawDescriptionHelpFormatter,
         allow_abbrev=False,

@@ -300,7 +300,7 @@ function neighbours(key) {
 
 function missingRows(key) {
   const option = key.startsWith("call-") ? `--call ${key.slice(5)}` : `--channel ${key.slice(8)}`;
-  const read = typeof facts.again === "string" ? `x25scan < ${facts.again}` : `x25trace ${facts.again.WIN} | x25scan`;
+  const read = typeof facts.again === "string" ? `x25scan < ${facts.again}` : `x25trace ${facts.again.all} | x25scan`;
   return make("div", {}, make("p", {},
     "The packets of this ladder are left out to keep the page small. This command shows them:"),
     make("pre", {}, `${read} --annotate ${option}`));

@@ -76,6 +76,11 @@ function headerLine() {
       "Give --win and --size where you know them."));
 }
 
+function howToTryAll() {
+  return make("div", {}, make("p", {}, "This command tries other headers, and prints the one that fits best first:"),
+    make("pre", {}, facts.trial));
+}
+
 // The commands that make the page again under other values of a number of the header.
 function howToTry([, name, values]) {
   if (!values.length) return null;
@@ -94,7 +99,8 @@ function alarm() {
   const tried = new Set();
   const ways = facts.warnings.filter(([, name]) => !tried.has(name) && tried.add(name)).map(howToTry);
   return make("div", { class: "card alarm", role: "note" },
-    make("h2", {}, "The header may be wrong"), facts.warnings.map(([sentence]) => make("p", {}, sentence)), ways);
+    make("h2", {}, "The header may be wrong"), facts.warnings.map(([sentence]) => make("p", {}, sentence)),
+    howToTryAll(), ways);
 }
 
 function heard() {

@@ -6,11 +6,24 @@ struct Form {
     told: &'static str,
 }
 
-const CAPTURE: &str = "This is a capture: x25trace FILE | x25scan reads it.";
+const CAPTURE: &str =
+    "This is a capture: x25page FILE shows it, and x25trace FILE | x25scan prints its report.";
+
+const SNIFFER: &str =
+    "This is a Sniffer file: editcap -F pcapng FILE OUT.pcapng, of Wireshark, turns it into one that x25page reads.";
+
+const NETXRAY: &str =
+    "This is a NetXRay file: editcap -F pcapng FILE OUT.pcapng, of Wireshark, turns it into one that x25page reads.";
+
+const NETWORK_MONITOR: &str =
+    "This is a Network Monitor file: editcap -F pcapng FILE OUT.pcapng, of Wireshark, turns it into one that x25page reads.";
+
+const IXIA: &str =
+    "This is an IXIA file: editcap -F pcapng FILE OUT.pcapng, of Wireshark, turns it into one that x25page reads.";
 
 const UTF16: &str = "The text is UTF-16: iconv -f UTF-16 -t ASCII FILE | x25scan reads it.";
 
-const FORMS: [Form; 13] = [
+const FORMS: [Form; 25] = [
     Form {
         magic: b"\xef\xbb\xbf",
         told: "The text begins with a byte order mark: tail -c +4 FILE | x25scan reads it.",
@@ -40,6 +53,10 @@ const FORMS: [Form; 13] = [
         told: "This is a bzip2 file: bzip2 -dc FILE | x25scan reads what is in it.",
     },
     Form {
+        magic: b"\x04\x22\x4d\x18",
+        told: "This is an lz4 file: lz4 -dc FILE | x25scan reads what is in it.",
+    },
+    Form {
         magic: b"PK\x03\x04",
         told: "This is a zip file: unzip -p FILE | x25scan reads what is in it.",
     },
@@ -60,13 +77,58 @@ const FORMS: [Form; 13] = [
         told: CAPTURE,
     },
     Form {
+        magic: b"\xa1\xb2\xcd\x34",
+        told: CAPTURE,
+    },
+    Form {
+        magic: b"\x34\xcd\xb2\xa1",
+        told: CAPTURE,
+    },
+    Form {
         magic: b"\x0a\x0d\x0d\x0a",
         told: CAPTURE,
+    },
+    Form {
+        magic: b"snoop\x00\x00\x00",
+        told: CAPTURE,
+    },
+    Form {
+        magic: b"TRSNIFF data",
+        told: SNIFFER,
+    },
+    Form {
+        magic: b"XCP\x00",
+        told: NETXRAY,
+    },
+    Form {
+        magic: b"RTSS",
+        told: NETWORK_MONITOR,
+    },
+    Form {
+        magic: b"GMBU",
+        told: NETWORK_MONITOR,
+    },
+    Form {
+        magic: b"\x1c\x00\x01\xac",
+        told: IXIA,
+    },
+    Form {
+        magic: b"\xac\x01\x00\x1c",
+        told: IXIA,
+    },
+    Form {
+        magic: b"\x1c\x00\x01\xab",
+        told: IXIA,
+    },
+    Form {
+        magic: b"\xab\x01\x00\x1c",
+        told: IXIA,
     },
 ];
 
 /// What a text is, and what to do with it, where its first bytes are those of another kind of file: a byte order mark,
-/// UTF-16, a compressed file, a capture in pcap (with times in micro- or nanoseconds, of either byte order) or pcapng.
+/// UTF-16, a compressed file, a capture in pcap (also the modified form, of either byte order), pcapng or snoop, or a
+/// capture in a form that Wireshark turns into one of these.
 pub fn file_advice(text: &[u8]) -> Option<&'static str> {
     for form in FORMS.as_slice() {
         if text.starts_with(form.magic) {
