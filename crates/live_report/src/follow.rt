@@ -61,10 +61,8 @@ impl<A: Allocator + Copy, C: Channel<A>> Follower<A, C> {
         let found = self.live.found();
         self.told += found.len();
         let written = write_findings(found, sink);
-        match read {
-            Ok(()) => written,
-            Err(fault) => Err(fault),
-        }
+        read?;
+        written
     }
 
     /// Takes the next chunk of the text, of any size, and then writes the lines of what its rows found. It refuses by the
@@ -130,18 +128,10 @@ impl<A: Allocator + Copy, C: Channel<A>> Follower<A, C> {
         if let Some(fault) = refused {
             return Err(fault);
         }
-        let report = match live.whole() {
-            Ok(report) => report,
-            Err(fault) => return Err(fault),
-        };
+        let report = live.whole()?;
         let (_, untold) = report.findings.as_slice().split_at(told);
-        match write_findings(untold, sink) {
-            Ok(()) => {}
-            Err(fault) => return Err(fault),
-        }
-        match write_rest(&report, sink) {
-            Ok(()) => Ok(report.summary),
-            Err(fault) => Err(fault),
-        }
+        write_findings(untold, sink)?;
+        write_rest(&report, sink)?;
+        Ok(report.summary)
     }
 }

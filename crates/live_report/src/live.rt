@@ -140,19 +140,15 @@ impl<A: Allocator + Copy, C: Channel<A>> Live<A, C> {
         let mut observer = Observer::new(*self.row.octets.allocator(), &interface);
         let first = observer.take(&self.row)?;
         append_finding(&mut self.found, first)?;
-        match watch(
+        watch(
             rest,
             &mut self.lines,
             &mut self.row,
             &mut observer,
             &mut self.found,
-        ) {
-            Ok(()) => {
-                self.observer = Some(observer);
-                Ok(())
-            }
-            Err(fault) => Err(fault),
-        }
+        )?;
+        self.observer = Some(observer);
+        Ok(())
     }
 
     /// Takes the next chunk of the text, of any size. It refuses by the first line that is faulty however the text goes
@@ -199,10 +195,7 @@ impl<A: Allocator + Copy, C: Channel<A>> Live<A, C> {
         if let Some(fault) = self.refused {
             return Err(fault);
         }
-        let interface = match self.lines.ended_header() {
-            Ok(interface) => interface,
-            Err(fault) => return Err(fault),
-        };
+        let interface = self.lines.ended_header()?;
         match &self.observer {
             Some(observer) => observer.report(),
             None => Observer::<A, C>::new(*self.row.octets.allocator(), &interface).end(),
@@ -231,13 +224,9 @@ impl<A: Allocator + Copy, C: Channel<A>> Live<A, C> {
         ensures again { (fault : Fault) → self.now.refused ≡ Some fault
             → (result ≡ Err fault) × (sink.new ≡ sink.old) }
     {
-        match self.told() {
-            Ok(report) => match write_report(&report, sink) {
-                Ok(()) => Ok(report.summary),
-                Err(fault) => Err(fault),
-            },
-            Err(fault) => Err(fault),
-        }
+        let report = self.told()?;
+        write_report(&report, sink)?;
+        Ok(report.summary)
     }
 
     /// The report of the whole text.
@@ -258,10 +247,7 @@ impl<A: Allocator + Copy, C: Channel<A>> Live<A, C> {
         if let Some(fault) = refused {
             return Err(fault);
         }
-        let TextEnd { interface, has_row } = match lines.end_row(&mut row) {
-            Ok(end) => end,
-            Err(fault) => return Err(fault),
-        };
+        let TextEnd { interface, has_row } = lines.end_row(&mut row)?;
         let alloc = *row.octets.allocator();
         match observer {
             Some(observer) => finish(observer, has_row, &row),
@@ -285,12 +271,8 @@ impl<A: Allocator + Copy, C: Channel<A>> Live<A, C> {
         ensures again { (fault : Fault) → self.refused ≡ Some fault
             → (result ≡ Err fault) × (sink.new ≡ sink.old) }
     {
-        match self.whole() {
-            Ok(report) => match write_report(&report, sink) {
-                Ok(()) => Ok(report.summary),
-                Err(fault) => Err(fault),
-            },
-            Err(fault) => Err(fault),
-        }
+        let report = self.whole()?;
+        write_report(&report, sink)?;
+        Ok(report.summary)
     }
 }

@@ -41,16 +41,11 @@ pub fn watch<A: Allocator + Copy, C: Channel<A>>(
     ensures kinds { IfErr result IsTextFault }
 {
     let mut rest = chunk;
-    loop {
-        match lines.next_row(rest, row) {
-            Ok(Some(after)) => {
-                append_finding(found, observer.take(row)?)?;
-                rest = after;
-            }
-            Ok(None) => return Ok(()),
-            Err(fault) => return Err(fault),
-        }
+    while let Some(after) = lines.next_row(rest, row)? {
+        append_finding(found, observer.take(row)?)?;
+        rest = after;
     }
+    Ok(())
 }
 
 /// The report of an observer, which first takes the row of a last line that no LF ended, if there is one.

@@ -104,16 +104,11 @@ impl<A: Allocator + Copy> RowCutter<A> {
         ensures kinds { IfErr result IsTextFault }
     {
         let mut rest = bytes;
-        loop {
-            match lines.next_row(rest, row) {
-                Ok(Some(after)) => {
-                    self.cut(row, pieces)?;
-                    rest = after;
-                }
-                Ok(None) => return Ok(()),
-                Err(fault) => return Err(fault),
-            }
+        while let Some(after) = lines.next_row(rest, row)? {
+            self.cut(row, pieces)?;
+            rest = after;
         }
+        Ok(())
     }
 }
 
@@ -206,13 +201,9 @@ impl<A: Allocator + Copy> TextCutter<A> {
         };
         let mut row_cutter = RowCutter::new(*self.row.octets.allocator(), &interface);
         row_cutter.cut(&self.row, pieces)?;
-        match row_cutter.cut_lines(rest, &mut self.lines, &mut self.row, pieces) {
-            Ok(()) => {
-                self.row_cutter = Some(row_cutter);
-                Ok(())
-            }
-            Err(fault) => Err(fault),
-        }
+        row_cutter.cut_lines(rest, &mut self.lines, &mut self.row, pieces)?;
+        self.row_cutter = Some(row_cutter);
+        Ok(())
     }
 
     /// The next part of the text. The pieces that are known whole with its rows.
@@ -254,10 +245,7 @@ impl<A: Allocator + Copy> TextCutter<A> {
             mut row,
             row_cutter,
         } = self;
-        let end = match lines.end_row(&mut row) {
-            Ok(end) => end,
-            Err(fault) => return Err(fault),
-        };
+        let end = lines.end_row(&mut row)?;
         let mut row_cutter = row_cutter_of(*row.octets.allocator(), &end.interface, row_cutter);
         row_cutter.cut_last(end.has_row, &row, pieces)?;
         Ok(row_cutter)

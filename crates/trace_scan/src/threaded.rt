@@ -42,14 +42,12 @@ fn first_fault<A: Allocator>(
     ensures first { IfErr result (λ f. (outcome ≡ Some (Err f))
         ⊎ (IfSome outcome (λ o. is_ok o ≡ true) × (gathered ≡ Err f))) }
 {
-    match outcome {
-        Some(Ok(read)) => match gathered {
-            Ok(gathered) => Ok(ScanParts { read, gathered }),
-            Err(fault) => Err(fault),
-        },
-        Some(Err(fault)) => Err(fault),
-        None => unreachable!(),
-    }
+    let Some(outcome) = outcome else {
+        unreachable!();
+    };
+    let read = outcome?;
+    let gathered = gathered?;
+    Ok(ScanParts { read, gathered })
 }
 
 /// Reads a trace and works through its pieces.
@@ -178,34 +176,24 @@ pub fn scan_with<
     ensures unasked { S.calls source.new ≡ S.calls source.old → source.new ≡ source.old }
     ensures asked { S.calls source.new ≤ S.calls source.old + (2 ^ 30 + 1) }
 {
-    let parts = match work_on_trace::<Brand, A, S, G, R>(
-        rt, alloc, source, workers, capacity, gate,
-    ) {
-        Ok(parts) => parts,
-        Err(fault) => return Err(fault),
-    };
+    let parts = work_on_trace::<Brand, A, S, G, R>(rt, alloc, source, workers, capacity, gate)?;
     let ScanParts { read, gathered } = parts;
     let Gathered {
         totals,
         shares,
         reports,
     } = gathered;
-    let report = match merge(
+    let report = merge(
         alloc,
         reports,
         read.interface_findings,
         read.packets,
         read.pieces,
-    ) {
-        Ok(report) => report,
-        Err(fault) => return Err(fault),
-    };
-    match write_report(&report, sink) {
-        Ok(()) => Ok(Scan {
-            summary: report.summary,
-            totals,
-            shares,
-        }),
-        Err(fault) => Err(fault),
-    }
+    )?;
+    write_report(&report, sink)?;
+    Ok(Scan {
+        summary: report.summary,
+        totals,
+        shares,
+    })
 }

@@ -1,6 +1,7 @@
 use Rattle.std.proofs.Common.{◌++◌, List, ap, length, arith, subst, sym}
 use Rattle.std.specs.Prelude.{IfSome}
 use Rattle.std.proofs.lemmas.Result.{IfErr-weaker}
+use Rattle.trace_text.proofs.SourceLemmas.{passed_on}
 use Rattle.trace_text.specs.StandsFor.{IsTextFault}
 use Rattle.live_report.specs.Reports.{IsReportFault}
 use Rattle.line_model.specs.declared.finding.Finding.{Finding}
@@ -16,26 +17,26 @@ overflow_add-self g c =
     let few = c.feed-read.ensures.few s.live.running in
     omega (arith, told, fed, few, ap (λ (xs : List Finding). length xs) c.found-found.ensures, c.type_inv.chunk)
 
-pub returns-in-Ok-clause-stands : goal.returns-in-Ok-clause-stands
-returns-in-Ok-clause-stands g c text s =
+pub returns-clause-stands : goal.returns-clause-stands
+returns-clause-stands g c text s =
     let told = s.few in
     let few = c.feed-read.ensures.few s.live.running in
     let count = ap (λ (xs : List Finding). length xs) c.found-found.ensures in
-    let more = found_length c.feed-read.new.self.found.items (found text) (found (text ++ c.args.chunk.now)) (c.in-Ok.ensures.found text s.live) in
+    let more = found_length c.feed-read.new.self.found.items (found text) (found (text ++ c.args.chunk.now)) (c.in_ok-read.ensures.found text s.live) in
     always c.write_findings-written.result _ (record {
-      live = c.in-Ok.ensures.stands text s.live;
+      live = c.in_ok-read.ensures.stands text s.live;
       running = s.running;
       told = omega (arith, s.told, count, more);
-      few = omega (arith, told, few, count, c.in-Ok.ensures.size);
+      few = omega (arith, told, few, count, c.in_ok-read.ensures.size);
     })
 
-pub returns-in-Ok-clause-taken : goal.returns-in-Ok-clause-taken
-returns-in-Ok-clause-taken g c text before s has =
+pub returns-clause-taken : goal.returns-clause-taken
+returns-clause-taken g c text before s has =
     told_first c.feed-read.result c.write_findings-written.result before (g.K.Sink.taken c.args.sink.now) (g.K.Sink.taken c.write_findings-written.new.sink) text (text ++ c.args.chunk.now) c.found-found.result.now c.feed-read.new.self.found.items c.found-found.ensures has
     (c.feed-read.ensures.found text s.live) c.write_findings-written.ensures.ok c.write_findings-written.ensures.part
 
-pub returns-in-Err-clause-taken : goal.returns-in-Err-clause-taken
-returns-in-Err-clause-taken g c text before s has =
+pub returns-in_err-read-clause-taken : goal.returns-in_err-read-clause-taken
+returns-in_err-read-clause-taken g c text before s has =
     told_first c.feed-read.result c.write_findings-written.result before (g.K.Sink.taken c.args.sink.now) (g.K.Sink.taken c.write_findings-written.new.sink) text (text ++ c.args.chunk.now) c.found-found.result.now c.feed-read.new.self.found.items c.found-found.ensures has
     (c.feed-read.ensures.found text s.live) c.write_findings-written.ensures.ok c.write_findings-written.ensures.part
 
@@ -44,20 +45,20 @@ feed-read-requires g c =
     let s = c.requires.1 in
     record { fed = record { fed = λ r. (c.requires.0, s.live); kinds = subst (λ o. IfSome o IsTextFault) (sym s.live.running) tt } }
 
-pub returns-in-Ok-clause-size : goal.returns-in-Ok-clause-size
-returns-in-Ok-clause-size g c = always c.write_findings-written.result _ c.in-Ok.ensures.size
+pub returns-clause-size : goal.returns-clause-size
+returns-clause-size g c = always c.write_findings-written.result _ c.in_ok-read.ensures.size
 
-pub returns-in-Ok-clause-limit : goal.returns-in-Ok-clause-limit
-returns-in-Ok-clause-limit g c = always c.write_findings-written.result _ c.in-Ok.ensures.limit
+pub returns-clause-limit : goal.returns-clause-limit
+returns-clause-limit g c = always c.write_findings-written.result _ c.in_ok-read.ensures.limit
 
-pub returns-in-Ok-clause-kinds : goal.returns-in-Ok-clause-kinds
-returns-in-Ok-clause-kinds g c = IfErr-weaker c.write_findings-written.result _ IsReportFault (λ f w. subst IsReportFault (sym w) tt) c.write_findings-written.ensures.write
+pub returns-clause-kinds : goal.returns-clause-kinds
+returns-clause-kinds g c = IfErr-weaker c.write_findings-written.result _ IsReportFault (λ f w. subst IsReportFault (sym w) tt) c.write_findings-written.ensures.write
 
-pub returns-in-Ok-clause-rising : goal.returns-in-Ok-clause-rising
-returns-in-Ok-clause-rising g c = c.write_findings-written.ensures.rising
+pub returns-clause-rising : goal.returns-clause-rising
+returns-clause-rising g c = c.write_findings-written.ensures.rising
 
-pub returns-in-Err-clause-rising : goal.returns-in-Err-clause-rising
-returns-in-Err-clause-rising g c = c.write_findings-written.ensures.rising
+pub returns-in_err-read-clause-rising : goal.returns-in_err-read-clause-rising
+returns-in_err-read-clause-rising g c = c.write_findings-written.ensures.rising
 
-pub returns-in-Err-clause-kinds : goal.returns-in-Err-clause-kinds
-returns-in-Err-clause-kinds g c = text_report c.in-Err.fault c.in-Err.ensures.kinds
+pub returns-in_err-read-clause-kinds : goal.returns-in_err-read-clause-kinds
+returns-in_err-read-clause-kinds g c = passed_on c.from_residual.result c.in_err-read.field-0.0 _ c.from_residual.ensures.1 (text_report c.in_err-read.field-0.0 c.in_err-read.ensures.kinds)

@@ -1,4 +1,6 @@
 use Rattle.std.proofs.Common.{◌∙◌, ap, refl, subst, sym, Err}
+use Rattle.std.proofs.lemmas.Result.{IfOk-from_err, err_from_is_err_and}
+use Rattle.trace_text.proofs.SourceLemmas.{passed_on, same_fault}
 use Rattle.line_model.specs.declared.fault.Fault.TheVariants.{Write}
 use Rattle.line_model.specs.declared.totals.Summary.{Summary}
 use Rattle.line_model.specs.traces.Traces.{trace_report}
@@ -7,68 +9,69 @@ use Rattle.live_report.proofs.FollowLemmas.{text_report}
 use Rattle.live_report.proofs.ReportLemmas.{is_fault, no_fault, refuses, reported_by, taken_by, untaken, unwritten}
 use Rattle.live_report.proofs.live.Live.end.Goals as goal
 
-pub returns-in-Ok-write_report-clause-reported : goal.returns-in-Ok-write_report-clause-reported
-returns-in-Ok-write_report-clause-reported g c text s =
-    let told = reported_by text c.in-Ok.report (g.K.Sink.taken c.args.sink.now) (g.K.Sink.taken c.write_report.new.sink) (c.in-Ok.ensures.told text s) c.in-Ok-write_report.ensures.ok in
+pub returns-clause-reported : goal.returns-clause-reported
+returns-clause-reported g c text s =
+    let told = reported_by text c.in_ok-report.report (g.K.Sink.taken c.args.sink.now) (g.K.Sink.taken c.write_report.new.sink) (c.in_ok-report.ensures.told text s) c.in_ok-write_report.ensures.ok in
     record { sound = told.sound; taken = told.taken; counted = ap (λ r. r.summary) c.report.view_is ∙ told.counted }
 
-pub returns-in-Ok-clause-taken : goal.returns-in-Ok-clause-taken
-returns-in-Ok-clause-taken g c text s =
-    taken_by text c.in-Ok.report (g.K.Sink.taken c.args.sink.now) (g.K.Sink.taken c.write_report.new.sink) c.in-Err-write_report.fault (c.in-Ok.ensures.told text s) c.in-Err-write_report.ensures.write c.in-Err-write_report.ensures.part
-
-pub returns-in-Ok-write_report-clause-refused : goal.returns-in-Ok-write_report-clause-refused
-returns-in-Ok-write_report-clause-refused g c text s = tt
-
-pub returns-in-Ok-write_report-clause-kinds : goal.returns-in-Ok-write_report-clause-kinds
-returns-in-Ok-write_report-clause-kinds g c = tt
-
-pub returns-in-Ok-write_report-clause-unwritten : goal.returns-in-Ok-write_report-clause-unwritten
-returns-in-Ok-write_report-clause-unwritten g c = tt
-
-pub returns-in-Ok-write_report-clause-taken : goal.returns-in-Ok-write_report-clause-taken
-returns-in-Ok-write_report-clause-taken g c text s = tt
-
-pub returns-in-Ok-write_report-clause-write_failed : goal.returns-in-Ok-write_report-clause-write_failed
-returns-in-Ok-write_report-clause-write_failed g c e = absurd (no_fault Summary _ Write e)
-
-pub returns-in-Ok-write_report-clause-again : goal.returns-in-Ok-write_report-clause-again
-returns-in-Ok-write_report-clause-again g c fault r = absurd (no_fault _ c.in-Ok.report fault (c.in-Ok.ensures.again fault r))
-
-pub returns-in-Ok-clause-reported : goal.returns-in-Ok-clause-reported
-returns-in-Ok-clause-reported g c text s = tt
-
-pub returns-in-Ok-clause-refused : goal.returns-in-Ok-clause-refused
-returns-in-Ok-clause-refused g c text s = subst (IsRefusal text) (sym c.in-Err-write_report.ensures.write) (c.in-Ok.ensures.told text s).sound
-
-pub returns-in-Ok-clause-kinds : goal.returns-in-Ok-clause-kinds
-returns-in-Ok-clause-kinds g c = subst IsReportFault (sym c.in-Err-write_report.ensures.write) tt
-
-pub returns-in-Ok-clause-write_failed : goal.returns-in-Ok-clause-write_failed
-returns-in-Ok-clause-write_failed g c e = c.in-Err-write_report.ensures.cause
-
-pub returns-in-Ok-clause-unwritten : goal.returns-in-Ok-clause-unwritten
-returns-in-Ok-clause-unwritten g c n = absurd (n c.in-Err-write_report.ensures.write)
-
-pub returns-in-Ok-clause-again : goal.returns-in-Ok-clause-again
-returns-in-Ok-clause-again g c fault r = absurd (no_fault _ c.in-Ok.report fault (c.in-Ok.ensures.again fault r))
-
-pub returns-clause-reported : goal.returns-clause-reported
-returns-clause-reported g c text s = tt
+pub returns-in_err-write_report-clause-taken : goal.returns-in_err-write_report-clause-taken
+returns-in_err-write_report-clause-taken g c text s = passed_on c.from_residual-in_err-write_report.result c.in_err-write_report.field-0.0 _ c.from_residual-in_err-write_report.ensures.1 (taken_by text c.in_ok-report.report (g.K.Sink.taken c.args.sink.now) (g.K.Sink.taken c.write_report.new.sink) c.in_err-write_report.field-0.0 (c.in_ok-report.ensures.told text s) c.in_err-write_report.ensures.write c.in_err-write_report.ensures.part)
 
 pub returns-clause-refused : goal.returns-clause-refused
-returns-clause-refused g c text s = refuses text c.in-Err.fault (c.in-Err.ensures.refused text s)
+returns-clause-refused g c text s = tt
 
 pub returns-clause-kinds : goal.returns-clause-kinds
-returns-clause-kinds g c = text_report c.in-Err.fault c.in-Err.ensures.kinds
-
-pub returns-clause-write_failed : goal.returns-clause-write_failed
-returns-clause-write_failed g c e = absurd (unwritten c.in-Err.fault c.in-Err.ensures.kinds (is_fault Summary _ Write e))
+returns-clause-kinds g c = tt
 
 pub returns-clause-unwritten : goal.returns-clause-unwritten
-returns-clause-unwritten g c n = refl
+returns-clause-unwritten g c = tt
 
 pub returns-clause-taken : goal.returns-clause-taken
-returns-clause-taken g c text s = untaken (g.K.Sink.taken c.args.sink.now) (trace_report text) c.in-Err.fault c.in-Err.ensures.kinds
+returns-clause-taken g c text s = tt
+
+pub returns-clause-write_failed : goal.returns-clause-write_failed
+returns-clause-write_failed g c e = absurd (no_fault Summary _ Write e)
 
 pub returns-clause-again : goal.returns-clause-again
-returns-clause-again g c fault r = (ap (λ f. Err f) (is_fault _ c.in-Err.fault fault (c.in-Err.ensures.again fault r)), refl)
+returns-clause-again g c fault r = absurd (no_fault _ c.in_ok-report.report fault (c.in_ok-report.ensures.again fault r))
+
+pub returns-in_err-write_report-clause-reported : goal.returns-in_err-write_report-clause-reported
+returns-in_err-write_report-clause-reported g c text s = IfOk-from_err _ _ c.from_residual-in_err-write_report.ensures.0
+
+pub returns-in_err-write_report-clause-refused : goal.returns-in_err-write_report-clause-refused
+returns-in_err-write_report-clause-refused g c text s = passed_on c.from_residual-in_err-write_report.result c.in_err-write_report.field-0.0 _ c.from_residual-in_err-write_report.ensures.1 (subst (IsRefusal text) (sym c.in_err-write_report.ensures.write) (c.in_ok-report.ensures.told text s).sound)
+
+pub returns-in_err-write_report-clause-kinds : goal.returns-in_err-write_report-clause-kinds
+returns-in_err-write_report-clause-kinds g c = passed_on c.from_residual-in_err-write_report.result c.in_err-write_report.field-0.0 _ c.from_residual-in_err-write_report.ensures.1 (subst IsReportFault (sym c.in_err-write_report.ensures.write) tt)
+
+pub returns-in_err-write_report-clause-write_failed : goal.returns-in_err-write_report-clause-write_failed
+returns-in_err-write_report-clause-write_failed g c e = c.in_err-write_report.ensures.cause
+
+pub returns-in_err-write_report-clause-unwritten : goal.returns-in_err-write_report-clause-unwritten
+returns-in_err-write_report-clause-unwritten g c = passed_on c.from_residual-in_err-write_report.result c.in_err-write_report.field-0.0 _ c.from_residual-in_err-write_report.ensures.1 (λ n. absurd (n c.in_err-write_report.ensures.write))
+
+pub returns-in_err-write_report-clause-again : goal.returns-in_err-write_report-clause-again
+returns-in_err-write_report-clause-again g c fault r = absurd (no_fault _ c.in_ok-report.report fault (c.in_ok-report.ensures.again fault r))
+
+pub returns-in_err-report-clause-reported : goal.returns-in_err-report-clause-reported
+returns-in_err-report-clause-reported g c text s = IfOk-from_err _ _ c.from_residual.ensures.0
+
+pub returns-in_err-report-clause-refused : goal.returns-in_err-report-clause-refused
+returns-in_err-report-clause-refused g c text s = passed_on c.from_residual.result c.in_err-report.field-0.0 _ c.from_residual.ensures.1 (refuses text c.in_err-report.field-0.0 (c.in_err-report.ensures.refused text s))
+
+pub returns-in_err-report-clause-kinds : goal.returns-in_err-report-clause-kinds
+returns-in_err-report-clause-kinds g c = passed_on c.from_residual.result c.in_err-report.field-0.0 _ c.from_residual.ensures.1 (text_report c.in_err-report.field-0.0 c.in_err-report.ensures.kinds)
+
+pub returns-in_err-report-clause-write_failed : goal.returns-in_err-report-clause-write_failed
+returns-in_err-report-clause-write_failed g c e = absurd (unwritten c.in_err-report.field-0.0 c.in_err-report.ensures.kinds (same_fault c.from_residual.result c.in_err-report.field-0.0 Write c.from_residual.ensures.1 e))
+
+pub returns-in_err-report-clause-unwritten : goal.returns-in_err-report-clause-unwritten
+returns-in_err-report-clause-unwritten g c = passed_on c.from_residual.result c.in_err-report.field-0.0 _ c.from_residual.ensures.1 (λ n. refl)
+
+pub returns-in_err-report-clause-taken : goal.returns-in_err-report-clause-taken
+returns-in_err-report-clause-taken g c text s = passed_on c.from_residual.result c.in_err-report.field-0.0 _ c.from_residual.ensures.1 (untaken (g.K.Sink.taken c.args.sink.now) (trace_report text) c.in_err-report.field-0.0 c.in_err-report.ensures.kinds)
+
+pub returns-in_err-report-clause-again : goal.returns-in_err-report-clause-again
+returns-in_err-report-clause-again g c fault r =
+    let p = err_from_is_err_and c.from_residual.result c.from_residual.ensures.1 in
+    (p.1 ∙ ap (λ f. Err f) (p.2 ∙ is_fault _ c.in_err-report.field-0.0 fault (c.in_err-report.ensures.again fault r)), refl)

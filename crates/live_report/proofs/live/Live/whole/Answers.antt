@@ -10,24 +10,24 @@ pub finish-requires : goal.finish-requires
 finish-requires g c =
     let room = c.requires.fed.fed c.in_default.is in
     let seen = watching_of g.C.Channel.interface_of g.C.Channel.number_of g.C.Channel.stands_for c.args.self room.0 c.in-Some-observer.observer room.1 c.in-Some-observer.is in
-    let all = c.in-Ok.ensures.row room.0 room.1.reads in
-    let sound = subst AreRows all (whole_trace room.0 (c.in-Ok.ensures.ok room.0 room.1.reads).0) in
+    let all = c.in_ok-interface.ensures.row room.0 room.1.reads in
+    let sound = subst AreRows all (whole_trace room.0 (c.in_ok-interface.ensures.ok room.0 room.1.reads).0) in
     record { room = (seen.0, early_rows room.0, seen.1.observes, sound) }
 
 pub finish-requires-in-None : goal.finish-requires-in-None
 finish-requires-in-None g c =
     let room = c.requires.fed.fed c.in_default.is in
     let none = nothing_seen g.C.Channel.interface_of g.C.Channel.number_of g.C.Channel.stands_for c.args.self room.0 room.1 c.in-None.is in
-    let all = c.in-Ok.ensures.row room.0 room.1.reads in
-    let sound = subst AreRows all (whole_trace room.0 (c.in-Ok.ensures.ok room.0 room.1.reads).0) in
-    record { room = (c.in-Ok.end.interface, [], c.new.ensures, subst (λ rows. AreRows (rows ++ last_row c.in-Ok.end.has_row c.end_row.new.row)) none sound) }
+    let all = c.in_ok-interface.ensures.row room.0 room.1.reads in
+    let sound = subst AreRows all (whole_trace room.0 (c.in_ok-interface.ensures.ok room.0 room.1.reads).0) in
+    record { room = (c.in_ok-interface.field-0.interface, [], c.new.ensures, subst (λ rows. AreRows (rows ++ last_row c.in_ok-interface.field-0.has_row c.end_row.new.row)) none sound) }
 
 pub returns-in-Some-observer-clause-told : goal.returns-in-Some-observer-clause-told
 returns-in-Some-observer-clause-told g c text s =
     let seen = watching_of g.C.Channel.interface_of g.C.Channel.number_of g.C.Channel.stands_for c.args.self text c.in-Some-observer.observer s c.in-Some-observer.is in
-    let all = c.in-Ok.ensures.row text s.reads in
-    let sound = subst AreRows all (whole_trace text (c.in-Ok.ensures.ok text s.reads).0) in
-    told_at text seen.0 _ c.finish.result (c.finish.ensures.report seen.0 (early_rows text) seen.1.observes sound) (c.in-Ok.ensures.ok text s.reads).0
+    let all = c.in_ok-interface.ensures.row text s.reads in
+    let sound = subst AreRows all (whole_trace text (c.in_ok-interface.ensures.ok text s.reads).0) in
+    told_at text seen.0 _ c.finish.result (c.finish.ensures.report seen.0 (early_rows text) seen.1.observes sound) (c.in_ok-interface.ensures.ok text s.reads).0
     (whole_header c.args.self.lines text seen.0 s.reads seen.1.header) all
 
 pub returns-in-Some-observer-clause-refused : goal.returns-in-Some-observer-clause-refused
@@ -36,11 +36,11 @@ returns-in-Some-observer-clause-refused g c text s = memory_only (IsFaultOf (fau
 pub returns-clause-told : goal.returns-clause-told
 returns-clause-told g c text s =
     let none = nothing_seen g.C.Channel.interface_of g.C.Channel.number_of g.C.Channel.stands_for c.args.self text s c.in-None.is in
-    let all = c.in-Ok.ensures.row text s.reads in
-    let sound = subst AreRows all (whole_trace text (c.in-Ok.ensures.ok text s.reads).0) in
-    told_at text c.in-Ok.end.interface _ c.finish-in-None.result
-    (c.finish-in-None.ensures.report c.in-Ok.end.interface [] c.new.ensures (subst (λ rows. AreRows (rows ++ last_row c.in-Ok.end.has_row c.end_row.new.row)) none sound))
-    (c.in-Ok.ensures.ok text s.reads).0 (c.in-Ok.ensures.ok text s.reads).1 (all ∙ ap (λ rows. rows ++ last_row c.in-Ok.end.has_row c.end_row.new.row) none)
+    let all = c.in_ok-interface.ensures.row text s.reads in
+    let sound = subst AreRows all (whole_trace text (c.in_ok-interface.ensures.ok text s.reads).0) in
+    told_at text c.in_ok-interface.field-0.interface _ c.finish-in-None.result
+    (c.finish-in-None.ensures.report c.in_ok-interface.field-0.interface [] c.new.ensures (subst (λ rows. AreRows (rows ++ last_row c.in_ok-interface.field-0.has_row c.end_row.new.row)) none sound))
+    (c.in_ok-interface.ensures.ok text s.reads).0 (c.in_ok-interface.ensures.ok text s.reads).1 (all ∙ ap (λ rows. rows ++ last_row c.in_ok-interface.field-0.has_row c.end_row.new.row) none)
 
 pub returns-clause-refused : goal.returns-clause-refused
 returns-clause-refused g c text s = memory_only (IsFaultOf (fault text)) c.finish-in-None.result c.finish-in-None.ensures.memory tt

@@ -1,5 +1,6 @@
 use Rattle.std.proofs.Common.{◌≡◌, ◌∙◌, ◌+◌, ◌++◌, refl, subst, length}
 use Rattle.line_model.specs.text.Text.{early, early_rows}
+use Rattle.trace_text.proofs.SourceLemmas.{passed_on}
 use Rattle.trace_text.specs.Progress.{bytes_fed}
 use Rattle.trace_text.specs.StandsFor.{IsFaultOf, ReadsChunk, TakesRow}
 use Rattle.trace_scan.proofs.Heads.{next_trace}
@@ -17,45 +18,46 @@ pub cut-requires : goal.cut-requires
 cut-requires g c =
     let text = c.requires.0 in
     let come = c.loop-after.invariant.come text c.requires.1 in
-    let row : TakesRow c.loop-after.lines c.next_row.new.self c.loop-after.rest.now c.in-Ok-Some.after.now c.next_row.new.row = rw c.in-Ok-Some.field-0-is at c.in-Ok-Some.ensures.ok in
+    let row : TakesRow c.loop-after.lines c.next_row.new.self c.loop-after.rest.now c.in-Some.after.now c.next_row.new.row = rw c.in-Some.is at c.in_ok-after.ensures.ok in
     record {
       next = (
         early_rows (text ++ come.read),
         come.cut.cut,
-        next_trace c.loop-after.lines c.next_row.new.self (text ++ come.read) c.loop-after.rest.now c.in-Ok-Some.after.now c.next_row.new.row come.cut.reads row,
+        next_trace c.loop-after.lines c.next_row.new.self (text ++ come.read) c.loop-after.rest.now c.in-Some.after.now c.next_row.new.row come.cut.reads row,
       );
     }
 
 pub loop-after-preserved : goal.loop-after-preserved
 loop-after-preserved g c =
     let inv = c.loop-after.invariant in
-    let row : TakesRow c.loop-after.lines c.next_row.new.self c.loop-after.rest.now c.in-Ok-Some.after.now c.next_row.new.row = rw c.in-Ok-Some.field-0-is at c.in-Ok-Some.ensures.ok in
-    let size : bytes_fed c.next_row.new.self + length c.in-Ok-Some.after.now ≡ bytes_fed c.loop-after.lines + length c.loop-after.rest.now = rw c.in-Ok-Some.field-0-is at c.in-Ok-Some.ensures.size in
+    let row : TakesRow c.loop-after.lines c.next_row.new.self c.loop-after.rest.now c.in-Some.after.now c.next_row.new.row = rw c.in-Some.is at c.in_ok-after.ensures.ok in
+    let size : bytes_fed c.next_row.new.self + length c.in-Some.after.now ≡ bytes_fed c.loop-after.lines + length c.loop-after.rest.now = rw c.in-Some.is at c.in_ok-after.ensures.size in
     record {
       size = size ∙ inv.size;
-      same = c.in_ok-cut-in-Ok-Some.ensures.interface ∙ inv.same;
+      same = c.in_ok-cut.ensures.interface ∙ inv.same;
       come = λ text cut.
           let come = inv.come text cut in
-          come_row c.args.self.now.interface text c.args.bytes.now c.loop-after.rest.now c.in-Ok-Some.after.now c.next_row.new.row c.loop-after.lines c.next_row.new.self c.loop-after.self c.cut.new.self
-          c.args.pieces.now.items c.loop-after.pieces.items c.cut.new.pieces.items come row (c.in-Ok-Some.ensures.header (text ++ come.read) come.cut.reads) c.in_ok-cut-in-Ok-Some.ensures.interface
-          (c.in_ok-cut-in-Ok-Some.ensures.cut (early_rows (text ++ come.read)) come.cut.cut) (c.in_ok-cut-in-Ok-Some.ensures.pieces (early_rows (text ++ come.read)) come.cut.cut);
+          come_row c.args.self.now.interface text c.args.bytes.now c.loop-after.rest.now c.in-Some.after.now c.next_row.new.row c.loop-after.lines c.next_row.new.self c.loop-after.self c.cut.new.self
+          c.args.pieces.now.items c.loop-after.pieces.items c.cut.new.pieces.items come row (c.in_ok-after.ensures.header (text ++ come.read) come.cut.reads) c.in_ok-cut.ensures.interface
+          (c.in_ok-cut.ensures.cut (early_rows (text ++ come.read)) come.cut.cut) (c.in_ok-cut.ensures.pieces (early_rows (text ++ come.read)) come.cut.cut);
     }
 
-pub returns-in-Ok-None-clause-cut : goal.returns-in-Ok-None-clause-cut
-returns-in-Ok-None-clause-cut g c text cut =
+pub returns-clause-cut : goal.returns-clause-cut
+returns-clause-cut g c text cut =
     let come = c.loop-after.invariant.come text cut in
-    let end : ReadsChunk c.loop-after.lines c.next_row.new.self c.loop-after.rest.now = rw c.in-Ok-None.field-0-is at c.in-Ok-None.ensures.ok in
+    let end : ReadsChunk c.loop-after.lines c.next_row.new.self c.loop-after.rest.now = rw c.in_default.is at c.in_ok-after.ensures.ok in
     come_end c.args.self.now.interface text c.args.bytes.now c.loop-after.rest.now c.loop-after.lines c.next_row.new.self c.loop-after.self c.args.pieces.now.items c.loop-after.pieces.items come end
-    (c.in-Ok-None.ensures.header (text ++ come.read) come.cut.reads)
+    (c.in_ok-after.ensures.header (text ++ come.read) come.cut.reads)
 
-pub returns-in-Ok-None-clause-pieces : goal.returns-in-Ok-None-clause-pieces
-returns-in-Ok-None-clause-pieces g c text cut =
+pub returns-clause-pieces : goal.returns-clause-pieces
+returns-clause-pieces g c text cut =
     let come = c.loop-after.invariant.come text cut in
-    let end : ReadsChunk c.loop-after.lines c.next_row.new.self c.loop-after.rest.now = rw c.in-Ok-None.field-0-is at c.in-Ok-None.ensures.ok in
+    let end : ReadsChunk c.loop-after.lines c.next_row.new.self c.loop-after.rest.now = rw c.in_default.is at c.in_ok-after.ensures.ok in
     come_pieces c.args.self.now.interface text c.args.bytes.now c.loop-after.rest.now c.loop-after.lines c.next_row.new.self c.loop-after.self c.args.pieces.now.items c.loop-after.pieces.items come end
 
-pub returns-in-Err-clause-refused : goal.returns-in-Err-clause-refused
-returns-in-Err-clause-refused g c text cut =
+pub returns-in_err-after-clause-refused : goal.returns-in_err-after-clause-refused
+returns-in_err-after-clause-refused g c text cut =
     let come = c.loop-after.invariant.come text cut in
-    subst (λ x. IsFaultOf (early x) c.in-Err.fault) (come_text c.args.self.now.interface text c.args.bytes.now c.loop-after.lines c.loop-after.self c.loop-after.rest.now c.args.pieces.now.items c.loop-after.pieces.items come)
-    (c.in-Err.ensures.refused (text ++ come.read) come.cut.reads)
+    passed_on c.from_residual.result c.in_err-after.field-0.0 _ c.from_residual.ensures.1
+    (subst (λ x. IsFaultOf (early x) c.in_err-after.field-0.0) (come_text c.args.self.now.interface text c.args.bytes.now c.loop-after.lines c.loop-after.self c.loop-after.rest.now c.args.pieces.now.items c.loop-after.pieces.items come)
+    (c.in_err-after.ensures.refused (text ++ come.read) come.cut.reads))

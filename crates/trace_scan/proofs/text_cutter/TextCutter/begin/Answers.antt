@@ -2,6 +2,7 @@ use Rattle.std.proofs.Common.{◌∙◌, ◌++◌, ◌∷◌, [], Some, ap, refl
 use Rattle.std.proofs.lemmas.Result.{IfOk-from_err}
 use Rattle.line_model.specs.text.Text.{early, early_rows}
 use Rattle.restart_epochs.specs.Cutting.{HasAppended, given_of}
+use Rattle.trace_text.proofs.SourceLemmas.{passed_on}
 use Rattle.trace_text.specs.StandsFor.{IsFaultOf, ReadsChunk, StandsFor, TakesRow}
 use Rattle.trace_scan.specs.TextCuts.{IsCutTo}
 use Rattle.trace_scan.proofs.Heads.{no_rows_yet, none_cut, taken_of}
@@ -37,36 +38,37 @@ cut_lines-requires g c =
     (c.in-Some-interface.ensures.kept ∙ ap (λ v. v.lines.interface) c.self.view_is) (c.in_ok-cut.ensures.interface ∙ c.new-row_cutter.ensures.interface) (c.in_ok-cut.ensures.cut [] c.new-row_cutter.ensures.cut) in
     (text ++ t.taken, begun)
 
-pub returns-in-Err-clause-refused : goal.returns-in-Err-clause-refused
-returns-in-Err-clause-refused g c text taken =
+pub returns-in_err-cut_lines-clause-refused : goal.returns-in_err-cut_lines-clause-refused
+returns-in_err-cut_lines-clause-refused g c text taken =
     let t : TakesRow c.args.self.now.lines c.next_row.new.self c.args.bytes.now c.in-Some.rest.now c.next_row.new.row = rw c.in-Some.is at c.in_ok-rest.ensures.ok in
     let begun = first_cut text c.args.bytes.now c.in-Some.rest.now c.next_row.new.row c.args.self.now.lines c.next_row.new.self c.in-Some-interface.interface c.cut.new.self taken.reads (no_rows_yet c.args.self.now text taken c.requires.bare) t
     (c.in-Some-interface.ensures.kept ∙ ap (λ v. v.lines.interface) c.self.view_is) (c.in_ok-cut.ensures.interface ∙ c.new-row_cutter.ensures.interface) (c.in_ok-cut.ensures.cut [] c.new-row_cutter.ensures.cut) in
-    subst (λ x. IsFaultOf (early x) c.in-Err.fault) (chunk_text c.args.self.now.lines c.next_row.new.self text c.args.bytes.now c.in-Some.rest.now c.next_row.new.row t)
-    (c.in-Err.ensures.refused (text ++ t.taken) begun)
+    passed_on c.from_residual-in_err-cut_lines.result c.in_err-cut_lines.field-0.0 _ c.from_residual-in_err-cut_lines.ensures.1
+    (subst (λ x. IsFaultOf (early x) c.in_err-cut_lines.field-0.0) (chunk_text c.args.self.now.lines c.next_row.new.self text c.args.bytes.now c.in-Some.rest.now c.next_row.new.row t)
+    (c.in_err-cut_lines.ensures.refused (text ++ t.taken) begun))
 
-pub returns-in-Ok-clause-taken : goal.returns-in-Ok-clause-taken
-returns-in-Ok-clause-taken g c text taken =
+pub returns-clause-taken : goal.returns-clause-taken
+returns-clause-taken g c text taken =
     let t : TakesRow c.args.self.now.lines c.next_row.new.self c.args.bytes.now c.in-Some.rest.now c.next_row.new.row = rw c.in-Some.is at c.in_ok-rest.ensures.ok in
     let begun = first_cut text c.args.bytes.now c.in-Some.rest.now c.next_row.new.row c.args.self.now.lines c.next_row.new.self c.in-Some-interface.interface c.cut.new.self taken.reads (no_rows_yet c.args.self.now text taken c.requires.bare) t
     (c.in-Some-interface.ensures.kept ∙ ap (λ v. v.lines.interface) c.self.view_is) (c.in_ok-cut.ensures.interface ∙ c.new-row_cutter.ensures.interface) (c.in_ok-cut.ensures.cut [] c.new-row_cutter.ensures.cut) in
     taken_of _ (text ++ c.args.bytes.now) c.cut_lines.new.self
     (subst (λ x. IsCutTo x c.cut_lines.new.lines c.cut_lines.new.self) (chunk_text c.args.self.now.lines c.next_row.new.self text c.args.bytes.now c.in-Some.rest.now c.next_row.new.row t)
-    (c.in-Ok.ensures.cut (text ++ t.taken) begun)) refl
+    (c.in_ok-cut_lines.ensures.cut (text ++ t.taken) begun)) refl
 
-pub returns-in-Ok-clause-pieces : goal.returns-in-Ok-clause-pieces
-returns-in-Ok-clause-pieces g c text taken =
+pub returns-clause-pieces : goal.returns-clause-pieces
+returns-clause-pieces g c text taken =
     let t : TakesRow c.args.self.now.lines c.next_row.new.self c.args.bytes.now c.in-Some.rest.now c.next_row.new.row = rw c.in-Some.is at c.in_ok-rest.ensures.ok in
     let begun = first_cut text c.args.bytes.now c.in-Some.rest.now c.next_row.new.row c.args.self.now.lines c.next_row.new.self c.in-Some-interface.interface c.cut.new.self taken.reads (no_rows_yet c.args.self.now text taken c.requires.bare) t
     (c.in-Some-interface.ensures.kept ∙ ap (λ v. v.lines.interface) c.self.view_is) (c.in_ok-cut.ensures.interface ∙ c.new-row_cutter.ensures.interface) (c.in_ok-cut.ensures.cut [] c.new-row_cutter.ensures.cut) in
     let i = c.cut.new.self.interface in
-    let after = c.in-Ok.ensures.cut (text ++ t.taken) begun in
+    let after = c.in_ok-cut_lines.ensures.cut (text ++ t.taken) begun in
     let all = chunk_text c.args.self.now.lines c.next_row.new.self text c.args.bytes.now c.in-Some.rest.now c.next_row.new.row t in
     first_pieces i text c.args.bytes.now c.in-Some.rest.now c.next_row.new.row c.args.self.now.lines c.next_row.new.self c.cut_lines.new.lines c.args.pieces.now.items c.cut.new.pieces.items c.cut_lines.new.pieces.items taken.reads
     (no_rows_yet c.args.self.now text taken c.requires.bare) t
     (subst (λ j. HasAppended c.args.pieces.now.items c.cut.new.pieces.items (given_of j []) (given_of j ([] ++ c.next_row.new.row ∷ []))) (sym c.in_ok-cut.ensures.interface) (c.in_ok-cut.ensures.pieces [] c.new-row_cutter.ensures.cut))
-    (c.in-Ok.ensures.pieces (text ++ t.taken) begun)
-    (subst (StandsFor c.cut_lines.new.lines) all after.reads) (after.header ∙ ap Some c.in-Ok.ensures.interface)
+    (c.in_ok-cut_lines.ensures.pieces (text ++ t.taken) begun)
+    (subst (StandsFor c.cut_lines.new.lines) all after.reads) (after.header ∙ ap Some c.in_ok-cut_lines.ensures.interface)
 
 pub returns-in_err-rest-clause-taken : goal.returns-in_err-rest-clause-taken
 returns-in_err-rest-clause-taken g c text taken = IfOk-from_err _ _ c.from_residual.ensures.0
@@ -91,3 +93,15 @@ returns-in_err-cut-clause-size g c = IfOk-from_err _ _ c.from_residual-in_err-cu
 
 pub returns-in_err-cut-clause-limit : goal.returns-in_err-cut-clause-limit
 returns-in_err-cut-clause-limit g c = IfOk-from_err _ _ c.from_residual-in_err-cut.ensures.0
+
+pub returns-in_err-cut_lines-clause-taken : goal.returns-in_err-cut_lines-clause-taken
+returns-in_err-cut_lines-clause-taken g c text taken = IfOk-from_err _ _ c.from_residual-in_err-cut_lines.ensures.0
+
+pub returns-in_err-cut_lines-clause-pieces : goal.returns-in_err-cut_lines-clause-pieces
+returns-in_err-cut_lines-clause-pieces g c text taken = IfOk-from_err _ _ c.from_residual-in_err-cut_lines.ensures.0
+
+pub returns-in_err-cut_lines-clause-size : goal.returns-in_err-cut_lines-clause-size
+returns-in_err-cut_lines-clause-size g c = IfOk-from_err _ _ c.from_residual-in_err-cut_lines.ensures.0
+
+pub returns-in_err-cut_lines-clause-limit : goal.returns-in_err-cut_lines-clause-limit
+returns-in_err-cut_lines-clause-limit g c = IfOk-from_err _ _ c.from_residual-in_err-cut_lines.ensures.0
