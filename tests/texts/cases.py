@@ -23,6 +23,9 @@ TOO_LARGE = "The text has more than 2^30 bytes: cut it after a restart confirmat
 # More rows, and more comments, than the last bytes that a refusal is explained by.
 MANY = b"".join(b"%d T 1000FB0000\n" % number for number in range(1, 20000))
 COMMENTS = b"# no row\n" * 20000
+# Rows after a row, so that it doesn't end with the text.
+BEHIND = b"".join(b"%d N %s\n" % (number, b"1001" * 8) for number in range(999999990, 1000000000))
+DIGITS = b"0123456789abcdefABCDEF9876543210fedcbaFEDCBA" * 2
 
 
 @dataclass
@@ -81,7 +84,27 @@ ROWS = [
     (b"1 T 1g\n", 2, HEX, 'At column 6 stands "g", which is no hex digit.'),
     (b"12 T 10g0\n", 2, HEX, 'At column 8 stands "g", which is no hex digit.'),
     (b"1 T 10\r\n", 2, HEX, CARRIAGE_RETURN),
+    (b"1 T " + DIGITS + b"\n1 N " + DIGITS + b"\n" + BEHIND, 3, NUMBER, "The row's number is 1, and that of the row before is 1: numbers rise."),
+    (b"07 T " + DIGITS + b"\n" + BEHIND, 2, NUMBER, 'The row\'s number is "07": 1 to 999999999 without a leading zero belongs there.'),
+    (b"1234567890 T " + DIGITS + b"\n" + BEHIND, 2, NUMBER, None),
+    (b"1 t " + DIGITS + b"\n" + BEHIND, 2, SIDE, "The side t is written T."),
+    (b"1 T " + DIGITS[:33] + b"\n" + BEHIND, 2, HEX, "The octets have 33 hex digits, an odd number: the last one, at column 37, stands alone."),
+    (b"1 T " + DIGITS + b"\r\n" + BEHIND, 2, HEX, CARRIAGE_RETURN),
+    (b"1 T " + DIGITS + b" \n" + BEHIND, 2, LINE_FORM, "The line ends in a space."),
+    (b"1 T \n" + BEHIND, 2, LINE_FORM, "The line ends in a space."),
+    (b"1 T " + b"00" * 4201 + b"\n" + BEHIND, 2, HEX, None),
 ]
+
+# Bytes that are no hex digit, most of them beside one.
+WRONG = b"/:@G`g\0\x1f\x80\xbf\xff"
+
+
+def wrong_digits():
+    """Rows with a byte that is no hex digit, at each place of 32 digits and beyond, each such byte at several places."""
+    for place in range(40):
+        for byte in (WRONG[place % len(WRONG)], WRONG[(place + 5) % len(WRONG)]):
+            digits = DIGITS[:place] + bytes([byte]) + DIGITS[place + 1:]
+            yield Text(HEADER + b"1 T " + DIGITS + b"\n2 N " + digits + b"\n" + BEHIND, 3, HEX, None)
 
 # Whole texts whose header is missing or faulty.
 HEADERS = [
@@ -128,6 +151,9 @@ TAKEN = [
     (b"X25 2 MOD 8 WIN 2 SIZE 16 PVC 1 IN 2 TWO 3 OUT 4 JOIN\n", 0),
     (HEADER + b"#" + b"a" * 8499 + b"\n", 0),
     (HEADER + b"1 T " + b"00" * 4200, 1),
+    (HEADER + b"1 T " + b"00" * 4200 + b"\n" + BEHIND, 11),
+    (HEADER + b"".join(b"%d T %s\n" % (number, DIGITS) for number in (1, 20, 301, 4023, 50067, 600890, 7001234, 80056789)) + BEHIND, 18),
+    (HEADER + b"".join(b"%d T %s\n" % (count + 1, DIGITS[:2 * count] or b"-") for count in range(44)) + BEHIND, 54),
 ]
 
 # Lines at the limits of a line.
@@ -164,6 +190,7 @@ def texts():
         yield Text(HEADER + rows, line, kind, said)
     for text, line, kind, said in [*HEADERS, *LONG]:
         yield Text(text, line, kind, said)
+    yield from wrong_digits()
     for text, rows in TAKEN:
         yield Text(text, rows=rows)
     yield from recordings()

@@ -38,7 +38,7 @@ fn read_counted(alloc: Global, text: &[u8], size: usize) -> (Result<Interface, F
     (answer, rows.len())
 }
 
-/// Reads a text in chunks of 1, 7 and 4,096 bytes, which all have to answer the same.
+/// Reads a text in chunks of 1, 7, 64 and 65,536 bytes, which all have to answer the same.
 fn read_in_chunks(
     rt: &impl Abort,
     alloc: Global,
@@ -47,7 +47,7 @@ fn read_in_chunks(
 ) -> Result<Interface, Fault> {
     let (answer, told) = read_counted(alloc, text, text.len());
     assert!(rt; told == rows);
-    for size in [1, 7, 4096] {
+    for size in [1, 7, 64, 1 << 16] {
         let (again, told) = read_counted(alloc, text, size);
         holds_at(rt, again == answer && told == rows, size as u64);
     }
@@ -160,11 +160,16 @@ fn take_rows(
     take_last(lines, &mut row, told)
 }
 
-/// Texts, the rows that are told of them, and their faults.
-const ONE_BY_ONE: [(&[u8], &[u8], Option<Fault>); 5] = [
+/// Texts, the rows that are told of them, and their faults. The second has rows that end with a chunk of 64 bytes.
+const ONE_BY_ONE: [(&[u8], &[u8], Option<Fault>); 6] = [
     (
         b"# first\nX25 1 MOD 8 WIN 2 SIZE 128 PVC 0 SVC 4\n1 T 10010b0000\n2 N 10010F\n# between\n3 T 100100deadBEEF\n7 N -\n# last\n12 N 10",
         b"\x01T\x05\x10\x01\x0b\x00\x00\x02N\x03\x10\x01\x0f\x03T\x07\x10\x01\x00\xde\xad\xbe\xef\x07N\x00\x0cN\x01\x10",
+        None,
+    ),
+    (
+        b"X25 1 MOD 8 WIN 2 SIZE 128 PVC 0 SVC 4\n1 T 0123456789abcdefABCD\n12 N 23456789abcdefABCDEF9876543210fedcbaFEDCBA0123456789abcdef\n13 T 0123456789abcdefABCDEF9876543210fedcbaFEDCBA0123456789abcdefABCD\n14 N 0123456789abcdefABCDEF98765432\n15 T 0123456789abcdefABCDEF9876543210\n16 N 0123456789abcdefABCDEF9876543210fe\n17 T 01\n18 N 0123456789abcdefABCDEF9876543210fedcbaFEDCBA0123456789abcdefABCDEF\n",
+        b"\x01T\n\x01#Eg\x89\xab\xcd\xef\xab\xcd\x0cN\x1d#Eg\x89\xab\xcd\xef\xab\xcd\xef\x98vT2\x10\xfe\xdc\xba\xfe\xdc\xba\x01#Eg\x89\xab\xcd\xef\x0dT \x01#Eg\x89\xab\xcd\xef\xab\xcd\xef\x98vT2\x10\xfe\xdc\xba\xfe\xdc\xba\x01#Eg\x89\xab\xcd\xef\xab\xcd\x0eN\x0f\x01#Eg\x89\xab\xcd\xef\xab\xcd\xef\x98vT2\x0fT\x10\x01#Eg\x89\xab\xcd\xef\xab\xcd\xef\x98vT2\x10\x10N\x11\x01#Eg\x89\xab\xcd\xef\xab\xcd\xef\x98vT2\x10\xfe\x11T\x01\x01\x12N!\x01#Eg\x89\xab\xcd\xef\xab\xcd\xef\x98vT2\x10\xfe\xdc\xba\xfe\xdc\xba\x01#Eg\x89\xab\xcd\xef\xab\xcd\xef",
         None,
     ),
     (HEADER, b"", None),
@@ -205,6 +210,7 @@ fn rows_are_taken_one_by_one(rt: HostRuntime) {
     for (text, wanted, end) in &ONE_BY_ONE {
         check_taken(&rt, rt.alloc(), text, 1, wanted, *end);
         check_taken(&rt, rt.alloc(), text, 7, wanted, *end);
+        check_taken(&rt, rt.alloc(), text, 64, wanted, *end);
         check_taken(&rt, rt.alloc(), text, text.len(), wanted, *end);
     }
 }

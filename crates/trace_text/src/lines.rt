@@ -287,8 +287,8 @@ impl<A: Allocator> Lines<A> {
     {
         let mut rest = chunk;
         loop {
-            if let Some(back) = self.take_usual(rest, row) {
-                return Ok(Some(back));
+            if let Some(after) = self.take_usual(rest, row) {
+                return Ok(Some(after));
             }
             let Some((front, back)) = split_at_byte(rest, b'\n') else {
                 break;

@@ -9,93 +9,93 @@ use Rattle.trace_text.proofs.lines.Lines.find_row.Goals as goal
 
 pub returns-then-branch-clause-ok : goal.returns-then-branch-clause-ok
 returns-then-branch-clause-ok g c =
-    let passed = subst (λ (v : Progress). Passed c.args.self.now v c.args.chunk.now c.loop-back.rest.now) (sym c.in_default.ensures) c.loop-back.invariant in
-    takes-row c.args.self.now c.take_usual.new.self c.end_line.new.self c.end_line.new.row c.args.chunk.now c.loop-back.rest.now c.in-Some-split_at_byte.front.now c.in-Some-split_at_byte.back.now
+    let passed = subst (λ (v : Progress). Passed c.args.self.now v c.args.chunk.now c.loop-after.rest.now) (sym c.in_default.ensures) c.loop-after.invariant in
+    takes-row c.args.self.now c.take_usual.new.self c.end_line.new.self c.end_line.new.row c.args.chunk.now c.loop-after.rest.now c.in-Some-split_at_byte.front.now c.in-Some-split_at_byte.back.now
     passed c.in-Some-split_at_byte.ensures.0 c.in-Some-split_at_byte.ensures.1 (rw c.if-branch.true at c.in_ok-end_line.ensures.ok)
 
 pub returns-then-branch-clause-header : goal.returns-then-branch-clause-header
 returns-then-branch-clause-header g c text s =
-    let passed = subst (λ (v : Progress). Passed c.args.self.now v c.args.chunk.now c.loop-back.rest.now) (sym c.in_default.ensures) c.loop-back.invariant in
+    let passed = subst (λ (v : Progress). Passed c.args.self.now v c.args.chunk.now c.loop-after.rest.now) (sym c.in_default.ensures) c.loop-after.invariant in
     let line = rw c.if-branch.true at c.in_ok-end_line.ensures.ok in
     row-head c.args.self.now c.end_line.new.self c.args.chunk.now c.in-Some-split_at_byte.back.now c.end_line.new.row
-    (takes-row c.args.self.now c.take_usual.new.self c.end_line.new.self c.end_line.new.row c.args.chunk.now c.loop-back.rest.now c.in-Some-split_at_byte.front.now c.in-Some-split_at_byte.back.now passed c.in-Some-split_at_byte.ensures.0 c.in-Some-split_at_byte.ensures.1 line)
+    (takes-row c.args.self.now c.take_usual.new.self c.end_line.new.self c.end_line.new.row c.args.chunk.now c.loop-after.rest.now c.in-Some-split_at_byte.front.now c.in-Some-split_at_byte.back.now passed c.in-Some-split_at_byte.ensures.0 c.in-Some-split_at_byte.ensures.1 line)
     (line-headed c.take_usual.new.self c.end_line.new.self c.in-Some-split_at_byte.front.now c.end_line.new.row line) text s
 
-pub loop-back-preserved : goal.loop-back-preserved
-loop-back-preserved g c =
-    let passed = subst (λ (v : Progress). Passed c.args.self.now v c.args.chunk.now c.loop-back.rest.now) (sym c.in_default.ensures) c.loop-back.invariant in
-    passed-more c.args.self.now c.take_usual.new.self c.end_line.new.self c.end_line.new.row c.args.chunk.now c.loop-back.rest.now c.in-Some-split_at_byte.front.now c.in-Some-split_at_byte.back.now
+pub loop-after-preserved : goal.loop-after-preserved
+loop-after-preserved g c =
+    let passed = subst (λ (v : Progress). Passed c.args.self.now v c.args.chunk.now c.loop-after.rest.now) (sym c.in_default.ensures) c.loop-after.invariant in
+    passed-more c.args.self.now c.take_usual.new.self c.end_line.new.self c.end_line.new.row c.args.chunk.now c.loop-after.rest.now c.in-Some-split_at_byte.front.now c.in-Some-split_at_byte.back.now
     passed c.in-Some-split_at_byte.ensures.0 c.in-Some-split_at_byte.ensures.1 (rw c.if-branch.false at c.in_ok-end_line.ensures.ok)
 
 pub returns-in_err-end_line-clause-refused : goal.returns-in_err-end_line-clause-refused
 returns-in_err-end_line-clause-refused g c text s =
-    let passed = subst (λ (v : Progress). Passed c.args.self.now v c.args.chunk.now c.loop-back.rest.now) (sym c.in_default.ensures) c.loop-back.invariant in
+    let passed = subst (λ (v : Progress). Passed c.args.self.now v c.args.chunk.now c.loop-after.rest.now) (sym c.in_default.ensures) c.loop-after.invariant in
     let exit = err_from_is_err_and c.from_residual.result c.from_residual.ensures.1 in
     rw (exit.1, exit.2)
-    (rw (whole_chunk_lf text passed.fed c.loop-back.rest.now c.in-Some-split_at_byte.front.now c.in-Some-split_at_byte.back.now c.args.chunk.now passed.whole c.in-Some-split_at_byte.ensures.0)
+    (rw (whole_chunk_lf text passed.fed c.loop-after.rest.now c.in-Some-split_at_byte.front.now c.in-Some-split_at_byte.back.now c.args.chunk.now passed.whole c.in-Some-split_at_byte.ensures.0)
     at (line-refused c.take_usual.new.self (text ++ passed.fed) c.in-Some-split_at_byte.front.now c.in-Some-split_at_byte.back.now c.in_err-end_line.field-0.0 (passed.stands text s) c.in-Some-split_at_byte.ensures.1 c.in_err-end_line.ensures.refused))
 
 pub returns-in_err-end_line-clause-known : goal.returns-in_err-end_line-clause-known
 returns-in_err-end_line-clause-known g c text s =
-    let passed = subst (λ (v : Progress). Passed c.args.self.now v c.args.chunk.now c.loop-back.rest.now) (sym c.in_default.ensures) c.loop-back.invariant in
+    let passed = subst (λ (v : Progress). Passed c.args.self.now v c.args.chunk.now c.loop-after.rest.now) (sym c.in_default.ensures) c.loop-after.invariant in
     let exit = err_from_is_err_and c.from_residual.result c.from_residual.ensures.1 in
     rw (exit.1, exit.2)
-    (known-so-far c.args.self.now c.take_usual.new.self c.args.chunk.now c.loop-back.rest.now c.in_err-end_line.field-0.0 passed text s (refused-line _ _ c.in_err-end_line.field-0.0 c.in_err-end_line.ensures.refused)
-    (line-fault c.take_usual.new.self (text ++ passed.fed) c.loop-back.rest.now c.in-Some-split_at_byte.front.now c.in-Some-split_at_byte.back.now c.in_err-end_line.field-0.0 c.in-Some-split_at_byte.ensures.0 (passed.stands text s) c.in-Some-split_at_byte.ensures.1 c.in_err-end_line.ensures.refused))
+    (known-so-far c.args.self.now c.take_usual.new.self c.args.chunk.now c.loop-after.rest.now c.in_err-end_line.field-0.0 passed text s (refused-line _ _ c.in_err-end_line.field-0.0 c.in_err-end_line.ensures.refused)
+    (line-fault c.take_usual.new.self (text ++ passed.fed) c.loop-after.rest.now c.in-Some-split_at_byte.front.now c.in-Some-split_at_byte.back.now c.in_err-end_line.field-0.0 c.in-Some-split_at_byte.ensures.0 (passed.stands text s) c.in-Some-split_at_byte.ensures.1 c.in_err-end_line.ensures.refused))
 
 pub returns-in_err-end_line-clause-header : goal.returns-in_err-end_line-clause-header
 returns-in_err-end_line-clause-header g c text s =
-    let passed = subst (λ (v : Progress). Passed c.args.self.now v c.args.chunk.now c.loop-back.rest.now) (sym c.in_default.ensures) c.loop-back.invariant in
+    let passed = subst (λ (v : Progress). Passed c.args.self.now v c.args.chunk.now c.loop-after.rest.now) (sym c.in_default.ensures) c.loop-after.invariant in
     let exit = err_from_is_err_and c.from_residual.result c.from_residual.ensures.1 in
     rw (exit.1, exit.2)
-    (head-so-far (Option (Bor (List ℕ))) c.args.self.now c.take_usual.new.self c.args.chunk.now c.loop-back.rest.now c.in_err-end_line.field-0.0 c.end_line.new.self.interface passed text s (refused-line _ _ c.in_err-end_line.field-0.0 c.in_err-end_line.ensures.refused)
-    (line-fault c.take_usual.new.self (text ++ passed.fed) c.loop-back.rest.now c.in-Some-split_at_byte.front.now c.in-Some-split_at_byte.back.now c.in_err-end_line.field-0.0 c.in-Some-split_at_byte.ensures.0 (passed.stands text s) c.in-Some-split_at_byte.ensures.1 c.in_err-end_line.ensures.refused)
+    (head-so-far (Option (Bor (List ℕ))) c.args.self.now c.take_usual.new.self c.args.chunk.now c.loop-after.rest.now c.in_err-end_line.field-0.0 c.end_line.new.self.interface passed text s (refused-line _ _ c.in_err-end_line.field-0.0 c.in_err-end_line.ensures.refused)
+    (line-fault c.take_usual.new.self (text ++ passed.fed) c.loop-after.rest.now c.in-Some-split_at_byte.front.now c.in-Some-split_at_byte.back.now c.in_err-end_line.field-0.0 c.in-Some-split_at_byte.ensures.0 (passed.stands text s) c.in-Some-split_at_byte.ensures.1 c.in_err-end_line.ensures.refused)
     c.in_err-end_line.ensures.kept)
 
 pub returns-clause-ok : goal.returns-clause-ok
 returns-clause-ok g c =
-    let passed = subst (λ (v : Progress). Passed c.args.self.now v c.args.chunk.now c.loop-back.rest.now) (sym c.in_default.ensures) c.loop-back.invariant in
-    reads-chunk c.args.self.now c.take_usual.new.self c.begin.new.self c.args.chunk.now c.loop-back.rest.now passed c.in_default-split_at_byte.ensures c.in_ok-begin.ensures.ok c.in_ok-begin.ensures.sound
+    let passed = subst (λ (v : Progress). Passed c.args.self.now v c.args.chunk.now c.loop-after.rest.now) (sym c.in_default.ensures) c.loop-after.invariant in
+    reads-chunk c.args.self.now c.take_usual.new.self c.begin.new.self c.args.chunk.now c.loop-after.rest.now passed c.in_default-split_at_byte.ensures c.in_ok-begin.ensures.ok c.in_ok-begin.ensures.sound
 
 pub returns-clause-header : goal.returns-clause-header
 returns-clause-header g c text s =
-    let passed = subst (λ (v : Progress). Passed c.args.self.now v c.args.chunk.now c.loop-back.rest.now) (sym c.in_default.ensures) c.loop-back.invariant in
-    let read = reads-chunk c.args.self.now c.take_usual.new.self c.begin.new.self c.args.chunk.now c.loop-back.rest.now passed c.in_default-split_at_byte.ensures c.in_ok-begin.ensures.ok c.in_ok-begin.ensures.sound in
+    let passed = subst (λ (v : Progress). Passed c.args.self.now v c.args.chunk.now c.loop-after.rest.now) (sym c.in_default.ensures) c.loop-after.invariant in
+    let read = reads-chunk c.args.self.now c.take_usual.new.self c.begin.new.self c.args.chunk.now c.loop-after.rest.now passed c.in_default-split_at_byte.ensures c.in_ok-begin.ensures.ok c.in_ok-begin.ensures.sound in
     head_stands c.begin.new.self (text ++ c.args.chunk.now) (read.stands text s)
 
 pub returns-in_err-begin-clause-refused : goal.returns-in_err-begin-clause-refused
 returns-in_err-begin-clause-refused g c text s =
-    let passed = subst (λ (v : Progress). Passed c.args.self.now v c.args.chunk.now c.loop-back.rest.now) (sym c.in_default.ensures) c.loop-back.invariant in
+    let passed = subst (λ (v : Progress). Passed c.args.self.now v c.args.chunk.now c.loop-after.rest.now) (sym c.in_default.ensures) c.loop-after.invariant in
     let exit = err_from_is_err_and c.from_residual-in_err-begin.result c.from_residual-in_err-begin.ensures.1 in
     rw (exit.1, exit.2)
-    (rw (whole_chunk text passed.fed c.loop-back.rest.now c.args.chunk.now passed.whole)
-    at (begin-refused-all c.take_usual.new.self (text ++ passed.fed) c.loop-back.rest.now c.in_err-begin.field-0.0 (passed.stands text s) c.in_default-split_at_byte.ensures c.in_err-begin.ensures.refused))
+    (rw (whole_chunk text passed.fed c.loop-after.rest.now c.args.chunk.now passed.whole)
+    at (begin-refused-all c.take_usual.new.self (text ++ passed.fed) c.loop-after.rest.now c.in_err-begin.field-0.0 (passed.stands text s) c.in_default-split_at_byte.ensures c.in_err-begin.ensures.refused))
 
 pub returns-in_err-begin-clause-known : goal.returns-in_err-begin-clause-known
 returns-in_err-begin-clause-known g c text s =
-    let passed = subst (λ (v : Progress). Passed c.args.self.now v c.args.chunk.now c.loop-back.rest.now) (sym c.in_default.ensures) c.loop-back.invariant in
+    let passed = subst (λ (v : Progress). Passed c.args.self.now v c.args.chunk.now c.loop-after.rest.now) (sym c.in_default.ensures) c.loop-after.invariant in
     let exit = err_from_is_err_and c.from_residual-in_err-begin.result c.from_residual-in_err-begin.ensures.1 in
     rw (exit.1, exit.2)
-    (known-so-far c.args.self.now c.take_usual.new.self c.args.chunk.now c.loop-back.rest.now c.in_err-begin.field-0.0 passed text s (refused-line _ _ c.in_err-begin.field-0.0 c.in_err-begin.ensures.refused)
-    (begin-refused-all c.take_usual.new.self (text ++ passed.fed) c.loop-back.rest.now c.in_err-begin.field-0.0 (passed.stands text s) c.in_default-split_at_byte.ensures c.in_err-begin.ensures.refused))
+    (known-so-far c.args.self.now c.take_usual.new.self c.args.chunk.now c.loop-after.rest.now c.in_err-begin.field-0.0 passed text s (refused-line _ _ c.in_err-begin.field-0.0 c.in_err-begin.ensures.refused)
+    (begin-refused-all c.take_usual.new.self (text ++ passed.fed) c.loop-after.rest.now c.in_err-begin.field-0.0 (passed.stands text s) c.in_default-split_at_byte.ensures c.in_err-begin.ensures.refused))
 
 pub returns-in_err-begin-clause-header : goal.returns-in_err-begin-clause-header
 returns-in_err-begin-clause-header g c text s =
-    let passed = subst (λ (v : Progress). Passed c.args.self.now v c.args.chunk.now c.loop-back.rest.now) (sym c.in_default.ensures) c.loop-back.invariant in
+    let passed = subst (λ (v : Progress). Passed c.args.self.now v c.args.chunk.now c.loop-after.rest.now) (sym c.in_default.ensures) c.loop-after.invariant in
     let exit = err_from_is_err_and c.from_residual-in_err-begin.result c.from_residual-in_err-begin.ensures.1 in
     rw (exit.1, exit.2)
-    (head-so-far (Option (Bor (List ℕ))) c.args.self.now c.take_usual.new.self c.args.chunk.now c.loop-back.rest.now c.in_err-begin.field-0.0 c.begin.new.self.interface passed text s (refused-line _ _ c.in_err-begin.field-0.0 c.in_err-begin.ensures.refused)
-    (begin-refused-all c.take_usual.new.self (text ++ passed.fed) c.loop-back.rest.now c.in_err-begin.field-0.0 (passed.stands text s) c.in_default-split_at_byte.ensures c.in_err-begin.ensures.refused)
+    (head-so-far (Option (Bor (List ℕ))) c.args.self.now c.take_usual.new.self c.args.chunk.now c.loop-after.rest.now c.in_err-begin.field-0.0 c.begin.new.self.interface passed text s (refused-line _ _ c.in_err-begin.field-0.0 c.in_err-begin.ensures.refused)
+    (begin-refused-all c.take_usual.new.self (text ++ passed.fed) c.loop-after.rest.now c.in_err-begin.field-0.0 (passed.stands text s) c.in_default-split_at_byte.ensures c.in_err-begin.ensures.refused)
     (ap (λ (q : Progress). q.interface) c.in_err-begin.ensures.same))
 
 pub returns-in-Some-clause-ok : goal.returns-in-Some-clause-ok
 returns-in-Some-clause-ok g c =
     let line = c.in-Some.ensures in
-    takes-row c.args.self.now c.loop-back.self c.take_usual.new.self c.take_usual.new.row c.args.chunk.now c.loop-back.rest.now line.front c.in-Some.back.now c.loop-back.invariant line.whole line.one_line line.ends
+    takes-row c.args.self.now c.loop-after.self c.take_usual.new.self c.take_usual.new.row c.args.chunk.now c.loop-after.rest.now line.front c.in-Some.after.now c.loop-after.invariant line.whole line.one_line line.ends
 
 pub returns-in-Some-clause-header : goal.returns-in-Some-clause-header
 returns-in-Some-clause-header g c text s =
     let line = c.in-Some.ensures in
-    row-head c.args.self.now c.take_usual.new.self c.args.chunk.now c.in-Some.back.now c.take_usual.new.row
-    (takes-row c.args.self.now c.loop-back.self c.take_usual.new.self c.take_usual.new.row c.args.chunk.now c.loop-back.rest.now line.front c.in-Some.back.now c.loop-back.invariant line.whole line.one_line line.ends)
-    (line-headed c.loop-back.self c.take_usual.new.self line.front c.take_usual.new.row line.ends) text s
+    row-head c.args.self.now c.take_usual.new.self c.args.chunk.now c.in-Some.after.now c.take_usual.new.row
+    (takes-row c.args.self.now c.loop-after.self c.take_usual.new.self c.take_usual.new.row c.args.chunk.now c.loop-after.rest.now line.front c.in-Some.after.now c.loop-after.invariant line.whole line.one_line line.ends)
+    (line-headed c.loop-after.self c.take_usual.new.self line.front c.take_usual.new.row line.ends) text s

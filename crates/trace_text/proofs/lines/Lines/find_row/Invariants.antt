@@ -3,8 +3,8 @@ use Rattle.trace_text.proofs.ChunkLemmas.{Passed}
 use Rattle.trace_text.proofs.lines.Lines.find_row.Given as goal
 
 -- the lines that were passed
-abbrev pub invariant-loop-back : goal.invariant-loop-back
-invariant-loop-back g l = Passed l.fn.self l.self l.fn.chunk l.rest
+abbrev pub invariant-loop-after : goal.invariant-loop-after
+invariant-loop-after g l = Passed l.fn.self l.self l.fn.chunk l.rest
 
-abbrev pub decreases-loop-back : goal.decreases-loop-back
-decreases-loop-back g l = length l.rest
+abbrev pub decreases-loop-after : goal.decreases-loop-after
+decreases-loop-after g l = length l.rest
