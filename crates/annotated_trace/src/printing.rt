@@ -117,14 +117,9 @@ impl<A: Allocator + Copy, W: Watcher<A>, P: Printer<A, W>> TracePrinter<A, W, P>
             → self.new.held.items ≡ self.old.held.items) }
         ensures kinds { IfErr result IsTextFault }
     {
-        match self.trace.feed(end) {
-            Ok(()) => {}
-            Err(fault) => return Err(fault),
-        }
-        match self.print_line(end) {
-            Ok(()) => Ok(()),
-            Err(_) => Err(Fault::Memory),
-        }
+        self.trace.feed(end)?;
+        self.print_line(end)?;
+        Ok(())
     }
 
     /// Takes bytes without an LF.
@@ -141,10 +136,7 @@ impl<A: Allocator + Copy, W: Watcher<A>, P: Printer<A, W>> TracePrinter<A, W, P>
         ensures held { self.new.held.items ≡ self.old.held.items }
         ensures kinds { IfErr result IsTextFault }
     {
-        match self.trace.feed(more) {
-            Ok(()) => {}
-            Err(fault) => return Err(fault),
-        }
+        self.trace.feed(more)?;
         self.begun.extend_from_slice(more)?;
         Ok(())
     }
@@ -179,14 +171,9 @@ impl<A: Allocator + Copy, W: Watcher<A>, P: Printer<A, W>> TracePrinter<A, W, P>
     {
         let mut rest = chunk;
         while let Some((front, back)) = split_at_byte(rest, b'\n') {
-            match self.take_line(&rest[..front.len() + 1]) {
-                Ok(()) => {}
-                Err(fault) => return Err(fault),
-            }
-            match send_much(&mut self.held, sink) {
-                Ok(()) => rest = back,
-                Err(fault) => return Err(fault),
-            }
+            self.take_line(&rest[..front.len() + 1])?;
+            send_much(&mut self.held, sink)?;
+            rest = back;
         }
         self.begin(rest)
     }
@@ -276,10 +263,8 @@ impl<A: Allocator + Copy, W: Watcher<A>, P: Printer<A, W>> TracePrinter<A, W, P>
             mut held,
             ..
         } = self;
-        match trace.whole() {
-            Ok(report) => send_closing(&report, &mut printer, &mut held, sink),
-            Err(fault) => Err(fault),
-        }
+        let report = trace.whole()?;
+        send_closing(&report, &mut printer, &mut held, sink)
     }
 
     /// The text has ended: writes what its last line becomes, with an LF if it lacks one, and what comes after all lines;
@@ -312,10 +297,8 @@ impl<A: Allocator + Copy, W: Watcher<A>, P: Printer<A, W>> TracePrinter<A, W, P>
         if self.begun.is_empty() {
             return self.close(sink);
         }
-        match self.take_line(b"\n") {
-            Ok(()) => self.close(sink),
-            Err(fault) => Err(fault),
-        }
+        self.take_line(b"\n")?;
+        self.close(sink)
     }
 }
 
