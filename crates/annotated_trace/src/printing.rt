@@ -140,12 +140,14 @@ impl<A: Allocator + Copy, W: Watcher<A>, P: Printer<A, W>> TracePrinter<A, W, P>
     fn take_lines<K: Sink>(&mut self, chunk: &[u8], sink: &mut K) -> Result<(), Fault>
         requires { IsFed W.Watcher P.Printer self.old }
         ensures fed { IsFedOn W.Watcher P.Printer self.old chunk.now self.new result }
-        ensures printed { OfPrinted W.Watcher P.Printer self.old (K.taken sink.old) (λ choice text before.
+        ensures printed { OfPrinted W.Watcher P.Printer self.old (K.taken sink.old)
+            (λ choice text before.
             OnOk result (HasPrinted (PrintOf P.Printer choice) before (K.taken sink.new)
             self.new.held.items (ended_lines (text ++ chunk.now)))) }
         ensures refused { OfFed W.Watcher P.Printer self.old (λ choice text.
             IfErr result (IsRefusalOf (early (text ++ chunk.now)))) }
-        ensures stopped { OfPrinted W.Watcher P.Printer self.old (K.taken sink.old) (λ choice text before.
+        ensures stopped { OfPrinted W.Watcher P.Printer self.old (K.taken sink.old)
+            (λ choice text before.
             IfErr result (IsStoppedAt (PrintOf P.Printer choice) before (K.taken sink.new)
             self.new.held.items (ended_lines (text ++ chunk.now)))) }
         ensures kinds { IfErr result IsPrinterFault }
@@ -170,17 +172,20 @@ impl<A: Allocator + Copy, W: Watcher<A>, P: Printer<A, W>> TracePrinter<A, W, P>
         // Of any text that it was fed: it was fed that text with the chunk.
         ensures fed { IsFedOn W.Watcher P.Printer self.old chunk.now self.new result }
         // A sink that has the print of the lines that ended has that of the text with the chunk, and nothing is held.
-        ensures printed { OfPrinted W.Watcher P.Printer self.old (K.taken sink.old) (λ choice text before.
+        ensures printed { OfPrinted W.Watcher P.Printer self.old (K.taken sink.old)
+            (λ choice text before.
             OnOk result (HasPrinted (PrintOf P.Printer choice) before (K.taken sink.new) []
             (ended_lines (text ++ chunk.now)))) }
         ensures none_held { OnOk result (self.new.held.items ≡ []) }
         ensures refused { OfFed W.Watcher P.Printer self.old (λ choice text.
             IfErr result (IsRefusalOf (early (text ++ chunk.now)))) }
         // At a refusal it has a first part, at a faulty line the print of all lines before it, if it did not fail.
-        ensures taken { OfPrinted W.Watcher P.Printer self.old (K.taken sink.old) (λ choice text before.
+        ensures taken { OfPrinted W.Watcher P.Printer self.old (K.taken sink.old)
+            (λ choice text before.
             IfErr result (λ fault. HasFirstPrint (PrintOf P.Printer choice) before
             (K.taken sink.new) (ended_lines (text ++ chunk.now)))) }
-        ensures at_line { OfPrinted W.Watcher P.Printer self.old (K.taken sink.old) (λ choice text before.
+        ensures at_line { OfPrinted W.Watcher P.Printer self.old (K.taken sink.old)
+            (λ choice text before.
             K.failures sink.new ≡ K.failures sink.old → IfErr result (HasPrintBefore
             (PrintOf P.Printer choice) before (K.taken sink.new)
             (ended_lines (text ++ chunk.now)))) }
@@ -240,7 +245,8 @@ impl<A: Allocator + Copy, W: Watcher<A>, P: Printer<A, W>> TracePrinter<A, W, P>
     pub fn end<K: Sink>(mut self, sink: &mut K) -> Result<Summary, Fault>
         requires fed { IsFed W.Watcher P.Printer self }
         // A sink that has the print of the lines that ended has that of the text, and what comes after it.
-        ensures printed { OfPrinted W.Watcher P.Printer self (K.taken sink.old) (λ choice text before.
+        ensures printed { OfPrinted W.Watcher P.Printer self (K.taken sink.old)
+            (λ choice text before.
             IfOk result (IsPrinted (PrintOf P.Printer choice) (P.closing choice) text before
             (K.taken sink.new))) }
         ensures refused { OfFed W.Watcher P.Printer self (λ choice text.
