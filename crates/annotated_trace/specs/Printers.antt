@@ -1,5 +1,5 @@
 -- A printer of a trace: what it was fed, and what its sink has.
-use Rattle.std.specs.Prelude.{◌≡◌, ◌⊎◌, ℕ, Bool, true, false, List, [], ◌++◌, length, Option, Some, None}
+use Rattle.std.specs.Prelude.{◌≡◌, ◌⊎◌, ℕ, Bool, true, false, List, [], ◌++◌, length, Option, Some, None, OnOk, Result}
 use Rattle.line_model.specs.basics.Device.{with_more}
 use Rattle.line_model.specs.basics.Records.{Report}
 use Rattle.line_model.specs.text.Text.{Line, begun_line, ended_lines, fault, good_lines, lines_of, text_limit}
@@ -10,6 +10,7 @@ use Rattle.line_model.specs.declared.fault.Kind.{Kind}
 use Rattle.line_model.specs.declared.fault.Kind.TheVariants.{TextLarge}
 use Rattle.line_model.specs.declared.totals.Summary.{Summary}
 use Rattle.trace_text.specs.Watched.{IsReportOf}
+use Rattle.annotated_trace.specs.Printed.{IsPrintOf}
 use Rattle.annotated_trace.specs.declared.rows.Rows.{Rows}
 use Rattle.annotated_trace.specs.declared.printer.Printer.{Ghosts as Printing}
 use Rattle.trace_text.specs.declared.watcher.Watcher.{Ghosts as Reader}
@@ -24,11 +25,31 @@ pub record WasFed {A W P : Type 0} (followed : W → P → List ℕ → Type 0) 
   pub trace : followed t.trace t.printer text
   pub begun : t.begun.items ≡ begun_line text
 
+-- it was fed some text, and refused none of it
+abbrev pub IsFed : {A W P : Type 0} → Reader W A → Printing P A W → TracePrinter A W P → Type 0
+IsFed reader printing t = (choice : Rows) × (text : List ℕ) × WasFed (HasFollowed reader printing choice) t text
+
+-- of any rows that were asked for, and any text that it was fed
+abbrev pub OfFed : {A W P : Type 0} → Reader W A → Printing P A W → TracePrinter A W P → (Rows → List ℕ → Type 0) → Type 0
+OfFed reader printing t Fact = (choice : Rows) (text : List ℕ) → WasFed (HasFollowed reader printing choice) t text → Fact choice text
+
+-- of any text that it was fed: it was fed that text with the chunk
+abbrev pub IsFedOn : {A W P T E : Type 0} → Reader W A → Printing P A W → (before : TracePrinter A W P) → (chunk : List ℕ) → (after : TracePrinter A W P) → Result T E → Type 0
+IsFedOn reader printing before chunk after result = OfFed reader printing before (λ choice text. OnOk result (WasFed (HasFollowed reader printing choice) after (text ++ chunk)))
+
+-- the bytes are the print of some lines, of these rows
+abbrev pub PrintOf : {A W P : Type 0} → Printing P A W → Rows → List Line → List ℕ → Type 0
+PrintOf printing choice = IsPrintOf (printing.form choice) []
+
 -- a sink that had `before` took, with what is held, the print of some lines
 pub record HasPrinted (is_print : List Line → List ℕ → Type 0) (before taken : Option (List ℕ)) (held : List ℕ) (ls : List Line) : Type 0 where
   pub sent : List ℕ
   pub taken_is : taken ≡ with_more before sent
   pub lines : is_print ls (sent ++ held)
+
+-- of any text so, and any sink that took, with what is held, the print of the lines that ended
+abbrev pub OfPrinted : {A W P : Type 0} → Reader W A → Printing P A W → TracePrinter A W P → (taken : Option (List ℕ)) → (Rows → List ℕ → Option (List ℕ) → Type 0) → Type 0
+OfPrinted reader printing t taken Fact = (choice : Rows) (text : List ℕ) (before : Option (List ℕ)) → WasFed (HasFollowed reader printing choice) t text → HasPrinted (PrintOf printing choice) before taken t.held.items (ended_lines text) → Fact choice text before
 
 -- it took a first part of the print of the first ones of some lines
 pub record HasFirstPrint (is_print : List Line → List ℕ → Type 0) (before taken : Option (List ℕ)) (ls : List Line) : Type 0 where

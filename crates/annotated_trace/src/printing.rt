@@ -7,7 +7,7 @@ ghost use Rattle.trace_text.specs.StandsFor.{IsFaultOf, IsTextFault};
 ghost use Rattle.trace_text.specs.Watched.{found_in};
 ghost use Rattle.annotated_trace.specs.Annotation.{IsOneLine};
 ghost use Rattle.annotated_trace.specs.Printed.{HasAppended, IsPrintOf};
-ghost use Rattle.annotated_trace.specs.Printers.{HasFirstPrint, HasFirstPrintOf, HasFollowed, HasPrintBefore, HasPrinted, IsCloseRefusal, IsEndRefusal, IsPrinted, IsPrinterFault, IsRefusalOf, IsStoppedAt, WasFed, is_line};
+ghost use Rattle.annotated_trace.specs.Printers.{HasFirstPrint, HasFirstPrintOf, HasFollowed, HasPrintBefore, HasPrinted, IsCloseRefusal, IsEndRefusal, IsFed, IsFedOn, IsPrinted, IsPrinterFault, IsRefusalOf, IsStoppedAt, OfFed, OfPrinted, PrintOf, WasFed, is_line};
 ghost use Rattle.annotated_trace.specs.Printing.{HasPassed, HasWritten, IsPrintingFault, IsRefusedAfter, StopsPrinting};
 ghost use Rattle.annotated_trace.specs.declared.rows.Rows.{Rows as AnyRows};
 
@@ -97,81 +97,59 @@ impl<A: Allocator + Copy, W: Watcher<A>, P: Printer<A, W>> TracePrinter<A, W, P>
 
     /// Takes the end of a line with its LF, and holds what the line becomes.
     fn take_line(&mut self, end: &[u8]) -> Result<(), Fault>
-        requires { (choice : AnyRows) × (text : List ℕ)
-            × WasFed (HasFollowed W.Watcher P.Printer choice) self.old text }
+        requires { IsFed W.Watcher P.Printer self.old }
         ensures fed { (choice : AnyRows) (text front : List ℕ)
             → WasFed (HasFollowed W.Watcher P.Printer choice) self.old text
             → end.now ≡ front ++ 10 ∷ [] → IsOneLine front
             → OnOk result (WasFed (HasFollowed W.Watcher P.Printer choice) self.new
             (text ++ end.now)) }
-        ensures held { (choice : AnyRows) (text front sent : List ℕ)
-            → WasFed (HasFollowed W.Watcher P.Printer choice) self.old text
-            → end.now ≡ front ++ 10 ∷ [] → IsOneLine front
-            → IsPrintOf (P.form choice) [] (ended_lines text) (sent ++ self.old.held.items)
-            → OnOk result (IsPrintOf (P.form choice) [] (ended_lines (text ++ end.now)) (sent
-            ++ self.new.held.items)) }
-        ensures refused { (choice : AnyRows) (text : List ℕ)
-            → WasFed (HasFollowed W.Watcher P.Printer choice) self.old text
-            → IfErr result (IsFaultOf (early (text ++ end.now))) }
+        ensures held { (choice : AnyRows) (text front sent : List ℕ) → WasFed
+            (HasFollowed W.Watcher P.Printer choice) self.old text → end.now ≡ front ++ 10 ∷ []
+            → IsOneLine front → PrintOf P.Printer choice (ended_lines text)
+            (sent ++ self.old.held.items) → OnOk result (PrintOf P.Printer choice
+            (ended_lines (text ++ end.now)) (sent ++ self.new.held.items)) }
+        ensures refused { OfFed W.Watcher P.Printer self.old (λ choice text.
+            IfErr result (IsFaultOf (early (text ++ end.now)))) }
         ensures not_held { IfErr result (λ fault. fault ≢ Memory
             → self.new.held.items ≡ self.old.held.items) }
         ensures kinds { IfErr result IsTextFault }
     {
-        match self.trace.feed(end) {
-            Ok(()) => {}
-            Err(fault) => return Err(fault),
-        }
-        match self.print_line(end) {
-            Ok(()) => Ok(()),
-            Err(_) => Err(Fault::Memory),
-        }
+        self.trace.feed(end)?;
+        self.print_line(end)?;
+        Ok(())
     }
 
     /// Takes bytes without an LF.
     fn begin(&mut self, more: &[u8]) -> Result<(), Fault>
-        requires { (choice : AnyRows) × (text : List ℕ)
-            × WasFed (HasFollowed W.Watcher P.Printer choice) self.old text }
+        requires { IsFed W.Watcher P.Printer self.old }
         ensures fed { (choice : AnyRows) (text : List ℕ)
             → WasFed (HasFollowed W.Watcher P.Printer choice) self.old text
             → IsOneLine more.now → OnOk result (WasFed (HasFollowed W.Watcher P.Printer choice)
             self.new (text ++ more.now)) }
-        ensures refused { (choice : AnyRows) (text : List ℕ)
-            → WasFed (HasFollowed W.Watcher P.Printer choice) self.old text
-            → IfErr result (IsFaultOf (early (text ++ more.now))) }
+        ensures refused { OfFed W.Watcher P.Printer self.old (λ choice text.
+            IfErr result (IsFaultOf (early (text ++ more.now)))) }
         ensures held { self.new.held.items ≡ self.old.held.items }
         ensures kinds { IfErr result IsTextFault }
     {
-        match self.trace.feed(more) {
-            Ok(()) => {}
-            Err(fault) => return Err(fault),
-        }
+        self.trace.feed(more)?;
         self.begun.extend_from_slice(more)?;
         Ok(())
     }
 
     /// Takes a chunk, and holds what its lines become, of which the sink is given what is much.
     fn take_lines<K: Sink>(&mut self, chunk: &[u8], sink: &mut K) -> Result<(), Fault>
-        requires { (choice : AnyRows) × (text : List ℕ)
-            × WasFed (HasFollowed W.Watcher P.Printer choice) self.old text }
-        ensures fed { (choice : AnyRows) (text : List ℕ)
-            → WasFed (HasFollowed W.Watcher P.Printer choice) self.old text
-            → OnOk result (WasFed (HasFollowed W.Watcher P.Printer choice) self.new
-            (text ++ chunk.now)) }
-        ensures printed { (choice : AnyRows) (text : List ℕ) (before : Option (List ℕ))
-            → WasFed (HasFollowed W.Watcher P.Printer choice) self.old text
-            → HasPrinted (IsPrintOf (P.form choice) []) before (K.taken sink.old)
-            self.old.held.items (ended_lines text) → OnOk result
-            (HasPrinted (IsPrintOf (P.form choice) []) before (K.taken sink.new)
-            self.new.held.items (ended_lines (text ++ chunk.now))) }
-        ensures refused { (choice : AnyRows) (text : List ℕ)
-            → WasFed (HasFollowed W.Watcher P.Printer choice) self.old text
-            → IfErr result (IsRefusalOf (early (text ++ chunk.now))) }
-        ensures stopped { (choice : AnyRows) (text : List ℕ) (before : Option (List ℕ))
-            → WasFed (HasFollowed W.Watcher P.Printer choice) self.old text
-            → HasPrinted (IsPrintOf (P.form choice) []) before (K.taken sink.old)
-            self.old.held.items (ended_lines text) → IfErr result
-            (IsStoppedAt (IsPrintOf (P.form choice) []) before (K.taken sink.new)
-            self.new.held.items (ended_lines (text ++ chunk.now))) }
+        requires { IsFed W.Watcher P.Printer self.old }
+        ensures fed { IsFedOn W.Watcher P.Printer self.old chunk.now self.new result }
+        ensures printed { OfPrinted W.Watcher P.Printer self.old (K.taken sink.old)
+            (λ choice text before.
+            OnOk result (HasPrinted (PrintOf P.Printer choice) before (K.taken sink.new)
+            self.new.held.items (ended_lines (text ++ chunk.now)))) }
+        ensures refused { OfFed W.Watcher P.Printer self.old (λ choice text.
+            IfErr result (IsRefusalOf (early (text ++ chunk.now)))) }
+        ensures stopped { OfPrinted W.Watcher P.Printer self.old (K.taken sink.old)
+            (λ choice text before.
+            IfErr result (IsStoppedAt (PrintOf P.Printer choice) before (K.taken sink.new)
+            self.new.held.items (ended_lines (text ++ chunk.now)))) }
         ensures kinds { IfErr result IsPrinterFault }
         ensures rising { K.failures sink.old ≤ K.failures sink.new }
         ensures write_failed { result ≡ Err Fault.Write
@@ -179,14 +157,9 @@ impl<A: Allocator + Copy, W: Watcher<A>, P: Printer<A, W>> TracePrinter<A, W, P>
     {
         let mut rest = chunk;
         while let Some((front, back)) = split_at_byte(rest, b'\n') {
-            match self.take_line(&rest[..front.len() + 1]) {
-                Ok(()) => {}
-                Err(fault) => return Err(fault),
-            }
-            match send_much(&mut self.held, sink) {
-                Ok(()) => rest = back,
-                Err(fault) => return Err(fault),
-            }
+            self.take_line(&rest[..front.len() + 1])?;
+            send_much(&mut self.held, sink)?;
+            rest = back;
         }
         self.begin(rest)
     }
@@ -195,38 +168,27 @@ impl<A: Allocator + Copy, W: Watcher<A>, P: Printer<A, W>> TracePrinter<A, W, P>
     /// the first line that is faulty however the text goes on, and has written what the lines before it become; where the
     /// sink fails; and for want of memory.
     pub fn feed<K: Sink>(&mut self, chunk: &[u8], sink: &mut K) -> Result<(), Fault>
-        requires fed { (choice : AnyRows) × (text : List ℕ)
-            × WasFed (HasFollowed W.Watcher P.Printer choice) self.old text }
+        requires fed { IsFed W.Watcher P.Printer self.old }
         // Of any text that it was fed: it was fed that text with the chunk.
-        ensures fed { (choice : AnyRows) (text : List ℕ)
-            → WasFed (HasFollowed W.Watcher P.Printer choice) self.old text
-            → OnOk result (WasFed (HasFollowed W.Watcher P.Printer choice) self.new
-            (text ++ chunk.now)) }
+        ensures fed { IsFedOn W.Watcher P.Printer self.old chunk.now self.new result }
         // A sink that has the print of the lines that ended has that of the text with the chunk, and nothing is held.
-        ensures printed { (choice : AnyRows) (text : List ℕ) (before : Option (List ℕ))
-            → WasFed (HasFollowed W.Watcher P.Printer choice) self.old text
-            → HasPrinted (IsPrintOf (P.form choice) []) before (K.taken sink.old)
-            self.old.held.items (ended_lines text) → OnOk result
-            (HasPrinted (IsPrintOf (P.form choice) []) before (K.taken sink.new) []
-            (ended_lines (text ++ chunk.now))) }
+        ensures printed { OfPrinted W.Watcher P.Printer self.old (K.taken sink.old)
+            (λ choice text before.
+            OnOk result (HasPrinted (PrintOf P.Printer choice) before (K.taken sink.new) []
+            (ended_lines (text ++ chunk.now)))) }
         ensures none_held { OnOk result (self.new.held.items ≡ []) }
-        ensures refused { (choice : AnyRows) (text : List ℕ)
-            → WasFed (HasFollowed W.Watcher P.Printer choice) self.old text
-            → IfErr result (IsRefusalOf (early (text ++ chunk.now))) }
+        ensures refused { OfFed W.Watcher P.Printer self.old (λ choice text.
+            IfErr result (IsRefusalOf (early (text ++ chunk.now)))) }
         // At a refusal it has a first part, at a faulty line the print of all lines before it, if it did not fail.
-        ensures taken { (choice : AnyRows) (text : List ℕ) (before : Option (List ℕ))
-            → WasFed (HasFollowed W.Watcher P.Printer choice) self.old text
-            → HasPrinted (IsPrintOf (P.form choice) []) before (K.taken sink.old)
-            self.old.held.items (ended_lines text) → IfErr result (λ fault.
-            HasFirstPrint (IsPrintOf (P.form choice) []) before (K.taken sink.new)
-            (ended_lines (text ++ chunk.now))) }
-        ensures at_line { (choice : AnyRows) (text : List ℕ) (before : Option (List ℕ))
-            → WasFed (HasFollowed W.Watcher P.Printer choice) self.old text
-            → HasPrinted (IsPrintOf (P.form choice) []) before (K.taken sink.old)
-            self.old.held.items (ended_lines text)
-            → K.failures sink.new ≡ K.failures sink.old → IfErr result
-            (HasPrintBefore (IsPrintOf (P.form choice) []) before (K.taken sink.new)
-            (ended_lines (text ++ chunk.now))) }
+        ensures taken { OfPrinted W.Watcher P.Printer self.old (K.taken sink.old)
+            (λ choice text before.
+            IfErr result (λ fault. HasFirstPrint (PrintOf P.Printer choice) before
+            (K.taken sink.new) (ended_lines (text ++ chunk.now)))) }
+        ensures at_line { OfPrinted W.Watcher P.Printer self.old (K.taken sink.old)
+            (λ choice text before.
+            K.failures sink.new ≡ K.failures sink.old → IfErr result (HasPrintBefore
+            (PrintOf P.Printer choice) before (K.taken sink.new)
+            (ended_lines (text ++ chunk.now)))) }
         ensures kinds { IfErr result IsPrinterFault }
         ensures rising { K.failures sink.old ≤ K.failures sink.new }
         ensures write_failed { result ≡ Err Fault.Write
@@ -250,21 +212,18 @@ impl<A: Allocator + Copy, W: Watcher<A>, P: Printer<A, W>> TracePrinter<A, W, P>
     fn close<K: Sink>(self, sink: &mut K) -> Result<Summary, Fault>
         requires { (choice : AnyRows) × (text : List ℕ)
             × WasFed (HasFollowed W.Watcher P.Printer choice) self text × (begun_line text ≡ []) }
-        ensures printed { (choice : AnyRows) (text : List ℕ) (before : Option (List ℕ))
-            → WasFed (HasFollowed W.Watcher P.Printer choice) self text → begun_line text ≡ []
-            → HasPrinted (IsPrintOf (P.form choice) []) before (K.taken sink.old)
-            self.held.items (ended_lines text) → IfOk result
-            (IsPrinted (IsPrintOf (P.form choice) []) (P.closing choice) text before
+        ensures printed { (choice : AnyRows) (text : List ℕ) (before : Option (List ℕ)) → WasFed
+            (HasFollowed W.Watcher P.Printer choice) self text → begun_line text ≡ [] → HasPrinted
+            (PrintOf P.Printer choice) before (K.taken sink.old) self.held.items (ended_lines text)
+            → IfOk result (IsPrinted (PrintOf P.Printer choice) (P.closing choice) text before
             (K.taken sink.new)) }
-        ensures refused { (choice : AnyRows) (text : List ℕ)
-            → WasFed (HasFollowed W.Watcher P.Printer choice) self text
-            → IfErr result (IsCloseRefusal text) }
-        ensures taken { (choice : AnyRows) (text : List ℕ) (before : Option (List ℕ))
-            → WasFed (HasFollowed W.Watcher P.Printer choice) self text → begun_line text ≡ []
-            → HasPrinted (IsPrintOf (P.form choice) []) before (K.taken sink.old)
-            self.held.items (ended_lines text) → result ≡ Err Fault.Write
-            → HasFirstPrintOf (IsPrintOf (P.form choice) []) (P.closing choice) text before
-            (K.taken sink.new) }
+        ensures refused { OfFed W.Watcher P.Printer self (λ choice text.
+            IfErr result (IsCloseRefusal text)) }
+        ensures taken { (choice : AnyRows) (text : List ℕ) (before : Option (List ℕ)) → WasFed
+            (HasFollowed W.Watcher P.Printer choice) self text → begun_line text ≡ [] → HasPrinted
+            (PrintOf P.Printer choice) before (K.taken sink.old) self.held.items (ended_lines text)
+            → result ≡ Err Fault.Write → HasFirstPrintOf (PrintOf P.Printer choice)
+            (P.closing choice) text before (K.taken sink.new) }
         ensures not_written { IfErr result (λ fault. fault ≢ Fault.Write → sink.new ≡ sink.old) }
         ensures kinds { IfErr result IsPrinterFault }
         ensures write_failed { result ≡ Err Fault.Write
@@ -276,34 +235,25 @@ impl<A: Allocator + Copy, W: Watcher<A>, P: Printer<A, W>> TracePrinter<A, W, P>
             mut held,
             ..
         } = self;
-        match trace.whole() {
-            Ok(report) => send_closing(&report, &mut printer, &mut held, sink),
-            Err(fault) => Err(fault),
-        }
+        let report = trace.whole()?;
+        send_closing(&report, &mut printer, &mut held, sink)
     }
 
     /// The text has ended: writes what its last line becomes, with an LF if it lacks one, and what comes after all lines;
     /// returns the last line of the report as numbers. It refuses by the first faulty line; for want of memory; where the
     /// sink fails; and where a text is so large that the LF would stand after the first 2^30 bytes.
     pub fn end<K: Sink>(mut self, sink: &mut K) -> Result<Summary, Fault>
-        requires fed { (choice : AnyRows) × (text : List ℕ)
-            × WasFed (HasFollowed W.Watcher P.Printer choice) self text }
+        requires fed { IsFed W.Watcher P.Printer self }
         // A sink that has the print of the lines that ended has that of the text, and what comes after it.
-        ensures printed { (choice : AnyRows) (text : List ℕ) (before : Option (List ℕ))
-            → WasFed (HasFollowed W.Watcher P.Printer choice) self text
-            → HasPrinted (IsPrintOf (P.form choice) []) before (K.taken sink.old)
-            self.held.items (ended_lines text) → IfOk result
-            (IsPrinted (IsPrintOf (P.form choice) []) (P.closing choice) text before
-            (K.taken sink.new)) }
-        ensures refused { (choice : AnyRows) (text : List ℕ)
-            → WasFed (HasFollowed W.Watcher P.Printer choice) self text
-            → IfErr result (IsEndRefusal text) }
-        ensures taken { (choice : AnyRows) (text : List ℕ) (before : Option (List ℕ))
-            → WasFed (HasFollowed W.Watcher P.Printer choice) self text
-            → HasPrinted (IsPrintOf (P.form choice) []) before (K.taken sink.old)
-            self.held.items (ended_lines text) → result ≡ Err Fault.Write
-            → HasFirstPrintOf (IsPrintOf (P.form choice) []) (P.closing choice) text before
-            (K.taken sink.new) }
+        ensures printed { OfPrinted W.Watcher P.Printer self (K.taken sink.old)
+            (λ choice text before.
+            IfOk result (IsPrinted (PrintOf P.Printer choice) (P.closing choice) text before
+            (K.taken sink.new))) }
+        ensures refused { OfFed W.Watcher P.Printer self (λ choice text.
+            IfErr result (IsEndRefusal text)) }
+        ensures taken { OfPrinted W.Watcher P.Printer self (K.taken sink.old) (λ choice text before.
+            result ≡ Err Fault.Write → HasFirstPrintOf (PrintOf P.Printer choice) (P.closing choice)
+            text before (K.taken sink.new)) }
         ensures not_written { IfErr result (λ fault. fault ≢ Fault.Write → sink.new ≡ sink.old) }
         ensures kinds { IfErr result IsPrinterFault }
         ensures write_failed { result ≡ Err Fault.Write
@@ -312,10 +262,8 @@ impl<A: Allocator + Copy, W: Watcher<A>, P: Printer<A, W>> TracePrinter<A, W, P>
         if self.begun.is_empty() {
             return self.close(sink);
         }
-        match self.take_line(b"\n") {
-            Ok(()) => self.close(sink),
-            Err(fault) => Err(fault),
-        }
+        self.take_line(b"\n")?;
+        self.close(sink)
     }
 }
 

@@ -35,6 +35,14 @@ pub record IsCutTo {A : Type 0} (text : List ℕ) (lines : Progress) (f : RowCut
   pub header : lines.interface ≡ Some f.interface
   pub cut : HasCut (early_rows text) f
 
+-- of any rows that it was given
+abbrev pub OfCut : {A : Type 0} → RowCutter A → (List Row → Type 0) → Type 0
+OfCut f Fact = (before : List Row) → HasCut before f → Fact before
+
+-- of any text that was read so far
+abbrev pub OfCutTo : {A : Type 0} → Progress → RowCutter A → (List ℕ → Type 0) → Type 0
+OfCutTo lines f Fact = (text : List ℕ) → IsCutTo text lines f → Fact text
+
 -- the rows were cut, if there are any
 abbrev pub AreCut : {A : Type 0} → List Row → Option Interface → Option (RowCutter A) → Type 0
 AreCut rows head None = rows ≡ []
@@ -44,6 +52,10 @@ AreCut rows head (Some f) = (head ≡ Some f.interface) × HasCut rows f
 pub record HasTaken {A : Type 0} (text : List ℕ) (c : TextCutter A) : Type 0 where
   pub reads : StandsFor c.lines text
   pub cut : AreCut (early_rows text) c.lines.interface c.row_cutter
+
+-- of any text that it was given
+abbrev pub OfTaken : {A : Type 0} → TextCutter A → (List ℕ → Type 0) → Type 0
+OfTaken c Fact = (text : List ℕ) → HasTaken text c → Fact text
 
 -- the pieces of some rows that are known whole, where there is a header
 abbrev pub known_of : Option Interface → List Row → List Piece

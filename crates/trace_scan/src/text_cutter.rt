@@ -8,7 +8,7 @@ ghost use Rattle.line_model.specs.declared.fault.Fault.TheVariants.{Memory};
 ghost use Rattle.trace_text.specs.Progress.{bytes_fed};
 ghost use Rattle.trace_text.specs.StandsFor.{last_row, IsFaultOf, IsTextFault};
 ghost use Rattle.restart_epochs.specs.Cutting.{HasAppended, given_of};
-ghost use Rattle.trace_scan.specs.TextCuts.{AreCut, HasCut, HasTaken, IsCutTo, IsTrace, known_pieces};
+ghost use Rattle.trace_scan.specs.TextCuts.{AreCut, HasCut, HasTaken, IsCutTo, IsTrace, OfCut, OfCutTo, OfTaken, known_pieces};
 
 use line_model::fault::Fault;
 use line_model::interface::Interface;
@@ -44,12 +44,12 @@ impl<A: Allocator + Copy> RowCutter<A> {
         requires next { (before : List records.Row) × HasCut before self.old
             × IsTrace (before ++ row.now ∷ []) }
         ensures interface { self.new.interface ≡ self.old.interface }
-        ensures cut { (before : List records.Row) → HasCut before self.old
-            → OnOk result (HasCut (before ++ row.now ∷ []) self.new) }
-        ensures pieces { (before : List records.Row) → HasCut before self.old
-            → OnOk result (HasAppended pieces.old.items pieces.new.items
-            (given_of self.old.interface before)
-            (given_of self.old.interface (before ++ row.now ∷ []))) }
+        ensures cut { OfCut self.old (λ before.
+            OnOk result (HasCut (before ++ row.now ∷ []) self.new)) }
+        ensures pieces { OfCut self.old (λ before.
+            OnOk result (HasAppended pieces.old.items pieces.new.items
+            (given_of self.old.interface before) (given_of self.old.interface
+            (before ++ row.now ∷ [])))) }
         ensures memory { IfErr result (λ fault. fault ≡ Memory) }
     {
         let packet = decode(&self.interface, row.octets.as_slice());
@@ -66,12 +66,12 @@ impl<A: Allocator + Copy> RowCutter<A> {
         requires next { (before : List records.Row) × HasCut before self.old
             × IsTrace (before ++ last_row has_row row.now) }
         ensures interface { self.new.interface ≡ self.old.interface }
-        ensures cut { (before : List records.Row) → HasCut before self.old
-            → OnOk result (HasCut (before ++ last_row has_row row.now) self.new) }
-        ensures pieces { (before : List records.Row) → HasCut before self.old
-            → OnOk result (HasAppended pieces.old.items pieces.new.items
-            (given_of self.old.interface before)
-            (given_of self.old.interface (before ++ last_row has_row row.now))) }
+        ensures cut { OfCut self.old (λ before.
+            OnOk result (HasCut (before ++ last_row has_row row.now) self.new)) }
+        ensures pieces { OfCut self.old (λ before.
+            OnOk result (HasAppended pieces.old.items pieces.new.items
+            (given_of self.old.interface before) (given_of self.old.interface
+            (before ++ last_row has_row row.now)))) }
         ensures memory { IfErr result (λ fault. fault ≡ Memory) }
     {
         if has_row {
@@ -91,14 +91,13 @@ impl<A: Allocator + Copy> RowCutter<A> {
     ) -> Result<(), Fault>
         requires { (text : List ℕ) × IsCutTo text lines.old self.old }
         ensures interface { self.new.interface ≡ self.old.interface }
-        ensures cut { (text : List ℕ) → IsCutTo text lines.old self.old
-            → OnOk result (IsCutTo (text ++ bytes.now) lines.new self.new) }
-        ensures pieces { (text : List ℕ) → IsCutTo text lines.old self.old
-            → OnOk result (HasAppended pieces.old.items pieces.new.items
-            (given_of self.old.interface (early_rows text))
-            (given_of self.old.interface (early_rows (text ++ bytes.now)))) }
-        ensures refused { (text : List ℕ) → IsCutTo text lines.old self.old
-            → IfErr result (IsFaultOf (early (text ++ bytes.now))) }
+        ensures cut { OfCutTo lines.old self.old (λ text.
+            OnOk result (IsCutTo (text ++ bytes.now) lines.new self.new)) }
+        ensures pieces { OfCutTo lines.old self.old (λ text.
+            OnOk result (HasAppended pieces.old.items pieces.new.items (given_of self.old.interface
+            (early_rows text)) (given_of self.old.interface (early_rows (text ++ bytes.now))))) }
+        ensures refused { OfCutTo lines.old self.old (λ text.
+            IfErr result (IsFaultOf (early (text ++ bytes.now)))) }
         ensures size { OnOk result (bytes_fed lines.new ≡ bytes_fed lines.old + length bytes.now) }
         ensures limit { OnOk result (bytes_fed lines.new ≤ 2 ^ 30) }
         ensures kinds { IfErr result IsTextFault }
@@ -159,13 +158,13 @@ impl<A: Allocator + Copy> TextCutter<A> {
     /// Takes the next part of the text, and appends the pieces that are known whole with its rows.
     fn feed_into(&mut self, bytes: &[u8], pieces: &mut Vec<Piece<A>, A>) -> Result<(), Fault>
         requires { (text : List ℕ) × HasTaken text self.old }
-        ensures taken { (text : List ℕ) → HasTaken text self.old
-            → OnOk result (HasTaken (text ++ bytes.now) self.new) }
-        ensures pieces { (text : List ℕ) → HasTaken text self.old
-            → OnOk result (HasAppended pieces.old.items pieces.new.items
-            (known_pieces text) (known_pieces (text ++ bytes.now))) }
-        ensures refused { (text : List ℕ) → HasTaken text self.old
-            → IfErr result (IsFaultOf (early (text ++ bytes.now))) }
+        ensures taken { OfTaken self.old (λ text.
+            OnOk result (HasTaken (text ++ bytes.now) self.new)) }
+        ensures pieces { OfTaken self.old (λ text.
+            OnOk result (HasAppended pieces.old.items pieces.new.items (known_pieces text)
+            (known_pieces (text ++ bytes.now)))) }
+        ensures refused { OfTaken self.old (λ text.
+            IfErr result (IsFaultOf (early (text ++ bytes.now)))) }
         ensures size { OnOk result (bytes_fed self.new.lines
             ≡ bytes_fed self.old.lines + length bytes.now) }
         ensures limit { OnOk result (bytes_fed self.new.lines ≤ 2 ^ 30) }
@@ -181,13 +180,13 @@ impl<A: Allocator + Copy> TextCutter<A> {
     fn begin(&mut self, bytes: &[u8], pieces: &mut Vec<Piece<A>, A>) -> Result<(), Fault>
         requires taken { (text : List ℕ) × HasTaken text self.old }
         requires bare { self.old.row_cutter ≡ None }
-        ensures taken { (text : List ℕ) → HasTaken text self.old
-            → OnOk result (HasTaken (text ++ bytes.now) self.new) }
-        ensures pieces { (text : List ℕ) → HasTaken text self.old
-            → OnOk result (HasAppended pieces.old.items pieces.new.items
-            (known_pieces text) (known_pieces (text ++ bytes.now))) }
-        ensures refused { (text : List ℕ) → HasTaken text self.old
-            → IfErr result (IsFaultOf (early (text ++ bytes.now))) }
+        ensures taken { OfTaken self.old (λ text.
+            OnOk result (HasTaken (text ++ bytes.now) self.new)) }
+        ensures pieces { OfTaken self.old (λ text.
+            OnOk result (HasAppended pieces.old.items pieces.new.items (known_pieces text)
+            (known_pieces (text ++ bytes.now)))) }
+        ensures refused { OfTaken self.old (λ text.
+            IfErr result (IsFaultOf (early (text ++ bytes.now)))) }
         ensures size { OnOk result (bytes_fed self.new.lines
             ≡ bytes_fed self.old.lines + length bytes.now) }
         ensures limit { OnOk result (bytes_fed self.new.lines ≤ 2 ^ 30) }
@@ -209,13 +208,13 @@ impl<A: Allocator + Copy> TextCutter<A> {
     /// The next part of the text. The pieces that are known whole with its rows.
     pub fn feed(&mut self, bytes: &[u8]) -> Result<Vec<Piece<A>, A>, Fault>
         requires { (text : List ℕ) × HasTaken text self.old }
-        ensures taken { (text : List ℕ) → HasTaken text self.old
-            → OnOk result (HasTaken (text ++ bytes.now) self.new) }
-        ensures pieces { (text : List ℕ) → HasTaken text self.old
-            → IfOk result (λ pieces. known_pieces (text ++ bytes.now)
-            ≡ known_pieces text ++ pieces.items) }
-        ensures refused { (text : List ℕ) → HasTaken text self.old
-            → IfErr result (IsFaultOf (early (text ++ bytes.now))) }
+        ensures taken { OfTaken self.old (λ text.
+            OnOk result (HasTaken (text ++ bytes.now) self.new)) }
+        ensures pieces { OfTaken self.old (λ text.
+            IfOk result (λ pieces. known_pieces (text ++ bytes.now) ≡ known_pieces text
+            ++ pieces.items)) }
+        ensures refused { OfTaken self.old (λ text.
+            IfErr result (IsFaultOf (early (text ++ bytes.now)))) }
         ensures size { OnOk result (bytes_fed self.new.lines
             ≡ bytes_fed self.old.lines + length bytes.now) }
         ensures limit { OnOk result (bytes_fed self.new.lines ≤ 2 ^ 30) }
@@ -230,14 +229,14 @@ impl<A: Allocator + Copy> TextCutter<A> {
     /// the row of that line are appended.
     pub fn end(self, pieces: &mut Vec<Piece<A>, A>) -> Result<RowCutter<A>, Fault>
         requires { (text : List ℕ) × HasTaken text self }
-        ensures sound { (text : List ℕ) → HasTaken text self
-            → IfOk result (λ row_cutter. (fault text ≡ None) × (head text ≡ Some row_cutter.interface)) }
-        ensures cut { (text : List ℕ) → HasTaken text self → IfOk result (HasCut (rows text)) }
-        ensures pieces { (text : List ℕ) → HasTaken text self
-            → IfOk result (λ row_cutter. HasAppended pieces.old.items pieces.new.items
-            (known_pieces text) (given_of row_cutter.interface (rows text))) }
-        ensures refused { (text : List ℕ) → HasTaken text self
-            → IfErr result (IsFaultOf (fault text)) }
+        ensures sound { OfTaken self (λ text.
+            IfOk result (λ row_cutter. (fault text ≡ None)
+            × (head text ≡ Some row_cutter.interface))) }
+        ensures cut { OfTaken self (λ text. IfOk result (HasCut (rows text))) }
+        ensures pieces { OfTaken self (λ text.
+            IfOk result (λ row_cutter. HasAppended pieces.old.items pieces.new.items
+            (known_pieces text) (given_of row_cutter.interface (rows text)))) }
+        ensures refused { OfTaken self (λ text. IfErr result (IsFaultOf (fault text))) }
         ensures kinds { IfErr result IsTextFault }
     {
         let TextCutter {

@@ -40,7 +40,6 @@ fn run<
 >(
     scope: &'s Scope<'s, &'e ()>,
     rt: &'s R,
-    alloc: A,
     handler: &'s W,
     ready: ReadyWorkers<'s, P, L, A>,
     task: T,
@@ -52,7 +51,7 @@ fn run<
     ensures refused { IfErr result (λ e. T.unfed task e.0
         × ((e.1 ≡ Fault.Memory) ⊎ (e.1 ≡ Fault.Start))) }
 {
-    let Some(started) = start_all(scope, rt, alloc, handler, ready) else {
+    let Some(started) = start_all(scope, rt, handler, ready) else {
         return Err((task.back(), Fault::Memory));
     };
     let Started {
@@ -88,7 +87,6 @@ pub fn run_scoped<
     T: Feed<P, A> + Drop,
 >(
     rt: &R,
-    alloc: A,
     handler: &W,
     ready: ReadyWorkers<'_, P, L, A>,
     task: T,
@@ -108,6 +106,6 @@ pub fn run_scoped<
             ensures { IfOk result (IsRunOutcome (T.feed_gives task) ready.entry.count ready.entry.queue)
                 × IfErr result (λ e. T.unfed task e.0
                 × ((e.1 ≡ Fault.Memory) ⊎ (e.1 ≡ Fault.Start))) }
-        { run(scope, rt, alloc, handler, ready, task) },
+        { run(scope, rt, handler, ready, task) },
     )
 }

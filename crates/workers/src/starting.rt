@@ -99,7 +99,6 @@ pub fn start_all<
 >(
     scope: &'s Scope<'s, &'e ()>,
     rt: &'s R,
-    alloc: A,
     handler: &'s W,
     ready: ReadyWorkers<'s, P, L, A>,
 ) -> Option<Started<'s, P, L, A>>
@@ -118,6 +117,7 @@ pub fn start_all<
         pass: feeder_pass,
         starts,
     } = ready;
+    let alloc = *starts.allocator();
     let count = starts.len();
     let Ok(mut running) = Vec::with_capacity(alloc, count) else {
         return None;

@@ -67,6 +67,14 @@ fn gather_ran<'w, P: Plan, L: Ledgers + QueueName, A: Allocator + Copy, T: Drop>
     Worked { task, gathered }
 }
 
+/// A new queue with its feeder's pass, and the allocator of all that is made for it.
+#[derive(Drop)]
+struct NewQueue<'w, P: Plan, A: Allocator> {
+    alloc: A,
+    work: &'w Work<P, A>,
+    pass: FeederPass<A>,
+}
+
 /// As `work_through`, over this book and this queue.
 fn work_with<
     'w,
@@ -78,23 +86,22 @@ fn work_with<
     T: Feed<P, A> + Drop,
 >(
     rt: &R,
-    alloc: A,
     mut book: Book<P, L, A, PieceWitness<'w, P, L, A>>,
-    queue: (&'w Work<P, A>, FeederPass<A>),
+    queue: NewQueue<'w, P, A>,
     crew: Crew<'_, G>,
     task: T,
 ) -> Result<Worked<T, A>, (T, Fault)>
     requires book { book ≡ 0 }
-    requires named { queue.0.now.queue ≡ L.queue }
-    requires queue { queue.1.queue ≡ queue.0.now.queue }
-    requires fresh { (queue.1.record_of ≡ feeder 0 0 0 0 []) × (queue.1.pieces ≡ []) }
+    requires named { queue.work.now.queue ≡ L.queue }
+    requires queue { queue.pass.queue ≡ queue.work.now.queue }
+    requires fresh { (queue.pass.record_of ≡ feeder 0 0 0 0 []) × (queue.pass.pieces ≡ []) }
     requires workers { (0 < crew.workers) × (crew.workers ≤ 64) }
     requires able { T.can_feed task }
     ensures worked { IfOk result (HasWorked P.pieces (T.feed_gives task) crew.entry.workers) }
     ensures refused { IfErr result (λ e. T.unfed task e.0
         × ((e.1 ≡ Fault.Memory) ⊎ (e.1 ≡ Fault.Start))) }
 {
-    let (work, pass) = queue;
+    let NewQueue { alloc, work, pass } = queue;
     let Ok(ready) = ready_workers(alloc, work, &mut book, pass, crew.workers) else {
         return Err((task.back(), Fault::Memory));
     };
@@ -103,7 +110,7 @@ fn work_with<
         locked_posts: book.locked_posts(),
         gate: crew.gate,
     };
-    let ran = run_scoped(rt, alloc, &posting, ready, task)?;
+    let ran = run_scoped(rt, &posting, ready, task)?;
     Ok(gather_ran(alloc, book, ran))
 }
 
@@ -117,26 +124,29 @@ fn work_in<
     T: Feed<P, A> + Drop,
 >(
     rt: &R,
-    alloc: A,
     blanks: Blanks,
-    queue: (&Work<P, A>, FeederPass<A>),
+    queue: NewQueue<'_, P, A>,
     crew: Crew<'_, G>,
     task: T,
 ) -> Result<Worked<T, A>, (T, Fault)>
     requires names { blanks ≡ L.names }
-    requires named { queue.0.now.queue ≡ L.queue }
-    requires queue { queue.1.queue ≡ queue.0.now.queue }
-    requires fresh { (queue.1.record_of ≡ feeder 0 0 0 0 []) × (queue.1.pieces ≡ []) }
+    requires named { queue.work.now.queue ≡ L.queue }
+    requires queue { queue.pass.queue ≡ queue.work.now.queue }
+    requires fresh { (queue.pass.record_of ≡ feeder 0 0 0 0 []) × (queue.pass.pieces ≡ []) }
     requires workers { (0 < crew.workers) × (crew.workers ≤ 64) }
     requires able { T.can_feed task }
     ensures worked { IfOk result (HasWorked P.pieces (T.feed_gives task) crew.entry.workers) }
     ensures refused { IfErr result (λ e. T.unfed task e.0
         × ((e.1 ≡ Fault.Memory) ⊎ (e.1 ≡ Fault.Start))) }
 {
-    let (work, mut pass) = queue;
+    let NewQueue {
+        alloc,
+        work,
+        mut pass,
+    } = queue;
     let witness = PieceWitness::<P, L, A>::new(work, &mut pass);
     let book = Book::<P, L, A, PieceWitness<P, L, A>>::new(alloc, blanks, witness);
-    work_with(rt, alloc, book, (work, pass), crew, task)
+    work_with(rt, book, NewQueue { alloc, work, pass }, crew, task)
 }
 
 /// Works through the pieces that the task feeds, with a crew of 1 to 64 workers over a queue of 1 to 4,096 entries. Where
@@ -158,6 +168,10 @@ pub fn work_through<
     let Ok((work, pass)) = Work::<P, A>::new(alloc, crew.capacity) else {
         return Err((task.back(), Fault::Memory));
     };
-    let blanks = Blanks::new();
-    work_in::<P, Brand, A, G, R, T>(rt, alloc, blanks, (&work, pass), crew, task)
+    let queue = NewQueue {
+        alloc,
+        work: &work,
+        pass,
+    };
+    work_in::<P, Brand, A, G, R, T>(rt, Blanks::new(), queue, crew, task)
 }

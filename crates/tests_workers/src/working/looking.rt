@@ -116,7 +116,7 @@ fn work_together<R: Threads + Wait + Clock + Sync, L: Ledgers + Send + Sync>(
         alloc,
         count: PIECES,
     };
-    match run_scoped(rt, alloc, &looking, ready, pieces) {
+    match run_scoped(rt, &looking, ready, pieces) {
         Ok(
             RunOutcome {
                 task: _,

@@ -9,7 +9,7 @@ use Rattle.annotated_trace.proofs.printing.TracePrinter.begin.Goals as goal
 pub returns-clause-fed : goal.returns-clause-fed
 returns-clause-fed g c choice text s one = record {
   trace = (
-    c.in-Ok.ensures.stands text s.trace.0,
+    c.in_ok-feed.ensures.stands text s.trace.0,
     subst (g.P.Printer.printed c.args.self.now.printer) (sym (ended-more text c.args.more.now one)) s.trace.1,
     s.trace.2,
   );
@@ -18,13 +18,13 @@ returns-clause-fed g c choice text s one = record {
 
 pub returns-in_err-extend_from_slice-clause-refused : goal.returns-in_err-extend_from_slice-clause-refused
 returns-in_err-extend_from_slice-clause-refused g c choice text s =
-    let p = err_from_is_err_and c.from_residual.result c.from_residual.ensures.1 in
+    let p = err_from_is_err_and c.from_residual-in_err-extend_from_slice.result c.from_residual-in_err-extend_from_slice.ensures.1 in
     subst (λ r. IfErr r (IsFaultOf (early (text ++ c.args.more.now)))) (sym p.1) (subst (IsFaultOf (early (text ++ c.args.more.now))) (sym p.2) tt)
 
 pub returns-in_err-extend_from_slice-clause-fed : goal.returns-in_err-extend_from_slice-clause-fed
-returns-in_err-extend_from_slice-clause-fed g c choice text s one = IfOk-from_err _ _ c.from_residual.ensures.0
+returns-in_err-extend_from_slice-clause-fed g c choice text s one = IfOk-from_err _ _ c.from_residual-in_err-extend_from_slice.ensures.0
 
 pub returns-in_err-extend_from_slice-clause-kinds : goal.returns-in_err-extend_from_slice-clause-kinds
 returns-in_err-extend_from_slice-clause-kinds g c =
-    let p = err_from_is_err_and c.from_residual.result c.from_residual.ensures.1 in
+    let p = err_from_is_err_and c.from_residual-in_err-extend_from_slice.result c.from_residual-in_err-extend_from_slice.ensures.1 in
     subst (λ r. IfErr r IsTextFault) (sym p.1) (subst IsTextFault (sym p.2) tt)

@@ -1,4 +1,8 @@
-use Rattle.std.proofs.Common.{◌∙◌, ◌++◌, ◌∷◌, [], List, ℕ, sym, ap, refl, length}
+use Rattle.std.proofs.Common.{Err, ◌∙◌, ◌++◌, ◌∷◌, [], List, ℕ, sym, ap, refl, length}
+use Rattle.line_model.specs.declared.fault.Fault.{Fault}
+use Rattle.line_model.specs.declared.fault.Fault.TheVariants.{Write}
+use Rattle.std.proofs.lemmas.Result.{IfOk-from_err}
+use Rattle.trace_text.proofs.SourceLemmas.{passed_on, same_fault as passed_same}
 use Rattle.line_model.specs.text.Text.{begun_line, ended_lines}
 use Rattle.line_model.proofs.TextLemmas.{begun-lf}
 use Rattle.annotated_trace.specs.Printed.{IsPrintOf}
@@ -7,37 +11,38 @@ use Rattle.annotated_trace.proofs.EndOfText.{ended_printed, ended_refused, lf_re
 use Rattle.annotated_trace.proofs.StopLemmas.{no_write, text_kind}
 use Rattle.annotated_trace.proofs.printing.TracePrinter.end.Goals as goal
 
-pub close-requires-in-Ok : goal.close-requires-in-Ok
-close-requires-in-Ok g c =
+pub close-requires-2 : goal.close-requires-2
+close-requires-2 g c =
     let x = c.requires.fed.1 in
-    (c.requires.fed.0, x ++ 10 ∷ [], c.in-Ok.ensures.fed c.requires.fed.0 x [] c.requires.fed.2 refl refl, begun-lf x)
+    (c.requires.fed.0, x ++ 10 ∷ [], c.in_ok-take_line.ensures.fed c.requires.fed.0 x [] c.requires.fed.2 refl refl, begun-lf x)
 
-pub returns-in-Ok-clause-printed : goal.returns-in-Ok-clause-printed
-returns-in-Ok-clause-printed g c choice text before s h =
+pub returns-clause-printed : goal.returns-clause-printed
+returns-clause-printed g c choice text before s h =
     let some = some_bytes c.args.self.begun.len (length (begun_line text)) (sym c.is_empty.ensures ∙ c.if-is_empty.false) (c.args.self.begun.ok.0 ∙ ap (λ (b : List ℕ). length b) s.begun) in
-    let next = c.in-Ok.ensures.fed choice text [] s refl refl in
-    let held : HasPrinted (IsPrintOf (g.P.Printer.form choice) []) before (g.K.Sink.taken c.args.sink.now) c.take_line.new.self.held.items (ended_lines (text ++ 10 ∷ [])) = record { sent = h.sent; taken_is = h.taken_is; lines = c.in-Ok.ensures.held choice text [] h.sent s refl refl h.lines } in
-    ended_printed (IsPrintOf (g.P.Printer.form choice) []) (g.P.Printer.closing choice) text before (g.K.Sink.taken c.close-in-Ok.new.sink) c.close-in-Ok.result some (g.met.W.Watcher.sound c.args.self.trace text s.trace.0)
-    (g.met.W.Watcher.sound c.take_line.new.self.trace (text ++ 10 ∷ []) next.trace.0) (c.close-in-Ok.ensures.printed choice (text ++ 10 ∷ []) before next (begun-lf text) held)
+    let next = c.in_ok-take_line.ensures.fed choice text [] s refl refl in
+    let held : HasPrinted (IsPrintOf (g.P.Printer.form choice) []) before (g.K.Sink.taken c.args.sink.now) c.take_line.new.self.held.items (ended_lines (text ++ 10 ∷ [])) = record { sent = h.sent; taken_is = h.taken_is; lines = c.in_ok-take_line.ensures.held choice text [] h.sent s refl refl h.lines } in
+    ended_printed (IsPrintOf (g.P.Printer.form choice) []) (g.P.Printer.closing choice) text before (g.K.Sink.taken c.close-2.new.sink) c.close-2.result some (g.met.W.Watcher.sound c.args.self.trace text s.trace.0)
+    (g.met.W.Watcher.sound c.take_line.new.self.trace (text ++ 10 ∷ []) next.trace.0) (c.close-2.ensures.printed choice (text ++ 10 ∷ []) before next (begun-lf text) held)
 
-pub returns-in-Ok-clause-refused : goal.returns-in-Ok-clause-refused
-returns-in-Ok-clause-refused g c choice text s =
+pub returns-clause-refused : goal.returns-clause-refused
+returns-clause-refused g c choice text s =
     let some = some_bytes c.args.self.begun.len (length (begun_line text)) (sym c.is_empty.ensures ∙ c.if-is_empty.false) (c.args.self.begun.ok.0 ∙ ap (λ (b : List ℕ). length b) s.begun) in
-    let next = c.in-Ok.ensures.fed choice text [] s refl refl in
-    ended_refused text c.close-in-Ok.result some (g.met.W.Watcher.sound c.args.self.trace text s.trace.0) (g.met.W.Watcher.sound c.take_line.new.self.trace (text ++ 10 ∷ []) next.trace.0) (c.close-in-Ok.ensures.refused choice (text ++ 10 ∷ []) next)
+    let next = c.in_ok-take_line.ensures.fed choice text [] s refl refl in
+    ended_refused text c.close-2.result some (g.met.W.Watcher.sound c.args.self.trace text s.trace.0) (g.met.W.Watcher.sound c.take_line.new.self.trace (text ++ 10 ∷ []) next.trace.0) (c.close-2.ensures.refused choice (text ++ 10 ∷ []) next)
 
-pub returns-in-Ok-clause-taken : goal.returns-in-Ok-clause-taken
-returns-in-Ok-clause-taken g c choice text before s h w =
+pub returns-clause-taken : goal.returns-clause-taken
+returns-clause-taken g c choice text before s h w =
     let some = some_bytes c.args.self.begun.len (length (begun_line text)) (sym c.is_empty.ensures ∙ c.if-is_empty.false) (c.args.self.begun.ok.0 ∙ ap (λ (b : List ℕ). length b) s.begun) in
-    let next = c.in-Ok.ensures.fed choice text [] s refl refl in
-    let held : HasPrinted (IsPrintOf (g.P.Printer.form choice) []) before (g.K.Sink.taken c.args.sink.now) c.take_line.new.self.held.items (ended_lines (text ++ 10 ∷ [])) = record { sent = h.sent; taken_is = h.taken_is; lines = c.in-Ok.ensures.held choice text [] h.sent s refl refl h.lines } in
-    same_first (IsPrintOf (g.P.Printer.form choice) []) (g.P.Printer.closing choice) text before (g.K.Sink.taken c.close-in-Ok.new.sink) some (same_fault text some (g.met.W.Watcher.sound c.args.self.trace text s.trace.0) (g.met.W.Watcher.sound c.take_line.new.self.trace (text ++ 10 ∷ []) next.trace.0))
-    (c.close-in-Ok.ensures.taken choice (text ++ 10 ∷ []) before next (begun-lf text) held w)
+    let next = c.in_ok-take_line.ensures.fed choice text [] s refl refl in
+    let held : HasPrinted (IsPrintOf (g.P.Printer.form choice) []) before (g.K.Sink.taken c.args.sink.now) c.take_line.new.self.held.items (ended_lines (text ++ 10 ∷ [])) = record { sent = h.sent; taken_is = h.taken_is; lines = c.in_ok-take_line.ensures.held choice text [] h.sent s refl refl h.lines } in
+    same_first (IsPrintOf (g.P.Printer.form choice) []) (g.P.Printer.closing choice) text before (g.K.Sink.taken c.close-2.new.sink) some (same_fault text some (g.met.W.Watcher.sound c.args.self.trace text s.trace.0) (g.met.W.Watcher.sound c.take_line.new.self.trace (text ++ 10 ∷ []) next.trace.0))
+    (c.close-2.ensures.taken choice (text ++ 10 ∷ []) before next (begun-lf text) held w)
 
-pub returns-in-Err-clause-refused : goal.returns-in-Err-clause-refused
-returns-in-Err-clause-refused g c choice text s =
+pub returns-in_err-take_line-clause-refused : goal.returns-in_err-take_line-clause-refused
+returns-in_err-take_line-clause-refused g c choice text s =
     let some = some_bytes c.args.self.begun.len (length (begun_line text)) (sym c.is_empty.ensures ∙ c.if-is_empty.false) (c.args.self.begun.ok.0 ∙ ap (λ (b : List ℕ). length b) s.begun) in
-    lf_refused text c.in-Err.fault some (g.met.W.Watcher.sound c.args.self.trace text s.trace.0) (c.in-Err.ensures.refused choice text s)
+    passed_on c.from_residual.result c.in_err-take_line.field-0.0 _ c.from_residual.ensures.1
+    (lf_refused text c.in_err-take_line.field-0.0 some (g.met.W.Watcher.sound c.args.self.trace text s.trace.0) (c.in_err-take_line.ensures.refused choice text s))
 
 pub close-requires : goal.close-requires
 close-requires g c =
@@ -62,26 +67,26 @@ returns-then-is_empty-clause-kinds g c = c.close.ensures.kinds
 pub returns-then-is_empty-clause-write_failed : goal.returns-then-is_empty-clause-write_failed
 returns-then-is_empty-clause-write_failed g c = c.close.ensures.write_failed
 
-pub returns-in-Ok-clause-not_written : goal.returns-in-Ok-clause-not_written
-returns-in-Ok-clause-not_written g c = c.close-in-Ok.ensures.not_written
+pub returns-clause-not_written : goal.returns-clause-not_written
+returns-clause-not_written g c = c.close-2.ensures.not_written
 
-pub returns-in-Ok-clause-kinds : goal.returns-in-Ok-clause-kinds
-returns-in-Ok-clause-kinds g c = c.close-in-Ok.ensures.kinds
+pub returns-clause-kinds : goal.returns-clause-kinds
+returns-clause-kinds g c = c.close-2.ensures.kinds
 
-pub returns-in-Ok-clause-write_failed : goal.returns-in-Ok-clause-write_failed
-returns-in-Ok-clause-write_failed g c = c.close-in-Ok.ensures.write_failed
+pub returns-clause-write_failed : goal.returns-clause-write_failed
+returns-clause-write_failed g c = c.close-2.ensures.write_failed
 
-pub returns-in-Err-clause-printed : goal.returns-in-Err-clause-printed
-returns-in-Err-clause-printed g c choice text before s h = tt
+pub returns-in_err-take_line-clause-printed : goal.returns-in_err-take_line-clause-printed
+returns-in_err-take_line-clause-printed g c choice text before s h = IfOk-from_err _ _ c.from_residual.ensures.0
 
-pub returns-in-Err-clause-taken : goal.returns-in-Err-clause-taken
-returns-in-Err-clause-taken g c choice text before s h w = absurd (no_write c.in-Err.fault c.in-Err.ensures.kinds w)
+pub returns-in_err-take_line-clause-taken : goal.returns-in_err-take_line-clause-taken
+returns-in_err-take_line-clause-taken g c choice text before s h w = absurd (no_write {T = Fault} c.in_err-take_line.field-0.0 c.in_err-take_line.ensures.kinds (ap (λ f. Err f) (passed_same c.from_residual.result c.in_err-take_line.field-0.0 Write c.from_residual.ensures.1 w)))
 
-pub returns-in-Err-clause-not_written : goal.returns-in-Err-clause-not_written
-returns-in-Err-clause-not_written g c other = refl
+pub returns-in_err-take_line-clause-not_written : goal.returns-in_err-take_line-clause-not_written
+returns-in_err-take_line-clause-not_written g c = passed_on c.from_residual.result c.in_err-take_line.field-0.0 _ c.from_residual.ensures.1 (λ other. refl)
 
-pub returns-in-Err-clause-kinds : goal.returns-in-Err-clause-kinds
-returns-in-Err-clause-kinds g c = text_kind c.in-Err.fault c.in-Err.ensures.kinds
+pub returns-in_err-take_line-clause-kinds : goal.returns-in_err-take_line-clause-kinds
+returns-in_err-take_line-clause-kinds g c = passed_on c.from_residual.result c.in_err-take_line.field-0.0 _ c.from_residual.ensures.1 (text_kind c.in_err-take_line.field-0.0 c.in_err-take_line.ensures.kinds)
 
-pub returns-in-Err-clause-write_failed : goal.returns-in-Err-clause-write_failed
-returns-in-Err-clause-write_failed g c w = absurd (no_write c.in-Err.fault c.in-Err.ensures.kinds w)
+pub returns-in_err-take_line-clause-write_failed : goal.returns-in_err-take_line-clause-write_failed
+returns-in_err-take_line-clause-write_failed g c w = absurd (no_write {T = Fault} c.in_err-take_line.field-0.0 c.in_err-take_line.ensures.kinds (ap (λ f. Err f) (passed_same c.from_residual.result c.in_err-take_line.field-0.0 Write c.from_residual.ensures.1 w)))

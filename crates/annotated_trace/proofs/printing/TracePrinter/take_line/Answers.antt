@@ -5,28 +5,28 @@ use Rattle.annotated_trace.specs.Printed.{HasAppended}
 use Rattle.annotated_trace.proofs.PrintLemmas.{ended_by, line_printed, none_begun, whole_line}
 use Rattle.annotated_trace.proofs.printing.TracePrinter.take_line.Goals as goal
 
-pub returns-in-Ok-print_line-clause-fed : goal.returns-in-Ok-print_line-clause-fed
-returns-in-Ok-print_line-clause-fed g c choice text front s k one =
+pub returns-clause-fed : goal.returns-clause-fed
+returns-clause-fed g c choice text front s k one =
     let end = c.args.end.now in
     let l = begun_line text ++ front in
     let lines = ended_by text front end k one in
-    let read = c.in-Ok.ensures.stands text s.trace.0 in
-    let found = sym (ap found_in lines) ∙ c.in-Ok.ensures.found text s.trace.0 in
+    let read = c.in_ok-feed.ensures.stands text s.trace.0 in
+    let found = sym (ap found_in lines) ∙ c.in_ok-feed.ensures.found text s.trace.0 in
     record {
       trace = (
         subst (λ w. g.W.Watcher.stands_for w (text ++ end)) (sym c.print_line.ensures.trace) read,
-        subst (g.P.Printer.printed c.print_line.new.self.printer) (sym lines) (c.in-Ok-print_line.ensures.printed (ended_lines text) l (text ++ end) s.trace.1 read lines found (whole_line text front end c.args.self.now.begun.items k s.begun)),
+        subst (g.P.Printer.printed c.print_line.new.self.printer) (sym lines) (c.in_ok-print_line.ensures.printed (ended_lines text) l (text ++ end) s.trace.1 read lines found (whole_line text front end c.args.self.now.begun.items k s.begun)),
         c.print_line.ensures.rows ∙ s.trace.2,
       );
-      begun = c.in-Ok-print_line.ensures.begun ∙ sym (ap (λ e. begun_line (text ++ e)) k ∙ none_begun text front);
+      begun = c.in_ok-print_line.ensures.begun ∙ sym (ap (λ e. begun_line (text ++ e)) k ∙ none_begun text front);
     }
 
-pub returns-in-Ok-print_line-clause-held : goal.returns-in-Ok-print_line-clause-held
-returns-in-Ok-print_line-clause-held g c choice text front sent s k one h =
+pub returns-clause-held : goal.returns-clause-held
+returns-clause-held g c choice text front sent s k one h =
     let end = c.args.end.now in
     let l = begun_line text ++ front in
     let lines = ended_by text front end k one in
-    let found = sym (ap found_in lines) ∙ c.in-Ok.ensures.found text s.trace.0 in
-    let put = c.in-Ok-print_line.ensures.form (ended_lines text) l (text ++ end) s.trace.1 (c.in-Ok.ensures.stands text s.trace.0) lines found (whole_line text front end c.args.self.now.begun.items k s.begun) in
+    let found = sym (ap found_in lines) ∙ c.in_ok-feed.ensures.found text s.trace.0 in
+    let put = c.in_ok-print_line.ensures.form (ended_lines text) l (text ++ end) s.trace.1 (c.in_ok-feed.ensures.stands text s.trace.0) lines found (whole_line text front end c.args.self.now.begun.items k s.begun) in
     line_printed (g.P.Printer.form choice) text front end sent c.args.self.now.held.items c.print_line.new.self.held.items k one h
     (subst (λ r. HasAppended (g.P.Printer.form r (ended_lines text) l) c.args.self.now.held.items c.print_line.new.self.held.items) s.trace.2 put)

@@ -1,4 +1,8 @@
-use Rattle.std.proofs.Common.{◌∙◌, ◌+◌, ℕ, List, ap, append_assoc, length-append, sym, subst, refl, length, take, [], ◌∷◌, ◌++◌, arith}
+use Rattle.std.proofs.Common.{Err, ◌∙◌, ◌+◌, ℕ, List, ap, append_assoc, length-append, sym, subst, refl, length, take, [], ◌∷◌, ◌++◌, arith}
+use Rattle.line_model.specs.declared.fault.Fault.{Fault}
+use Rattle.line_model.specs.declared.fault.Fault.TheVariants.{Write}
+use Rattle.std.proofs.lemmas.Result.{IfOk-from_err}
+use Rattle.trace_text.proofs.SourceLemmas.{passed_on, same_fault as passed_same}
 use Rattle.line_model.specs.text.Text.{early}
 use Rattle.annotated_trace.specs.Printed.{IsPrintOf}
 use Rattle.annotated_trace.specs.Printers.{HasFollowed, IsPrinterFault, IsRefusalOf, WasFed}
@@ -9,50 +13,53 @@ use Rattle.annotated_trace.proofs.printing.TracePrinter.take_lines.Goals as goal
 use Rattle.line_model.proofs.DeviceLemmas.{with_more-nil}
 use Rattle.trace_text.proofs.FeedLemmas.{on_err, on_ok}
 
-pub returns-in-Err-clause-refused : goal.returns-in-Err-clause-refused
-returns-in-Err-clause-refused g c choice text s =
+pub returns-in_err-take_line-clause-refused : goal.returns-in_err-take_line-clause-refused
+returns-in_err-take_line-clause-refused g c choice text s =
     let p = c.loop-front.invariant.passed choice in
     let front = c.in-Some.front.now in
     let rest = c.loop-front.rest.now in
     let end = line_end front c.in-Some.back.now rest c.in-Some.ensures.0 in
-    line_refusal (HasFollowed g.W.Watcher g.P.Printer choice) (IsPrintOf (g.P.Printer.form choice) []) c.args.self.now c.loop-front.self (g.K.Sink.taken c.args.sink.now) (g.K.Sink.taken c.loop-front.sink) c.args.chunk.now rest front c.in-Some.back.now (take (length front + 1) rest) text c.in-Err.fault p c.in-Some.ensures.0 end
-    (c.in-Err.ensures.refused choice (text ++ p.fed) (p.stands text s))
+    passed_on c.from_residual.result c.in_err-take_line.field-0.0 _ c.from_residual.ensures.1
+    (line_refusal (HasFollowed g.W.Watcher g.P.Printer choice) (IsPrintOf (g.P.Printer.form choice) []) c.args.self.now c.loop-front.self (g.K.Sink.taken c.args.sink.now) (g.K.Sink.taken c.loop-front.sink) c.args.chunk.now rest front c.in-Some.back.now (take (length front + 1) rest) text c.in_err-take_line.field-0.0 p c.in-Some.ensures.0 end
+    (c.in_err-take_line.ensures.refused choice (text ++ p.fed) (p.stands text s)))
 
-pub returns-in-Err-clause-stopped : goal.returns-in-Err-clause-stopped
-returns-in-Err-clause-stopped g c choice text before s h =
+pub returns-in_err-take_line-clause-stopped : goal.returns-in_err-take_line-clause-stopped
+returns-in_err-take_line-clause-stopped g c choice text before s h =
     let p = c.loop-front.invariant.passed choice in
     let front = c.in-Some.front.now in
     let rest = c.loop-front.rest.now in
     let end = line_end front c.in-Some.back.now rest c.in-Some.ensures.0 in
     let stands = p.stands text s in
-    line_stopped (HasFollowed g.W.Watcher g.P.Printer choice) (IsPrintOf (g.P.Printer.form choice) []) c.args.self.now c.loop-front.self (g.K.Sink.taken c.args.sink.now) (g.K.Sink.taken c.loop-front.sink) before c.args.chunk.now rest front c.in-Some.back.now (take (length front + 1) rest) text c.take_line.new.self.held.items
-    c.in-Err.fault p c.in-Some.ensures.0 end c.in-Some.ensures.1 s (g.met.W.Watcher.sound c.loop-front.self.trace (text ++ p.fed) stands.trace.0) h (c.in-Err.ensures.refused choice (text ++ p.fed) stands) c.in-Err.ensures.not_held
+    passed_on c.from_residual.result c.in_err-take_line.field-0.0 _ c.from_residual.ensures.1
+    (line_stopped (HasFollowed g.W.Watcher g.P.Printer choice) (IsPrintOf (g.P.Printer.form choice) []) c.args.self.now c.loop-front.self (g.K.Sink.taken c.args.sink.now) (g.K.Sink.taken c.loop-front.sink) before c.args.chunk.now rest front c.in-Some.back.now (take (length front + 1) rest) text c.take_line.new.self.held.items
+    c.in_err-take_line.field-0.0 p c.in-Some.ensures.0 end c.in-Some.ensures.1 s (g.met.W.Watcher.sound c.loop-front.self.trace (text ++ p.fed) stands.trace.0) h (c.in_err-take_line.ensures.refused choice (text ++ p.fed) stands) c.in_err-take_line.ensures.not_held)
 
 pub loop-front-preserved : goal.loop-front-preserved
 loop-front-preserved g c =
     let front = c.in-Some.front.now in
     let rest = c.loop-front.rest.now in
     let end = line_end front c.in-Some.back.now rest c.in-Some.ensures.0 in
-    let put = c.in-Ok-send_much.ensures.ok in
+    let put = c.in_ok-send_much.ensures.ok in
     record {
       passed = λ choice. line_passed (HasFollowed g.W.Watcher g.P.Printer choice) (IsPrintOf (g.P.Printer.form choice) []) c.args.self.now c.loop-front.self c.take_line.new.self (record c.take_line.new.self { held = c.send_much.new.held }) (g.K.Sink.taken c.args.sink.now) (g.K.Sink.taken c.loop-front.sink)
-          (g.K.Sink.taken c.send_much.new.sink) c.args.chunk.now rest front c.in-Some.back.now (take (length front + 1) rest) put.0 (c.loop-front.invariant.passed choice) c.in-Some.ensures.0 end c.in-Some.ensures.1 (c.in-Ok.ensures.fed choice) (c.in-Ok.ensures.held choice) refl refl refl
+          (g.K.Sink.taken c.send_much.new.sink) c.args.chunk.now rest front c.in-Some.back.now (take (length front + 1) rest) put.0 (c.loop-front.invariant.passed choice) c.in-Some.ensures.0 end c.in-Some.ensures.1 (c.in_ok-take_line.ensures.fed choice) (c.in_ok-take_line.ensures.held choice) refl refl refl
           put.1 put.2;
-      rising = omega (arith, c.loop-front.invariant.rising, c.in-Ok-send_much.ensures.rising);
+      rising = omega (arith, c.loop-front.invariant.rising, c.in_ok-send_much.ensures.rising);
     }
 
-pub returns-in-Err-send_much-clause-stopped : goal.returns-in-Err-send_much-clause-stopped
-returns-in-Err-send_much-clause-stopped g c choice text before s h =
+pub returns-in_err-send_much-clause-stopped : goal.returns-in_err-send_much-clause-stopped
+returns-in_err-send_much-clause-stopped g c choice text before s h =
     let p = c.loop-front.invariant.passed choice in
     let front = c.in-Some.front.now in
     let rest = c.loop-front.rest.now in
     let end = line_end front c.in-Some.back.now rest c.in-Some.ensures.0 in
     let taken = g.K.Sink.taken c.loop-front.sink in
     let q = line_passed (HasFollowed g.W.Watcher g.P.Printer choice) (IsPrintOf (g.P.Printer.form choice) []) c.args.self.now c.loop-front.self c.take_line.new.self c.take_line.new.self (g.K.Sink.taken c.args.sink.now) taken taken c.args.chunk.now rest front c.in-Some.back.now (take (length front + 1) rest) [] p c.in-Some.ensures.0
-    end c.in-Some.ensures.1 (c.in-Ok.ensures.fed choice) (c.in-Ok.ensures.held choice) refl refl refl (sym (with_more-nil taken)) refl in
-    let part = c.in-Err-send_much.ensures.part in
-    much_stopped (HasFollowed g.W.Watcher g.P.Printer choice) (IsPrintOf (g.P.Printer.form choice) []) c.args.self.now c.take_line.new.self (g.K.Sink.taken c.args.sink.now) taken (g.K.Sink.taken c.send_much.new.sink) before c.args.chunk.now c.in-Some.back.now text c.send_much.new.held.items part.0 part.1
-    c.in-Err-send_much.fault q s h part.2 part.3 c.in-Err-send_much.ensures.write
+    end c.in-Some.ensures.1 (c.in_ok-take_line.ensures.fed choice) (c.in_ok-take_line.ensures.held choice) refl refl refl (sym (with_more-nil taken)) refl in
+    let part = c.in_err-send_much.ensures.part in
+    passed_on c.from_residual-in_err-send_much.result c.in_err-send_much.field-0.0 _ c.from_residual-in_err-send_much.ensures.1
+    (much_stopped (HasFollowed g.W.Watcher g.P.Printer choice) (IsPrintOf (g.P.Printer.form choice) []) c.args.self.now c.take_line.new.self (g.K.Sink.taken c.args.sink.now) taken (g.K.Sink.taken c.send_much.new.sink) before c.args.chunk.now c.in-Some.back.now text c.send_much.new.held.items part.0 part.1
+    c.in_err-send_much.field-0.0 q s h part.2 part.3 c.in_err-send_much.ensures.write)
 
 pub returns-clause-printed : goal.returns-clause-printed
 returns-clause-printed g c choice text before s h =
@@ -67,35 +74,35 @@ returns-clause-stopped g c choice text before s h =
     rest_stopped (HasFollowed g.W.Watcher g.P.Printer choice) (IsPrintOf (g.P.Printer.form choice) []) c.args.self.now c.loop-front.self (g.K.Sink.taken c.args.sink.now) (g.K.Sink.taken c.loop-front.sink) before c.args.chunk.now c.loop-front.rest.now text c.begin.new.self.held.items f p c.in_default.ensures s
     (g.met.W.Watcher.sound c.loop-front.self.trace (text ++ p.fed) stands.trace.0) h c.begin.ensures.held fault)
 
-pub returns-in-Err-clause-fed : goal.returns-in-Err-clause-fed
-returns-in-Err-clause-fed g c choice text s = tt
+pub returns-in_err-take_line-clause-fed : goal.returns-in_err-take_line-clause-fed
+returns-in_err-take_line-clause-fed g c choice text s = IfOk-from_err _ _ c.from_residual.ensures.0
 
-pub returns-in-Err-clause-printed : goal.returns-in-Err-clause-printed
-returns-in-Err-clause-printed g c choice text before s h = tt
+pub returns-in_err-take_line-clause-printed : goal.returns-in_err-take_line-clause-printed
+returns-in_err-take_line-clause-printed g c choice text before s h = IfOk-from_err _ _ c.from_residual.ensures.0
 
-pub returns-in-Err-clause-kinds : goal.returns-in-Err-clause-kinds
-returns-in-Err-clause-kinds g c = text_kind c.in-Err.fault c.in-Err.ensures.kinds
+pub returns-in_err-take_line-clause-kinds : goal.returns-in_err-take_line-clause-kinds
+returns-in_err-take_line-clause-kinds g c = passed_on c.from_residual.result c.in_err-take_line.field-0.0 _ c.from_residual.ensures.1 (text_kind c.in_err-take_line.field-0.0 c.in_err-take_line.ensures.kinds)
 
-pub returns-in-Err-clause-write_failed : goal.returns-in-Err-clause-write_failed
-returns-in-Err-clause-write_failed g c w = absurd (no_write c.in-Err.fault c.in-Err.ensures.kinds w)
+pub returns-in_err-take_line-clause-write_failed : goal.returns-in_err-take_line-clause-write_failed
+returns-in_err-take_line-clause-write_failed g c w = absurd (no_write {T = Fault} c.in_err-take_line.field-0.0 c.in_err-take_line.ensures.kinds (ap (λ f. Err f) (passed_same c.from_residual.result c.in_err-take_line.field-0.0 Write c.from_residual.ensures.1 w)))
 
-pub returns-in-Err-clause-rising : goal.returns-in-Err-clause-rising
-returns-in-Err-clause-rising g c = c.loop-front.invariant.rising
+pub returns-in_err-take_line-clause-rising : goal.returns-in_err-take_line-clause-rising
+returns-in_err-take_line-clause-rising g c = c.loop-front.invariant.rising
 
-pub returns-in-Err-send_much-clause-fed : goal.returns-in-Err-send_much-clause-fed
-returns-in-Err-send_much-clause-fed g c choice text s = tt
+pub returns-in_err-send_much-clause-fed : goal.returns-in_err-send_much-clause-fed
+returns-in_err-send_much-clause-fed g c choice text s = IfOk-from_err _ _ c.from_residual-in_err-send_much.ensures.0
 
-pub returns-in-Err-send_much-clause-printed : goal.returns-in-Err-send_much-clause-printed
-returns-in-Err-send_much-clause-printed g c choice text before s h = tt
+pub returns-in_err-send_much-clause-printed : goal.returns-in_err-send_much-clause-printed
+returns-in_err-send_much-clause-printed g c choice text before s h = IfOk-from_err _ _ c.from_residual-in_err-send_much.ensures.0
 
-pub returns-in-Err-send_much-clause-rising : goal.returns-in-Err-send_much-clause-rising
-returns-in-Err-send_much-clause-rising g c = omega (arith, c.loop-front.invariant.rising, c.send_much.ensures.rising)
+pub returns-in_err-send_much-clause-rising : goal.returns-in_err-send_much-clause-rising
+returns-in_err-send_much-clause-rising g c = omega (arith, c.loop-front.invariant.rising, c.send_much.ensures.rising)
 
-pub returns-in-Err-send_much-clause-kinds : goal.returns-in-Err-send_much-clause-kinds
-returns-in-Err-send_much-clause-kinds g c = subst IsPrinterFault (sym c.in-Err-send_much.ensures.write) tt
+pub returns-in_err-send_much-clause-kinds : goal.returns-in_err-send_much-clause-kinds
+returns-in_err-send_much-clause-kinds g c = passed_on c.from_residual-in_err-send_much.result c.in_err-send_much.field-0.0 _ c.from_residual-in_err-send_much.ensures.1 (subst IsPrinterFault (sym c.in_err-send_much.ensures.write) tt)
 
-pub returns-in-Err-send_much-clause-refused : goal.returns-in-Err-send_much-clause-refused
-returns-in-Err-send_much-clause-refused g c choice text s = subst (IsRefusalOf (early (text ++ c.args.chunk.now))) (sym c.in-Err-send_much.ensures.write) tt
+pub returns-in_err-send_much-clause-refused : goal.returns-in_err-send_much-clause-refused
+returns-in_err-send_much-clause-refused g c choice text s = passed_on c.from_residual-in_err-send_much.result c.in_err-send_much.field-0.0 _ c.from_residual-in_err-send_much.ensures.1 (subst (IsRefusalOf (early (text ++ c.args.chunk.now))) (sym c.in_err-send_much.ensures.write) tt)
 
 pub returns-clause-rising : goal.returns-clause-rising
 returns-clause-rising g c = c.loop-front.invariant.rising
@@ -131,5 +138,5 @@ returns-clause-refused g c choice text s =
 pub returns-clause-kinds : goal.returns-clause-kinds
 returns-clause-kinds g c = on_err c.begin.result _ _ c.begin.ensures.kinds text_kind
 
-pub returns-in-Err-send_much-clause-write_failed : goal.returns-in-Err-send_much-clause-write_failed
-returns-in-Err-send_much-clause-write_failed g c w = omega (arith, c.loop-front.invariant.rising, c.in-Err-send_much.ensures.cause)
+pub returns-in_err-send_much-clause-write_failed : goal.returns-in_err-send_much-clause-write_failed
+returns-in_err-send_much-clause-write_failed g c w = omega (arith, c.loop-front.invariant.rising, c.in_err-send_much.ensures.cause)
