@@ -3,7 +3,7 @@ from dataclasses import dataclass, field
 
 from .calls import Calls
 from .ladders import Ladders
-from .rows import NOTHING, ROW, SIDES, Row, RowForms, in_seconds, nanoseconds
+from .rows import EMPTY, NOTHING, ROW, SIDES, Row, RowForms, in_seconds, nanoseconds
 from .scanner import read
 from .suspicions import Debts
 from .texts import encoded
@@ -153,7 +153,7 @@ class Facts:
         if last is not None and call == last.number:
             return last.key
         if channel == NOTHING:
-            if '"ends":[]' not in row.course:
+            if row.ends != EMPTY:
                 self.end_all()
             return "interface"
         if call != NOTHING:
