@@ -83,6 +83,9 @@ def file_cases():
     yield carried("snoop-ends-in-a-header", snoop(4, frames) + bytes(9), ending="snoop", status=1, tshark=None)
     for order, name in (("<", "little"), (">", "big")):
         yield carried(f"pcap-modified-{name}-endian", modified(1, [(one, 0) for one in frames], order))
+    old_forms = (("red-hat", 0xA1B2C3D4, 8), ("nokia", 0xA1B2C3D4, 4), ("suse", 0xA1B2CD34, 12))
+    for name, magic, more in old_forms:
+        yield carried(f"pcap-of-{name}", with_more(magic, 1, [(one, bytes(more)) for one in frames]))
     directed = [(octets, 4 if side == "T" else 0) for side, octets in packets_of()]
     yield on_line("pcap-modified-directions", modified(147, directed), "--as 147=x25", tshark=None)
 

@@ -23,9 +23,15 @@ def record(frame, at=0, order="<"):
 
 def modified(link, frames, order="<"):
     """A pcap file of the modified form; a frame is its octets and the kind of the packet, 4 for one that was sent."""
-    file = struct.pack(order + "IHHIIII", 0xA1B2CD34, 2, 4, 0, 0, 262_144, link)
-    for at, (octets, kind) in enumerate(frames):
-        file += struct.pack(order + "IIIIIHBB", SECONDS + at, at, len(octets), len(octets), 2, 0x0800, kind, 0) + octets
+    more = [(octets, struct.pack(order + "IHBB", 2, 0x0800, kind, 0)) for octets, kind in frames]
+    return with_more(0xA1B2CD34, link, more, order)
+
+
+def with_more(magic, link, frames, order="<"):
+    """A pcap file whose records have more in their headers; a frame is its octets and that."""
+    file = struct.pack(order + "IHHIIII", magic, 2, 4, 0, 0, 262_144, link)
+    for at, (octets, more) in enumerate(frames):
+        file += struct.pack(order + "IIII", SECONDS + at, at, len(octets), len(octets)) + more + octets
     return file
 
 

@@ -125,6 +125,7 @@ class Called(unittest.TestCase):
     def test_refused_words(self):
         self.refused(64, "--win is of captures, and ", "--win", "2", TRACE)
         self.refused(64, "a trace stands alone", TRACE, TRACE)
+        self.refused(64, "the page is a file: -o names it", "-o", "-", TRACE)
         self.refused(64, "argument --win: '0' is not a number from 1 to 127", "--win", "0", CAPTURE)
 
     def test_what_stands_there(self):

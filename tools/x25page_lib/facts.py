@@ -3,7 +3,7 @@ from dataclasses import dataclass, field
 
 from .calls import Calls
 from .ladders import Ladders
-from .rows import NOTHING, ROW, SIDES, Row, RowForms, in_seconds, nanoseconds
+from .rows import EMPTY, NOTHING, ROW, SIDES, Row, RowForms, in_seconds, nanoseconds
 from .scanner import read
 from .suspicions import Debts
 from .texts import encoded
@@ -40,15 +40,18 @@ class Thinned:
     def __init__(self, budget):
         self.budget, self.texts, self.size, self.step, self.seen = budget, [], 0, 1, 0
 
-    def add(self, value):
-        if self.seen % self.step == 0:
-            text = encoded(value)
-            self.texts.append(text)
-            self.size += len(text) + 1
-            if self.size > self.budget:
-                self.texts, self.step = self.texts[::2], self.step * 2
-                self.size = sum(map(len, self.texts)) + len(self.texts)
+    def takes_next(self):
+        """Whether the next value is kept; another one need not be made."""
         self.seen += 1
+        return (self.seen - 1) % self.step == 0
+
+    def add(self, value):
+        text = encoded(value)
+        self.texts.append(text)
+        self.size += len(text) + 1
+        if self.size > self.budget:
+            self.texts, self.step = self.texts[::2], self.step * 2
+            self.size = sum(map(len, self.texts)) + len(self.texts)
 
     @property
     def left_out(self):
@@ -141,7 +144,8 @@ class Facts:
         if row.code:
             self.finding(row, key)
         elif row.channel == NOTHING and row.kind.startswith("restart_") and row.after in ("r2", "r3"):
-            self.restarts.add([packet, row.side])
+            if self.restarts.takes_next():
+                self.restarts.add([packet, row.side])
         if row.code or row.channel == NOTHING or row.channel in self.debts.open:
             self.debts.see(row)
         self.ladders.add(key, row)
@@ -153,7 +157,7 @@ class Facts:
         if last is not None and call == last.number:
             return last.key
         if channel == NOTHING:
-            if '"ends":[]' not in row.course:
+            if row.ends != EMPTY:
                 self.end_all()
             return "interface"
         if call != NOTHING:
@@ -171,17 +175,18 @@ class Facts:
         self.last_calls.clear()
 
     def finding(self, row, key):
-        finding, packet, side = row.finding, row.packet, row.side
+        packet, side = row.packet, row.side
         broken = self.broken.get(row.code)
         if broken is None:
-            broken = self.broken[row.code] = Broken(finding["name"], finding["clause"])
+            broken = self.broken[row.code] = Broken(row.finding["name"], row.finding["clause"])
         broken.counts[side] += 1
         if broken.first[side] is None:
             broken.first[side] = [packet, key]
         if row.call != NOTHING:
             self.calls.count(int(row.call))
-        channel = None if row.channel == NOTHING else int(row.channel)
-        self.marks.add([packet, side, channel, row.code, key, finding["wrong"]])
+        if self.marks.takes_next():
+            channel = None if row.channel == NOTHING else int(row.channel)
+            self.marks.add([packet, side, channel, row.code, key, row.finding["wrong"]])
 
     def call_facts(self, told):
         time = nanoseconds(told["start"])

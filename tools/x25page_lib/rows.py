@@ -6,15 +6,14 @@ from functools import lru_cache
 from .texts import encoded
 
 SIDES = "TN"
-NOTHING = "null"
 # The object of a row, whose members stand in this order; those of its kind of packet come last.
 ROW = re.compile(
     r'\{"line":"row","packet":([^,]*),"side":"([^"]*)","channel":([^,]*),"before":"([^"]*)","after":"([^"]*)",'
     r'"counted":(?:null|\{"octets":[^,]*,"segments":([^}]*)\}),"finding":(?:null|(\{"code":"([^"]*)",[^}]*\})),'
-    r'"epoch":[^,]*,"owed":([^,]*),"call":([^,]*),("begins":[^[]*\[[^]]*\]),"not_counted":([^,]*),"time":([^,]*),'
-    r'"type":"([^"]*)","hex":"(.*)\}'
+    r'"epoch":[^,]*,"owed":([^,]*),"call":([^,]*),"begins":([^,]*),"up":([^,]*),"ends":(\[[^]]*\]),'
+    r'"not_counted":([^,]*),"time":([^,]*),"type":"([^"]*)","hex":"(.*)\}'
 )
-QUIET_COURSE = '"begins":false,"up":false,"ends":[]'
+TRUE, NOTHING, EMPTY = "true", "null", "[]"
 # Packets that are no news while all goes well, and members that are.
 FLOWING = {"data", "rr", "rnr", "interrupt", "interrupt_confirmation"}
 NEWS = ('"message":', '"settings":')
@@ -22,7 +21,7 @@ OCTETS = re.compile(r'"octets":(\d+)')
 SHORT = {"send": "s", "receive": "r", "octets": "o", "more": "m", "qualified": "q", "delivery": "d"}
 SECOND = 1_000_000_000
 # Many rows say the same: so many different texts are remembered.
-REMEMBERED = 1 << 13
+REMEMBERED = 1 << 15
 
 
 def nanoseconds(seconds):
@@ -49,10 +48,17 @@ def octets_and_news(members):
 
 
 @lru_cache(REMEMBERED)
-def spoken(owed, course, lost, members):
-    """Members of a row without those that are null, false or empty."""
-    told = json.loads(f'{{"owed":{owed},{course},"not_counted":{lost}{members}}}')
-    return {SHORT.get(name, name): value for name, value in told.items() if value or value == 0 and value is not False}
+def spoken(members):
+    """The members of a kind of packet without those that are null, false or empty, each after a comma."""
+    told = json.loads(f"{{{members[1:]}}}")
+    found = encoded({SHORT.get(name, name): it for name, it in told.items() if it or it == 0 and it is not False})
+    return f",{found[1:-1]}" if len(found) > 2 else ""
+
+
+@lru_cache(REMEMBERED)
+def again(text):
+    """JSON as a page has it."""
+    return encoded(json.loads(text))
 
 
 @lru_cache(REMEMBERED)
@@ -65,14 +71,14 @@ class Row:
     """A row that may be kept: what x25scan says of it, its place in sums, and its text in the page once it is kept."""
 
     __slots__ = (
-        "packet", "side", "channel", "before", "after", "segments", "fault", "code", "owed", "call", "course", "lost",
-        "time", "kind", "hex", "members", "octets", "is_data", "is_marked", "forms", "text",
+        "packet", "side", "channel", "before", "after", "segments", "fault", "code", "owed", "call", "begins", "up",
+        "ends", "lost", "time", "kind", "hex", "members", "octets", "is_data", "is_marked", "forms", "text",
     )
 
     def __init__(self, found, forms):
         (
             packet, side, self.channel, self.before, self.after, self.segments, self.fault, self.code, self.owed,
-            self.call, self.course, self.lost, self.time, self.kind, rest,
+            self.call, self.begins, self.up, self.ends, self.lost, self.time, self.kind, rest,
         ) = found
         self.hex, _, self.members = rest.partition('"')
         self.packet, self.side = int(packet), SIDES.index(side)
@@ -81,7 +87,7 @@ class Row:
         self.is_data = self.kind == "data"
         self.is_marked = (
             self.code is not None or self.before != self.after or self.kind not in FLOWING or is_news
-            or self.course != QUIET_COURSE
+            or self.ends != EMPTY or self.begins == TRUE or self.up == TRUE
         )
 
     @property
@@ -92,7 +98,8 @@ class Row:
     def forget(self):
         """Forgets what its text says."""
         self.channel = self.before = self.after = self.segments = self.fault = self.owed = self.call = None
-        self.course = self.lost = self.time = self.kind = self.hex = self.members = self.forms = None
+        self.begins = self.up = self.ends = self.lost = self.time = self.kind = self.hex = self.members = None
+        self.forms = None
 
     def write(self, level):
         """Makes the text with as many digits as a level keeps; a finding keeps eight times as many."""
@@ -127,7 +134,7 @@ class RowForms:
     def __init__(self):
         self.types, self.states, self.faults = Table(), Table(), Table()
         self.begun = None
-        self.step, self.more = map(lru_cache(REMEMBERED), (self.step, self.more))
+        self.step, self.fault = map(lru_cache(REMEMBERED), (self.step, self.fault))
 
     def begin(self, seconds):
         """Takes the first time of the trace."""
@@ -142,21 +149,35 @@ class RowForms:
         """The array of a row, as the page has it."""
         time = row.time if row.time == NOTHING else self.since_begin(row.time)
         octets = 0 if row.hex == "-" else len(row.hex) // 2
+        digits = f'"{row.hex}"' if row.hex.isascii() and row.hex.isalnum() else encoded(row.hex)
         step = self.step(row.kind, row.before, row.after)
-        more = self.more(row.owed, row.course, row.lost, row.members, row.segments, row.fault)
-        return f"[{row.packet},{row.side},{step},{time},{encoded(row.hex)},{octets},{more}]"
+        return f"[{row.packet},{row.side},{step},{time},{digits},{octets},{self.more(row)}]"
 
     def step(self, kind, before, after):
         """The kind of packet and the states before and after it, by their places."""
         return f"{self.types.place(kind)},{self.states.place(before)},{self.states.place(after)}"
 
-    def more(self, owed, course, lost, members, segments, fault):
+    def more(self, row):
         """What a row says besides."""
-        more = dict(spoken(owed, course, lost, members))
-        if segments is not None:
-            more["c"] = int(segments)
-        if fault is not None:
-            finding = finding_of(fault)
-            place = self.faults.place(tuple(finding[name] for name in ("code", "name", "then", "clause")))
-            more["f"] = [place, finding["wrong"]]
-        return encoded(more or 0)
+        text = ',"owed":true' if row.owed == TRUE else ""
+        if row.begins == TRUE:
+            text += ',"begins":true'
+        if row.up == TRUE:
+            text += ',"up":true'
+        if row.ends != EMPTY:
+            text += f',"ends":{again(row.ends)}'
+        if row.lost != NOTHING:
+            text += f',"not_counted":{again(row.lost)}'
+        if row.members:
+            text += spoken(row.members)
+        if row.segments is not None:
+            text += f',"c":{int(row.segments)}'
+        if row.fault is not None:
+            text += f',"f":{self.fault(row.fault)}'
+        return f"{{{text[1:]}}}" if text else "0"
+
+    def fault(self, text):
+        """What is wrong with a row: the place of the finding among all, and its words."""
+        finding = finding_of(text)
+        place = self.faults.place(tuple(finding[name] for name in ("code", "name", "then", "clause")))
+        return encoded([place, finding["wrong"]])

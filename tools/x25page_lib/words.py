@@ -59,6 +59,8 @@ def parsed(arguments):
         parser().error("--svc does not go with --in, --two and --out")
     if words.captures.count("-") > 1:
         parser().error("standard input (-) can be read once")
+    if words.page == "-":
+        parser().error("the page is a file: -o names it")
     if words.page is None and words.captures[0] == "-":
         parser().error("standard input has no name for the page: -o gives one")
     return words

@@ -21,6 +21,7 @@ COMPRESSED = {
     b"\x04\x22\x4d\x18": "lz4 -d",
     b"PK\x03\x04": "unzip",
 }
+TURN = "editcap -F pcapng FILE OUT.pcapng"
 # Other files of recorded frames, which Wireshark reads.
 OTHER_FORMS = {
     b"TRSNIFF data": "Sniffer",
@@ -72,11 +73,11 @@ def form_of(source, kinds):
             raise Refusal(Why.COMPRESSED, f"{source.name} is compressed; unpack it first with {program}")
     for magic, form in OTHER_FORMS.items():
         if start.startswith(magic):
-            words = f"{source.name} is a {form} file; editcap -F pcapng FILE OUT.pcapng, of Wireshark, turns it"
-            raise Refusal(Why.UNKNOWN_FORMAT, f"{words} into one that is read")
+            words = f"{source.name} is a {form} file"
+            raise Refusal(Why.UNKNOWN_FORMAT, f"{words}; {TURN}, of Wireshark, turns it into one that is read")
     if not is_dump(start):
         words = f"{source.name} is no pcap, pcapng, snoop or hex dump; it begins with {start[:4].hex(' ').upper()}"
-        raise Refusal(Why.UNKNOWN_FORMAT, words)
+        raise Refusal(Why.UNKNOWN_FORMAT, f"{words}; {TURN} turns what Wireshark opens")
     if None not in kinds:
         raise Refusal(Why.KIND_MISSING, f"{source.name}, a hex dump, does not say what it holds; --as KIND does")
     return HexDump

@@ -1,4 +1,4 @@
-"""Frames of a pcap file: both byte orders, micro- and nanoseconds, and the modified form with a direction.
+"""Frames of a pcap file: both byte orders, micro- and nanoseconds, and the modified forms, some with a direction.
 
 After a damaged record the next one is sought.
 """
@@ -9,18 +9,21 @@ from .frames import KINDS_OF_PACKET, SECOND, Direction, Frame
 from .told import Reason, Refusal, Why
 
 FILE_HEADER = 24
-RECORD_HEADER = 16
-# The modified form has the interface, the protocol and the kind of a packet behind each record's header.
-MODIFIED_HEADER = 24
+# How long a record's header may be. The first one is that of the form; the others are those of old forms, whose magic
+# numbers are the same: of Red Hat 6.1 and Nokia, and of SuSE 6.3.
+RECORD_HEADERS = (16, 24, 20)
+MODIFIED_HEADERS = (24, 28)
+NANOSECOND_HEADERS = (16,)
+# The modified forms have the interface, the protocol and the kind of a packet after the usual header.
 KIND_AT = 22
-# The magic number as it stands in the file: byte order, the parts of a second, and the size of a record's header.
+# The magic number as it stands in the file: byte order, the parts of a second, and the sizes of a record's header.
 MAGICS = {
-    b"\xa1\xb2\xc3\xd4": (">", 1_000_000, RECORD_HEADER),
-    b"\xd4\xc3\xb2\xa1": ("<", 1_000_000, RECORD_HEADER),
-    b"\xa1\xb2\x3c\x4d": (">", 1_000_000_000, RECORD_HEADER),
-    b"\x4d\x3c\xb2\xa1": ("<", 1_000_000_000, RECORD_HEADER),
-    b"\xa1\xb2\xcd\x34": (">", 1_000_000, MODIFIED_HEADER),
-    b"\x34\xcd\xb2\xa1": ("<", 1_000_000, MODIFIED_HEADER),
+    b"\xa1\xb2\xc3\xd4": (">", 1_000_000, RECORD_HEADERS),
+    b"\xd4\xc3\xb2\xa1": ("<", 1_000_000, RECORD_HEADERS),
+    b"\xa1\xb2\x3c\x4d": (">", 1_000_000_000, NANOSECOND_HEADERS),
+    b"\x4d\x3c\xb2\xa1": ("<", 1_000_000_000, NANOSECOND_HEADERS),
+    b"\xa1\xb2\xcd\x34": (">", 1_000_000, MODIFIED_HEADERS),
+    b"\x34\xcd\xb2\xa1": ("<", 1_000_000, MODIFIED_HEADERS),
 }
 LARGEST = 262_144
 DAYS = 30 * 86_400
@@ -32,7 +35,7 @@ class Pcap:
 
     def __init__(self, source, ledger, number):
         self.source, self.ledger, self.number = source, ledger, number
-        order, self.parts, self.header_size = MAGICS[source.peek(4)]
+        order, self.parts, sizes = MAGICS[source.peek(4)]
         self.highest = 0 if order == ">" else 3
         self.record = struct.Struct(order + "IIII")
         header = source.read(FILE_HEADER)
@@ -44,8 +47,19 @@ class Pcap:
         self.check = 2 * (network >> 28) if network & 1 << 26 else 0
         self.largest = max(self.snap, LARGEST)
         self.seconds = None
+        self.header_size = self.fitting(sizes)
         # The octets of the last frame and its length on the line, with its frame check sequence.
         self.recorded = None
+
+    def fitting(self, sizes):
+        """The first size of a record's header by which the first records follow each other, else that of the form."""
+        if not self.source.can_wait:
+            return sizes[0]
+        window = self.source.peek(WINDOW)
+        for self.header_size in sizes:
+            if self.is_record(window, 0):
+                return self.header_size
+        return sizes[0]
 
     def frames(self):
         read, unpack, largest = self.source.read, self.record.unpack_from, self.largest
@@ -72,7 +86,7 @@ class Pcap:
                 length -= self.check
                 octets = octets[:length]
             direction = Direction.UNKNOWN
-            if size == MODIFIED_HEADER:
+            if size > KIND_AT:
                 direction = KINDS_OF_PACKET.get(header[KIND_AT], direction)
             yield Frame(self.number, self.link, octets, length, direction, 0, seconds * SECOND + part * nanoseconds)
 
@@ -101,14 +115,15 @@ class Pcap:
 
     def next_record(self, window):
         """Where in a window two records follow each other, or one that ends with the file."""
-        for at in self.places(window):
-            kept = self.plausible(window, at)
-            if kept is None:
-                continue
-            after = at + self.header_size + kept
-            if after == len(window) < WINDOW or self.plausible(window, after) is not None:
-                return at
-        return None
+        return next((at for at in self.places(window) if self.is_record(window, at)), None)
+
+    def is_record(self, window, at):
+        """Whether a record is here, and after it another one or the end of the file."""
+        kept = self.plausible(window, at)
+        if kept is None:
+            return False
+        after = at + self.header_size + kept
+        return after == len(window) < WINDOW or self.plausible(window, after) is not None
 
     def places(self, window):
         """Where a record may begin: anywhere, or where the highest octet of its seconds is near the last record's."""

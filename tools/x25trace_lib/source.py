@@ -49,6 +49,11 @@ class Source:
         self.begun = self.at = 0
 
     @property
+    def can_wait(self):
+        """Whether more octets may be looked at than what comes next: those of a file are all there."""
+        return self.stream.seekable()
+
+    @property
     def offset(self):
         """Where in the file the next octet is."""
         return self.begun + self.at
