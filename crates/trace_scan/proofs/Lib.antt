@@ -8,3 +8,10 @@ pub mod Courses
 pub mod ScanLemmas
 pub mod ThreadedLemmas
 pub mod FollowLemmas
+pub mod TrialLemmas
+pub mod WalkedLemmas
+pub mod TrialsLemmas
+pub mod TriedLemmas
+pub mod TrialLanes
+pub mod EventLemmas
+pub mod HeaderLemmas

@@ -3,3 +3,7 @@ pub mod Readings
 pub mod Scan
 pub mod Follow
 pub mod Threaded
+pub mod Headers
+pub mod Tried
+pub mod Trials
+pub mod TriedLines

@@ -4,7 +4,13 @@
 pub mod feeding;
 pub mod following;
 pub mod gate;
+mod headers;
 mod reading;
 pub mod scan;
 pub mod text_cutter;
 pub mod threaded;
+mod trial;
+mod trials;
+mod tried_lines;
+mod tried_text;
+pub mod trying;

@@ -1,0 +1,32 @@
+use Rattle.std.proofs.Common.{◌≡◌, ◌∙◌, ◌++◌, ap, sym, subst, ℕ, Some}
+use Rattle.line_model.specs.basics.Bounds.{IsItem}
+use Rattle.line_model.specs.channels.ChannelStep.{channel_step}
+use Rattle.channel_run.specs.Run.{row_events}
+use Rattle.trace_scan.specs.Tried.{IsLaneOf}
+use Rattle.trace_scan.proofs.TrialLanes.{put_back}
+use Rattle.trace_scan.proofs.trial.step_lane.Goals as goal
+
+pub step-requires : goal.step-requires
+step-requires g c =
+    let room = c.requires.lanes in
+    let own = subst (λ x. IsLaneOf g.C.Channel c.args.walk.now.interface c.args.walk.now.epoch c.args.channel (room.0 c.args.channel) (Some x)) (sym c.deref_mut.ensures.value) (c.in_ok-machine.ensures.out room.0 room.1) in
+    record { item = subst (λ i. IsItem i (g.C.Channel.number_of c.deref_mut.result.now) c.args.item.now) (sym own.0) (subst (λ k. IsItem c.args.walk.now.interface k c.args.item.now) (sym own.1) c.requires.item) }
+
+pub returns-clause-lanes : goal.returns-clause-lanes
+returns-clause-lanes g c states lanes =
+    let i = c.args.walk.now.interface in
+    let e = c.args.walk.now.epoch in
+    let k : ℕ = c.args.channel in
+    let own = subst (λ x. IsLaneOf g.C.Channel i e k (states k) (Some x)) (sym c.deref_mut.ensures.value) (c.in_ok-machine.ensures.out states lanes) in
+    let step = c.in_ok-step.ensures in
+    let next = subst (g.C.Channel.stands_for c.step.new.self) (λ j. (channel_step (own.0 j) (own.1 j) (states k) c.args.item.now.row).after) (step.stands (states k) own.2) in
+    put_back g.C.Channel i e k states (channel_step i k (states k) c.args.item.now.row).after c.take_out.new.lanes c.put.new.self c.step.new.self (c.in_ok-machine.ensures.others states lanes)
+    (step.interface (states k) own.2 ∙ own.0, step.number (states k) own.2 ∙ own.1, next) c.put.ensures
+
+pub returns-clause-events : goal.returns-clause-events
+returns-clause-events g c states lanes =
+    let i = c.args.walk.now.interface in
+    let e = c.args.walk.now.epoch in
+    let k : ℕ = c.args.channel in
+    let own = subst (λ x. IsLaneOf g.C.Channel i e k (states k) (Some x)) (sym c.deref_mut.ensures.value) (c.in_ok-machine.ensures.out states lanes) in
+    c.in_ok-step.ensures.events (states k) own.2 ∙ (λ j. c.args.events.now.items ++ row_events (own.0 j) e (own.1 j) (states k) c.args.item.now.row)

@@ -1,0 +1,12 @@
+use Rattle.std.proofs.Common.{◌≡◌, ◌++◌, [], List, take}
+use Rattle.std.specs.List.{filter_map}
+use Rattle.line_model.specs.basics.Limits.{packet_sizes}
+use Rattle.line_model.specs.declared.interface.Interface.{Interface}
+use Rattle.trace_scan.specs.Headers.{with_numbers}
+use Rattle.trace_scan.specs.Trials.{AreTrials}
+use Rattle.trace_scan.proofs.trials.push_sizes.Given as goal
+
+abbrev pub invariant-loop-size : goal.invariant-loop-size
+invariant-loop-size g l =
+    (headers : List Interface) → AreTrials g.C.Channel [] headers l.fn.trials.items
+    → AreTrials g.C.Channel [] (headers ++ filter_map (with_numbers l.own l.modulus l.window) (take l.size-index packet_sizes)) l.trials.items

@@ -1,0 +1,52 @@
+-- The trials of all headers.
+use Rattle.std.specs.Prelude.{◌≡◌, ℕ, List, [], ◌∷◌, ◌++◌, Option, Some, None}
+use Rattle.line_model.specs.basics.Records.{Row}
+use Rattle.line_model.specs.declared.fault.Fault.{Fault}
+use Rattle.line_model.specs.declared.interface.Interface.{Interface}
+use Rattle.line_model.specs.text.Text.{early_rows, fault, head, rows}
+use Rattle.channel_run.specs.declared.run.Channel.{Ghosts as Machine}
+use Rattle.trace_text.specs.Progress.{Progress}
+use Rattle.trace_text.specs.StandsFor.{StandsFor}
+use Rattle.trace_scan.specs.Headers.{headers_of, headers_tried, rows_with_format}
+use Rattle.trace_scan.specs.Tried.{HasWalked}
+use Rattle.trace_scan.specs.declared.trial.Trial.{Trial}
+use Rattle.trace_scan.specs.declared.trials.Trials.{Trials}
+use Rattle.trace_scan.specs.declared.tried_text.TriedText.{TriedText}
+
+-- each header has its trial, which walked these rows
+abbrev pub AreTrials : {A C : Type 0} → Machine C A → List Row → List Interface → List (Trial A C) → Type 0
+AreTrials m rs [] [] = Unit {0}
+AreTrials m rs (i ∷ is) (t ∷ ts) = HasWalked m i rs t × AreTrials m rs is ts
+AreTrials m rs _ _ = ⊥
+
+-- they walked other rows, and this one may come after them
+abbrev pub MayWalkAll : {A C : Type 0} → Machine C A → (IsTrace : List Row → Type 0) → Row → List (Trial A C) → Type 0
+MayWalkAll m IsTrace r ts = (is : List Interface) × (rs : List Row) × AreTrials m rs is ts × IsTrace (rs ++ r ∷ [])
+
+-- the trials of all headers that are tried on these rows of an interface walked them, with either modulus
+pub record IsTrying {A C : Type 0} (m : Machine C A) (i : Interface) (rs : List Row) (t : Trials A C) : Type 0 where
+  pub own : t.own ≡ i.modulus
+  pub of_8 : AreTrials m rs (headers_of i 8) t.of_8.items
+  pub of_128 : AreTrials m rs (headers_of i 128) t.of_128.items
+  pub format_8 : t.formats.of_8 ≡ rows_with_format 1 rs
+  pub format_128 : t.formats.of_128 ≡ rows_with_format 2 rs
+
+abbrev pub MayTry : {A C : Type 0} → Machine C A → (IsTrace : List Row → Type 0) → Row → Trials A C → Type 0
+MayTry m IsTrace r t = (i : Interface) × (rs : List Row) × IsTrying m i rs t × IsTrace (rs ++ r ∷ [])
+
+-- the rows were tried, if there are any
+abbrev pub AreTried : {A C : Type 0} → Machine C A → List Row → Option Interface → Option (Trials A C) → Type 0
+AreTried m rs head None = rs ≡ []
+AreTried m rs head (Some t) = (i : Interface) × (head ≡ Some i) × IsTrying m i rs t
+
+-- it was given this text
+pub record HasTaken {A C : Type 0} (m : Machine C A) (text : List ℕ) (t : TriedText A C) : Type 0 where
+  pub reads : StandsFor t.lines text
+  pub tried : AreTried m (early_rows text) t.lines.interface t.trials
+
+-- the text has no fault, and all headers that are tried on it have their trials
+pub record IsTriedText {A C : Type 0} (m : Machine C A) (text : List ℕ) (ts : List (Trial A C)) : Type 0 where
+  pub sound : fault text ≡ None
+  pub interface : Interface
+  pub header : head text ≡ Some interface
+  pub trials : AreTrials m (rows text) (headers_tried interface (rows text)) ts

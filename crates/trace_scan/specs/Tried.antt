@@ -1,0 +1,89 @@
+-- What the rows of a trace count under a header.
+use Rattle.std.specs.Prelude.{◌≡◌, ℕ, ◌-◌, ◌≤◌, ◌+◌, Bool, true, false, not, ◌&&◌, List, [], ◌∷◌, ◌++◌, length, map, flat_map, sum, sum_by, Option, Some, None, if◌then◌else◌}
+use Rattle.line_model.specs.basics.Records.{Row}
+use Rattle.line_model.specs.channels.ChannelStep.{channel_step}
+use Rattle.line_model.specs.channels.Channels.{Channel, fresh}
+use Rattle.line_model.specs.channels.RestartMachine.{LineState}
+use Rattle.line_model.specs.declared.event.Event.{Event}
+use Rattle.line_model.specs.declared.interface.Interface.{Interface}
+use Rattle.line_model.specs.declared.packet.Class.TheVariants.{Data}
+use Rattle.line_model.specs.declared.packet.Packet.{Packet}
+use Rattle.line_model.specs.declared.packet.Packet.TheVariants as packet
+use Rattle.line_model.specs.declared.packet.PacketKind.TheVariants as kind
+use Rattle.line_model.specs.observer.Calls.{all_lengths}
+use Rattle.line_model.specs.observer.Machine.{Observer, with_state}
+use Rattle.line_model.specs.observer.MachineEvents.{told}
+use Rattle.line_model.specs.observer.Observer.{event_of, start, x25}
+use Rattle.line_model.specs.observer.Report.{report_of}
+use Rattle.line_model.specs.packets.Classes.{header_length, packet_of}
+use Rattle.line_model.specs.pieces.Plan.{has_some}
+use Rattle.channel_run.specs.Run.{row_events}
+use Rattle.channel_run.specs.declared.run.Channel.{Ghosts as Machine}
+use Rattle.restart_epochs.specs.Cutting.{observer}
+use Rattle.restart_epochs.specs.OpenLanes.{OpenLanes, value_at}
+use Rattle.restart_epochs.specs.declared.walk.Turn.{Turn}
+use Rattle.restart_epochs.specs.declared.walk.Turn.TheVariants.{ToChannel}
+use Rattle.trace_scan.specs.declared.trial.Tally.{Tally}
+use Rattle.trace_scan.specs.declared.trial.Trial.{Trial}
+
+-- ---- the definition
+
+-- whether a packet is a data packet on a logical channel of the interface
+abbrev pub is_data : Packet → Bool
+is_data (packet.Channel k (kind.Data header)) = true
+is_data _ = false
+
+-- the length of the user data of a row that is a data packet and whose events count no data; nothing for another row
+abbrev pub uncounted_in : Interface → Row → List Event → List ℕ
+uncounted_in i r es =
+    if is_data (packet_of i r.octets) && not (has_some (all_lengths es)) then (length r.octets - header_length i) ∷ [] else []
+
+-- the lengths of the user data that the walk over some rows does not count, in order
+abbrev pub uncounted : Interface → List Row → List ℕ
+uncounted i rs = flat_map (λ t. uncounted_in i t.0 (map event_of t.1)) (told (x25 i) (start i) rs)
+
+-- the findings of the walk over some rows, and the data packets that it does not count, with their octets of user data
+abbrev pub tally_of : Interface → List Row → Tally
+tally_of i rs = record { findings = length (report_of i rs).findings; packets = length (uncounted i rs); octets = sum (uncounted i rs) }
+
+-- ---- what a trial keeps
+
+-- what stands in the lane of a logical channel stands for it: where nothing does, it is fresh
+abbrev pub IsLaneOf : {A C : Type 0} → Machine C A → Interface → (epoch channel : ℕ) → Channel → Option C → Type 0
+IsLaneOf m i e k state None = state ≡ fresh i e k
+IsLaneOf m i e k state (Some c) = (m.interface_of c ≡ i) × (m.number_of c ≡ k) × m.stands_for c state
+
+-- the lanes of an epoch stand for the states of its logical channels
+abbrev pub AreLanesOf : {A C : Type 0} → Machine C A → Interface → (epoch : ℕ) → (states : ℕ → Channel) → OpenLanes C → Type 0
+AreLanesOf m i e states lanes = (k : ℕ) → IsLaneOf m i e k (states k) (value_at lanes k)
+
+-- the states of the logical channels after a row
+abbrev pub states_after : Turn → Interface → (ℕ → Channel) → Row → ℕ → Channel
+states_after (ToChannel k) i states r = with_state states k (channel_step i k (states k) r).after
+states_after _ i states r = states
+
+-- the events of the logical channel that takes a row
+abbrev pub events_after : Turn → Interface → (epoch : ℕ) → (ℕ → Channel) → Row → List Event
+events_after (ToChannel k) i e states r = row_events i e k (states k) r
+events_after _ i e states r = []
+
+-- its numbers stay within their types
+pub record IsFew (rs : List Row) (epoch packets : ℕ) (tally : Tally) : Type 0 where
+  pub epochs : epoch ≤ length rs + 1
+  pub rows : packets ≤ length rs
+  pub findings : tally.findings ≤ length rs
+  pub uncounted : tally.packets ≤ length rs
+  pub octets : tally.octets ≤ sum_by (λ r. length r.octets) rs
+
+-- a trial walked some rows under a header: it stands where the observer does, and counted what the walk does
+pub record HasWalked {A C : Type 0} (m : Machine C A) (i : Interface) (rs : List Row) (t : Trial A C) : Type 0 where
+  pub interface : t.walk.interface ≡ i
+  pub line : t.walk.machine ≡ (observer i rs).line
+  pub epoch : t.walk.epoch ≡ (observer i rs).epoch
+  pub lanes : AreLanesOf m i (observer i rs).epoch (observer i rs).states t.lanes
+  pub tally : t.tally ≡ tally_of i rs
+  pub few : IsFew rs t.walk.epoch t.walk.packets t.tally
+
+-- it walked other rows, and this one may come after them
+abbrev pub MayWalk : {A C : Type 0} → Machine C A → (IsTrace : List Row → Type 0) → Row → Trial A C → Type 0
+MayWalk m IsTrace r t = (i : Interface) × (rs : List Row) × HasWalked m i rs t × IsTrace (rs ++ r ∷ [])

@@ -1,0 +1,107 @@
+-- The lines of the headers that were tried.
+use Rattle.std.specs.Prelude.{◌≡◌, ℕ, ◌+◌, ◌-◌, ◌*◌, ◌^◌, Bool, true, false, not, ◌==◌, ◌&&◌, List, [], ◌∷◌, ◌++◌, length, map, flat_map, take, Option, Some, None, codes, decimal}
+use Rattle.std.specs.List.Sorted.{IsNonDecreasingBy, IsPermutation}
+use Rattle.line_model.specs.basics.Device.{with_more}
+use Rattle.line_model.specs.basics.Records.{Row}
+use Rattle.line_model.specs.basics.Written.{HasFront}
+use Rattle.line_model.specs.declared.interface.Interface.{Interface}
+use Rattle.line_model.specs.text.Text.{fault, head, rows}
+use Rattle.trace_scan.specs.Headers.{headers_tried}
+use Rattle.trace_scan.specs.Tried.{tally_of}
+use Rattle.trace_scan.specs.declared.trial.Trial.{Trial}
+use Rattle.trace_scan.specs.declared.tried_lines.Tried.{Tried}
+
+-- ---- a header
+
+-- a header without one-way logical channels, whose trace doesn't begin in the middle, has the first form
+abbrev pub is_first_form : Interface → Bool
+is_first_form i = (i.incoming == i.pvc) && ((i.two_way == i.svc) && not i.join)
+
+-- a name, and its number
+abbrev pub named : (name : List ℕ) → ℕ → List ℕ
+named name n = name ++ decimal n
+
+-- what both forms say first
+abbrev pub first_numbers : Interface → List ℕ
+first_numbers i = named (codes " MOD ") i.modulus ++ (named (codes " WIN ") i.window ++ (named (codes " SIZE ") i.size ++ named (codes " PVC ") i.pvc))
+
+-- the ranges of one-way and two-way channels
+abbrev pub ranges : Interface → List ℕ
+ranges i = named (codes " IN ") i.incoming ++ (named (codes " TWO ") i.two_way ++ named (codes " OUT ") i.svc)
+
+-- how the second form ends
+abbrev pub joining : (join : Bool) → List ℕ
+joining true = codes " JOIN\n"
+joining false = codes "\n"
+
+abbrev pub form_of : (is_first : Bool) → Interface → List ℕ
+form_of true i = codes "X25 1" ++ (first_numbers i ++ (named (codes " SVC ") i.svc ++ codes "\n"))
+form_of false i = codes "X25 2" ++ (first_numbers i ++ (ranges i ++ joining i.join))
+
+-- the header line of an interface
+abbrev pub header_line : Interface → List ℕ
+header_line i = form_of (is_first_form i) i
+
+-- ---- a line
+
+-- a number at the right of a column
+abbrev pub column : (width : ℕ) → ℕ → List ℕ
+column width n = take (width - length (decimal n)) (codes "            ") ++ decimal n
+
+-- what was counted, in columns, and the header
+abbrev pub tried_line : Tried → List ℕ
+tried_line t = column 10 t.tally.findings ++ (column 11 t.tally.packets ++ (column 11 t.tally.octets ++ (codes "  " ++ header_line t.header)))
+
+-- the names of the columns
+abbrev pub heading : List ℕ
+heading = codes "# findings  uncounted     octets  header\n"
+
+abbrev pub tried_text : List Tried → List ℕ
+tried_text ts = heading ++ flat_map tried_line ts
+
+-- the header of a trial, and what it counted
+abbrev pub tried_by : {A C : Type 0} → Trial A C → Tried
+tried_by t = record { header = t.walk.interface; tally = t.tally }
+
+-- ---- their order
+
+-- fewest findings first, then fewest data packets that were not counted, then fewest octets of them, then the smaller window, then the smaller
+-- packet size: as one number, in which each stands below the one before it
+abbrev pub rank : Tried → ℕ
+rank t = (((t.tally.findings * 2 ^ 32 + t.tally.packets) * 2 ^ 32 + t.tally.octets) * 2 ^ 8 + t.header.window) * 2 ^ 16 + t.header.size
+
+-- the findings of the first line
+abbrev pub fewest : List Tried → ℕ
+fewest [] = 0
+fewest (t ∷ ts) = t.tally.findings
+
+-- ---- what is printed of a text
+
+-- each header that is tried on some rows, with what they count under it
+abbrev pub tried_on : Interface → List Row → List Tried
+tried_on i rs = map (λ h. record { header = h; tally = tally_of h rs }) (headers_tried i rs)
+
+-- of a text without a fault: the line of each header that is tried on it, once and best first, and the findings of the first
+pub record AreTriedLines (text bytes : List ℕ) (findings : ℕ) : Type 0 where
+  pub sound : fault text ≡ None
+  pub interface : Interface
+  pub header : head text ≡ Some interface
+  pub tried : List Tried
+  pub all : IsPermutation (tried_on interface (rows text)) tried
+  pub sorted : IsNonDecreasingBy rank tried
+  pub whole : bytes ≡ tried_text tried
+  pub first : findings ≡ fewest tried
+
+-- a sink took them
+pub record HasTried (text : List ℕ) (before after : Option (List ℕ)) (findings : ℕ) : Type 0 where
+  pub bytes : List ℕ
+  pub lines : AreTriedLines text bytes findings
+  pub taken : after ≡ with_more before bytes
+
+-- or it failed, and took a first part of them
+pub record HasTriedPart (before after : Option (List ℕ)) : Type 0 where
+  pub text : List ℕ
+  pub bytes : List ℕ
+  pub findings : ℕ
+  pub lines : AreTriedLines text bytes findings
+  pub part : HasFront before after bytes

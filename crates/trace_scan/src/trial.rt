@@ -1,0 +1,305 @@
+//! The rows of a trace under one header: what they count, and no more.
+
+ghost use Rattle.std.specs.Prelude.{◌≡◌, ◌≢◌, ℕ, ◌+◌, ◌<◌, ◌≤◌, ◌^◌, ◌++◌, ◌∷◌, [], List, Some, IfErr, IfOk, IfSome, OnOk, length, option_to_list, sum, if◌then◌else◌};
+ghost use Rattle.line_model.specs.basics.Bounds.{IsItem};
+ghost use Rattle.line_model.specs.basics.Records as records;
+ghost use Rattle.line_model.specs.channels.Channels as channels;
+ghost use Rattle.line_model.specs.channels.ChannelStep.{channel_step};
+ghost use Rattle.line_model.specs.declared.fault.Fault.TheVariants.{Memory};
+ghost use Rattle.line_model.specs.declared.interface.Interface.{Interface as AnyInterface};
+ghost use Rattle.line_model.specs.observer.Calls.{all_lengths};
+ghost use Rattle.line_model.specs.observer.Machine.{with_state};
+ghost use Rattle.line_model.specs.observer.Report.{findings_of};
+ghost use Rattle.line_model.specs.packets.Classes.{packet_of};
+ghost use Rattle.line_model.specs.pieces.Plan.{has_some};
+ghost use Rattle.channel_run.specs.Run.{row_events};
+ghost use Rattle.restart_epochs.specs.OpenLanes.{no_lanes, value_at};
+ghost use Rattle.restart_epochs.specs.Walks.{channel_in};
+ghost use Rattle.trace_scan.specs.TextCuts.{IsTrace};
+ghost use Rattle.trace_scan.specs.Tried.{AreLanesOf, HasWalked, IsLaneOf, MayWalk, events_after, is_data, states_after, uncounted_in};
+
+use channel_run::run::Channel;
+use line_model::event::{Event, What};
+use line_model::fault::Fault;
+use line_model::finding::Finding;
+use line_model::interface::Interface;
+use line_model::items::ItemRef;
+use line_model::packet::{Packet, PacketKind};
+use line_model::row::Row;
+use packet_decode::decode::decode;
+use packet_decode::transfer::header_length;
+use restart_epochs::channel_table::ChannelTable;
+use restart_epochs::walk::{EpochWalk, Turn};
+use std::alloc::Allocator;
+use std::boxed::Box;
+
+/// What the rows count.
+#[derive(Clone, Copy)]
+pub struct Tally {
+    /// The findings.
+    pub findings: u32,
+    /// The data packets that the sums leave out.
+    pub packets: u32,
+    /// Their octets of user data.
+    pub octets: u32,
+}
+
+impl Tally {
+    /// Nothing.
+    fn none() -> Self
+        ensures { result ≡ record { findings = 0; packets = 0; octets = 0 } }
+    {
+        Tally {
+            findings: 0,
+            packets: 0,
+            octets: 0,
+        }
+    }
+
+    /// Counts a finding, if a row has one.
+    fn count_finding(&mut self, found: bool)
+        requires { self.old.findings + 1 < 2 ^ 32 }
+        ensures { self.new ≡ record self.old { findings = self.old.findings + (if found then 1 else 0) } }
+    {
+        if found {
+            self.findings += 1;
+        }
+    }
+
+    /// Counts the user data of a row, where it was left out.
+    fn count_data(&mut self, octets: Option<u32>)
+        requires packets { self.old.packets + 1 < 2 ^ 32 }
+        requires octets { self.old.octets + sum (option_to_list octets) < 2 ^ 32 }
+        ensures { self.new ≡ record self.old {
+          packets = self.old.packets + length (option_to_list octets);
+          octets = self.old.octets + sum (option_to_list octets);
+        } }
+    {
+        match octets {
+            Some(octets) => {
+                self.packets += 1;
+                self.octets += octets;
+            }
+            None => {}
+        }
+    }
+}
+
+impl Tally {
+    /// Counts a row: what the restart machine found on it, and the events of the logical channel that took it.
+    fn count(
+        &mut self,
+        interface: &Interface,
+        item: &ItemRef<'_>,
+        finding: Option<Finding>,
+        events: &[Event],
+    )
+        requires packet { item.now.packet ≡ packet_of interface.now item.now.row.octets }
+        requires findings { self.old.findings + 1 < 2 ^ 32 }
+        requires packets { self.old.packets + 1 < 2 ^ 32 }
+        requires octets { self.old.octets + length item.now.row.octets < 2 ^ 32 }
+        ensures findings { length (option_to_list finding ++ findings_of events.now) ≤ 1
+            → self.new.findings ≡ self.old.findings
+            + length (option_to_list finding ++ findings_of events.now) }
+        ensures packets { self.new.packets ≡ self.old.packets
+            + length (uncounted_in interface.now item.now.row events.now) }
+        ensures octets { self.new.octets ≡ self.old.octets
+            + sum (uncounted_in interface.now item.now.row events.now) }
+    {
+        self.count_finding(finding.is_some() || has_finding(events));
+        self.count_data(uncounted(interface, item, events));
+    }
+}
+
+/// Whether events have a finding.
+fn has_finding(events: &[Event]) -> bool
+    ensures { result ≡ has_some (findings_of events.now) }
+{
+    for event in events {
+        if let What::Found { .. } = event.what {
+            return true;
+        }
+    }
+    false
+}
+
+/// Whether events count data.
+fn has_data(events: &[Event]) -> bool
+    ensures { result ≡ has_some (all_lengths events.now) }
+{
+    for event in events {
+        if let What::Data { .. } = event.what {
+            return true;
+        }
+    }
+    false
+}
+
+/// Whether a packet is a data packet on a logical channel of the interface.
+fn is_data(packet: &Packet) -> bool
+    ensures { result ≡ is_data packet.now }
+{
+    matches!(
+        packet,
+        Packet::Channel {
+            kind: PacketKind::Data(_),
+            ..
+        }
+    )
+}
+
+/// The length of the user data of a row, where it is a data packet and its events count no data.
+fn uncounted(interface: &Interface, item: &ItemRef<'_>, events: &[Event]) -> Option<u32>
+    requires packet { item.now.packet ≡ packet_of interface.now item.now.row.octets }
+    requires octets { length item.now.row.octets < 2 ^ 32 }
+    ensures { option_to_list result ≡ uncounted_in interface.now item.now.row events.now }
+{
+    if is_data(&item.packet) && !has_data(events) {
+        return Some(item.octets.len().saturating_sub(header_length(interface)) as u32);
+    }
+    None
+}
+
+/// Takes what stands in the lane of a logical channel out of it, a fresh channel where nothing does.
+fn take_out<A: Allocator + Copy, C: Channel<A>>(
+    alloc: A,
+    interface: &Interface,
+    epoch: u32,
+    channel: u16,
+    lanes: &mut ChannelTable<C, A>,
+) -> Result<Box<C, A>, Fault>
+    ensures out { (states : ℕ → channels.Channel) → AreLanesOf C.Channel interface.now epoch states lanes.old
+        → IfOk result (λ c. IsLaneOf C.Channel interface.now epoch channel (states channel) (Some c.value)) }
+    ensures others { (states : ℕ → channels.Channel) → AreLanesOf C.Channel interface.now epoch states lanes.old
+        → OnOk result ((k : ℕ) → k ≢ channel
+        → IsLaneOf C.Channel interface.now epoch k (states k) (value_at lanes.new k)) }
+    ensures room { OnOk result (channel < length lanes.new.lanes) }
+    ensures memory { IfErr result (λ fault. fault ≡ Memory) }
+{
+    if let Some(machine) = lanes.take(channel) {
+        return Ok(machine);
+    }
+    lanes.list(channel)?;
+    let machine = Box::new(alloc, C::fresh(alloc, interface, channel, epoch))?;
+    Ok(machine)
+}
+
+/// Has the logical channel of a row take it, and adds its events. It answers `Memory` alone.
+fn step_lane<A: Allocator + Copy, C: Channel<A>>(
+    walk: &EpochWalk<A>,
+    channel: u16,
+    item: &ItemRef<'_>,
+    events: &mut Vec<Event, A>,
+    lanes: &mut ChannelTable<C, A>,
+) -> Result<(), Fault>
+    requires item { IsItem walk.now.interface channel item.now }
+    requires lanes { (states : ℕ → channels.Channel)
+        × AreLanesOf C.Channel walk.now.interface walk.now.epoch states lanes.old }
+    ensures lanes { (states : ℕ → channels.Channel)
+        → AreLanesOf C.Channel walk.now.interface walk.now.epoch states lanes.old
+        → OnOk result (AreLanesOf C.Channel walk.now.interface walk.now.epoch (with_state states channel
+        (channel_step walk.now.interface channel (states channel) item.now.row).after) lanes.new) }
+    ensures events { (states : ℕ → channels.Channel)
+        → AreLanesOf C.Channel walk.now.interface walk.now.epoch states lanes.old
+        → OnOk result (events.new.items ≡ events.old.items
+        ++ row_events walk.now.interface walk.now.epoch channel (states channel) item.now.row) }
+    ensures memory { IfErr result (λ fault. fault ≡ Memory) }
+{
+    let alloc = *events.allocator();
+    let mut machine = take_out(alloc, &walk.interface, walk.epoch, channel, lanes)?;
+    machine.step(walk.epoch, item, events)?;
+    lanes.put(channel, machine);
+    Ok(())
+}
+
+/// The rows of a trace so far, under one header. It keeps what the logical channels are and what was counted, so it takes
+/// no memory for a finding or a call.
+#[derive(Drop)]
+pub struct Trial<A: Allocator, C: Channel<A>> {
+    walk: EpochWalk<A>,
+    /// The logical channels that have rows in the epoch that goes on.
+    lanes: ChannelTable<C, A>,
+    pub tally: Tally,
+}
+
+impl<A: Allocator + Copy, C: Channel<A>> Trial<A, C> {
+    /// A header before the first row. It takes no memory.
+    pub fn new(alloc: A, header: &Interface) -> Self
+        ensures { HasWalked C.Channel header.now [] result }
+    {
+        Trial {
+            walk: EpochWalk::new(alloc, header),
+            lanes: ChannelTable::new(alloc),
+            tally: Tally::none(),
+        }
+    }
+
+    /// The header.
+    pub fn header(&self) -> Interface
+        ensures { result ≡ self.now.walk.interface }
+    {
+        self.walk.interface
+    }
+
+    /// Has the logical channel take a row that goes to it. The caller lends the list `events`, which has the events of
+    /// the row afterwards.
+    fn turn(
+        &mut self,
+        turn: Turn,
+        item: &ItemRef<'_>,
+        events: &mut Vec<Event, A>,
+    ) -> Result<(), Fault>
+        requires item { IfSome (channel_in turn) (λ k. IsItem self.old.walk.interface k item.now) }
+        requires lanes { (states : ℕ → channels.Channel)
+            × AreLanesOf C.Channel self.old.walk.interface self.old.walk.epoch states self.old.lanes }
+        ensures walk { self.new.walk ≡ self.old.walk }
+        ensures tally { self.new.tally ≡ self.old.tally }
+        ensures lanes { (states : ℕ → channels.Channel)
+            → AreLanesOf C.Channel self.old.walk.interface self.old.walk.epoch states self.old.lanes
+            → OnOk result (AreLanesOf C.Channel self.old.walk.interface self.old.walk.epoch
+            (states_after turn self.old.walk.interface states item.now.row) self.new.lanes) }
+        ensures events { (states : ℕ → channels.Channel)
+            → AreLanesOf C.Channel self.old.walk.interface self.old.walk.epoch states self.old.lanes
+            → OnOk result (events.new.items ≡ events_after turn self.old.walk.interface
+            self.old.walk.epoch states item.now.row) }
+        ensures memory { IfErr result (λ fault. fault ≡ Memory) }
+    {
+        events.clear();
+        match turn {
+            Turn::ToChannel(channel) => {
+                step_lane(&self.walk, channel, item, events, &mut self.lanes)
+            }
+            _ => Ok(()),
+        }
+    }
+
+    /// All logical channels are fresh where a further epoch begins.
+    fn renew(&mut self, epoch: u32)
+        ensures walk { self.new.walk ≡ self.old.walk }
+        ensures tally { self.new.tally ≡ self.old.tally }
+        ensures same { epoch ≡ self.old.walk.epoch → self.new.lanes ≡ self.old.lanes }
+        ensures renewed { epoch ≢ self.old.walk.epoch → self.new.lanes ≡ no_lanes }
+    {
+        if epoch != self.walk.epoch {
+            self.lanes = ChannelTable::new(*self.walk.findings.allocator());
+        }
+    }
+
+    /// Takes the next row. It refuses for want of memory alone, and stands for nothing then.
+    pub fn take(&mut self, row: &Row<A>, events: &mut Vec<Event, A>) -> Result<(), Fault>
+        requires next { MayWalk C.Channel IsTrace row.now self.old }
+        ensures walked { (i : AnyInterface) (rows : List records.Row)
+            → HasWalked C.Channel i rows self.old → IsTrace (rows ++ row.now ∷ [])
+            → OnOk result (HasWalked C.Channel i (rows ++ row.now ∷ []) self.new) }
+        ensures memory { IfErr result (λ fault. fault ≡ Memory) }
+    {
+        let item = row.with_packet(decode(&self.walk.interface, row.octets.as_slice()));
+        let step = self.walk.step(&item)?;
+        self.turn(step.turn, &item, events)?;
+        self.tally.count(&self.walk.interface, &item, step.finding, events.as_slice());
+        self.renew(step.epoch);
+        self.walk.advance(step);
+        self.walk.findings.clear();
+        Ok(())
+    }
+}

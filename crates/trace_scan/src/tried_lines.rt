@@ -1,0 +1,205 @@
+//! The lines of the headers that were tried, best first.
+
+ghost use Rattle.std.specs.Prelude.{◌≡◌, ◌<◌, ◌≤◌, List, IfErr, IfOk, OnErr, OnOk, flat_map, map};
+ghost use Rattle.std.specs.List.Sorted.{IsNonDecreasingBy, IsPermutation};
+ghost use Rattle.line_model.specs.basics.Written.{PutsTo, TakesAll, TakesFront};
+ghost use Rattle.line_model.specs.declared.fault.Fault.TheVariants.{Memory};
+ghost use Rattle.line_model.specs.declared.interface.Interface.{Interface as AnyInterface};
+ghost use Rattle.line_model.specs.basics.Records as records;
+ghost use Rattle.trace_scan.specs.TriedLines.{column, fewest, first_numbers, form_of, header_line, is_first_form, joining, named, ranges, rank, tried_by, tried_line, tried_text};
+ghost use Rattle.trace_scan.specs.Tried.{tally_of};
+ghost use Rattle.trace_scan.specs.Trials.{AreTrials};
+
+use crate::trial::{Tally, Trial};
+use channel_run::run::Channel;
+use itoa::Buffer;
+use line_model::device::Sink;
+use line_model::fault::Fault;
+use line_model::interface::Interface;
+use line_model::write_buffer::WriteBuffer;
+use std::alloc::{AllocError, Allocator};
+
+/// Spaces before a number.
+const SPACES: &[u8] = b"            ";
+
+/// The names of the columns.
+const HEADING: &[u8] = b"# findings  uncounted     octets  header\n";
+
+/// A header that was tried, and what the rows count under it.
+#[derive(Clone, Copy)]
+pub struct Tried {
+    pub header: Interface,
+    pub tally: Tally,
+}
+
+impl Tried {
+    /// Its place in the order of the lines, as one number.
+    fn rank(self) -> u128
+        ensures { result ≡ rank self }
+    {
+        let mut rank = u128::from(self.tally.findings);
+        rank = rank * 4_294_967_296 + u128::from(self.tally.packets);
+        rank = rank * 4_294_967_296 + u128::from(self.tally.octets);
+        rank = rank * 256 + u128::from(self.header.window);
+        rank * 65_536 + u128::from(self.header.size)
+    }
+}
+
+/// Each trial's header, and what the rows count under it.
+fn outcomes<A: Allocator + Copy, C: Channel<A>>(
+    alloc: A,
+    trials: &[Trial<A, C>],
+) -> Result<Vec<Tried, A>, AllocError>
+    ensures { IfOk result (λ tried. tried.items ≡ map tried_by trials.now) }
+{
+    let mut tried = Vec::with_capacity(alloc, trials.len())?;
+    for trial in trials {
+        tried.push(Tried {
+            header: trial.header(),
+            tally: trial.tally,
+        })?;
+    }
+    Ok(tried)
+}
+
+/// Puts the best first.
+fn sorted<A: Allocator>(mut tried: Vec<Tried, A>) -> Vec<Tried, A>
+    ensures permutation { IsPermutation tried.items result.items }
+    ensures sorted { IsNonDecreasingBy rank result.items }
+{
+    tried.sort_unstable_by_key(|tried| tried.rank());
+    tried
+}
+
+/// What the rows count under each header, best first.
+pub fn best_first<A: Allocator + Copy, C: Channel<A>>(
+    alloc: A,
+    trials: &[Trial<A, C>],
+) -> Result<Vec<Tried, A>, Fault>
+    ensures all { (headers : List AnyInterface) (rows : List records.Row)
+        → AreTrials C.Channel rows headers trials.now
+        → IfOk result (λ tried. IsPermutation
+        (map (λ h. record { header = h; tally = tally_of h rows }) headers) tried.items) }
+    ensures sorted { IfOk result (λ tried. IsNonDecreasingBy rank tried.items) }
+    ensures memory { IfErr result (λ fault. fault ≡ Memory) }
+{
+    let tried = outcomes(alloc, trials)?;
+    Ok(sorted(tried))
+}
+
+/// The findings of the first line.
+pub fn fewest_findings(tried: &[Tried]) -> u32
+    ensures { result ≡ fewest tried.now }
+{
+    match tried {
+        [first, ..] => first.tally.findings,
+        [] => 0,
+    }
+}
+
+/// Puts a name and its number.
+fn put_number<W: Sink>(out: &mut WriteBuffer, sink: &mut W, name: &[u8], number: u16)
+    ensures { PutsTo W.Sink sink.old sink.new out.old out.new (named name.now number) }
+{
+    let mut buffer = Buffer::new();
+    out.put(sink, name);
+    out.put(sink, buffer.format(number).as_bytes());
+}
+
+/// Puts a number at the right of a column.
+fn put_column<W: Sink>(out: &mut WriteBuffer, sink: &mut W, width: usize, number: u32)
+    requires { width ≤ 12 }
+    ensures { PutsTo W.Sink sink.old sink.new out.old out.new (column width number) }
+{
+    let mut buffer = Buffer::new();
+    let digits = buffer.format(number).as_bytes();
+    out.put(sink, &SPACES[..width.saturating_sub(digits.len())]);
+    out.put(sink, digits);
+}
+
+/// Puts what both forms of a header say first.
+fn put_first_numbers<W: Sink>(out: &mut WriteBuffer, sink: &mut W, header: &Interface)
+    ensures { PutsTo W.Sink sink.old sink.new out.old out.new (first_numbers header.now) }
+{
+    put_number(out, sink, b" MOD ", u16::from(header.modulus));
+    put_number(out, sink, b" WIN ", u16::from(header.window));
+    put_number(out, sink, b" SIZE ", header.size);
+    put_number(out, sink, b" PVC ", header.pvc);
+}
+
+/// Puts the ranges of one-way and two-way channels.
+fn put_ranges<W: Sink>(out: &mut WriteBuffer, sink: &mut W, header: &Interface)
+    ensures { PutsTo W.Sink sink.old sink.new out.old out.new (ranges header.now) }
+{
+    put_number(out, sink, b" IN ", header.incoming);
+    put_number(out, sink, b" TWO ", header.two_way);
+    put_number(out, sink, b" OUT ", header.svc);
+}
+
+/// How the second form of a header ends.
+fn joining(join: bool) -> &'static [u8]
+    ensures { result.now ≡ joining join }
+{
+    if join { b" JOIN\n" } else { b"\n" }
+}
+
+/// Whether a header has the first form.
+fn is_first_form(header: &Interface) -> bool
+    ensures { result ≡ is_first_form header.now }
+{
+    header.incoming == header.pvc && header.two_way == header.svc && !header.join
+}
+
+/// Puts a header line.
+fn put_header<W: Sink>(out: &mut WriteBuffer, sink: &mut W, header: &Interface)
+    ensures { PutsTo W.Sink sink.old sink.new out.old out.new (header_line header.now) }
+{
+    match is_first_form(header) {
+        true => {
+            out.put(sink, b"X25 1");
+            put_first_numbers(out, sink, header);
+            put_number(out, sink, b" SVC ", header.svc);
+            out.put(sink, b"\n");
+        }
+        false => {
+            out.put(sink, b"X25 2");
+            put_first_numbers(out, sink, header);
+            put_ranges(out, sink, header);
+            out.put(sink, joining(header.join));
+        }
+    }
+}
+
+/// Puts the line of a header.
+fn put_line<W: Sink>(out: &mut WriteBuffer, sink: &mut W, tried: &Tried)
+    ensures { PutsTo W.Sink sink.old sink.new out.old out.new (tried_line tried.now) }
+{
+    put_column(out, sink, 10, tried.tally.findings);
+    put_column(out, sink, 11, tried.tally.packets);
+    put_column(out, sink, 11, tried.tally.octets);
+    out.put(sink, b"  ");
+    put_header(out, sink, &tried.header);
+}
+
+/// Puts all lines.
+fn put_lines<W: Sink>(out: &mut WriteBuffer, sink: &mut W, tried: &[Tried])
+    ensures { PutsTo W.Sink sink.old sink.new out.old out.new (flat_map tried_line tried.now) }
+{
+    for line in tried {
+        put_line(out, sink, line);
+    }
+}
+
+/// Writes the names of the columns and all lines to a sink. `Write` is answered only where the sink failed; a first part
+/// was taken then.
+pub fn write_lines<W: Sink>(tried: &[Tried], sink: &mut W) -> Result<(), Fault>
+    ensures ok { OnOk result (TakesAll W.Sink sink.old sink.new (tried_text tried.now)) }
+    ensures part { OnErr result (TakesFront W.Sink sink.old sink.new (tried_text tried.now)) }
+    ensures cause { OnErr result (W.failures sink.old < W.failures sink.new) }
+    ensures write { IfErr result (λ fault. fault ≡ Fault.Write) }
+{
+    let mut out = WriteBuffer::new();
+    out.put(sink, HEADING);
+    put_lines(&mut out, sink, tried);
+    out.end(sink)
+}
