@@ -1,4 +1,5 @@
 mod WorkedWords
+pub mod ChannelLemmas
 pub mod JsonLemmas
 pub mod PastedLemmas
 pub mod StatusLemmas

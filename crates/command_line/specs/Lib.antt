@@ -1,3 +1,4 @@
+pub mod Channels
 pub mod Options
 pub mod Pasted
 pub mod Explaining

@@ -5,17 +5,18 @@ ghost use Rattle.command_line.specs.Printing.{IsPrintAnswer, IsPrintStatus, Prin
 ghost use Rattle.command_line.specs.Program.{IsUnread, trace_of};
 
 use crate::annotated_scan::annotate;
+use crate::channels::last_channel;
 use crate::options::{Form, Options, Printing};
 use crate::program::{USAGE, summary_status};
 use crate::refusing::{refuse_scan, refuse_trace};
 use crate::rows_scan::print_rows;
 use annotated_trace::rows::Rows;
-use explanations::advice::channels::last_channel;
 use line_model::device::{Sink, Source};
 use line_model::fault::Fault;
 use line_model::totals::Summary;
 use line_model::write_buffer::write_all;
 use std::alloc::Global;
+use streams::first_bytes::FirstBytes;
 use streams::input::Input;
 use streams::output::Output;
 
@@ -33,11 +34,11 @@ fn print_missing_call<E: Sink>(alloc: Global, errors: &mut E, call: u32, calls: 
 }
 
 /// Prints which logical channels the header has, where the rows of a further one were chosen.
-fn print_missing_channel<E: Sink>(alloc: Global, errors: &mut E, channel: u16, begun: &[u8]) {
-    let Some(last) = last_channel(begun) else {
+fn print_missing_channel<E: Sink>(alloc: Global, errors: &mut E, channel: u16, begun: &FirstBytes) {
+    let Ok(Some(last)) = last_channel(alloc, begun.as_slice(), begun.is_whole()) else {
         return;
     };
-    if u32::from(channel) <= last {
+    if channel <= last {
         return;
     }
     if let Ok(text) = format!(in alloc;

@@ -1,7 +1,5 @@
-//! What is wrong with a faulty line of a trace, in words, by the line itself where that tells more than its kind; and the
-//! logical channels of a header.
+//! What is wrong with a faulty line of a trace, in words, by the line itself where that tells more than its kind.
 
-pub mod channels;
 mod files;
 mod header;
 mod line;

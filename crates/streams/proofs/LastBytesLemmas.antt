@@ -3,7 +3,7 @@ use Rattle.std.proofs.Common.{◌≡◌, ◌∙◌, sym, ap, ap₂, ℕ, List, [
 use Rattle.streams.specs.declared.last_bytes.LastBytes.{LastBytes}
 use Rattle.streams.specs.LastBytes.{IsEndOf}
 
-not_both : (w : Bool) (A : Type 0) → w ≡ false → w ≡ true → A
+pub not_both : (w : Bool) (A : Type 0) → w ≡ false → w ≡ true → A
 not_both w A off on = absurd (let bad : true ≡ false = sym on ∙ off in cc)
 
 -- nothing is kept

@@ -1,1 +1,2 @@
+pub mod FirstBytesLemmas
 pub mod LastBytesLemmas

@@ -1,1 +1,3 @@
+pub mod FirstBytes
 pub mod LastBytes
+pub mod OpenFaults

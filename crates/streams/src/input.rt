@@ -1,7 +1,9 @@
 //! Where the program reads its trace.
 
-ghost use Rattle.std.specs.Prelude.{◌≡◌, ◌⊎◌, ℕ, List, Option, None, Some, OnOk, OnErr, option_map};
+ghost use Rattle.std.specs.Prelude.{◌≡◌, ◌⊎◌, ℕ, List, Option, None, Some, IfErr, OnOk, OnErr, option_map};
+ghost use Rattle.streams.specs.OpenFaults.{IsByItsReason};
 
+use crate::first_bytes::FirstBytes;
 use crate::last_bytes::LastBytes;
 use crate::progress::Telling;
 use line_model::device::Source;
@@ -48,7 +50,9 @@ pub trait Input: Source {
         ensures name { OnOk result ((name_of self.new ≡ Some name.now) ⊎ (name_of self.new ≡ None)) }
         ensures calls { Self.calls self.new ≡ Self.calls self.old }
         ensures failures { Self.failures self.new ≡ Self.failures self.old }
-        ensures refused { OnErr result (self.new ≡ self.old) };
+        ensures refused { OnErr result (self.new ≡ self.old) }
+        // The fault is the one of what the system says.
+        ensures reason { IfErr result IsByItsReason };
 
     /// The name of the trace that was opened; none where it is standard input, or where memory for the name was refused.
     fn name(&self) -> Option<&str>
@@ -58,7 +62,7 @@ pub trait Input: Source {
     fn failure(&self) -> Option<io::Error>;
 
     /// The first bytes that it gave, or fewer where memory was refused.
-    fn begun(&self) -> &[u8];
+    fn begun(&self) -> &FirstBytes;
 
     /// The last bytes that it gave.
     fn heard(&self) -> &LastBytes;

@@ -1,7 +1,9 @@
 //! Readers and writers of the system as sources and sinks.
 
-ghost use Rattle.std.specs.Prelude.{◌≡◌, ◌≤◌, IfOk, length};
+ghost use Rattle.std.specs.Prelude.{◌≡◌, ◌≤◌, IfErr, IfOk, length};
+ghost use Rattle.streams.specs.OpenFaults.{IsByItsReason};
 
+use crate::first_bytes::FirstBytes;
 use crate::input::{Input, OpenFault, OpenRefusal};
 use crate::last_bytes::LastBytes;
 use crate::output::Output;
@@ -15,13 +17,11 @@ use std::rt::Files;
 use std::time::Clock;
 use std::{fs, io};
 
-/// How many of the first bytes are kept at least: the header, where few comments come before it.
-const BEGUN: usize = 1 << 14;
-
 /// Standard input, or the file that was opened in its place, as a source that does not tell its bytes. Each read is one
 /// of the reader's, unbuffered.
 #[derive(Drop)]
 pub struct FileInput<'a, R: Files + Clock, I: Read + Drop, W: Write + Drop> {
+    alloc: Global,
     system: &'a R,
     standard: I,
     // That standard input is a terminal is still to be told.
@@ -29,7 +29,7 @@ pub struct FileInput<'a, R: Files + Clock, I: Read + Drop, W: Write + Drop> {
     file: Option<R::File>,
     // The name of the file; none where memory for it was refused.
     name: Option<String>,
-    begun: Vec<u8>,
+    begun: FirstBytes,
     heard: LastBytes,
     progress: Progress<W>,
     // What the system said of the last read that failed.
@@ -52,12 +52,13 @@ impl<'a, R: Files + Clock, I: Read + Drop, W: Write + Drop> FileInput<'a, R, I, 
         ensures failures { ⟦<FileInput<'a, R, I, W> as Source>⟧.failures result ≡ 0 }
     {
         FileInput {
+            alloc,
             system,
             standard,
             is_terminal,
             file: None,
             name: None,
-            begun: Vec::new(alloc),
+            begun: FirstBytes::new(alloc),
             heard: LastBytes::new(alloc),
             progress,
             failure: None,
@@ -84,9 +85,7 @@ impl<'a, R: Files + Clock, I: Read + Drop, W: Write + Drop> FileInput<'a, R, I, 
         ensures calls { self.new.calls ≡ self.old.calls }
         ensures failures { self.new.failures ≡ self.old.failures }
     {
-        if self.begun.len() < BEGUN {
-            let _ = self.begun.extend_from_slice(bytes);
-        }
+        self.begun.keep(bytes);
         self.heard.keep(bytes);
         self.progress.read(self.system, bytes);
     }
@@ -135,7 +134,9 @@ impl<R: Files + Clock, I: Read + Drop, W: Write + Drop> Source for FileInput<'_,
 const IS_A_DIRECTORY: i32 = 21;
 
 /// Why a file could not be opened, by the system's error.
-fn open_refusal(reason: io::Error) -> OpenRefusal {
+fn open_refusal(reason: io::Error) -> OpenRefusal
+    ensures { IsByItsReason result }
+{
     let fault = match reason.kind() {
         ErrorKind::NotFound | ErrorKind::NotADirectory => OpenFault::Missing,
         ErrorKind::PermissionDenied => OpenFault::Denied,
@@ -146,8 +147,10 @@ fn open_refusal(reason: io::Error) -> OpenRefusal {
 }
 
 /// Opens a file for reading, which is no directory.
-fn open_file<R: Files>(files: &R, name: &str) -> Result<R::File, OpenRefusal> {
-    let file = fs::open(files, name).map_err(|error| open_refusal(error))?;
+fn open_file<R: Files>(files: &R, name: &str) -> Result<R::File, OpenRefusal>
+    ensures { IfErr result IsByItsReason }
+{
+    let file = fs::open(files, name).map_err(open_refusal)?;
     match file.metadata() {
         Ok(told) if told.is_dir() => {
             Err(open_refusal(io::Error::from_raw_os_error(IS_A_DIRECTORY)))
@@ -166,7 +169,7 @@ impl<R: Files + Clock, I: Read + Drop, W: Write + Drop> Input for FileInput<'_, 
     fn open(&mut self, name: &str) -> Result<(), OpenRefusal> {
         let file = open_file(self.system, name)?;
         self.file = Some(file);
-        self.name = String::from_str(*self.begun.allocator(), name).ok();
+        self.name = String::from_str(self.alloc, name).ok();
         Ok(())
     }
 
@@ -181,8 +184,8 @@ impl<R: Files + Clock, I: Read + Drop, W: Write + Drop> Input for FileInput<'_, 
         self.failure
     }
 
-    fn begun(&self) -> &[u8] {
-        self.begun.as_slice()
+    fn begun(&self) -> &FirstBytes {
+        &self.begun
     }
 
     fn heard(&self) -> &LastBytes {

@@ -2,6 +2,7 @@
 //! report to.
 #![tactic(auto)]
 
+pub mod first_bytes;
 pub mod input;
 pub mod io;
 pub mod last_bytes;

@@ -217,10 +217,7 @@ fn rows_are_taken_one_by_one(rt: HostRuntime) {
 
 /// Whether a row is taken out of these bytes.
 fn takes(lines: &mut Lines<Global>, row: &mut Row<Global>, bytes: &[u8]) -> Result<bool, Fault> {
-    match lines.next_row(bytes, row) {
-        Ok(rest) => Ok(rest.is_some()),
-        Err(fault) => Err(fault),
-    }
+    Ok(lines.next_row(bytes, row)?.is_some())
 }
 
 #[test]

@@ -73,10 +73,7 @@ fn number_after(
 
 /// No number, and what is told in its place.
 fn refused(told: Result<String, AllocError>) -> Result<Result<u32, String>, AllocError> {
-    match told {
-        Ok(told) => Ok(Err(told)),
-        Err(refused) => Err(refused),
-    }
+    Ok(Err(told?))
 }
 
 /// What is wrong with a word after a name that is no number.
@@ -107,10 +104,9 @@ fn next_numbers(
 ) -> Result<Result<Numbers, String>, AllocError> {
     let mut numbers = Numbers::none();
     for name in names {
-        match next_number(alloc, words, name) {
-            Ok(Ok(number)) => numbers.put(name, number),
-            Ok(Err(told)) => return Ok(Err(told)),
-            Err(refused) => return Err(refused),
+        match next_number(alloc, words, name)? {
+            Ok(number) => numbers.put(name, number),
+            Err(told) => return Ok(Err(told)),
         }
     }
     Ok(Ok(numbers))

@@ -5,10 +5,7 @@ use std::alloc::{AllocError, Global};
 
 /// A sentence that is told, where there was memory for it.
 pub fn told(sentence: Result<String, AllocError>) -> Result<Option<String>, AllocError> {
-    match sentence {
-        Ok(sentence) => Ok(Some(sentence)),
-        Err(refused) => Err(refused),
-    }
+    Ok(Some(sentence?))
 }
 
 /// Tells a sentence that is always the same.

@@ -46,14 +46,11 @@ pub struct Outcome {
 
 /// What a scan answers of which no worker has a share.
 fn unshared<A: Allocator>(heap: A, answer: Result<Summary, Fault>) -> Result<Scan<A>, Fault> {
-    match answer {
-        Ok(summary) => Ok(Scan {
-            summary,
-            totals: NONE,
-            shares: Vec::new(heap),
-        }),
-        Err(fault) => Err(fault),
-    }
+    Ok(Scan {
+        summary: answer?,
+        totals: NONE,
+        shares: Vec::new(heap),
+    })
 }
 
 fn scan_by<

@@ -16,10 +16,7 @@ const GROWTHS: u64 = 1000;
 fn cut_with(heap: &Scarce<Global>, good: u64) -> Result<(Result<usize, Fault>, bool), Fail> {
     let rows = rows_of(heap, EPOCH.as_slice())?;
     heap.refuse_one(good);
-    let pieces = match cut(&PLAIN, rows) {
-        Ok(cut) => Ok(cut.pieces.len()),
-        Err(fault) => Err(fault),
-    };
+    let pieces = cut(&PLAIN, rows).map(|cut| cut.pieces.len());
     let refused = good < heap.asked();
     heap.grant_all();
     Ok((pieces, refused))

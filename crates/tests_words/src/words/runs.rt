@@ -8,6 +8,7 @@ use std::io::ErrorKind;
 use std::sync::Wait;
 use std::thread::Threads;
 use std::time::Clock;
+use streams::first_bytes::FirstBytes;
 use streams::input::{Input, OpenFault, OpenRefusal};
 use streams::last_bytes::LastBytes;
 use streams::output::Output;
@@ -34,6 +35,7 @@ pub struct NamedText<'a> {
 struct CutInput<'a> {
     source: CutSource<'a>,
     file: NamedText<'a>,
+    begun: FirstBytes,
     heard: LastBytes,
 }
 
@@ -50,6 +52,7 @@ impl Source for CutInput<'_> {
 
     fn read(&mut self, buffer: &mut [u8]) -> Result<usize, ()> {
         let n = self.source.read(buffer)?;
+        self.begun.keep(&buffer[..n]);
         self.heard.keep(&buffer[..n]);
         Ok(n)
     }
@@ -81,8 +84,8 @@ impl Input for CutInput<'_> {
         None
     }
 
-    fn begun(&self) -> &[u8] {
-        b""
+    fn begun(&self) -> &FirstBytes {
+        &self.begun
     }
 
     fn heard(&self) -> &LastBytes {
@@ -128,6 +131,7 @@ pub fn run_beside<R: Threads + Wait + Clock + Sync>(
     let mut source = CutInput {
         source: CutSource::new(text, cuts),
         file,
+        begun: FirstBytes::new(alloc),
         heard: LastBytes::new(alloc),
     };
     let mut sink = CutOutput {
