@@ -78,6 +78,13 @@ class Kept(unittest.TestCase):
         self.assertLess(len(texts), CALLS)
         self.assertLessEqual({"call-3", "call-7", "call-30"}, set(texts))
 
+    def test_octets_first(self):
+        """Of a trace that is a little too long all rows are kept, with the first of their octets."""
+        ladders, wanted = self.ladders(250_000, {3})
+        kept = [item for ladder in ladders.ladders.values() for item in ladder.items]
+        self.assertEqual((len(kept), ladders.level), (sum(it[0] for it in wanted.values()), 1))
+        self.assertEqual({len(row.text.split('"')[1]) for row in kept if not row.code}, {64})
+
     def test_late_finding(self):
         """A call after many others is whole where it has a finding, and left out where it has none."""
         ladders, forms, packet = Ladders(20_000), RowForms(), 0

@@ -3,7 +3,7 @@ from dataclasses import dataclass, field
 
 from .calls import Calls
 from .ladders import Ladders
-from .rows import EMPTY, NOTHING, ROW, SIDES, Row, RowForms, in_seconds, nanoseconds
+from .rows import NO_END, NOTHING, ROW, SIDES, Row, RowForms, in_seconds, nanoseconds
 from .scanner import read
 from .suspicions import Debts
 from .texts import encoded
@@ -157,7 +157,7 @@ class Facts:
         if last is not None and call == last.number:
             return last.key
         if channel == NOTHING:
-            if row.ends != EMPTY:
+            if NO_END not in row.course:
                 self.end_all()
             return "interface"
         if call != NOTHING:

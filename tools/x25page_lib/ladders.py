@@ -9,6 +9,9 @@ from .texts import encoded
 BEGINNING = 2
 # So many rows of a ladder that is probably left out wait for a finding, before their texts are made.
 WAITING = 16
+# What a row counts for, in bytes, that waits for one to be kept beside.
+COST = 150
+ALL = 1 << 30
 
 
 @dataclass(frozen=True)
@@ -21,16 +24,19 @@ class Level:
     most: int
 
 
-EVERYTHING = Level(1 << 30, 8400, 1 << 30)
 LEVELS = (
-    EVERYTHING,
-    Level(8, 64, 1 << 30),
+    Level(ALL, 8400, ALL),
+    Level(ALL, 64, ALL),
+    Level(512, 64, ALL),
+    Level(128, 64, ALL),
+    Level(32, 64, ALL),
+    Level(8, 64, ALL),
     Level(2, 32, 4000),
     Level(2, 32, 400),
     Level(2, 32, 60),
 )
 # From this level on ladders without a finding go before more is left out of others.
-DROPPING = 2
+DROPPING = 6
 
 
 @dataclass(slots=True)
@@ -90,7 +96,7 @@ class Ladder:
         many = len(self.items)
         if many >= (level.most if row.code else level.most // 2):
             return False
-        return row.is_marked or level is EVERYTHING or many < BEGINNING
+        return row.is_marked or level.edge == ALL or many < BEGINNING
 
     def place(self, row, level):
         """Keeps a row, or has it wait for one that is kept, or leaves it out."""
@@ -110,6 +116,8 @@ class Ladder:
             self.tail.append(row)
             if len(self.tail) > level.edge:
                 self.sum_up(self.tail.popleft())
+            else:
+                self.size += COST
 
     def sum_up(self, row):
         """Leaves a row out."""
@@ -138,6 +146,7 @@ class Ladder:
         if self.run:
             self.keep(self.run, level)
             self.run = None
+        self.size -= COST * len(self.tail)
         for row in self.tail:
             self.keep(row, level)
         self.tail.clear()
@@ -149,6 +158,7 @@ class Ladder:
         self.begin()
         for item in items:
             if isinstance(item, Run):
+                self.size -= COST * len(self.tail)
                 while self.tail:
                     self.sum_up(self.tail.popleft())
                 self.run = self.run or Run()

@@ -10,10 +10,13 @@ SIDES = "TN"
 ROW = re.compile(
     r'\{"line":"row","packet":([^,]*),"side":"([^"]*)","channel":([^,]*),"before":"([^"]*)","after":"([^"]*)",'
     r'"counted":(?:null|\{"octets":[^,]*,"segments":([^}]*)\}),"finding":(?:null|(\{"code":"([^"]*)",[^}]*\})),'
-    r'"epoch":[^,]*,"owed":([^,]*),"call":([^,]*),"begins":([^,]*),"up":([^,]*),"ends":(\[[^]]*\]),'
-    r'"not_counted":([^,]*),"time":([^,]*),"type":"([^"]*)","hex":"(.*)\}'
+    r'"epoch":[^,]*,"owed":([^,]*),"call":([^,]*),("begins":[^[]*\[[^]]*\],"not_counted":[^,]*),"time":([^,]*),'
+    r'"type":"([^"]*)","hex":"(.*)\}'
 )
-TRUE, NOTHING, EMPTY = "true", "null", "[]"
+TRUE, NOTHING, NO_END = "true", "null", '"ends":[]'
+# How a row begins to say what it did, where it opens, brings up and ends no call; and what it says where all is counted.
+QUIET = f'"begins":false,"up":false,{NO_END},'
+COUNTED = f'{QUIET}"not_counted":null'
 # Packets that are no news while all goes well, and members that are.
 FLOWING = {"data", "rr", "rnr", "interrupt", "interrupt_confirmation"}
 NEWS = ('"message":', '"settings":')
@@ -49,16 +52,10 @@ def octets_and_news(members):
 
 @lru_cache(REMEMBERED)
 def spoken(members):
-    """The members of a kind of packet without those that are null, false or empty, each after a comma."""
+    """Members of an object, each after a comma, without those that are null, false or empty."""
     told = json.loads(f"{{{members[1:]}}}")
     found = encoded({SHORT.get(name, name): it for name, it in told.items() if it or it == 0 and it is not False})
     return f",{found[1:-1]}" if len(found) > 2 else ""
-
-
-@lru_cache(REMEMBERED)
-def again(text):
-    """JSON as a page has it."""
-    return encoded(json.loads(text))
 
 
 @lru_cache(REMEMBERED)
@@ -71,14 +68,14 @@ class Row:
     """A row that may be kept: what x25scan says of it, its place in sums, and its text in the page once it is kept."""
 
     __slots__ = (
-        "packet", "side", "channel", "before", "after", "segments", "fault", "code", "owed", "call", "begins", "up",
-        "ends", "lost", "time", "kind", "hex", "members", "octets", "is_data", "is_marked", "forms", "text",
+        "packet", "side", "channel", "before", "after", "segments", "fault", "code", "owed", "call", "course", "time",
+        "kind", "hex", "members", "octets", "is_data", "is_marked", "forms", "text",
     )
 
     def __init__(self, found, forms):
         (
             packet, side, self.channel, self.before, self.after, self.segments, self.fault, self.code, self.owed,
-            self.call, self.begins, self.up, self.ends, self.lost, self.time, self.kind, rest,
+            self.call, self.course, self.time, self.kind, rest,
         ) = found
         self.hex, _, self.members = rest.partition('"')
         self.packet, self.side = int(packet), SIDES.index(side)
@@ -87,7 +84,7 @@ class Row:
         self.is_data = self.kind == "data"
         self.is_marked = (
             self.code is not None or self.before != self.after or self.kind not in FLOWING or is_news
-            or self.ends != EMPTY or self.begins == TRUE or self.up == TRUE
+            or not self.course.startswith(QUIET)
         )
 
     @property
@@ -98,8 +95,7 @@ class Row:
     def forget(self):
         """Forgets what its text says."""
         self.channel = self.before = self.after = self.segments = self.fault = self.owed = self.call = None
-        self.begins = self.up = self.ends = self.lost = self.time = self.kind = self.hex = self.members = None
-        self.forms = None
+        self.course = self.time = self.kind = self.hex = self.members = self.forms = None
 
     def write(self, level):
         """Makes the text with as many digits as a level keeps; a finding keeps eight times as many."""
@@ -160,14 +156,8 @@ class RowForms:
     def more(self, row):
         """What a row says besides."""
         text = ',"owed":true' if row.owed == TRUE else ""
-        if row.begins == TRUE:
-            text += ',"begins":true'
-        if row.up == TRUE:
-            text += ',"up":true'
-        if row.ends != EMPTY:
-            text += f',"ends":{again(row.ends)}'
-        if row.lost != NOTHING:
-            text += f',"not_counted":{again(row.lost)}'
+        if row.course != COUNTED:
+            text += spoken(f",{row.course}")
         if row.members:
             text += spoken(row.members)
         if row.segments is not None:

@@ -1,7 +1,7 @@
 """What makes a header doubtful: findings that both sides have, and findings after which the DCE went on."""
 from dataclasses import dataclass
 
-from .rows import NOTHING, SIDES
+from .rows import NOTHING, SIDES, TRUE
 
 DTE = SIDES.index("T")
 # So many packets of the DCE may be on their way while it does not know of the error yet.
@@ -36,7 +36,7 @@ class Debts:
             if row.kind.startswith("restart_") and not row.code:
                 self.open.clear()
             return
-        debt, is_owed = self.open.get(row.channel), row.owed == "true"
+        debt, is_owed = self.open.get(row.channel), row.owed == TRUE
         if debt is None:
             if is_owed and row.side == DTE and row.code in NUMBERS:
                 self.open[row.channel] = Debt(row.packet, row.code)

@@ -64,10 +64,8 @@ function leftOutTexts() {
   const { left_out: left } = facts;
   const said = [];
   const say = (many, noun, rest) => many && said.push(`${plural(many, noun)} ${many === 1 ? "is" : "are"} ${rest}`);
-  if (left.level > 0) {
-    said.push("The trace is long: packets that show nothing special are left out, and sums stand for them.");
-  }
-  if (left.level > 1) said.push("Of the octets of each packet only the first ones are here.");
+  if (left.level > 0) said.push("The trace is long: of the octets of each packet only the first ones are here.");
+  if (left.level > 1) said.push("Packets that show nothing special are left out, and sums stand for them.");
   say(left.ladders, "ladder", "left out, those without findings first.");
   say(left.restarts, "restart", "not drawn over the channels.");
   const tables = { calls: "call", marks: "finding", accounts: "account", settings: "setting" };
