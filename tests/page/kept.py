@@ -176,6 +176,21 @@ class Doubts(unittest.TestCase):
         rows = [FAULTY, told(3, "rr", side="N", owed=True), told(4, "reset_indication", side="N")]
         self.assertEqual(warnings(self.HEADER, [], self.seen(rows)), [])
 
+    def test_the_dce_alone_tells_of_it(self):
+        """A reset for an error that no finding is of: the header may have too great a number."""
+        end = {"side": "N", "after": "d3", "cause": {"value": 5, "name": ""}, "diagnostic": {"value": 1, "name": ""}}
+        header = self.HEADER | {"WIN": "7"}
+        (sentence, name, values), = warnings(header, [], self.seen([told(3, "reset_indication", **end)]))
+        self.assertIn("By diagnostic code 1 the DCE says 1 time (the first is packet 3) that the DTE broke", sentence)
+        self.assertEqual((name, values), ("WIN", [2, 6]))
+        for rows in (
+            [told(3, "reset_indication", **end | {"before": "d3"})],
+            [told(3, "reset_indication", **end | {"cause": {"value": 7, "name": ""}})],
+            [told(3, "reset_indication", **end | {"diagnostic": {"value": 20, "name": ""}})],
+            [told(1, side="T", finding=FINDING), told(3, "reset_indication", **end)],
+        ):
+            self.assertEqual(warnings(header, [], self.seen(rows)), [])
+
     def test_both_sides(self):
         codes = [["39", "Packet too long", "", [5, 9], None], ["20", "", "", [5, 9], None], ["1", "", "", [9, 0], None]]
         (sentence, name, values), = warnings(self.HEADER, codes, Debts())

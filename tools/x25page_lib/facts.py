@@ -146,7 +146,7 @@ class Facts:
         elif row.channel == NOTHING and row.kind.startswith("restart_") and row.after in ("r2", "r3"):
             if self.restarts.takes_next():
                 self.restarts.add([packet, row.side])
-        if row.code or row.channel == NOTHING or row.channel in self.debts.open:
+        if self.debts.concerns(row):
             self.debts.see(row)
         self.ladders.add(key, row)
 

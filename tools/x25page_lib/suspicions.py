@@ -1,4 +1,5 @@
-"""What makes a header doubtful: findings that both sides have, and findings after which the DCE went on."""
+"""What makes a header doubtful: errors of both sides, those the DCE went on after, and those that it alone tells of."""
+import json
 from dataclasses import dataclass
 
 from .rows import NOTHING, SIDES, TRUE
@@ -10,6 +11,10 @@ ON_THEIR_WAY = 3
 OFTEN = 2
 # Codes that a wrong number of the header gives, with the number.
 NUMBERS = {"1": "WIN", "2": "WIN", "39": "SIZE", "36": "SVC", "34": "SVC", "40": "MOD"}
+# Diagnostic codes of errors that a number hides which is too great, and how the DCE says that the error was the DTE's.
+HIDDEN = {"1": "WIN", "39": "SIZE"}
+LOCAL_ERROR = {"reset_indication": 5, "clear_indication": 19}
+OWED = ("d3", "p7")
 
 
 @dataclass
@@ -23,12 +28,21 @@ class Debt:
 
 
 class Debts:
-    """The errors of the DTE that the DCE went on after, of codes that a wrong header gives."""
+    """The errors of the DTE that the DCE went on after, and those that it told of and the trace does not show.
+
+    All are of codes that a wrong header gives or hides.
+    """
 
     def __init__(self):
         self.open = {}
         self.unpaid = {}
         self.first = None
+        # Codes of the DTE in each call, and of each code that the DCE told of the first packet and how many they are.
+        self.known, self.unseen = set(), {}
+
+    def concerns(self, row):
+        """Whether a row is to be seen, as few are."""
+        return row.code or row.channel == NOTHING or row.channel in self.open or row.kind in LOCAL_ERROR
 
     def see(self, row):
         if row.channel == NOTHING:
@@ -36,6 +50,10 @@ class Debts:
             if row.kind.startswith("restart_") and not row.code:
                 self.open.clear()
             return
+        if row.kind in LOCAL_ERROR and row.before not in OWED:
+            self.hear(row)
+        if row.code in HIDDEN and row.side == DTE:
+            self.known.add((row.channel, row.call, row.code))
         debt, is_owed = self.open.get(row.channel), row.owed == TRUE
         if debt is None:
             if is_owed and row.side == DTE and row.code in NUMBERS:
@@ -48,6 +66,17 @@ class Debts:
             debt.sent += 1
             if debt.sent == ON_THEIR_WAY:
                 self.count(debt)
+
+    def hear(self, row):
+        """The DCE ends something, perhaps for an error of the DTE that no finding is of."""
+        told = json.loads(f"{{{row.members[1:]}}}")
+        cause, diagnostic = told.get("cause"), told.get("diagnostic")
+        if not cause or not diagnostic or cause["value"] != LOCAL_ERROR[row.kind]:
+            return
+        code = str(diagnostic["value"])
+        if code in HIDDEN and (row.channel, row.call, code) not in self.known:
+            first, many = self.unseen.get(code, (row.packet, 0))
+            self.unseen[code] = first, many + 1
 
     def count(self, debt):
         if debt.sent and not debt.is_counted:
@@ -83,6 +112,13 @@ def greater(header, name):
     return []
 
 
+def smaller(header, name):
+    """Values to try in place of one that is too great."""
+    value = int(header.get(name, 0))
+    found = (2, value - 1, 1) if name == "WIN" else (value // 2, value // 4)
+    return [it for it in dict.fromkeys(found) if (1 if name == "WIN" else 16) <= it < value][:2]
+
+
 def of_both_sides(header, codes):
     """Sentences on codes that both sides have so often that the header may be wrong."""
     for code, name, _, counts, _ in codes:
@@ -108,6 +144,16 @@ def of_debts(header, debts):
     )
 
 
+def of_unseen(header, debts):
+    """Sentences on errors that the DCE alone tells of."""
+    for code, (first, many) in debts.unseen.items():
+        words = words_of(header, HIDDEN[code])
+        yield HIDDEN[code], (
+            f"By diagnostic code {code} the DCE says {number(many, 'time')} (the first is packet {first:,}) that the "
+            f"DTE broke a rule, and the trace shows no such error. Then {words} of the header is probably too great."
+        )
+
+
 def trial(again):
     """The command that tries other headers on what is read again."""
     tried = "x25scan --try-headers"
@@ -118,4 +164,5 @@ def warnings(header, codes, debts):
     """Each doubt in a sentence, with the number of the header that may be wrong and values to try."""
     debts.end()
     found = [*of_both_sides(header, codes), *of_debts(header, debts)]
-    return [[sentence, name, greater(header, name)] for name, sentence in found]
+    doubts = [[sentence, name, greater(header, name)] for name, sentence in found]
+    return doubts + [[sentence, name, smaller(header, name)] for name, sentence in of_unseen(header, debts)]

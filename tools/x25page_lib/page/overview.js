@@ -90,7 +90,7 @@ function howToTry([, name, values]) {
   const commands = values.map((value) => (isCapture
     ? `x25page ${option} ${value} -o other.html ${facts.again[name]}`
     : `sed 's/${name} ${now[1]} /${name} ${value} /' ${facts.again} | x25page -o other.html -`));
-  return make("div", {}, make("p", {}, `Try another ${name}, and see whether the findings go away:`),
+  return make("div", {}, make("p", {}, `Try another ${name}, and compare what is found:`),
     commands.map((line) => make("pre", {}, line)));
 }
 
