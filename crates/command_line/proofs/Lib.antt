@@ -2,3 +2,4 @@ mod WorkedWords
 pub mod JsonLemmas
 pub mod PastedLemmas
 pub mod StatusLemmas
+pub mod TryLemmas

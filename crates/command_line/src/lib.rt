@@ -12,3 +12,4 @@ mod printing;
 pub mod program;
 mod refusing;
 pub mod rows_scan;
+mod trying;
