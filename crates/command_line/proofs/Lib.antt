@@ -3,3 +3,4 @@ pub mod ChannelLemmas
 pub mod JsonLemmas
 pub mod PastedLemmas
 pub mod StatusLemmas
+pub mod TryLemmas

@@ -2,7 +2,7 @@
 use Rattle.std.proofs.Common.{◌≡◌, false, true, refl, codes, [], ◌∷◌, Some, None}
 use Rattle.clap.proofs.OnLiterals.{clap_on_literals}
 use Rattle.clap.specs.declared.error.kind.ErrorKind.TheVariants.{ArgumentConflict, DisplayHelp, DisplayVersion, UnknownArgument, ValueValidation}
-use Rattle.command_line.specs.Options.{alone, annotates, as_json, asked_word, asked_workers, follows, named_trace, prints_rows, shows_progress, words_fault}
+use Rattle.command_line.specs.Options.{alone, annotates, as_json, asked_word, asked_workers, follows, named_trace, prints_rows, shows_progress, tries_headers, words_fault}
 
 no_arguments : words_fault (codes "x25scan" ∷ []) ≡ []
 unfolding clap_on_literals
@@ -155,3 +155,11 @@ rows_asked = refl
 no_rows_asked : prints_rows (codes "x25scan" ∷ codes "--annotate" ∷ []) ≡ false
 unfolding clap_on_literals
 no_rows_asked = refl
+
+headers_tried : tries_headers (codes "x25scan" ∷ codes "--try-headers" ∷ codes "day.trace" ∷ []) ≡ true
+unfolding clap_on_literals
+headers_tried = refl
+
+no_headers_tried : tries_headers (codes "x25scan" ∷ codes "--rows" ∷ []) ≡ false
+unfolding clap_on_literals
+no_headers_tried = refl

@@ -4,3 +4,4 @@ pub mod Pasted
 pub mod Explaining
 pub mod Program
 pub mod Printing
+pub mod Trying

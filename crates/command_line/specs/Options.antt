@@ -1,4 +1,4 @@
--- The command line: `x25scan [--workers N] [--alone] [--follow] [--json] [--annotate | --rows] [--channel N] [--call N] [--progress] [--explain [WORD]] [FILE]` (profile).
+-- The command line: `x25scan [--workers N] [--alone] [--follow] [--json] [--annotate | --rows] [--channel N] [--call N] [--try-headers] [--progress] [--explain [WORD]] [FILE]` (profile).
 use Rattle.std.specs.Prelude.{◌≡◌, ◌≤◌, ℕ, Bool, false, true, List, [], ◌∷◌, Option, None, Some, MatchOption, codes, pos, if◌then◌else◌}
 use Rattle.std.specs.Str.{bytes_eq}
 use Rattle.std.specs.Str.Parse.{IsNumeral, digits_value, without_leading_plus}
@@ -65,7 +65,8 @@ with_scanning app = with_rule (with_rule (with_rule app workers_rule) (flag_rule
 -- with those that say what is written, and of which rows
 abbrev pub with_telling : App → App
 with_telling app =
-    with_rule (with_rule (with_rule (with_rule (with_rule app (flag_rule (codes "json"))) (flag_rule (codes "annotate"))) (flag_rule (codes "rows"))) channel_rule) call_rule
+    with_rule (with_rule (with_rule (with_rule (with_rule (with_rule app (flag_rule (codes "json"))) (flag_rule (codes "annotate"))) (flag_rule (codes "rows"))) channel_rule) call_rule)
+    (flag_rule (codes "try-headers"))
 
 -- with those that ask for more, and the name of the trace
 abbrev pub with_asking : App → App
@@ -126,6 +127,10 @@ has_comments words = is_given (first_of (codes "annotate") (matches_of command w
 -- whether the words ask for the rows as objects
 abbrev pub prints_rows : List Text → Bool
 prints_rows words = is_given (first_of (codes "rows") (matches_of command words))
+
+-- whether the words ask which header explains the rows best
+abbrev pub tries_headers : List Text → Bool
+tries_headers words = is_given (first_of (codes "try-headers") (matches_of command words))
 
 -- whether these ask for an annotation: a channel or a call that is named does too
 abbrev pub annotates_by : (flag channel call : Option Text) → Bool

@@ -17,6 +17,7 @@ Examples:
   x25scan --json day.trace              print an object for each line of the report
   x25scan --rows --call 7 day.trace     print an object for each row of call 7
   x25scan --annotate --call 7 day.trace print the trace, with comments on the rows of call 7
+  x25scan --try-headers day.trace       print which window and packet size explain the rows best
   x25trace day.pcap | x25scan           read a capture
   x25scan --explain 22                  explain a word of the report or of a refusal
   x25scan --explain 'F 5 T d1 1'        explain each word of a line of the report

@@ -13,3 +13,4 @@ mod printing;
 pub mod program;
 mod refusing;
 pub mod rows_scan;
+mod trying;

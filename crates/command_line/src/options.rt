@@ -2,7 +2,7 @@
 
 ghost use Rattle.std.specs.Prelude.{◌≡◌, ◌≤◌, IfOk, MatchOption, codes, false, map, option_map, true};
 ghost use Rattle.clap.specs.Words.{FailsBy, app_of, first_value, found_of, rule_of};
-ghost use Rattle.command_line.specs.Options.{AreAskedRows, AskFor, HasNumber, HasWorkers, alone, annotates, as_json, asked_word, asked_workers, call_rule, channel_rule, command, explain_rule, flag_rule, follows, has_comments, is_given, named_by, named_trace, prints_rows, shows_progress, trace_rule, versioned, with_asking, with_scanning, with_telling, words_fault, workers_rule};
+ghost use Rattle.command_line.specs.Options.{AreAskedRows, AskFor, HasNumber, HasWorkers, alone, annotates, as_json, asked_word, asked_workers, call_rule, channel_rule, command, explain_rule, flag_rule, follows, has_comments, is_given, named_by, named_trace, prints_rows, shows_progress, trace_rule, tries_headers, versioned, with_asking, with_scanning, with_telling, words_fault, workers_rule};
 
 use crate::help::{ABOUT, AFTER_HELP, VERSION};
 use annotated_trace::rows::Rows;
@@ -47,6 +47,8 @@ pub struct Options<'a> {
     pub comments: bool,
     /// An object is asked for of each row, or of those that are chosen, before the objects of the report.
     pub rows: bool,
+    /// What the rows count under each header is asked for in place of the report.
+    pub try_headers: bool,
     /// It is asked for that the errors are told how far the reading is, also where they are no terminal.
     pub progress: bool,
     /// The word whose explanation is asked for in place of a scan; empty where the list of all words is.
@@ -168,7 +170,12 @@ fn with_telling<'a>(alloc: Global, command: Command<'a>) -> Result<Command<'a>, 
             "Print a JSON object for each row, and then those of the report",
         ))?
         .arg(channel(alloc))?
-        .arg(call(alloc))
+        .arg(call(alloc))?
+        .arg(flag(
+            alloc,
+            "try-headers",
+            "Print how many findings each window and packet size gives, best first",
+        ))
 }
 
 /// Adds the options that ask for more, and the name of the trace.
@@ -293,6 +300,8 @@ fn options_in<'a>(matches: &ArgMatches<'a>) -> Options<'a>
     ensures comments { result.comments ≡ is_given
         (first_value (found_of matches.now) (codes "annotate")) }
     ensures rows { result.rows ≡ is_given (first_value (found_of matches.now) (codes "rows")) }
+    ensures try_headers { result.try_headers ≡ is_given
+        (first_value (found_of matches.now) (codes "try-headers")) }
     ensures explain { option_map (λ word. word.now) result.explain
         ≡ first_value (found_of matches.now) (codes "explain") }
     ensures trace { option_map (λ name. name.now) result.trace
@@ -304,6 +313,7 @@ fn options_in<'a>(matches: &ArgMatches<'a>) -> Options<'a>
     let progress = is_given(matches, "progress");
     let comments = is_given(matches, "annotate");
     let rows = is_given(matches, "rows");
+    let try_headers = is_given(matches, "try-headers");
     Options {
         workers: workers_in(matches),
         alone,
@@ -312,6 +322,7 @@ fn options_in<'a>(matches: &ArgMatches<'a>) -> Options<'a>
         annotate: rows_in(matches),
         comments,
         rows,
+        try_headers,
         progress,
         explain: matches.get_str("explain"),
         trace: trace_in(matches),
@@ -338,6 +349,8 @@ pub fn parse<'a>(alloc: Global, words: &'a [&'a str]) -> Result<Options<'a>, Err
         ≡ has_comments (map (λ word. word.now) words.entry.now)) }
     ensures rows { IfOk result (λ options. options.rows
         ≡ prints_rows (map (λ word. word.now) words.entry.now)) }
+    ensures try_headers { IfOk result (λ options. options.try_headers
+        ≡ tries_headers (map (λ word. word.now) words.entry.now)) }
     ensures explain { IfOk result (λ options. option_map (λ word. word.now) options.explain
         ≡ asked_word (map (λ word. word.now) words.entry.now)) }
     ensures trace { IfOk result (λ options. option_map (λ name. name.now) options.trace

@@ -1,11 +1,12 @@
 //! The program: its words and its exit status.
 
-ghost use Rattle.std.specs.Prelude.{◌≡◌, ◌≢◌, ℕ, ◌<◌, ◌≤◌, ◌+◌, ◌^◌, ◌⊎◌, IfSome, List, [], None, Some, false, map, option_map, true};
+ghost use Rattle.std.specs.Prelude.{◌≡◌, ◌≢◌, ℕ, ◌<◌, ◌≤◌, ◌+◌, ◌^◌, ◌⊎◌, IfSome, List, [], None, Some, false, map, option_map, true, is_some};
 ghost use Rattle.clap.specs.Words.{kind_of};
-ghost use Rattle.command_line.specs.Options.{AreAskedRows, annotates, as_json, asked_word, follows, has_comments, named_trace, prints_rows, words_fault};
+ghost use Rattle.command_line.specs.Options.{AreAskedRows, annotates, as_json, asked_word, follows, has_comments, named_trace, prints_rows, tries_headers, words_fault};
 ghost use Rattle.command_line.specs.Explaining.{IsAnswered};
 ghost use Rattle.annotated_trace.specs.declared.rows.Rows.{Rows as AnyRows};
 ghost use Rattle.command_line.specs.Printing.{IsAnnotateAnswer, IsPrintAnswer, IsRowsAnswer, is_refused, printing_of};
+ghost use Rattle.command_line.specs.Trying.{IsTryAnswer, cannot_try};
 ghost use Rattle.command_line.specs.Program.{IsFollowStatus, IsStatus, IsUnread, IsWordsStatus, TellsOf, fault_status, summary_status, trace_of, words_status};
 
 use crate::explaining::explain_word;
@@ -13,6 +14,7 @@ use crate::json::scan_json;
 use crate::options::{Form, Options, Printing, parse};
 use crate::printing::print_trace;
 use crate::refusing::{refuse, refuse_scan, refuse_trace};
+use crate::trying::try_trace;
 use annotated_trace::rows::Rows;
 use clap::Error;
 use clap::error::ErrorKind;
@@ -147,7 +149,7 @@ fn run_with<S: Input, K: Output, E: Sink, R: Threads + Wait + Clock + Sync>(
 
 /// When the errors are told how far the reading is: always where it is asked for, and not by itself where the trace is
 /// followed, whose reader waits for more.
-fn telling(options: &Options<'_>) -> Telling {
+pub(crate) fn telling(options: &Options<'_>) -> Telling {
     if options.progress {
         Telling::Always
     } else if options.follow {
@@ -285,19 +287,26 @@ fn run<S: Input, K: Output, E: Sink, R: Threads + Wait + Clock + Sync>(
 ) -> u8
     ensures told { let name = option_map (λ name. name.now) options.entry.trace in
         let trace = trace_of name (S.left source.old) (S.named source.old) in
-        option_map (λ word. word.now) options.entry.explain ≡ None
+        option_map (λ word. word.now) options.entry.explain ≡ None → options.entry.try_headers ≡ false
         → printing_of options.entry.rows options.entry.annotate ≡ None
         → IsUnread source.old source.new sink.old sink.new result
         ⊎ TellsOf options.entry.json options.entry.follow trace (S.left source.new) (S.before source.new)
         (K.taken sink.old) (K.taken sink.new) (K.failures sink.new ≡ K.failures sink.old) result }
     ensures printed { let name = option_map (λ name. name.now) options.entry.trace in
         let trace = trace_of name (S.left source.old) (S.named source.old) in
-        option_map (λ word. word.now) options.entry.explain ≡ None
+        option_map (λ word. word.now) options.entry.explain ≡ None → options.entry.try_headers ≡ false
         → IfSome (printing_of options.entry.rows options.entry.annotate) (λ printing.
         IsPrintAnswer (is_refused printing.form options.entry.json options.entry.comments)
         printing source.old source.new sink.old sink.new trace
         (S.left source.new) (S.before source.new) (K.taken sink.old) (K.taken sink.new)
         (K.failures sink.new ≡ K.failures sink.old) result) }
+    ensures tried { let name = option_map (λ name. name.now) options.entry.trace in
+        let trace = trace_of name (S.left source.old) (S.named source.old) in
+        option_map (λ word. word.now) options.entry.explain ≡ None → options.entry.try_headers ≡ true
+        → IsTryAnswer (cannot_try options.entry.json options.entry.follow options.entry.rows (is_some options.entry.annotate))
+        source.old source.new sink.old sink.new trace
+        (S.left source.new) (S.before source.new) (K.taken sink.old) (K.taken sink.new)
+        (K.failures sink.new ≡ K.failures sink.old) result }
     ensures explained { IfSome (option_map (λ word. word.now) options.entry.explain) (λ word.
         (source.new ≡ source.old)
         × IsAnswered word (K.taken sink.old) (K.taken sink.new) result) }
@@ -306,10 +315,15 @@ fn run<S: Input, K: Output, E: Sink, R: Threads + Wait + Clock + Sync>(
 {
     match options.explain {
         Some(word) => explain_word(alloc, word, sink, errors),
-        None => match printing(&options) {
-            Some(printing) => print_trace(alloc, options, printing, source, sink, errors),
-            None => scan_trace(rt, alloc, options, source, sink, errors),
-        },
+        None => {
+            if options.try_headers {
+                return try_trace(alloc, options, source, sink, errors);
+            }
+            match printing(&options) {
+                Some(printing) => print_trace(alloc, options, printing, source, sink, errors),
+                None => scan_trace(rt, alloc, options, source, sink, errors),
+            }
+        }
     }
 }
 
@@ -361,7 +375,8 @@ pub fn program<S: Input, K: Output, E: Sink, R: Threads + Wait + Clock + Sync>(
     // where they ask for JSON. Or it could not be opened, or memory ran out, and nothing was read.
     ensures told { let asked = map (λ word. word.now) words.now in
         let trace = trace_of (named_trace asked) (S.left source.old) (S.named source.old) in
-        words_fault asked ≡ [] → asked_word asked ≡ None → annotates asked ≡ false → prints_rows asked ≡ false
+        words_fault asked ≡ [] → asked_word asked ≡ None → tries_headers asked ≡ false
+        → annotates asked ≡ false → prints_rows asked ≡ false
         → IsUnread source.old source.new sink.old sink.new result
         ⊎ TellsOf (as_json asked) (follows asked) trace (S.left source.new) (S.before source.new)
         (K.taken sink.old) (K.taken sink.new) (K.failures sink.new ≡ K.failures sink.old) result }
@@ -369,7 +384,8 @@ pub fn program<S: Input, K: Output, E: Sink, R: Threads + Wait + Clock + Sync>(
     // or it was refused. Where they ask for JSON with it, they are refused.
     ensures annotated { let asked = map (λ word. word.now) words.now in
         let trace = trace_of (named_trace asked) (S.left source.old) (S.named source.old) in
-        words_fault asked ≡ [] → asked_word asked ≡ None → annotates asked ≡ true → prints_rows asked ≡ false
+        words_fault asked ≡ [] → asked_word asked ≡ None → tries_headers asked ≡ false
+        → annotates asked ≡ true → prints_rows asked ≡ false
         → IsUnread source.old source.new sink.old sink.new result
         ⊎ ((rows : AnyRows) × AreAskedRows asked rows
         × IsAnnotateAnswer (as_json asked) rows source.old source.new sink.old sink.new trace
@@ -379,12 +395,22 @@ pub fn program<S: Input, K: Output, E: Sink, R: Threads + Wait + Clock + Sync>(
     // those of the report, or the trace was refused. Where they ask for an annotation with it, they are refused.
     ensures rows { let asked = map (λ word. word.now) words.now in
         let trace = trace_of (named_trace asked) (S.left source.old) (S.named source.old) in
-        words_fault asked ≡ [] → asked_word asked ≡ None → prints_rows asked ≡ true
+        words_fault asked ≡ [] → asked_word asked ≡ None → tries_headers asked ≡ false → prints_rows asked ≡ true
         → IsUnread source.old source.new sink.old sink.new result
         ⊎ ((rows : AnyRows) × AreAskedRows asked rows
         × IsRowsAnswer (has_comments asked) rows source.old source.new sink.old sink.new trace
         (S.left source.new) (S.before source.new) (K.taken sink.old) (K.taken sink.new)
         (K.failures sink.new ≡ K.failures sink.old) result) }
+    // Where they ask for the headers that explain the rows best, the sink took the lines of all that are tried, or the trace
+    // was refused. Where they ask for a report, for objects or for rows with it, they are refused.
+    ensures tried { let asked = map (λ word. word.now) words.now in
+        let trace = trace_of (named_trace asked) (S.left source.old) (S.named source.old) in
+        words_fault asked ≡ [] → asked_word asked ≡ None → tries_headers asked ≡ true
+        → IsUnread source.old source.new sink.old sink.new result
+        ⊎ IsTryAnswer (cannot_try (as_json asked) (follows asked) (prints_rows asked) (annotates asked))
+        source.old source.new sink.old sink.new trace
+        (S.left source.new) (S.before source.new) (K.taken sink.old) (K.taken sink.new)
+        (K.failures sink.new ≡ K.failures sink.old) result }
     // Where they ask for the explanation of a word or a line the source is not asked, and the table answers.
     ensures explained { let asked = map (λ word. word.now) words.now in
         (word : List ℕ) → words_fault asked ≡ [] → asked_word asked ≡ Some word

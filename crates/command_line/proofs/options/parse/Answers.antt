@@ -63,6 +63,9 @@ returns-in-Ok-clause-comments c = c.options_in.ensures.comments ∙ ap is_given 
 pub returns-in-Ok-clause-rows : goal.returns-in-Ok-clause-rows
 returns-in-Ok-clause-rows c = c.options_in.ensures.rows ∙ ap is_given (value_of c (codes "rows"))
 
+pub returns-in-Ok-clause-try_headers : goal.returns-in-Ok-clause-try_headers
+returns-in-Ok-clause-try_headers c = c.options_in.ensures.try_headers ∙ ap is_given (value_of c (codes "try-headers"))
+
 pub returns-in-Ok-clause-explain : goal.returns-in-Ok-clause-explain
 returns-in-Ok-clause-explain c = c.options_in.ensures.explain ∙ value_of c (codes "explain")
 

@@ -1,13 +1,15 @@
 use Rattle.std.proofs.Common.{◌≡◌, ◌∙◌, sym, refl, option_map, Bool, true, false, true≢false, ℕ, List, Option, Some, None, IfSome, inr, map, subst, codes, ◌⊎◌}
-use Rattle.std.specs.Prelude.{MatchOption}
+use Rattle.std.specs.Prelude.{MatchOption, is_some}
 use Rattle.annotated_trace.specs.declared.rows.Rows.{Rows}
 use Rattle.annotated_trace.specs.declared.rows.Rows.TheVariants.{All}
 use Rattle.clap.specs.Words.{first_of, matches_of}
 use Rattle.command_line.specs.Explaining.{IsAnswered}
-use Rattle.command_line.specs.Options.{AreAskedRows, AreRowsBy, annotates, annotates_by, command, follows, named_trace}
+use Rattle.command_line.specs.Options.{AreAskedRows, AreRowsBy, annotates, annotates_by, as_json, command, follows, named_trace, prints_rows}
 use Rattle.command_line.specs.Printing.{IsPrintAnswer, is_refused, printing_of}
 use Rattle.command_line.specs.declared.options.Form.TheVariants.{Comments, Objects}
 use Rattle.command_line.specs.declared.options.Printing.{Printing}
+use Rattle.command_line.specs.Trying.{IsTryAnswer, cannot_try}
+use Rattle.command_line.proofs.TryLemmas.{annotating}
 use Rattle.command_line.specs.Program.{IsTold, IsUnread, trace_of}
 use Rattle.command_line.proofs.program.program.Given.{Over}
 use Rattle.command_line.proofs.program.program.Goals as goal
@@ -56,12 +58,12 @@ as_objects words false asked P h told p = absurd (true≢false (sym told))
 
 pub returns-in-Ok-clause-told : goal.returns-in-Ok-clause-told
 unfolding Tells AsksFor
-returns-in-Ok-clause-told g c right unasked unannotated plain =
+returns-in-Ok-clause-told g c right unasked untried unannotated plain =
     let words : List (List ℕ) = map (λ word. word.now) c.args.words.now in
     let none = none_printed words c.in-Ok.options.rows c.in-Ok.options.annotate c.in-Ok.ensures.annotate unannotated (c.in-Ok.ensures.rows ∙ plain) in
     subst (λ json. Tells g c json (follows words) (named_trace words)) c.in-Ok.ensures.json
     (subst (λ followed. Tells g c c.in-Ok.options.json followed (named_trace words)) c.in-Ok.ensures.follow
-    (subst (λ name. Tells g c c.in-Ok.options.json c.in-Ok.options.follow name) c.in-Ok.ensures.trace (c.run.ensures.told (c.in-Ok.ensures.explain ∙ unasked) none)))
+    (subst (λ name. Tells g c c.in-Ok.options.json c.in-Ok.options.follow name) c.in-Ok.ensures.trace (c.run.ensures.told (c.in-Ok.ensures.explain ∙ unasked) (c.in-Ok.ensures.try_headers ∙ untried) none)))
 
 -- what is answered where rows of a trace of this name are printed
 Prints : (g : Over) → (c : goal.After-run g) → (refused : Bool) → (name : Option (List ℕ)) → Printing → Type 0
@@ -72,21 +74,38 @@ Prints g c refused name printing =
 
 pub returns-in-Ok-clause-annotated : goal.returns-in-Ok-clause-annotated
 unfolding Prints AsksFor
-returns-in-Ok-clause-annotated g c right unasked asked plain =
+returns-in-Ok-clause-annotated g c right unasked untried asked plain =
     let words : List (List ℕ) = map (λ word. word.now) c.args.words.now in
     let name : Option (List ℕ) = option_map (λ name. name.now) c.in-Ok.options.trace in
-    let of = with_comments words c.in-Ok.options.rows c.in-Ok.options.annotate (λ printing. Prints g c (is_refused printing.form c.in-Ok.options.json c.in-Ok.options.comments) name printing) c.in-Ok.ensures.annotate asked (c.in-Ok.ensures.rows ∙ plain) (c.run.ensures.printed (c.in-Ok.ensures.explain ∙ unasked)) in
+    let of = with_comments words c.in-Ok.options.rows c.in-Ok.options.annotate (λ printing. Prints g c (is_refused printing.form c.in-Ok.options.json c.in-Ok.options.comments) name printing) c.in-Ok.ensures.annotate asked (c.in-Ok.ensures.rows ∙ plain) (c.run.ensures.printed (c.in-Ok.ensures.explain ∙ unasked) (c.in-Ok.ensures.try_headers ∙ untried)) in
     let printing : Printing = record { form = Comments; rows = of.0 } in
     inr (of.0, of.1, subst (λ json. Prints g c json (named_trace words) printing) c.in-Ok.ensures.json (subst (λ named. Prints g c c.in-Ok.options.json named printing) c.in-Ok.ensures.trace of.2))
 
 pub returns-in-Ok-clause-rows : goal.returns-in-Ok-clause-rows
 unfolding Prints AsksFor
-returns-in-Ok-clause-rows g c right unasked asked =
+returns-in-Ok-clause-rows g c right unasked untried asked =
     let words : List (List ℕ) = map (λ word. word.now) c.args.words.now in
     let name : Option (List ℕ) = option_map (λ name. name.now) c.in-Ok.options.trace in
-    let of = as_objects words c.in-Ok.options.rows c.in-Ok.options.annotate (λ printing. Prints g c (is_refused printing.form c.in-Ok.options.json c.in-Ok.options.comments) name printing) c.in-Ok.ensures.annotate (c.in-Ok.ensures.rows ∙ asked) (c.run.ensures.printed (c.in-Ok.ensures.explain ∙ unasked)) in
+    let of = as_objects words c.in-Ok.options.rows c.in-Ok.options.annotate (λ printing. Prints g c (is_refused printing.form c.in-Ok.options.json c.in-Ok.options.comments) name printing) c.in-Ok.ensures.annotate (c.in-Ok.ensures.rows ∙ asked) (c.run.ensures.printed (c.in-Ok.ensures.explain ∙ unasked) (c.in-Ok.ensures.try_headers ∙ untried)) in
     let printing : Printing = record { form = Objects; rows = of.0 } in
     inr (of.0, of.1, subst (λ comments. Prints g c comments (named_trace words) printing) c.in-Ok.ensures.comments (subst (λ named. Prints g c c.in-Ok.options.comments named printing) c.in-Ok.ensures.trace of.2))
+
+-- what is answered where headers are tried on a trace of this name
+Tries : (g : Over) → (c : goal.After-run g) → (refused : Bool) → (name : Option (List ℕ)) → Type 0
+Tries g c refused name =
+    IsTryAnswer refused c.args.source.now c.run.new.source c.args.sink.now c.run.new.sink
+    (trace_of name (g.S.Source.left c.args.source.now) (g.S.Input.named c.args.source.now)) (g.S.Source.left c.run.new.source) (g.S.Source.before c.run.new.source)
+    (g.K.Sink.taken c.args.sink.now) (g.K.Sink.taken c.run.new.sink) (g.K.Sink.failures c.run.new.sink ≡ g.K.Sink.failures c.args.sink.now) c.run.result
+
+pub returns-in-Ok-clause-tried : goal.returns-in-Ok-clause-tried
+unfolding Tries
+returns-in-Ok-clause-tried g c right unasked asked =
+    let words : List (List ℕ) = map (λ word. word.now) c.args.words.now in
+    let name : Option (List ℕ) = option_map (λ name. name.now) c.in-Ok.options.trace in
+    let same : cannot_try c.in-Ok.options.json c.in-Ok.options.follow c.in-Ok.options.rows (is_some c.in-Ok.options.annotate) ≡ cannot_try (as_json words) (follows words) (prints_rows words) (annotates words) =
+    (λ j. cannot_try (c.in-Ok.ensures.json j) (c.in-Ok.ensures.follow j) (c.in-Ok.ensures.rows j) (annotating words c.in-Ok.options.annotate c.in-Ok.ensures.annotate j)) in
+    inr (subst (λ refused. Tries g c refused (named_trace words)) same (subst (λ named. Tries g c (cannot_try c.in-Ok.options.json c.in-Ok.options.follow c.in-Ok.options.rows (is_some c.in-Ok.options.annotate)) named) c.in-Ok.ensures.trace
+    (c.run.ensures.tried (c.in-Ok.ensures.explain ∙ unasked) (c.in-Ok.ensures.try_headers ∙ asked))))
 
 pub returns-in-Ok-clause-explained : goal.returns-in-Ok-clause-explained
 returns-in-Ok-clause-explained g c word right asks =

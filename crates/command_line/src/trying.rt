@@ -1,0 +1,129 @@
+//! The headers that explain a trace best, in place of its report.
+
+ghost use Rattle.std.specs.Prelude.{◌≡◌, ◌<◌, ◌≤◌, ◌+◌, ◌^◌, ◌⊎◌, ℕ, List, Some, is_some, option_map, ◌==◌, if◌then◌else◌};
+ghost use Rattle.command_line.specs.Program.{IsUnread, trace_of};
+ghost use Rattle.command_line.specs.Trying.{IsTryAnswer, TriesOf, cannot_try};
+
+use crate::options::Options;
+use crate::program::{USAGE, telling};
+use crate::refusing::{refuse_scan, refuse_trace};
+use line_model::device::Sink;
+use line_model::write_buffer::write_all;
+use std::alloc::Global;
+use streams::input::Input;
+use streams::output::Output;
+use trace_scan::trying::try_headers;
+
+/// What is printed where headers can't be tried with what else is asked for.
+const REFUSAL: &[u8] =
+    b"error: --try-headers prints a line for each header: leave out --json, --follow, --rows, --annotate, --channel and --call\n";
+
+/// The exit status by the findings of the best header.
+fn tried_status(findings: u32) -> u8
+    ensures { result ≡ (if findings == 0 then 0 else 1) }
+{
+    if findings == 0 { 0 } else { 1 }
+}
+
+/// Tries the headers on the trace, and answers the exit status.
+fn run_try<S: Input, K: Output, E: Sink>(
+    alloc: Global,
+    options: Options<'_>,
+    source: &mut S,
+    sink: &mut K,
+    errors: &mut E,
+) -> u8
+    ensures status { TriesOf (S.left source.old) (S.left source.new) (S.before source.new)
+        (K.taken sink.old) (K.taken sink.new) (K.failures sink.new ≡ K.failures sink.old) result }
+    ensures range { result < 4 }
+    ensures asked { S.calls source.new ≤ S.calls source.old + (2 ^ 30 + 1) }
+{
+    source.tell_progress(telling(&options));
+    match try_headers(alloc, source, sink) {
+        Ok(findings) => tried_status(findings),
+        Err(fault) => refuse_scan(alloc, source, sink, errors, fault),
+    }
+}
+
+/// Tries the headers on the trace of a name, and answers the exit status.
+fn try_named<S: Input, K: Output, E: Sink>(
+    alloc: Global,
+    options: Options<'_>,
+    name: &str,
+    source: &mut S,
+    sink: &mut K,
+    errors: &mut E,
+) -> u8
+    ensures status { IsUnread source.old source.new sink.old sink.new result
+        ⊎ TriesOf (S.named source.old name.now) (S.left source.new) (S.before source.new)
+        (K.taken sink.old) (K.taken sink.new) (K.failures sink.new ≡ K.failures sink.old) result }
+    ensures range { result < 4 }
+    ensures asked { S.calls source.new ≤ S.calls source.old + (2 ^ 30 + 1) }
+{
+    match source.open(name) {
+        Ok(()) => run_try(alloc, options, source, sink, errors),
+        Err(fault) => refuse_trace(alloc, errors, name, fault),
+    }
+}
+
+/// Tries the headers on standard input, or on the trace that is named, and answers the exit status.
+fn try_input<S: Input, K: Output, E: Sink>(
+    alloc: Global,
+    options: Options<'_>,
+    source: &mut S,
+    sink: &mut K,
+    errors: &mut E,
+) -> u8
+    ensures status { let name = option_map (λ name. name.now) options.entry.trace in
+        let trace = trace_of name (S.left source.old) (S.named source.old) in
+        IsUnread source.old source.new sink.old sink.new result
+        ⊎ TriesOf trace (S.left source.new) (S.before source.new)
+        (K.taken sink.old) (K.taken sink.new) (K.failures sink.new ≡ K.failures sink.old) result }
+    ensures range { result < 4 }
+    ensures asked { S.calls source.new ≤ S.calls source.old + (2 ^ 30 + 1) }
+{
+    match options.trace {
+        Some(name) => try_named(alloc, options, name, source, sink, errors),
+        None => run_try(alloc, options, source, sink, errors),
+    }
+}
+
+/// Whether headers can't be tried with what else is asked for.
+fn cannot_try(options: &Options<'_>) -> bool
+    ensures { result ≡ cannot_try options.now.json options.now.follow options.now.rows (is_some options.now.annotate) }
+{
+    options.json || options.follow || options.rows || options.annotate.is_some()
+}
+
+/// Prints with what headers can't be tried.
+fn refuse_try<E: Sink>(errors: &mut E) -> u8
+    ensures { result ≡ 64 }
+{
+    let _ = write_all(errors, REFUSAL);
+    USAGE
+}
+
+/// Tries the headers on standard input, or on the trace that is named, and answers the exit status; refuses where it can't
+/// be done with what else is asked for.
+pub(crate) fn try_trace<S: Input, K: Output, E: Sink>(
+    alloc: Global,
+    options: Options<'_>,
+    source: &mut S,
+    sink: &mut K,
+    errors: &mut E,
+) -> u8
+    ensures answer { let name = option_map (λ name. name.now) options.entry.trace in
+        let trace = trace_of name (S.left source.old) (S.named source.old) in
+        IsTryAnswer (cannot_try options.entry.json options.entry.follow options.entry.rows (is_some options.entry.annotate))
+        source.old source.new sink.old sink.new
+        trace (S.left source.new) (S.before source.new) (K.taken sink.old) (K.taken sink.new)
+        (K.failures sink.new ≡ K.failures sink.old) result }
+    ensures unwritten { result ≡ 64 → sink.new ≡ sink.old }
+    ensures asked { S.calls source.new ≤ S.calls source.old + (2 ^ 30 + 1) }
+{
+    if cannot_try(&options) {
+        refuse_try(errors)
+    } else {
+        try_input(alloc, options, source, sink, errors)
+    }
+}
