@@ -1,14 +1,13 @@
 -- Vectors that are computed lane by lane, and the octets that 32 bytes write.
-use Rattle.std.proofs.Common.{◌≡◌, ◌∙◌, sym, ap, ap₂, refl, subst, ℕ, ◌+◌, ◌*◌, ◌/◌, ◌%◌, ◌^◌, ◌<◌, ◌≤◌, Bool, true, false, cond, List, [], ◌∷◌, map, length, take, get_or, replicate, ltb, arith, w8, get_or-take, length-take-le, ◌++◌}
+use Rattle.std.proofs.Common.{◌≡◌, ◌∙◌, sym, ap, ap₂, refl, subst, ℕ, ◌+◌, ◌*◌, ◌/◌, ◌%◌, ◌^◌, ◌<◌, ◌≤◌, Bool, true, false, cond, List, [], ◌∷◌, map, length, take, get_or, replicate, ltb, arith, w8, get_or-take, length-take-le, inl, inr}
 use Rattle.std.specs.Prelude.{suc, zero, Some}
 use Rattle.std.specs.List.{range_with_len}
 use Rattle.std.proofs.lemmas.Bool.Decides.{nat_tests}
-use Rattle.std.proofs.lemmas.Grind.{common_steps}
 use Rattle.std.proofs.lemmas.List.{get_or-map, length-map}
 use Rattle.std.proofs.lemmas.List.FromFn.{get_or-map-range_with_len}
-use Rattle.std.proofs.lemmas.Simd.{Each1-get_or, map-map, mask_l-lt, mask_l-mod, tops_compared, zip2-map, zip2_splat_left}
+use Rattle.std.proofs.lemmas.Simd.{Each1-from_get_or, Each1-get_or, get_or_wider, map-map, mask_l-lt, mask_l-mod, tops_compared, zip2-map, zip2_splat_left}
 use lib.Count.{count_trailing_zeros, trailing_le, under}
-use lib.Lanes.{Each1, zip2, mask_l, sel_l, top}
+use lib.Lanes.{Each1, chunk, digits_l, number_l, zip2, mask_l, sel_l, top}
 use Rattle.trace_text.specs.Digits.{AreDigitValues, AreOctets, IsDigitValue, octet_of}
 use Rattle.trace_text.proofs.DigitLemmas.{octets-each, right_octet}
 use Rattle.trace_text.proofs.DigitValueLemmas.{are_values, table_value}
@@ -24,9 +23,6 @@ splat_is (x ∷ xs) n y e = ap (λ k. replicate k y) (sym e) ∙ ap (λ r. y ∷
 
 pub joined : (h : ℕ → ℕ → ℕ) (f g : ℕ → ℕ) (v : List ℕ) {a b : List ℕ} → a ≡ map f v → b ≡ map g v → zip2 h a b ≡ map (λ x. h (f x) (g x)) v
 joined h f g v p q = ap₂ (zip2 h) p q ∙ zip2-map h f g v
-
-pub changed : (h f : ℕ → ℕ) (v : List ℕ) {a : List ℕ} → a ≡ map f v → map h a ≡ map (λ x. h (f x)) v
-changed h f v p = ap (map h) p ∙ map-map h f v
 
 chosen : (p : ℕ → Bool) (f g : ℕ → ℕ) (v : List ℕ) → sel_l (map p v) (map f v) (map g v) ≡ map (λ x. cond (p x) (f x) (g x)) v
 chosen p f g [] = refl
@@ -79,42 +75,49 @@ below_lowest p (suc k) (x ∷ xs) i h l = let bits = bit_first (p x) (mask_l (ma
     lane false e zero h l later = e
     lane false e (suc i) h l later = later i (omega (arith, h)) (omega (arith, l))
 
-small : (x : ℕ) → great x ≡ false → x < 16
-small x k = grind (arith, nat_tests)
+not_great : (x : ℕ) → great x ≡ false → x < 16
+not_great x k = grind (arith, nat_tests)
 
 pub leading_small : (v : List ℕ) → length v ≡ 32 → (i : ℕ) → i < count_trailing_zeros 32 (mask_of v) → get_or v i 0 < 16
 leading_small v n i h =
     let few = trailing_le 32 (mask_of v) in
-    small (get_or v i 0) (below_lowest great 32 v i (subst (λ m. i < count_trailing_zeros 32 m) (great_mask v n) h) (omega (arith, h, few, n)))
+    not_great (get_or v i 0) (below_lowest great 32 v i (subst (λ m. i < count_trailing_zeros 32 m) (great_mask v n) h) (omega (arith, h, few, n)))
 
--- the octet of a pair of lanes
-abbrev pub lane_octet : List ℕ → ℕ → ℕ
-lane_octet lanes i = (get_or lanes (2 * i) 0 * 16 % 256 + get_or lanes (2 * i + 1) 0) % 256
+-- the octets that pairs of values make: a pair is a + 256 * b, and its octet is the second byte of that times 4,097
+abbrev pub pair_octets : List ℕ → List ℕ
+pair_octets values = map (λ x. x * 4097 % 65536 / 256) (digits_l 65536 16 (number_l 256 values))
 
--- the octets of the lanes of one vector, which is shuffled with itself
-abbrev pub lane_octets : List ℕ → List ℕ
-lane_octets values = map (lane_octet (values ++ values)) (range_with_len 0 16)
+small_value : (digit value : ℕ) → IsDigitValue digit value → value < 256
+small_value digit value (inl r) = omega (arith, r.0)
+small_value digit value (inr w) = w.1
 
-lane : (values : List ℕ) (i : ℕ) → length values ≡ 32 → i < 32 → get_or (values ++ values) i 0 ≡ get_or values i 0
-lane values i n h = grind (arith, common_steps)
+chunk_two : (xs : List ℕ) (m : ℕ) → suc m < length xs → chunk m 2 xs ≡ get_or xs m 0 ∷ get_or xs (suc m) 0 ∷ []
+chunk_two [] m h = absurd (omega (arith, h))
+chunk_two (x ∷ []) m h = absurd (omega (arith, h))
+chunk_two (x ∷ y ∷ xs) zero h = refl
+chunk_two (x ∷ y ∷ xs) (suc m) h = chunk_two (y ∷ xs) m (omega (arith, h))
 
 one_octet : (bytes values : List ℕ) (n i : ℕ) → length values ≡ 32 → ((i : ℕ) → i < 32 → IsDigitValue (get_or bytes i 0) (get_or values i 0)) → ((i : ℕ) → i < n → get_or values i 0 < 16) → n ≤ 32 → 2 * i + 1 < n →
-    octet_of (get_or bytes (2 * i) 0) (get_or bytes (2 * i + 1) 0) ≡ Some (get_or (lane_octets values) i 0)
+    octet_of (get_or bytes (2 * i) 0) (get_or bytes (2 * i + 1) 0) ≡ Some (get_or (pair_octets values) i 0)
 one_octet bytes values n i size are small few h =
     let a : ℕ = get_or values (2 * i) 0 in
     let b : ℕ = get_or values (2 * i + 1) 0 in
     let ha : a < 16 = small (2 * i) (omega (arith, h)) in
     let hb : b < 16 = small (2 * i + 1) h in
-    let octet : lane_octet (values ++ values) i ≡ a * 16 + b = omega (arith, ha, hb, lane values (2 * i) size (omega (arith, h, few)), lane values (2 * i + 1) size (omega (arith, h, few))) in
-    right_octet (get_or bytes (2 * i) 0) (get_or bytes (2 * i + 1) 0) a b (get_or (lane_octets values) i 0)
-    (get_or-map-range_with_len (lane_octet (values ++ values)) 0 16 i i 0 (omega (arith, h, few)) (omega arith) ∙ octet)
-    (are (2 * i) (omega (arith, h, few))) (are (2 * i + 1) (omega (arith, h, few))) ha hb
+    let bytes_are : Each1 (λ x. x < 256) values = Each1-from_get_or (λ x. x < 256) values 0 (λ k l. small_value (get_or bytes k 0) (get_or values k 0) (are k (omega (arith, l, size)))) in
+    let next : suc (2 * i) ≡ 2 * i + 1 = omega arith in
+    let pair : get_or (digits_l 65536 16 (number_l 256 values)) i 0 ≡ a + 256 * b =
+    get_or_wider 256 2 65536 16 values i refl bytes_are (omega (arith, h, few))
+    ∙ ap (number_l 256) (chunk_two values (2 * i) (omega (arith, h, few, size)) ∙ ap (λ (k : ℕ). get_or values (2 * i) 0 ∷ get_or values k 0 ∷ []) next) ∙ omega arith in
+    let octet : get_or (pair_octets values) i 0 ≡ a * 16 + b =
+    get_or-map (λ x. x * 4097 % 65536 / 256) (digits_l 65536 16 (number_l 256 values)) i 0 0 (omega (arith, h, few)) ∙ ap (λ (x : ℕ). x * 4097 % 65536 / 256) pair ∙ omega (arith, ha, hb) in
+    right_octet (get_or bytes (2 * i) 0) (get_or bytes (2 * i + 1) 0) a b (get_or (pair_octets values) i 0) octet (are (2 * i) (omega (arith, h, few))) (are (2 * i + 1) (omega (arith, h, few))) ha hb
 
--- the first pairs of lanes that are values of digits
+-- the first pairs that are values of digits
 pub block-octets : (bytes values : List ℕ) (n k : ℕ) → length bytes ≡ 32 → length values ≡ 32 → ((i : ℕ) → i < 32 → IsDigitValue (get_or bytes i 0) (get_or values i 0)) → ((i : ℕ) → i < n → get_or values i 0 < 16) → n ≤ 32 → 2 * k ≤ n →
-    AreOctets (take (2 * k) bytes) (take k (lane_octets values))
+    AreOctets (take (2 * k) bytes) (take k (pair_octets values))
 block-octets bytes values n k size lanes are small few h =
-    let octets : List ℕ = lane_octets values in
+    let octets : List ℕ = pair_octets values in
     let bytes_len : length (take (2 * k) bytes) ≡ 2 * k = length-take-le (2 * k) bytes (omega (arith, size, few, h)) in
     let octets_len : length (take k octets) ≡ k = length-take-le k octets (omega (arith, few, h)) in
     octets-each (take (2 * k) bytes) (take k octets) (omega (arith, bytes_len, octets_len)) (λ i l.

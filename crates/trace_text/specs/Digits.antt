@@ -17,9 +17,9 @@ AreOctets [] [] = Unit {0}
 AreOctets (high ∷ low ∷ digits) (octet ∷ octets) = (octet_of high low ≡ Some octet) × AreOctets digits octets
 AreOctets _ _ = ⊥
 
--- the value of a digit, or 16 and more for another byte
+-- the value of a digit, or a byte of 16 and more for another one
 abbrev pub IsDigitValue : ℕ → ℕ → Type 0
-IsDigitValue digit value = ((value < 16) × (hex_digit_value digit ≡ Some value)) ⊎ ((15 < value) × (hex_digit_value digit ≡ None))
+IsDigitValue digit value = ((value < 16) × (hex_digit_value digit ≡ Some value)) ⊎ ((15 < value) × (value < 256) × (hex_digit_value digit ≡ None))
 
 -- each of some bytes has its value
 abbrev pub AreDigitValues : List ℕ → List ℕ → Type 0

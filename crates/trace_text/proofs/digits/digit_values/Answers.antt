@@ -1,6 +1,6 @@
 use Rattle.std.proofs.Common.{refl, cond, ltb, w8}
 use Rattle.std.proofs.lemmas.Simd.{below_from_Fits}
-use Rattle.trace_text.proofs.LaneLemmas.{all_values, changed, itself, joined, selected, splat_is}
+use Rattle.trace_text.proofs.LaneLemmas.{all_values, itself, joined, selected, splat_is}
 use Rattle.trace_text.proofs.digits.digit_values.Goals as goal
 
 pub returns : goal.returns
@@ -11,6 +11,6 @@ returns c =
     let most = selected _ _ _ v (joined (λ a b. cond (ltb a b) 255 0) _ _ v sum (splat_is v 32 6 n)) (splat_is v 32 6 n) sum in
     let digit = joined _ _ _ v (joined _ _ _ v most (splat_is v 32 6 n)) (splat_is v 32 240 n) in
     let upper = joined _ _ _ v (joined _ _ _ v (itself v) (splat_is v 32 223 n)) (splat_is v 32 65 n) in
-    let room = changed _ _ v upper in
-    let letter = joined _ _ _ v upper (selected _ _ _ v (joined (λ a b. cond (ltb a b) 255 0) _ _ v (splat_is v 32 10 n) room) (splat_is v 32 10 n) room) in
+    let few = selected _ _ _ v (joined (λ a b. cond (ltb a b) 255 0) _ _ v upper (splat_is v 32 6 n)) upper (splat_is v 32 6 n) in
+    let letter = joined _ _ _ v few (splat_is v 32 10 n) in
     all_values _ v _ (below_from_Fits w8 v c.fits-bytes.1) (selected _ _ _ v (joined (λ a b. cond (ltb a b) 255 0) _ _ v digit letter) digit letter) refl
