@@ -4,7 +4,7 @@
 ghost use Rattle.std.specs.Prelude.{option_to_list, ◌≡◌, ℕ, ◌<◌, ◌+◌, ◌^◌, List, ◌++◌, IfOk, OnOk, OnErr};
 ghost use Rattle.std.specs.Vec.{vec_len, vec_capacity};
 ghost use Rattle.line_model.specs.observer.Observer.{line_in_r1};
-ghost use Rattle.restart_epochs.specs.Walks.{channel_in, epoch_after, route_finding, turn_of, IsAdvanced, IsFresh, IsSameWalk, IsStep};
+ghost use Rattle.restart_epochs.specs.Walks.{epoch_after, route_finding, turn_of, IsAdvanced, IsFresh, IsSameWalk, IsStep};
 
 use crate::restart::{Restart, Route};
 use line_model::finding::{Code, Finding};
@@ -23,18 +23,6 @@ pub enum Turn {
     Ends,
     /// It does nothing to them.
     Stays,
-}
-
-impl Turn {
-    /// The logical channel that takes the row, if one does.
-    pub fn channel(self) -> Option<u16>
-        ensures { result ≡ channel_in self }
-    {
-        match self {
-            Turn::ToChannel(channel) => Some(channel),
-            _ => None,
-        }
-    }
 }
 
 /// What a row does to a walk.
