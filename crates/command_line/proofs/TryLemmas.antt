@@ -1,5 +1,5 @@
 -- The exit status where headers are tried.
-use Rattle.std.proofs.Common.{◌≡◌, ◌≢◌, ◌∙◌, sym, ap, refl, subst, inl, inr, ◌⊎◌, ℕ, zero, suc, ◌<◌, ◌||◌, Bool, true, false, List, Option, None, Some, arith, cond, ◌==◌}
+use Rattle.std.proofs.Common.{◌≡◌, ◌≢◌, ◌∙◌, sym, refl, inl, inr, ◌⊎◌, ℕ, zero, suc, true, false, List, Option, None, Some, arith, cond, ◌==◌}
 use Rattle.std.specs.Prelude.{MatchOption, is_some}
 use Rattle.std.proofs.lemmas.Bool.Decides.{nat_tests}
 use Rattle.line_model.specs.declared.fault.Fault.{Fault}
@@ -10,7 +10,7 @@ use Rattle.trace_scan.specs.Readings.{IsRefusal}
 use Rattle.trace_scan.specs.TriedLines.{HasTried, HasTriedPart}
 use Rattle.command_line.specs.Options.{AreAskedRows, annotates}
 use Rattle.command_line.specs.Program.{fault_status}
-use Rattle.command_line.specs.Trying.{IsTryStatus, IsTryStopped}
+use Rattle.command_line.specs.Trying.{IsTryStatus}
 
 some_status : (m : ℕ) → cond {A = ℕ} (suc m == 0) 0 1 ≡ 1
 some_status m = grind (arith, nat_tests)

@@ -1,5 +1,5 @@
 -- A header with other numbers in their ranges.
-use Rattle.std.proofs.Common.{◌≡◌, ◌∙◌, sym, ap, ℕ, ◌&&◌, ◌==◌, Bool, true, Option, Some}
+use Rattle.std.proofs.Common.{◌≡◌, ℕ, ◌&&◌, ◌==◌, true}
 use Rattle.std.specs.List.{list_any}
 use Rattle.std.proofs.lemmas.Bool.{and_parts}
 use Rattle.line_model.specs.basics.Limits.{is_channels, is_interface, is_numbering, packet_sizes}

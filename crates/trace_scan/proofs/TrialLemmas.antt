@@ -1,5 +1,5 @@
 -- What one more row does to the observer of a header, and what it counts.
-use Rattle.std.proofs.Common.{◌≡◌, ◌≢◌, ◌∙◌, sym, ap, subst, refl, ℕ, ◌+◌, ◌-◌, ◌≤◌, ◌<◌, ◌&&◌, Bool, true, false, not, cond, List, [], ◌∷◌, ◌++◌, map, length, sum, Option, Some, None, arith, append-nil, length-append}
+use Rattle.std.proofs.Common.{◌≡◌, ◌≢◌, ◌∙◌, sym, ap, subst, refl, ℕ, ◌+◌, ◌-◌, ◌≤◌, ◌&&◌, Bool, true, false, not, cond, List, [], ◌∷◌, ◌++◌, map, length, sum, Option, Some, None, arith, append-nil, length-append}
 use Rattle.std.specs.List.{filter_map, flat_map}
 use Rattle.std.specs.Option.{option_to_list}
 use Rattle.std.specs.Prelude.{IfSome}
@@ -9,14 +9,12 @@ use Rattle.std.proofs.lemmas.List.Elements.{filter_map-append}
 use Rattle.line_model.specs.declared.interface.Interface.{Interface}
 use Rattle.line_model.specs.declared.event.Event.{Event}
 use Rattle.line_model.specs.declared.event.What.{What}
-use Rattle.line_model.specs.declared.event.What.TheVariants.{Found as FoundEvent, Data}
 use Rattle.line_model.specs.declared.finding.Finding.{Finding}
 use Rattle.line_model.specs.declared.verdict.Route.{Route}
 use Rattle.line_model.specs.declared.verdict.Route.TheVariants.{ToChannel, Leave, Enter, Found, Pass}
 use Rattle.line_model.specs.basics.Records.{Row, Item}
-use Rattle.line_model.specs.basics.Octets.{channel_of}
 use Rattle.line_model.specs.channels.Channels.{Channel, fresh, is_open}
-use Rattle.line_model.specs.channels.RestartMachine.{LineState, Routing, line_step}
+use Rattle.line_model.specs.channels.RestartMachine.{LineState, line_step}
 use Rattle.line_model.specs.observer.Machine.{Machine, Observer, after, after_routed, line_moved, walk}
 use Rattle.line_model.specs.observer.MachineEvents.{RowEvent, stamp, closed_events, row_events as all_row_events, row_events_routed, told, walk_events}
 use Rattle.line_model.specs.observer.Calls.{all_lengths}
@@ -26,7 +24,6 @@ use Rattle.line_model.specs.packets.Classes.{header_length, packet_of}
 use Rattle.line_model.specs.pieces.Plan.{has_some}
 use Rattle.line_model.proofs.PacketClass.{class_is}
 use Rattle.call_accounts.proofs.CountedLemmas.{sum-more}
-use Rattle.channel_run.specs.Run.{row_events}
 use Rattle.restart_epochs.specs.Cutting.{observer}
 use Rattle.restart_epochs.specs.declared.walk.Turn.TheVariants.{ToChannel as GoesToChannel}
 use Rattle.line_model.specs.basics.Bounds.{IsItem}
@@ -35,10 +32,10 @@ use Rattle.restart_epochs.specs.declared.walk.Step.{Step}
 use Rattle.restart_epochs.specs.declared.walk.Turn.{Turn}
 use Rattle.restart_epochs.proofs.Epochs.{observer_more}
 use Rattle.restart_epochs.proofs.KeptLine.{kept_line}
-use Rattle.restart_epochs.proofs.LineFindings.{events_append, found_here, to_none}
+use Rattle.restart_epochs.proofs.LineFindings.{events_append, found_here}
 use Rattle.restart_epochs.proofs.Routes.{is_to_channel, is_quiet, fits, leaves_at, enters_at, quiet_at}
 use Rattle.restart_epochs.proofs.Steps.{on_channel, routed_to, routed_none}
-use Rattle.trace_scan.specs.Tried.{events_after, is_data, states_after, tally_of, uncounted, uncounted_in}
+use Rattle.trace_scan.specs.Tried.{events_after, is_data, states_after, uncounted, uncounted_in}
 
 -- ---- the events of one more row
 

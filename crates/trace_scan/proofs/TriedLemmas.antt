@@ -16,12 +16,11 @@ use Rattle.trace_scan.specs.declared.tried_lines.Tried.{Tried}
 use Rattle.trace_scan.proofs.ScanLemmas.{end_refused, report_scan}
 use Rattle.line_model.specs.declared.interface.Interface.{Interface}
 use Rattle.line_model.specs.basics.Records.{Row}
-use Rattle.line_model.specs.text.Text.{early_head, early_rows, fault, head, rows}
+use Rattle.line_model.specs.text.Text.{early_head, early_rows, fault, rows}
 use Rattle.channel_run.specs.declared.run.Channel.{Ghosts as Machine}
 use Rattle.trace_text.specs.Progress.{Progress}
 use Rattle.trace_text.specs.StandsFor.{IsFaultOf, IsTextFault, StandsFor, ReadsChunk, TakesRow}
-use Rattle.trace_scan.specs.TextCuts.{IsTrace}
-use Rattle.trace_scan.specs.Trials.{AreTrials, AreTried, HasTaken, IsTriedText, IsTrying}
+use Rattle.trace_scan.specs.Trials.{AreTrials, AreTried, HasTaken, IsTriedText}
 use Rattle.trace_scan.specs.declared.trials.Trials.{Trials}
 use Rattle.trace_scan.specs.declared.tried_text.TriedText.{TriedText}
 use Rattle.trace_scan.proofs.Heads.{header_stays}

@@ -1,5 +1,5 @@
 -- A trial with one more row.
-use Rattle.std.proofs.Common.{◌≡◌, ◌≢◌, ◌∙◌, sym, ap, subst, refl, ℕ, ◌+◌, ◌-◌, ◌≤◌, ◌<◌, ◌^◌, Bool, true, false, eqb, List, [], ◌∷◌, ◌++◌, map, length, sum, sum_by, Option, Some, None, arith, length-append, option_to_list}
+use Rattle.std.proofs.Common.{◌≡◌, ◌≢◌, ◌∙◌, sym, ap, subst, refl, ℕ, ◌+◌, ◌≤◌, ◌^◌, Bool, true, false, eqb, List, [], ◌∷◌, ◌++◌, map, length, sum, sum_by, Option, arith, length-append, option_to_list}
 use Rattle.std.specs.Prelude.{All, slice_get}
 use Rattle.std.proofs.lemmas.Bool.{eqb-true, eqb-false}
 use Rattle.std.proofs.lemmas.List.Sums.{sum_by_push}
@@ -7,9 +7,9 @@ use Rattle.std.proofs.lemmas.List.Elements.{All-head, All-tail}
 use Rattle.line_model.specs.declared.interface.Interface.{Interface}
 use Rattle.line_model.specs.declared.event.Event.{Event}
 use Rattle.line_model.specs.declared.finding.Finding.{Finding}
-use Rattle.line_model.specs.basics.Records.{Row, Item}
+use Rattle.line_model.specs.basics.Records.{Row}
 use Rattle.line_model.specs.channels.Channels.{Channel, fresh}
-use Rattle.line_model.specs.observer.Report.{findings_of, report_of}
+use Rattle.line_model.specs.observer.Report.{findings_of}
 use Rattle.line_model.proofs.Rising.{RisesFrom, rises-from_index}
 use Rattle.channel_run.specs.Run.{row_events}
 use Rattle.channel_run.specs.declared.run.Channel.{Ghosts as Machine}
@@ -20,7 +20,7 @@ use Rattle.restart_epochs.specs.OpenLanes.{OpenLanes, no_lanes, value_at}
 use Rattle.restart_epochs.specs.declared.walk.EpochWalk.{EpochWalk}
 use Rattle.restart_epochs.specs.declared.walk.Step.{Step}
 use Rattle.restart_epochs.specs.declared.walk.Turn.{Turn}
-use Rattle.restart_epochs.specs.declared.walk.Turn.TheVariants.{ToChannel, Ends, Stays}
+use Rattle.restart_epochs.specs.declared.walk.Turn.TheVariants.{ToChannel}
 use Rattle.trace_scan.specs.TextCuts.{IsTrace}
 use Rattle.trace_scan.specs.Tried.{AreLanesOf, HasWalked, IsFew, IsLaneOf, events_after, states_after, tally_of, uncounted_in}
 use Rattle.trace_scan.specs.declared.trial.Tally.{Tally}

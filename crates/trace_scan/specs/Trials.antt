@@ -1,11 +1,9 @@
 -- The trials of all headers.
 use Rattle.std.specs.Prelude.{◌≡◌, ℕ, List, [], ◌∷◌, ◌++◌, Option, Some, None}
 use Rattle.line_model.specs.basics.Records.{Row}
-use Rattle.line_model.specs.declared.fault.Fault.{Fault}
 use Rattle.line_model.specs.declared.interface.Interface.{Interface}
 use Rattle.line_model.specs.text.Text.{early_rows, fault, head, rows}
 use Rattle.channel_run.specs.declared.run.Channel.{Ghosts as Machine}
-use Rattle.trace_text.specs.Progress.{Progress}
 use Rattle.trace_text.specs.StandsFor.{StandsFor}
 use Rattle.trace_scan.specs.Headers.{headers_of, headers_tried, rows_with_format}
 use Rattle.trace_scan.specs.Tried.{HasWalked}

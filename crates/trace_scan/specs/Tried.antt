@@ -3,15 +3,13 @@ use Rattle.std.specs.Prelude.{◌≡◌, ℕ, ◌-◌, ◌≤◌, ◌+◌, Bool,
 use Rattle.line_model.specs.basics.Records.{Row}
 use Rattle.line_model.specs.channels.ChannelStep.{channel_step}
 use Rattle.line_model.specs.channels.Channels.{Channel, fresh}
-use Rattle.line_model.specs.channels.RestartMachine.{LineState}
 use Rattle.line_model.specs.declared.event.Event.{Event}
 use Rattle.line_model.specs.declared.interface.Interface.{Interface}
-use Rattle.line_model.specs.declared.packet.Class.TheVariants.{Data}
 use Rattle.line_model.specs.declared.packet.Packet.{Packet}
 use Rattle.line_model.specs.declared.packet.Packet.TheVariants as packet
 use Rattle.line_model.specs.declared.packet.PacketKind.TheVariants as kind
 use Rattle.line_model.specs.observer.Calls.{all_lengths}
-use Rattle.line_model.specs.observer.Machine.{Observer, with_state}
+use Rattle.line_model.specs.observer.Machine.{with_state}
 use Rattle.line_model.specs.observer.MachineEvents.{told}
 use Rattle.line_model.specs.observer.Observer.{event_of, start, x25}
 use Rattle.line_model.specs.observer.Report.{report_of}

@@ -1,4 +1,4 @@
-use Rattle.std.proofs.Common.{◌∙◌, sym}
+use Rattle.std.proofs.Common.{sym}
 use Rattle.trace_text.proofs.HeaderLemmas.{interface_with-some, unlawful_numbering, unlawful_size}
 use Rattle.trace_scan.proofs.HeaderLemmas.{lawful_numbers}
 use Rattle.trace_scan.proofs.headers.with_numbers.Goals as goal

@@ -1,4 +1,4 @@
-use Rattle.std.proofs.Common.{◌≡◌, ◌∙◌, ◌++◌, ap, sym, subst, ℕ, Some}
+use Rattle.std.proofs.Common.{◌∙◌, ◌++◌, sym, subst, ℕ, Some}
 use Rattle.line_model.specs.basics.Bounds.{IsItem}
 use Rattle.line_model.specs.channels.ChannelStep.{channel_step}
 use Rattle.channel_run.specs.Run.{row_events}

@@ -1,4 +1,4 @@
-use Rattle.std.proofs.Common.{◌≡◌, ◌++◌, [], List, take}
+use Rattle.std.proofs.Common.{◌++◌, [], List, take}
 use Rattle.std.specs.List.{filter_map}
 use Rattle.line_model.specs.basics.Limits.{packet_sizes}
 use Rattle.line_model.specs.declared.interface.Interface.{Interface}

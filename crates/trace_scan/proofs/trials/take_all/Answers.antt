@@ -1,4 +1,4 @@
-use Rattle.std.proofs.Common.{◌≡◌, ◌∙◌, ◌+◌, ◌++◌, ◌∷◌, [], ℕ, List, suc, ap, sym, subst, arith, length, set}
+use Rattle.std.proofs.Common.{◌≡◌, ◌+◌, ◌++◌, ◌∷◌, [], ℕ, suc, ap, sym, subst, arith, length, set}
 use Rattle.trace_scan.specs.Trials.{AreTrials}
 use Rattle.trace_scan.proofs.TrialsLemmas.{AreOnWay, all_on_way, next_on_way, one_on_way, written}
 use Rattle.trace_scan.proofs.trials.take_all.Goals as goal

@@ -1,6 +1,6 @@
-use Rattle.std.proofs.Common.{◌≡◌, ◌++◌, ◌∙◌, ap, List, ℕ, subst, append_assoc, codes}
+use Rattle.std.proofs.Common.{◌≡◌, ◌++◌, List, ℕ, subst, append_assoc, codes}
 use Rattle.line_model.specs.basics.Written.{Writes}
-use Rattle.trace_scan.specs.TriedLines.{column, header_line, tried_line}
+use Rattle.trace_scan.specs.TriedLines.{column, header_line}
 use Rattle.trace_scan.proofs.tried_lines.put_line.Goals as goal
 
 joined : (t a b d s h : List ℕ) → ((((t ++ a) ++ b) ++ d) ++ s) ++ h ≡ t ++ (a ++ (b ++ (d ++ (s ++ h))))

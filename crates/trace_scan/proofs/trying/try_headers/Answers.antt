@@ -1,4 +1,4 @@
-use Rattle.std.proofs.Common.{◌≢◌, ◌≡◌, ◌∙◌, ◌<◌, Err, IfErr, refl, subst, sym, ap}
+use Rattle.std.proofs.Common.{◌<◌, refl, subst}
 use Rattle.std.proofs.lemmas.Result.{IfOk-from_err}
 use Rattle.line_model.specs.declared.fault.Fault.TheVariants.{Write}
 use Rattle.trace_text.proofs.SourceLemmas.{passed_on, same_fault}

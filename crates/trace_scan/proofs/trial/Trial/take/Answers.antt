@@ -1,12 +1,10 @@
-use Rattle.std.proofs.Common.{◌≡◌, ◌∙◌, arith, ap, subst, sym, refl, ◌<◌, ◌+◌, ◌++◌, ◌∷◌, [], length, option_to_list}
+use Rattle.std.proofs.Common.{◌≡◌, ◌∙◌, arith, ap, subst, sym, ◌+◌, ◌++◌, ◌∷◌, [], option_to_list}
 use Rattle.std.specs.Prelude.{IfSome}
 use Rattle.line_model.specs.basics.Bounds.{IsItem}
 use Rattle.line_model.specs.packets.Classes.{packet_of}
-use Rattle.line_model.specs.basics.Records.{Row}
 use Rattle.restart_epochs.specs.Cutting.{observer}
 use Rattle.restart_epochs.specs.Walks.{channel_in}
-use Rattle.trace_scan.specs.TextCuts.{IsTrace}
-use Rattle.trace_scan.specs.Tried.{AreLanesOf, HasWalked, events_after, states_after}
+use Rattle.trace_scan.specs.Tried.{HasWalked, events_after}
 use Rattle.trace_scan.proofs.TrialLemmas.{item_of_turn, none_found, steps}
 use Rattle.trace_scan.proofs.WalkedLemmas.{counts_under, few_next, lanes_under, one_after, turned_under, walked_after}
 use Rattle.trace_scan.proofs.trial.Trial.take.Goals as goal

@@ -1,7 +1,5 @@
 use Rattle.std.proofs.Common.{sym, subst}
-use Rattle.std.specs.Prelude.{IfSome, OnOk}
-use Rattle.line_model.specs.basics.Bounds.{IsItem}
-use Rattle.restart_epochs.specs.Walks.{channel_in}
+use Rattle.std.specs.Prelude.{OnOk}
 use Rattle.trace_scan.specs.Tried.{AreLanesOf, states_after}
 use Rattle.trace_scan.proofs.trial.Trial.turn.Goals as goal
 

@@ -1,7 +1,6 @@
-use Rattle.std.proofs.Common.{◌≡◌, ◌∙◌, ◌+◌, ap, sym, subst, arith, cond, ◌==◌}
-use Rattle.line_model.specs.basics.Octets.{bits, octet}
+use Rattle.std.proofs.Common.{arith}
 use Rattle.trace_scan.specs.Headers.{headers_of}
-use Rattle.trace_scan.proofs.TrialsLemmas.{few_formats, format_more}
+use Rattle.trace_scan.proofs.TrialsLemmas.{few_formats}
 use Rattle.trace_scan.proofs.WalkedLemmas.{few_next}
 use Rattle.trace_scan.proofs.trials.Trials.take.Goals as goal
 

@@ -1,4 +1,4 @@
-use Rattle.std.proofs.Common.{◌∙◌, ◌++◌, subst, sym}
+use Rattle.std.proofs.Common.{◌++◌, subst, sym}
 use Rattle.line_model.specs.text.Text.{early_rows}
 use Rattle.trace_text.specs.StandsFor.{last_row}
 use Rattle.trace_scan.specs.Headers.{headers_tried}

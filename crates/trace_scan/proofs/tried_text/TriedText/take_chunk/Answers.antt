@@ -1,9 +1,8 @@
-use Rattle.std.proofs.Common.{◌≡◌, ◌∙◌, ◌++◌, ◌∷◌, [], ap, refl, subst, sym}
-use Rattle.line_model.specs.text.Text.{early, early_rows}
-use Rattle.trace_text.specs.StandsFor.{IsFaultOf, ReadsChunk, TakesRow}
-use Rattle.trace_scan.specs.Trials.{AreTried}
+use Rattle.std.proofs.Common.{◌++◌, refl}
+use Rattle.line_model.specs.text.Text.{early_rows}
+use Rattle.trace_text.specs.StandsFor.{ReadsChunk, TakesRow}
 use Rattle.trace_scan.proofs.Heads.{next_trace}
-use Rattle.trace_scan.proofs.TriedLemmas.{course_begun, course_end, course_row, course_text, next_tried}
+use Rattle.trace_scan.proofs.TriedLemmas.{course_begun, course_end, course_row, next_tried}
 use Rattle.trace_scan.proofs.tried_text.TriedText.take_chunk.Goals as goal
 
 pub loop-after-init : goal.loop-after-init

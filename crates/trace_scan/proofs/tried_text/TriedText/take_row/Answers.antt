@@ -1,4 +1,4 @@
-use Rattle.std.proofs.Common.{◌≡◌, ◌∙◌, ◌++◌, ◌∷◌, [], Some, ap, subst, sym}
+use Rattle.std.proofs.Common.{◌∙◌, ◌++◌, ◌∷◌, [], ap, subst, sym}
 use Rattle.trace_scan.specs.TextCuts.{IsTrace}
 use Rattle.trace_scan.specs.Trials.{AreTried, IsTrying}
 use Rattle.trace_scan.proofs.TriedLemmas.{same_head}
