@@ -50,7 +50,8 @@ impl<A: Allocator + Copy> Past<A> {
         let Some(last) = observer.last_row() else {
             return Ok(());
         };
-        let facts = self.course.facts(&interface, octets, &last, observer)?;
+        self.course.take(&interface, octets, &last, observer)?;
+        let facts = self.course.facts(&interface, octets, &last, observer);
         if facts.last.finding.is_some() {
             self.before = Some(Before::of_row(&facts));
         }

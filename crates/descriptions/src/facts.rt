@@ -115,7 +115,7 @@ pub struct RowFacts<'a> {
     pub calls: CallMove,
     /// What became of its data.
     pub fate: Fate,
-    /// The octets of the PAD message that is whole in it.
+    /// The octets of the PAD message that it completes, the first 1,025.
     pub message: Option<&'a [u8]>,
 }
 

@@ -97,7 +97,8 @@ impl<A: Allocator + Copy> Past<A> {
         let Some(last) = observer.last_row() else {
             return Ok(());
         };
-        let facts = self.course.facts(&interface, octets, &last, observer)?;
+        self.course.take(&interface, octets, &last, observer)?;
+        let facts = self.course.facts(&interface, octets, &last, observer);
         self.rest.calls.take(&facts, self.course.ended(), time)?;
         self.rest.uncounted.take(&facts);
         if !told {
