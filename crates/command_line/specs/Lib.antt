@@ -1,4 +1,5 @@
 pub mod Options
+pub mod Notes
 pub mod Pasted
 pub mod Explaining
 pub mod Program

@@ -6,6 +6,7 @@ pub mod annotated_scan;
 mod explaining;
 mod help;
 mod json;
+mod notes;
 pub mod options;
 mod pasted;
 mod printing;

@@ -8,8 +8,7 @@ ghost use Rattle.live_report.specs.LastRows.{IsLastRow};
 ghost use Rattle.descriptions.specs.Facts.{AreFactsOf, IsFateOf};
 
 use crate::facts::{
-    CallMove, EndedCall, Fate, Reason, RowFacts, counted_in, data_header, is_clear, is_data,
-    user_data,
+    CallMove, EndedCall, Fate, RowFacts, counted_in, data_header, is_clear, user_data,
 };
 use channel_run::run::Channel;
 use data_transfer::assembler::Assembler;
@@ -19,6 +18,7 @@ use line_model::interface::Interface;
 use line_model::state::{ChannelState, DState, RState, Side};
 use live_report::last_row::{Known, LastRow};
 use live_report::observer::Observer;
+use live_report::uncounted::reason_of;
 use restart_epochs::channel_table::ChannelTable;
 use std::alloc::{AllocError, Allocator};
 use std::boxed::Box;
@@ -290,19 +290,17 @@ fn fate(last: &LastRow, events: &[Event]) -> Fate
 {
     match counted_in(events) {
         Some(counted) => counted,
-        None => passed_over(last),
+        None => passed_over(last, events),
     }
 }
 
 /// What became of the data of a row that was not counted.
-fn passed_over(last: &LastRow) -> Fate
+fn passed_over(last: &LastRow, events: &[Event]) -> Fate
     ensures { IsFateOf [] result }
 {
-    match last.before {
-        _ if !is_data(&last.packet) => Fate::NoData,
-        Known::Restart(_) => Fate::NotCounted(Reason::Restart),
-        Known::Channel(_) if last.finding.is_some() => Fate::NotCounted(Reason::Finding),
-        Known::Channel(view) => Fate::NotCounted(Reason::of_channel(&view)),
+    match reason_of(last, events) {
+        Some(reason) => Fate::NotCounted(reason),
+        None => Fate::NoData,
     }
 }
 

@@ -2,6 +2,7 @@ pub mod Lanes
 pub mod Turns
 pub mod Telling
 pub mod LastRows
+pub mod Uncounted
 pub mod Observing
 pub mod Reports
 pub mod Found
