@@ -16,6 +16,9 @@ CLEAN_REPORT = b"P 0 -\nZ 0 0 0 0 0\n"
 FOUND = HEADER + b"1 T -\n"
 CALL = HEADER + b"1 T 10010B0000\n2 N 10010F\n"
 FOUND_REPORT = b"F 1 T - 38\nP 0 -\nZ 1 1 0 0 0\n"
+GUESSED = b"X25 1 MOD 8 WIN 1 SIZE 128 PVC 1 SVC 1\n1 T 10010048\n2 T 10010249\n3 N 100141\n4 T 1001044A\n5 N 100161\n"
+GUESSED_REPORT = b"F 2 T d1 1\nP 0 -\nZ 5 1 0 1 1\n"
+NOTE = b"x25scan: 2 data packets with 2 octets were not counted: 1 (1 octet) with a finding, 1 (1 octet) while the DCE owes its indication; --annotate shows where\n"
 ANY = re.compile(rb".*", re.DOTALL)
 FULL = b"x25scan: write failed\n  No space left on device (os error 28)\n"
 SHOWN = b" lines a second"
@@ -64,7 +67,7 @@ def word_cases():
     version = pattern(rb"x25scan \d+\.\d+\.\d+\nproved with rattle-kit-\S+ logic [0-9a-f]{16}\n")
     yield Case("the version", ("--version",), report=version)
     yield Case("the version by its letter", ("-V",), report=version)
-    helped = pattern(rb"Reports what .*Usage: x25scan \[OPTIONS\] \[FILE\].*--workers.*--alone.*--follow.*--json.*--annotate.*--rows.*--channel.*--call.*--progress.*--explain.*Examples:\n.*Exit status:\n  0 .*\n  64 .*TRACE.md.*\n")
+    helped = pattern(rb"Reports what .*Usage: x25scan \[OPTIONS\] \[FILE\].*--workers.*--alone.*--follow.*--json.*--annotate.*--rows.*--channel.*--call.*--progress.*--notes.*--explain.*Examples:\n.*Exit status:\n  0 .*\n  64 .*TRACE.md.*\n")
     yield Case("help", ("--help",), report=helped)
     yield Case("help by its letter", ("-h",), report=helped)
     yield Case("an explanation reads no file", ("--explain", "22", "day.trace"), report=pattern(rb"22 \(.*"))
@@ -81,6 +84,24 @@ def progress_cases():
     told = b"x25scan: %d bytes read, 2 lines, " % len(FOUND)
     yield Case("progress counts bytes and lines", ("--alone", "--progress"), FOUND, 1, FOUND_REPORT, pattern(re.escape(told) + rb"\d+ lines a second\n"))
     yield Case("progress is not told by itself where no terminal is", ("--alone",), FOUND, 1, FOUND_REPORT, b"")
+
+
+def note_cases():
+    """The data that was not counted."""
+    for words in (("--notes",), ("--notes", "--alone"), ("--follow", "--notes"), ("--workers", "2", "--alone", "--notes"), ("--notes", "--follow", "--workers", "64")):
+        yield Case(f"a note is printed {words}", words, GUESSED, 1, GUESSED_REPORT, NOTE)
+    yield Case("a note after objects", ("--notes", "--json"), GUESSED, 1, pattern(rb'\{"line":"finding".*\{"line":"sums".*\}\n'), NOTE)
+    yield Case("no note is printed by itself where no terminal is", ("--alone",), GUESSED, 1, GUESSED_REPORT, b"")
+    one = CALL + b"3 T 100102414243\n"
+    yield Case("a note of one packet", ("--notes",), one, 1, ANY, b"x25scan: 1 data packet with 3 octets was not counted: 1 (3 octets) with a finding; --annotate shows where\n")
+    yield Case("no note where all data was counted", ("--notes",), CALL + b"3 T 10010041\n", 0, ANY, b"")
+    yield Case("a refused trace has no note", ("--notes",), GUESSED + b"1 T -\n", 2, b"", pattern(rb"x25scan: line 7: kind 25\n  .*"))
+    workers = b"error: --notes needs a scan of one thread: name --alone in place of --workers\n"
+    yield Case("workers make no note", ("--notes", "--workers", "2"), GUESSED, 64, b"", workers)
+    yield Case("an explanation needs no note", ("--notes", "--workers", "2", "--explain", "22"), report=pattern(rb"22 \(.*"))
+    rows = b"error: --notes is for a report, and --annotate, --rows, --channel and --call print why at each row: leave it out\n"
+    for words in (("--rows",), ("--annotate",), ("--call", "1"), ("--channel", "1"), ("--rows", "--workers", "2")):
+        yield Case(f"rows have no note {words}", ("--notes", *words), GUESSED, 64, b"", rows)
 
 
 def object_cases():
@@ -206,6 +227,39 @@ def slow_terminal(program):
     return [] if (status, report) == (1, FOUND_REPORT) and SHOWN in told else [f"a slow terminal has {(status, report, told)}"]
 
 
+def shown_errors(program, words):
+    """The status, the output and what a terminal shows of the errors of a run."""
+    master, slave = os.openpty()
+    going = subprocess.Popen([program, *words], stdin=subprocess.PIPE, stdout=subprocess.PIPE, stderr=slave)
+    os.close(slave)
+    report = going.communicate(input=GUESSED, timeout=60)[0]
+    told = b""
+    try:
+        while more := os.read(master, 4096):
+            told += more
+    except OSError:
+        pass
+    os.close(master)
+    return going.returncode, report, told.replace(b"\r\n", b"\n")
+
+
+def noting_terminal(program):
+    """A terminal has a note by itself, where one thread may scan."""
+    said = []
+    for words, note in (((), NOTE), (("--alone",), NOTE), (("--follow",), NOTE), (("--workers", "2"), b""), (("--workers", "2", "--alone"), NOTE)):
+        got = shown_errors(program, words)
+        said += [] if got == (1, GUESSED_REPORT, note) else [f"a terminal at {words} has {got}"]
+    return said
+
+
+def full_errors(program):
+    """A note that standard error does not take changes nothing."""
+    with open("/dev/full", "wb") as full:
+        done = subprocess.run([program, "--notes"], input=GUESSED, stdout=subprocess.PIPE, stderr=full, timeout=60, check=False)
+    got = (done.returncode, done.stdout)
+    return [] if got == (1, GUESSED_REPORT) else [f"full errors have {got}"]
+
+
 def device_cases():
     """Devices that fail."""
     for words in ((), ("--alone",), ("--follow",)):
@@ -217,9 +271,11 @@ def device_cases():
     yield Case("the report goes into a closed pipe", run=closed_pipe)
     yield Case("a terminal is read to its end", run=terminal)
     yield Case("progress is told by itself on a terminal", run=slow_terminal)
+    yield Case("a note is printed by itself on a terminal", run=noting_terminal)
+    yield Case("a note on a full device", run=full_errors)
 
 
 def cases():
     """All cases."""
-    for family in (file_cases, word_cases, object_cases, annotation_cases, progress_cases, explain_cases, device_cases):
+    for family in (file_cases, word_cases, object_cases, annotation_cases, progress_cases, note_cases, explain_cases, device_cases):
         yield from family()

@@ -2,7 +2,8 @@
 use Rattle.std.proofs.Common.{◌≡◌, false, true, refl, codes, [], ◌∷◌, Some, None}
 use Rattle.clap.proofs.OnLiterals.{clap_on_literals}
 use Rattle.clap.specs.declared.error.kind.ErrorKind.TheVariants.{ArgumentConflict, DisplayHelp, DisplayVersion, UnknownArgument, ValueValidation}
-use Rattle.command_line.specs.Options.{alone, annotates, as_json, asked_word, asked_workers, follows, named_trace, prints_rows, shows_progress, tries_headers, words_fault}
+use Rattle.command_line.specs.Notes.{notes_refused}
+use Rattle.command_line.specs.Options.{alone, annotates, as_json, asked_word, asked_workers, asks_notes, follows, named_trace, prints_rows, shows_progress, tries_headers, words_fault}
 
 no_arguments : words_fault (codes "x25scan" ∷ []) ≡ []
 unfolding clap_on_literals
@@ -12,9 +13,9 @@ both_arguments : words_fault (codes "x25scan" ∷ codes "--alone" ∷ codes "--w
 unfolding clap_on_literals
 both_arguments = refl
 
-four_workers : asked_workers (codes "x25scan" ∷ []) ≡ Some (codes "4")
+workers_unnamed : asked_workers (codes "x25scan" ∷ []) ≡ None
 unfolding clap_on_literals
-four_workers = refl
+workers_unnamed = refl
 
 two_workers : asked_workers (codes "x25scan" ∷ codes "--follow" ∷ codes "--workers=2" ∷ []) ≡ Some (codes "2")
 unfolding clap_on_literals
@@ -155,6 +156,22 @@ rows_asked = refl
 no_rows_asked : prints_rows (codes "x25scan" ∷ codes "--annotate" ∷ []) ≡ false
 unfolding clap_on_literals
 no_rows_asked = refl
+
+notes_asked : asks_notes (codes "x25scan" ∷ codes "--notes" ∷ codes "day.trace" ∷ []) ≡ true
+unfolding clap_on_literals
+notes_asked = refl
+
+notes_alone : notes_refused (codes "x25scan" ∷ codes "--notes" ∷ codes "--workers" ∷ codes "2" ∷ codes "--alone" ∷ []) ≡ false
+unfolding clap_on_literals
+notes_alone = refl
+
+notes_of_workers : notes_refused (codes "x25scan" ∷ codes "--notes" ∷ codes "--workers" ∷ codes "2" ∷ []) ≡ true
+unfolding clap_on_literals
+notes_of_workers = refl
+
+notes_of_rows : notes_refused (codes "x25scan" ∷ codes "--rows" ∷ codes "--notes" ∷ []) ≡ true
+unfolding clap_on_literals
+notes_of_rows = refl
 
 headers_tried : tries_headers (codes "x25scan" ∷ codes "--try-headers" ∷ codes "day.trace" ∷ []) ≡ true
 unfolding clap_on_literals

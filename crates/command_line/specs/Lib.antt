@@ -1,5 +1,6 @@
 pub mod Channels
 pub mod Options
+pub mod Notes
 pub mod Pasted
 pub mod Explaining
 pub mod Program

@@ -1,4 +1,4 @@
--- The command line: `x25scan [--workers N] [--alone] [--follow] [--json] [--annotate | --rows] [--channel N] [--call N] [--try-headers] [--progress] [--explain [WORD]] [FILE]` (profile).
+-- The command line: `x25scan [--workers N] [--alone] [--follow] [--json] [--annotate | --rows] [--channel N] [--call N] [--try-headers] [--progress] [--notes] [--explain [WORD]] [FILE]` (profile).
 use Rattle.std.specs.Prelude.{◌≡◌, ◌≤◌, ℕ, Bool, false, true, List, [], ◌∷◌, Option, None, Some, MatchOption, codes, pos, if◌then◌else◌}
 use Rattle.std.specs.Str.{bytes_eq}
 use Rattle.std.specs.Str.Parse.{IsNumeral, digits_value, without_leading_plus}
@@ -9,13 +9,12 @@ use Rattle.clap.specs.Simple.{on_top}
 use Rattle.clap.specs.declared.builder.action.ArgAction.TheVariants.{Set, SetTrue}
 use Rattle.clap.specs.declared.builder.value_parser.ValueParser.TheVariants.{Signed}
 
--- `--workers`, a number from 1 to 64, 4 where it is not given
+-- `--workers`, a number from 1 to 64
 abbrev pub workers_rule : Rule
 workers_rule = record (new_rule (codes "workers")) {
   long = Some (codes "workers");
   value_names = 1;
   action = Some Set;
-  defaults = codes "4" ∷ [];
   parser = Some (Signed (pos 1) (pos 64));
 }
 
@@ -70,7 +69,7 @@ with_telling app =
 
 -- with those that ask for more, and the name of the trace
 abbrev pub with_asking : App → App
-with_asking app = with_rule (with_rule (with_rule app (flag_rule (codes "progress"))) explain_rule) trace_rule
+with_asking app = with_rule (with_rule (with_rule (with_rule app (flag_rule (codes "progress"))) (flag_rule (codes "notes"))) explain_rule) trace_rule
 
 abbrev pub command : App
 command = with_asking (with_telling (with_scanning versioned))
@@ -91,16 +90,17 @@ pub record IsNumber (last : ℕ) (text : Text) (n : ℕ) : Type 0 where
   pub some : 1 ≤ n
   pub few : n ≤ last
 
--- the number of workers is the one that a text asks for
+-- the number of workers is the one that a text asks for, and 4 where none does
 abbrev pub HasWorkers : Option Text → ℕ → Type 0
-HasWorkers asked workers = (text : Text) (n : ℕ) → asked ≡ Some text → IsNumber 64 text n → workers ≡ n
+HasWorkers None workers = workers ≡ 4
+HasWorkers (Some text) workers = (n : ℕ) → IsNumber 64 text n → workers ≡ n
 
 -- a number is the one that a text asks for; there is none where no text does
 abbrev pub HasNumber : (last : ℕ) → Option Text → Option ℕ → Type 0
 HasNumber last None number = number ≡ None
 HasNumber last (Some text) number = (n : ℕ) → IsNumber last text n → number ≡ Some n
 
--- how many workers the words ask for: another text than a number from 1 to 64 is a fault of the words
+-- how many workers the words ask for, if they do: another text than a number from 1 to 64 is a fault of the words
 abbrev pub asked_workers : List Text → Option Text
 asked_workers words = first_of (codes "workers") (matches_of command words)
 
@@ -111,6 +111,10 @@ alone words = is_given (first_of (codes "alone") (matches_of command words))
 -- whether the words ask how far the reading is
 abbrev pub shows_progress : List Text → Bool
 shows_progress words = is_given (first_of (codes "progress") (matches_of command words))
+
+-- whether the words ask for a note of the data that was not counted
+abbrev pub asks_notes : List Text → Bool
+asks_notes words = is_given (first_of (codes "notes") (matches_of command words))
 
 -- whether the words ask that the trace be followed
 abbrev pub follows : List Text → Bool

@@ -7,6 +7,7 @@ mod channels;
 mod explaining;
 mod help;
 mod json;
+mod notes;
 pub mod options;
 mod pasted;
 mod printing;

@@ -1,8 +1,8 @@
 //! The command line.
 
-ghost use Rattle.std.specs.Prelude.{◌≡◌, ◌≤◌, IfOk, MatchOption, codes, false, map, option_map, true};
+ghost use Rattle.std.specs.Prelude.{◌≡◌, ◌≤◌, IfOk, MatchOption, codes, false, is_some, map, option_map, true};
 ghost use Rattle.clap.specs.Words.{FailsBy, app_of, first_value, found_of, rule_of};
-ghost use Rattle.command_line.specs.Options.{AreAskedRows, AskFor, HasNumber, HasWorkers, alone, annotates, as_json, asked_word, asked_workers, call_rule, channel_rule, command, explain_rule, flag_rule, follows, has_comments, is_given, named_by, named_trace, prints_rows, shows_progress, trace_rule, tries_headers, versioned, with_asking, with_scanning, with_telling, words_fault, workers_rule};
+ghost use Rattle.command_line.specs.Options.{AreAskedRows, AskFor, HasNumber, HasWorkers, alone, annotates, as_json, asked_word, asked_workers, asks_notes, call_rule, channel_rule, command, explain_rule, flag_rule, follows, has_comments, is_given, named_by, named_trace, prints_rows, shows_progress, trace_rule, tries_headers, versioned, with_asking, with_scanning, with_telling, words_fault, workers_rule};
 
 use crate::help::{ABOUT, AFTER_HELP, VERSION};
 use annotated_trace::rows::Rows;
@@ -35,6 +35,8 @@ pub struct Printing {
 pub struct Options<'a> {
     /// The worker threads, 1 to 64 (profile).
     pub workers: u8,
+    /// Their number was given.
+    pub crew: bool,
     /// The scan of one thread is asked for.
     pub alone: bool,
     /// Each finding is asked for as soon as its packet is known, which one thread does.
@@ -51,6 +53,8 @@ pub struct Options<'a> {
     pub try_headers: bool,
     /// It is asked for that the errors are told how far the reading is, also where they are no terminal.
     pub progress: bool,
+    /// A note is asked for of the data that was not counted, also where the errors are no terminal.
+    pub notes: bool,
     /// The word whose explanation is asked for in place of a scan; empty where the list of all words is.
     pub explain: Option<&'a str>,
     /// The name of the trace; none where it is standard input.
@@ -67,9 +71,8 @@ fn workers<'a>(alloc: Global) -> Arg<'a>
     Arg::new(alloc, "workers")
         .long("workers")
         .value_name("N")
-        .help("Scan with this many worker threads, 1 to 64")
+        .help("Scan with this many worker threads, 1 to 64 (4 where it is left out)")
         .action(ArgAction::Set)
-        .default_value("4")
         .value_parser(value_parser!(u8).range(1..=64))
 }
 
@@ -188,6 +191,11 @@ fn with_asking<'a>(alloc: Global, command: Command<'a>) -> Result<Command<'a>, A
             "progress",
             "Print each second on standard error how far the reading is",
         ))?
+        .arg(flag(
+            alloc,
+            "notes",
+            "Print on standard error how much data was not counted, and why, in one thread",
+        ))?
         .arg(explain(alloc))?
         .arg(trace(alloc))
 }
@@ -289,8 +297,11 @@ fn options_in<'a>(matches: &ArgMatches<'a>) -> Options<'a>
     ensures workers { HasWorkers (first_value (found_of matches.now) (codes "workers")) result.workers }
     ensures alone { result.alone ≡ is_given
         (first_value (found_of matches.now) (codes "alone")) }
+    ensures crew { result.crew ≡ is_some (first_value (found_of matches.now) (codes "workers")) }
     ensures progress { result.progress ≡ is_given
         (first_value (found_of matches.now) (codes "progress")) }
+    ensures notes { result.notes ≡ is_given
+        (first_value (found_of matches.now) (codes "notes")) }
     ensures follow { result.follow ≡ is_given
         (first_value (found_of matches.now) (codes "follow")) }
     ensures json { result.json ≡ is_given (first_value (found_of matches.now) (codes "json")) }
@@ -311,11 +322,13 @@ fn options_in<'a>(matches: &ArgMatches<'a>) -> Options<'a>
     let follow = is_given(matches, "follow");
     let json = is_given(matches, "json");
     let progress = is_given(matches, "progress");
+    let notes = is_given(matches, "notes");
     let comments = is_given(matches, "annotate");
     let rows = is_given(matches, "rows");
     let try_headers = is_given(matches, "try-headers");
     Options {
         workers: workers_in(matches),
+        crew: matches.get_str("workers").is_some(),
         alone,
         follow,
         json,
@@ -324,6 +337,7 @@ fn options_in<'a>(matches: &ArgMatches<'a>) -> Options<'a>
         rows,
         try_headers,
         progress,
+        notes,
         explain: matches.get_str("explain"),
         trace: trace_in(matches),
     }
@@ -336,8 +350,12 @@ pub fn parse<'a>(alloc: Global, words: &'a [&'a str]) -> Result<Options<'a>, Err
         HasWorkers (asked_workers (map (λ word. word.now) words.entry.now)) options.workers) }
     ensures alone { IfOk result (λ options. options.alone
         ≡ alone (map (λ word. word.now) words.entry.now)) }
+    ensures crew { IfOk result (λ options. options.crew
+        ≡ is_some (asked_workers (map (λ word. word.now) words.entry.now))) }
     ensures progress { IfOk result (λ options. options.progress
         ≡ shows_progress (map (λ word. word.now) words.entry.now)) }
+    ensures notes { IfOk result (λ options. options.notes
+        ≡ asks_notes (map (λ word. word.now) words.entry.now)) }
     ensures follow { IfOk result (λ options. options.follow
         ≡ follows (map (λ word. word.now) words.entry.now)) }
     ensures json { IfOk result (λ options. options.json

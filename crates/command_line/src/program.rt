@@ -4,13 +4,15 @@ ghost use Rattle.std.specs.Prelude.{◌≡◌, ◌≢◌, ℕ, ◌<◌, ◌≤�
 ghost use Rattle.clap.specs.Words.{kind_of};
 ghost use Rattle.command_line.specs.Options.{AreAskedRows, annotates, as_json, asked_word, follows, has_comments, named_trace, prints_rows, tries_headers, words_fault};
 ghost use Rattle.command_line.specs.Explaining.{IsAnswered};
+ghost use Rattle.command_line.specs.Notes.{notes_refused, refused_in};
 ghost use Rattle.annotated_trace.specs.declared.rows.Rows.{Rows as AnyRows};
-ghost use Rattle.command_line.specs.Printing.{IsAnnotateAnswer, IsPrintAnswer, IsRowsAnswer, is_refused, printing_of};
+ghost use Rattle.command_line.specs.Printing.{IsAnnotateAnswer, IsPrintAnswer, IsRefused, IsRowsAnswer, is_refused, printing_of};
 ghost use Rattle.command_line.specs.Trying.{IsTryAnswer, cannot_try};
 ghost use Rattle.command_line.specs.Program.{IsFollowStatus, IsStatus, IsUnread, IsWordsStatus, TellsOf, fault_status, summary_status, trace_of, words_status};
 
 use crate::explaining::explain_word;
 use crate::json::scan_json;
+use crate::notes::{print_note, refuse_notes, refuses_notes};
 use crate::options::{Form, Options, Printing, parse};
 use crate::printing::print_trace;
 use crate::refusing::{refuse, refuse_scan, refuse_trace};
@@ -22,6 +24,7 @@ use line_model::device::Sink;
 use line_model::fault::Fault;
 use line_model::totals::Summary;
 use line_model::write_buffer::write_all;
+use live_report::uncounted::Uncounted;
 use std::alloc::Global;
 use std::sync::Wait;
 use std::thread::Threads;
@@ -79,9 +82,10 @@ pub(crate) fn fault_status(fault: Fault) -> u8
     }
 }
 
-/// Scans the trace in one thread, and answers the exit status.
+/// Scans the trace in one thread, prints a note where one is asked for, and answers the exit status.
 fn run_alone<S: Input, K: Output, E: Sink>(
     alloc: Global,
+    notes: bool,
     source: &mut S,
     sink: &mut K,
     errors: &mut E,
@@ -92,15 +96,20 @@ fn run_alone<S: Input, K: Output, E: Sink>(
     ensures range { result < 4 }
     ensures asked { S.calls source.new ≤ S.calls source.old + (2 ^ 30 + 1) }
 {
-    match scan_alone(alloc, source, sink) {
-        Ok(summary) => summary_status(&summary),
+    let mut uncounted = Uncounted::none();
+    match scan_alone(alloc, source, sink, &mut uncounted) {
+        Ok(summary) => {
+            print_note(alloc, notes, &uncounted, errors);
+            summary_status(&summary)
+        }
         Err(fault) => refuse_scan(alloc, source, sink, errors, fault),
     }
 }
 
-/// Follows the trace in one thread, and answers the exit status.
+/// Follows the trace in one thread, prints a note where one is asked for, and answers the exit status.
 fn run_follow<S: Input, K: Output, E: Sink>(
     alloc: Global,
+    notes: bool,
     source: &mut S,
     sink: &mut K,
     errors: &mut E,
@@ -111,8 +120,12 @@ fn run_follow<S: Input, K: Output, E: Sink>(
     ensures range { result < 4 }
     ensures asked { S.calls source.new ≤ S.calls source.old + (2 ^ 30 + 1) }
 {
-    match follow(alloc, source, sink) {
-        Ok(summary) => summary_status(&summary),
+    let mut uncounted = Uncounted::none();
+    match follow(alloc, source, sink, &mut uncounted) {
+        Ok(summary) => {
+            print_note(alloc, notes, &uncounted, errors);
+            summary_status(&summary)
+        }
         Err(fault) => refuse_scan(alloc, source, sink, errors, fault),
     }
 }
@@ -159,7 +172,14 @@ pub(crate) fn telling(options: &Options<'_>) -> Telling {
     }
 }
 
-/// Scans the trace as the options ask, and answers the exit status.
+/// Whether a note is printed of the data that was not counted: where it is asked for, and by itself where a terminal shows
+/// it and no workers are asked for.
+fn has_note<S: Input>(options: &Options<'_>, source: &S) -> bool {
+    let is_alone = options.alone || options.follow || !options.crew;
+    options.notes || (is_alone && source.shows_terminal())
+}
+
+/// Scans the trace as the options ask, in one thread where a note is printed, and answers the exit status.
 pub(crate) fn scan<S: Input, K: Output, E: Sink, R: Threads + Wait + Clock + Sync>(
     rt: &R,
     alloc: Global,
@@ -178,10 +198,11 @@ pub(crate) fn scan<S: Input, K: Output, E: Sink, R: Threads + Wait + Clock + Syn
     ensures asked { S.calls source.new ≤ S.calls source.old + (2 ^ 30 + 1) }
 {
     source.tell_progress(telling(&options));
+    let notes = has_note(&options, source);
     if options.follow {
-        run_follow(alloc, source, sink, errors)
-    } else if options.alone {
-        run_alone(alloc, source, sink, errors)
+        run_follow(alloc, notes, source, sink, errors)
+    } else if options.alone || notes {
+        run_alone(alloc, notes, source, sink, errors)
     } else {
         run_with(rt, alloc, options.workers, source, sink, errors)
     }
@@ -288,6 +309,7 @@ fn run<S: Input, K: Output, E: Sink, R: Threads + Wait + Clock + Sync>(
     ensures told { let name = option_map (λ name. name.now) options.entry.trace in
         let trace = trace_of name (S.left source.old) (S.named source.old) in
         option_map (λ word. word.now) options.entry.explain ≡ None → options.entry.try_headers ≡ false
+        → refused_in options.entry ≡ false
         → printing_of options.entry.rows options.entry.annotate ≡ None
         → IsUnread source.old source.new sink.old sink.new result
         ⊎ TellsOf options.entry.json options.entry.follow trace (S.left source.new) (S.before source.new)
@@ -295,14 +317,19 @@ fn run<S: Input, K: Output, E: Sink, R: Threads + Wait + Clock + Sync>(
     ensures printed { let name = option_map (λ name. name.now) options.entry.trace in
         let trace = trace_of name (S.left source.old) (S.named source.old) in
         option_map (λ word. word.now) options.entry.explain ≡ None → options.entry.try_headers ≡ false
+        → refused_in options.entry ≡ false
         → IfSome (printing_of options.entry.rows options.entry.annotate) (λ printing.
         IsPrintAnswer (is_refused printing.form options.entry.json options.entry.comments)
         printing source.old source.new sink.old sink.new trace
         (S.left source.new) (S.before source.new) (K.taken sink.old) (K.taken sink.new)
         (K.failures sink.new ≡ K.failures sink.old) result) }
+    ensures refused { option_map (λ word. word.now) options.entry.explain ≡ None
+        → refused_in options.entry ≡ true
+        → IsRefused source.old source.new sink.old sink.new result }
     ensures tried { let name = option_map (λ name. name.now) options.entry.trace in
         let trace = trace_of name (S.left source.old) (S.named source.old) in
         option_map (λ word. word.now) options.entry.explain ≡ None → options.entry.try_headers ≡ true
+        → refused_in options.entry ≡ false
         → IsTryAnswer (cannot_try options.entry.json options.entry.follow options.entry.rows (is_some options.entry.annotate))
         source.old source.new sink.old sink.new trace
         (S.left source.new) (S.before source.new) (K.taken sink.old) (K.taken sink.new)
@@ -315,6 +342,7 @@ fn run<S: Input, K: Output, E: Sink, R: Threads + Wait + Clock + Sync>(
 {
     match options.explain {
         Some(word) => explain_word(alloc, word, sink, errors),
+        None if refuses_notes(&options) => refuse_notes(&options, errors),
         None => {
             if options.try_headers {
                 return try_trace(alloc, options, source, sink, errors);
@@ -377,6 +405,7 @@ pub fn program<S: Input, K: Output, E: Sink, R: Threads + Wait + Clock + Sync>(
         let trace = trace_of (named_trace asked) (S.left source.old) (S.named source.old) in
         words_fault asked ≡ [] → asked_word asked ≡ None → tries_headers asked ≡ false
         → annotates asked ≡ false → prints_rows asked ≡ false
+        → notes_refused asked ≡ false
         → IsUnread source.old source.new sink.old sink.new result
         ⊎ TellsOf (as_json asked) (follows asked) trace (S.left source.new) (S.before source.new)
         (K.taken sink.old) (K.taken sink.new) (K.failures sink.new ≡ K.failures sink.old) result }
@@ -386,6 +415,7 @@ pub fn program<S: Input, K: Output, E: Sink, R: Threads + Wait + Clock + Sync>(
         let trace = trace_of (named_trace asked) (S.left source.old) (S.named source.old) in
         words_fault asked ≡ [] → asked_word asked ≡ None → tries_headers asked ≡ false
         → annotates asked ≡ true → prints_rows asked ≡ false
+        → notes_refused asked ≡ false
         → IsUnread source.old source.new sink.old sink.new result
         ⊎ ((rows : AnyRows) × AreAskedRows asked rows
         × IsAnnotateAnswer (as_json asked) rows source.old source.new sink.old sink.new trace
@@ -396,16 +426,24 @@ pub fn program<S: Input, K: Output, E: Sink, R: Threads + Wait + Clock + Sync>(
     ensures rows { let asked = map (λ word. word.now) words.now in
         let trace = trace_of (named_trace asked) (S.left source.old) (S.named source.old) in
         words_fault asked ≡ [] → asked_word asked ≡ None → tries_headers asked ≡ false → prints_rows asked ≡ true
+        → notes_refused asked ≡ false
         → IsUnread source.old source.new sink.old sink.new result
         ⊎ ((rows : AnyRows) × AreAskedRows asked rows
         × IsRowsAnswer (has_comments asked) rows source.old source.new sink.old sink.new trace
         (S.left source.new) (S.before source.new) (K.taken sink.old) (K.taken sink.new)
         (K.failures sink.new ≡ K.failures sink.old) result) }
+    // Where they ask for a note of the data that was not counted with workers, or with rows in place of the report, they
+    // are refused.
+    ensures notes { let asked = map (λ word. word.now) words.now in
+        words_fault asked ≡ [] → asked_word asked ≡ None → notes_refused asked ≡ true
+        → IsUnread source.old source.new sink.old sink.new result
+        ⊎ IsRefused source.old source.new sink.old sink.new result }
     // Where they ask for the headers that explain the rows best, the sink took the lines of all that are tried, or the trace
     // was refused. Where they ask for a report, for objects or for rows with it, they are refused.
     ensures tried { let asked = map (λ word. word.now) words.now in
         let trace = trace_of (named_trace asked) (S.left source.old) (S.named source.old) in
         words_fault asked ≡ [] → asked_word asked ≡ None → tries_headers asked ≡ true
+        → notes_refused asked ≡ false
         → IsUnread source.old source.new sink.old sink.new result
         ⊎ IsTryAnswer (cannot_try (as_json asked) (follows asked) (prints_rows asked) (annotates asked))
         source.old source.new sink.old sink.new trace

@@ -1,13 +1,20 @@
 -- What was counted of a row's data.
-use Rattle.std.proofs.Common.{◌≡◌, ◌∙◌, sym, ap, subst, refl, ℕ, ◌+◌, ◌<◌, List, [], ◌∷◌, ◌++◌, take, drop, length, get_or, Some, None}
+use Rattle.std.proofs.Common.{◌≡◌, ◌∙◌, sym, ap, subst, refl, ℕ, ◌+◌, ◌<◌, List, [], ◌∷◌, ◌++◌, take, drop, length, get_or, Option, Some, None}
 use Rattle.std.proofs.lemmas.List.{take_more, take-append-drop}
 use Rattle.std.proofs.lemmas.List.Elements.{filter_map-append}
+use Rattle.line_model.specs.basics.Records.{Row}
+use Rattle.line_model.specs.channels.Channels.{Channel}
+use Rattle.line_model.specs.channels.RestartMachine.{LineState}
 use Rattle.line_model.specs.declared.event.Event.{Event}
 use Rattle.line_model.specs.declared.event.What.{What}
 use Rattle.line_model.specs.declared.event.What.TheVariants.{Found, Open, Up, End, Data, Setting, Initial}
 use Rattle.line_model.specs.declared.state.Side.{Side}
+use Rattle.line_model.specs.declared.interface.Interface.{Interface}
 use Rattle.line_model.specs.observer.Calls.{all_lengths, segments_of}
+use Rattle.line_model.specs.observer.Machine.{Observer}
+use Rattle.channel_run.specs.Run.{row_events}
 use Rattle.descriptions.specs.Facts.{IsFateOf}
+use Rattle.descriptions.specs.RowObjects.{events_at}
 use Rattle.descriptions.specs.declared.facts.Fate.TheVariants.{Counted}
 
 lengths_of : (first later : List Event) → all_lengths (first ++ later) ≡ all_lengths first ++ all_lengths later
@@ -42,3 +49,9 @@ other_lengths e (Initial pad) is h = ap (λ w. all_lengths (record e { what = w 
 -- another event counts nothing
 pub none_next : (es : List Event) (i : ℕ) (e : Event) → i < length es → e ≡ get_or es i e → ((side : Side) (n : ℕ) → ¬ (e.what ≡ Data side n)) → all_lengths (take i es) ≡ [] → all_lengths (take (i + 1) es) ≡ []
 none_next es i e lt is other none = lengths_next es i e lt is ∙ (λ t. none t ++ other_lengths e e.what refl other t)
+
+-- the events of the logical channel that takes a row
+pub events_are : (i : Interface) (o : Observer LineState Channel) (r : Row) (channel taker : Option ℕ) (told events : List Event) → channel ≡ taker → ((k : ℕ) → channel ≡ Some k → events ≡ told) → (channel ≡ None → events ≡ [])
+    → ((k : ℕ) → channel ≡ Some k → told ≡ row_events i o.epoch k (o.states k) r) → events ≡ events_at i taker o r
+events_are i o r channel None told events is taken untaken came = untaken is
+events_are i o r channel (Some k) told events is taken untaken came = taken k is ∙ came k is

@@ -2,10 +2,11 @@
 
 use crate::parameters::setting;
 use crate::prose::{Page, address, count, say_number};
-use crate::uncounted::Uncounted;
+use crate::uncounted::say_uncounted;
 use line_model::call::{Account, CallRecord, SettingRecord};
 use line_model::event::How;
 use line_model::report::{Peak, Report};
+use live_report::uncounted::Uncounted;
 use std::alloc::Allocator;
 
 /// The sums, the calls with their PADs, the accounts, the peak, and what was not counted.
@@ -14,7 +15,7 @@ pub fn report<A: Allocator, P: Page>(notes: &mut P, report: &Report<A>, uncounte
     calls(notes, &report.calls);
     accounts(notes, &report.accounts);
     peak(notes, &report.peak);
-    uncounted.say(notes);
+    say_uncounted(notes, uncounted);
 }
 
 fn sums<A: Allocator, P: Page>(notes: &mut P, report: &Report<A>) {

@@ -13,13 +13,13 @@ use crate::row_head::code_digits;
 use crate::row_members::{reason_word, time_member};
 use crate::sending::Sending;
 use crate::times::Time;
-use crate::uncounted::{REASONS, Uncounted};
 use itoa::Buffer;
 use line_model::call::CallRecord;
 use line_model::device::Sink;
 use line_model::event::How;
 use line_model::fault::Fault;
 use line_model::lending::{Borrowed, Origin, take_back};
+use live_report::uncounted::{REASONS, Uncounted};
 use std::alloc::Allocator;
 use std::marker::Brand;
 

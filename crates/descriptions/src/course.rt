@@ -1,6 +1,6 @@
-//! What is remembered of the rows before: the calls, and which sequences of data go on.
+//! What is remembered of the rows before: the calls, and the sequences of data that PAD calls have begun.
 
-ghost use Rattle.std.specs.Prelude.{◌≡◌, ◌<◌, ◌++◌, ◌∷◌, [], List, IfOk, OnOk, length};
+ghost use Rattle.std.specs.Prelude.{◌≡◌, ◌<◌, ◌++◌, ◌∷◌, [], ℕ, List, None, OnOk, Some, length};
 ghost use Rattle.line_model.specs.basics.Records.{Row};
 ghost use Rattle.line_model.specs.declared.interface.Interface.{Interface as AnyInterface};
 ghost use Rattle.line_model.specs.observer.Calls.{all_lengths};
@@ -8,79 +8,81 @@ ghost use Rattle.live_report.specs.LastRows.{IsLastRow};
 ghost use Rattle.descriptions.specs.Facts.{AreFactsOf, IsFateOf};
 
 use crate::facts::{
-    CallMove, EndedCall, Fate, Reason, RowFacts, counted_in, data_header, is_clear, is_data,
-    user_data,
+    CallMove, EndedCall, Fate, RowFacts, counted_in, data_header, is_clear, user_data,
 };
-use channel_run::run::{Channel, View};
+use channel_run::run::Channel;
+use data_transfer::assembler::Assembler;
+use data_transfer::sequence::{DataField, Put, UserData};
 use line_model::event::{Event, How, What};
 use line_model::interface::Interface;
-use line_model::packet::{DataHeader, Packet};
-use line_model::state::{RState, Side};
+use line_model::state::{ChannelState, DState, RState, Side};
 use live_report::last_row::{Known, LastRow};
 use live_report::observer::Observer;
+use live_report::uncounted::reason_of;
 use restart_epochs::channel_table::ChannelTable;
 use std::alloc::{AllocError, Allocator};
 use std::boxed::Box;
 
 /// What is remembered of a logical channel.
-#[derive(Clone, Copy)]
-struct Lane {
+#[derive(Drop)]
+struct Lane<A: Allocator> {
     /// The number of its call that is open, or 0.
     call: u32,
     /// The number of its last call, where the clear indication of the DCE is still to come, or 0.
     uncleared: u32,
-    /// A sequence of data packets of T goes on.
-    continues_t: bool,
-    /// A sequence of data packets of N goes on.
-    continues_n: bool,
+    /// The sequences of data packets that its PAD call has begun.
+    sequences: Assembler<A>,
 }
 
-impl Lane {
-    /// A channel without a row.
-    fn fresh() -> Self {
+impl<A: Allocator + Copy> Lane<A> {
+    /// A channel without a row, with this packet size in force.
+    fn fresh(alloc: A, size: u16) -> Self {
         Lane {
             call: 0,
             uncleared: 0,
-            continues_t: false,
-            continues_n: false,
+            sequences: Assembler::new(alloc, size, size),
         }
     }
 
-    /// Whether a data packet of a side goes on with a sequence.
-    fn continues(&self, side: Side) -> bool {
-        match side {
-            Side::T => self.continues_t,
-            Side::N => self.continues_n,
+    /// Takes the data of a row: the PAD message that it completes, if it does.
+    fn completed(
+        &mut self,
+        alloc: A,
+        side: Side,
+        data: &DataField<'_>,
+    ) -> Result<Option<Vec<u8, A>>, AllocError> {
+        match self.sequences.put(side, data) {
+            Ok(Put::Complete(sequence)) => {
+                if !sequence.qualified {
+                    return Ok(None);
+                }
+                match sequence.octets {
+                    UserData::OfOne(octets) => Ok(Some(Vec::from_slice(alloc, octets)?)),
+                    UserData::OfSeveral(octets) => Ok(Some(octets)),
+                }
+            }
+            Ok(_) => Ok(None),
+            Err(_) => Err(AllocError),
         }
     }
 
-    /// Takes a data packet that was counted: whether a message is whole in it. `size` is the packet size in force.
-    fn takes_whole(&mut self, side: Side, header: &DataHeader, length: usize, size: u16) -> bool {
-        let begins = !self.continues(side);
-        let goes_on = header.more && !header.delivery && length == usize::from(size);
-        match side {
-            Side::T => self.continues_t = goes_on,
-            Side::N => self.continues_n = goes_on,
+    /// Forgets the sequences that were begun where a row didn't leave the channel in d1.
+    fn settle(&mut self, last: &LastRow) {
+        let Known::Channel(after) = last.after else {
+            return;
+        };
+        if !is_d1(&last.before) || !is_d1(&last.after) {
+            self.sequences.renew(after.size_t, after.size_n);
         }
-        begins && !goes_on
     }
 }
 
-/// The packet size in force for data from a side.
-fn size_from(view: &View, side: Side) -> u16 {
-    match side {
-        Side::T => view.size_t,
-        Side::N => view.size_n,
+/// Whether a channel was known to be in d1.
+fn is_d1(known: &Known) -> bool {
+    match known {
+        Known::Channel(view) => view.state == ChannelState::Transfer(DState::D1),
+        Known::Restart(_) => false,
     }
-}
-
-/// What a row did.
-#[derive(Clone, Copy)]
-struct Deeds<'a> {
-    events: &'a [Event],
-    calls: CallMove,
-    fate: Fate,
-    message: Option<&'a [u8]>,
 }
 
 /// How many calls were opened, and which of them the last row ended.
@@ -90,9 +92,14 @@ struct CallCount<A: Allocator> {
     ended: Vec<EndedCall, A>,
 }
 
-impl<A: Allocator> CallCount<A> {
-    /// Takes the events of a row: what it did to the calls of its channel.
-    fn take(&mut self, lane: &mut Lane, events: &[Event]) -> Result<CallMove, AllocError> {
+impl<A: Allocator + Copy> CallCount<A> {
+    /// Takes a row and its events: what it did to the calls of its channel.
+    fn take(
+        &mut self,
+        lane: &mut Lane<A>,
+        last: &LastRow,
+        events: &[Event],
+    ) -> Result<CallMove, AllocError> {
         let mut calls = CallMove::none();
         calls.before = lane.call;
         for event in events {
@@ -117,18 +124,28 @@ impl<A: Allocator> CallCount<A> {
             }
         }
         calls.after = lane.call;
+        if is_clear(&last.packet) && (last.side == Side::N || !self.ended.is_empty()) {
+            calls.cleared = lane.uncleared;
+            lane.uncleared = 0;
+        }
         Ok(calls)
     }
 }
 
-/// What is remembered of the rows before.
+/// What is remembered of the rows so far.
 #[derive(Drop)]
 pub struct Course<A: Allocator> {
     alloc: A,
     calls: CallCount<A>,
-    /// The epoch that the next row stands in.
+    /// What the last row did to the calls of its channel.
+    moved: CallMove,
+    /// The PAD message that the last row completed.
+    message: Option<Vec<u8, A>>,
+    /// The epoch that the last row stands in.
     epoch: u32,
-    lanes: ChannelTable<Lane, A>,
+    /// The epoch that the next row stands in.
+    next_epoch: u32,
+    lanes: ChannelTable<Lane<A>, A>,
 }
 
 impl<A: Allocator + Copy> Course<A> {
@@ -140,43 +157,74 @@ impl<A: Allocator + Copy> Course<A> {
                 opened: 0,
                 ended: Vec::new(alloc),
             },
+            moved: CallMove::none(),
+            message: None,
             epoch: 1,
+            next_epoch: 1,
             lanes: ChannelTable::new(alloc),
         }
     }
 
-    /// The facts of the last row of an observer.
-    pub fn facts<'a, C: Channel<A>>(
+    /// Takes the last row of an observer.
+    pub fn take<C: Channel<A>>(
         &mut self,
+        interface: &Interface,
+        octets: &[u8],
+        last: &LastRow,
+        observer: &Observer<A, C>,
+    ) -> Result<(), AllocError> {
+        self.epoch = self.next_epoch;
+        self.next_epoch = observer.epoch();
+        self.calls.ended.clear();
+        self.moved = CallMove::none();
+        self.message = None;
+        match last.channel {
+            Some(channel) => {
+                let mut lane = self.lane(channel, interface.size)?;
+                let events = observer.events();
+                self.moved = self.calls.take(&mut lane, last, events)?;
+                if let Some(data) = pad_data(interface, octets, last, events) {
+                    self.message = lane.completed(self.alloc, last.side, &data)?;
+                }
+                lane.settle(last);
+                self.lanes.put(channel, lane);
+                Ok(())
+            }
+            None => self.on_interface(last),
+        }
+    }
+
+    /// The facts of the last row of an observer, which was taken.
+    pub fn facts<'a, C: Channel<A>>(
+        &'a self,
         interface: &'a Interface,
         octets: &'a [u8],
         last: &'a LastRow,
         observer: &'a Observer<A, C>,
-    ) -> Result<RowFacts<'a>, AllocError>
-        ensures facts { (i : AnyInterface) (earlier : List Row) (r : Row)
-            → IsLastRow i earlier r last.entry.now observer.entry.now.events.items
-            → IfOk result (AreFactsOf i earlier r) }
+    ) -> RowFacts<'a>
+        ensures { (i : AnyInterface) (earlier : List Row) (r : Row)
+            → IsLastRow i earlier r last.now observer.now.events.items
+            → AreFactsOf i earlier r result }
     {
-        let epoch = self.epoch;
-        self.epoch = observer.epoch();
-        self.calls.ended.clear();
-        let deeds = match last.channel {
-            Some(channel) => {
-                let data = user_data(interface, octets);
-                self.on_channel(channel, last, data, observer.events())?
-            }
-            None => self.on_interface(last)?,
-        };
-        Ok(RowFacts {
+        let events = events_of(last, observer);
+        RowFacts {
             interface,
             octets,
             last,
-            epoch,
-            events: deeds.events,
-            calls: deeds.calls,
-            fate: deeds.fate,
-            message: deeds.message,
-        })
+            epoch: self.epoch,
+            events,
+            calls: self.moved,
+            fate: fate(last, events),
+            message: self.message(),
+        }
+    }
+
+    /// The PAD message that the last row completed.
+    fn message(&self) -> Option<&[u8]> {
+        match &self.message {
+            Some(octets) => Some(octets.as_slice()),
+            None => None,
+        }
     }
 
     /// The calls that the last row ended.
@@ -184,57 +232,23 @@ impl<A: Allocator + Copy> Course<A> {
         self.calls.ended.as_slice()
     }
 
-    /// What a row did that a logical channel took. `data` is its user data.
-    fn on_channel<'a>(
-        &mut self,
-        channel: u16,
-        last: &LastRow,
-        data: &'a [u8],
-        events: &'a [Event],
-    ) -> Result<Deeds<'a>, AllocError>
-        ensures fate { IfOk result (λ deeds. IsFateOf (all_lengths events.entry.now) deeds.fate) }
-    {
-        let mut lane = self.lane(channel)?;
-        let mut calls = self.calls.take(&mut lane, events)?;
-        if is_clear(&last.packet) && (last.side == Side::N || !self.calls.ended.is_empty()) {
-            calls.cleared = lane.uncleared;
-            lane.uncleared = 0;
-        }
-        let fate = fate(last, events);
-        let message = message(last, fate, data, &mut lane);
-        self.lanes.put(channel, lane);
-        Ok(Deeds {
-            events,
-            calls,
-            fate,
-            message,
-        })
-    }
-
-    /// What a row did that the restart machine judged.
-    fn on_interface<'a>(&mut self, last: &LastRow) -> Result<Deeds<'a>, AllocError>
-        ensures fate { IfOk result (λ deeds. IsFateOf [] deeds.fate) }
-    {
+    /// Takes a row that the restart machine judged.
+    fn on_interface(&mut self, last: &LastRow) -> Result<(), AllocError> {
         if leaves_ready(last) {
             self.end_all()?;
         }
-        Ok(Deeds {
-            events: &[],
-            calls: CallMove::none(),
-            fate: passed_in_restart(&last.packet),
-            message: None,
-        })
+        Ok(())
     }
 
-    /// Takes out what is remembered of a channel.
-    fn lane(&mut self, channel: u16) -> Result<Box<Lane, A>, AllocError>
+    /// Takes out what is remembered of a channel, with this packet size in force where it has no row.
+    fn lane(&mut self, channel: u16, size: u16) -> Result<Box<Lane<A>, A>, AllocError>
         ensures room { OnOk result (channel < length self.new.lanes.lanes) }
     {
         match self.lanes.take(channel) {
             Some(lane) => Ok(lane),
             None => {
                 self.lanes.list(channel)?;
-                Ok(Box::new(self.alloc, Lane::fresh())?)
+                Ok(Box::new(self.alloc, Lane::fresh(self.alloc, size))?)
             }
         }
     }
@@ -256,36 +270,37 @@ impl<A: Allocator + Copy> Course<A> {
     }
 }
 
-/// What became of the data of a row that a channel took.
+/// The events of the channel that took a row.
+fn events_of<'a, A: Allocator + Copy, C: Channel<A>>(
+    last: &LastRow,
+    observer: &'a Observer<A, C>,
+) -> &'a [Event]
+    ensures taken { (k : ℕ) → last.now.channel ≡ Some k → result.now ≡ observer.now.events.items }
+    ensures untaken { last.now.channel ≡ None → result.now ≡ [] }
+{
+    match last.channel {
+        Some(_) => observer.events(),
+        None => &[],
+    }
+}
+
+/// What became of the data of a row with these events.
 fn fate(last: &LastRow, events: &[Event]) -> Fate
     ensures { IsFateOf (all_lengths events.now) result }
 {
-    if let Some(counted) = counted_in(events) {
-        return counted;
-    }
-    passed_on_channel(last)
-}
-
-/// What became of the data of a row that a channel took and did not count.
-fn passed_on_channel(last: &LastRow) -> Fate
-    ensures { IsFateOf [] result }
-{
-    match last.before {
-        _ if !is_data(&last.packet) => Fate::NoData,
-        _ if last.finding.is_some() => Fate::NotCounted(Reason::Finding),
-        Known::Channel(view) => Fate::NotCounted(Reason::of_channel(&view)),
-        Known::Restart(_) => Fate::NotCounted(Reason::Restart),
+    match counted_in(events) {
+        Some(counted) => counted,
+        None => passed_over(last, events),
     }
 }
 
-/// What became of the data of a row that the restart machine judged.
-fn passed_in_restart(packet: &Packet) -> Fate
+/// What became of the data of a row that was not counted.
+fn passed_over(last: &LastRow, events: &[Event]) -> Fate
     ensures { IsFateOf [] result }
 {
-    if is_data(packet) {
-        Fate::NotCounted(Reason::Restart)
-    } else {
-        Fate::NoData
+    match reason_of(last, events) {
+        Some(reason) => Fate::NotCounted(reason),
+        None => Fate::NoData,
     }
 }
 
@@ -299,20 +314,24 @@ fn leaves_ready(last: &LastRow) -> bool {
     }
 }
 
-/// The octets of the PAD message that is whole in a data packet with this user data.
-fn message<'a>(last: &LastRow, fate: Fate, data: &'a [u8], lane: &mut Lane) -> Option<&'a [u8]> {
-    let Fate::Counted { .. } = fate else {
-        return None;
-    };
+/// The data of a row of a PAD call, where it was counted.
+fn pad_data<'a>(
+    interface: &Interface,
+    octets: &'a [u8],
+    last: &LastRow,
+    events: &[Event],
+) -> Option<DataField<'a>> {
     let Known::Channel(before) = last.before else {
         return None;
     };
-    let header = data_header(&last.packet)?;
-    let size = size_from(&before, last.side);
-    let is_whole = lane.takes_whole(last.side, &header, data.len(), size);
-    if is_whole && header.qualified && before.pad_call {
-        Some(data)
-    } else {
-        None
+    if !before.pad_call || counted_in(events).is_none() {
+        return None;
     }
+    let header = data_header(&last.packet)?;
+    Some(DataField {
+        qualified: header.qualified,
+        more: header.more,
+        delivery: header.delivery,
+        octets: user_data(interface, octets),
+    })
 }

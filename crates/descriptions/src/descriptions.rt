@@ -6,7 +6,6 @@ use crate::course::Course;
 use crate::faults::{Before, fault};
 use crate::prose::Telling;
 use crate::row_words::row;
-use crate::uncounted::Uncounted;
 use annotated_trace::describer::Describer;
 use annotated_trace::notes::{Notes, Words};
 use annotated_trace::page::ClosingPage;
@@ -16,6 +15,7 @@ use line_model::finding::Finding;
 use line_model::lending::LentSink;
 use line_model::report::Report;
 use live_report::live::Live;
+use live_report::uncounted::Uncounted;
 use std::alloc::{AllocError, Allocator};
 
 /// What is remembered of the rows before.
@@ -33,7 +33,7 @@ impl<A: Allocator + Copy> Past<A> {
         Past {
             course: Course::new(alloc),
             before: None,
-            uncounted: Uncounted::new(),
+            uncounted: Uncounted::none(),
         }
     }
 
@@ -50,11 +50,12 @@ impl<A: Allocator + Copy> Past<A> {
         let Some(last) = observer.last_row() else {
             return Ok(());
         };
-        let facts = self.course.facts(&interface, octets, &last, observer)?;
+        self.course.take(&interface, octets, &last, observer)?;
+        let facts = self.course.facts(&interface, octets, &last, observer);
         if facts.last.finding.is_some() {
             self.before = Some(Before::of_row(&facts));
         }
-        self.uncounted.take(&facts);
+        self.uncounted = observer.uncounted();
         let mut telling = Telling::new(notes);
         row(&facts, &mut telling);
         telling.answer()

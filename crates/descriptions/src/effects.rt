@@ -1,12 +1,12 @@
 //! What a row did, in words.
 
-use crate::facts::Reason;
 use crate::names;
 use crate::parameters::setting;
 use crate::prose::{Prose, count, say_number};
 use call_accounts::so_far::segments_in;
 use line_model::event::{Event, How, What};
 use line_model::state::{ChannelState, RState};
+use live_report::uncounted::Reason;
 
 /// A change of state, or the state where none changed.
 fn moved<P: Prose>(out: &mut P, before: &str, after: &str) {
@@ -88,17 +88,15 @@ fn ending(how: How) -> &'static str {
     }
 }
 
-impl Reason {
-    /// The reason in words.
-    pub fn words(self) -> &'static str {
-        match self {
-            Reason::Finding => "a finding",
-            Reason::Owed => "the DCE owes its indication",
-            Reason::NotInTransfer => "the channel is not in data transfer",
-            Reason::Discarded => "the state discards data",
-            Reason::Unknown =>
-                "the recording began in the middle, and nothing is known of the channel yet",
-            Reason::Restart => "a restart goes on",
-        }
+/// Why data was not counted, in words.
+pub fn reason_words(reason: Reason) -> &'static str {
+    match reason {
+        Reason::Finding => "a finding",
+        Reason::Owed => "the DCE owes its indication",
+        Reason::NotInTransfer => "the channel is not in data transfer",
+        Reason::Discarded => "the state discards data",
+        Reason::Unknown =>
+            "the recording began in the middle, and nothing is known of the channel yet",
+        Reason::Restart => "a restart goes on",
     }
 }

@@ -9,38 +9,9 @@ use channel_run::run::View;
 use line_model::event::{Event, How, What};
 use line_model::interface::Interface;
 use line_model::packet::{DataHeader, Packet, PacketKind};
-use line_model::state::ChannelState;
 use live_report::last_row::{Known, LastRow};
+use live_report::uncounted::Reason;
 use packet_decode::transfer::header_length;
-
-/// Why data was not counted.
-#[derive(Clone, Copy, PartialEq, Eq)]
-pub enum Reason {
-    /// The row has a finding.
-    Finding,
-    /// The DCE owes its indication.
-    Owed,
-    /// The logical channel is not in data transfer.
-    NotInTransfer,
-    /// A reset goes on, and the state discards data.
-    Discarded,
-    /// The recording began in the middle, and nothing is known of the channel.
-    Unknown,
-    /// A restart goes on.
-    Restart,
-}
-
-impl Reason {
-    /// Why a channel passed over data without a finding, by what was known of it before.
-    pub fn of_channel(before: &View) -> Reason {
-        match before.state {
-            ChannelState::Unknown => Reason::Unknown,
-            _ if before.owed => Reason::Owed,
-            ChannelState::Setup(_) => Reason::NotInTransfer,
-            ChannelState::Transfer(_) => Reason::Discarded,
-        }
-    }
-}
 
 /// What became of the data of a row.
 #[derive(Clone, Copy)]
@@ -115,7 +86,7 @@ pub struct RowFacts<'a> {
     pub calls: CallMove,
     /// What became of its data.
     pub fate: Fate,
-    /// The octets of the PAD message that is whole in it.
+    /// The octets of the PAD message that it completes, the first 1,025.
     pub message: Option<&'a [u8]>,
 }
 
@@ -143,17 +114,6 @@ pub fn user_data<'a>(interface: &Interface, octets: &'a [u8]) -> &'a [u8] {
         Some((_, data)) => data,
         None => &[],
     }
-}
-
-/// Whether a packet is a data packet.
-pub fn is_data(packet: &Packet) -> bool {
-    matches!(
-        packet,
-        Packet::Channel {
-            kind: PacketKind::Data(_),
-            ..
-        }
-    )
 }
 
 /// Whether a packet is a clear request or indication.

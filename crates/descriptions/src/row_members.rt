@@ -1,6 +1,6 @@
 //! What a row did, as members of an object.
 
-use crate::facts::{EndedCall, Fate, Reason, RowFacts};
+use crate::facts::{EndedCall, Fate, RowFacts};
 use crate::faults::{Before, consequence, wrong};
 use crate::json::{Json, Out};
 use crate::packet_members::{packet_members, settings_member};
@@ -11,6 +11,7 @@ use explanations::lookup::code_row;
 use line_model::event::{Event, How, What};
 use line_model::finding::Finding;
 use live_report::last_row::Known;
+use live_report::uncounted::Reason;
 
 /// The members of a row's object after its finding's code.
 pub fn row_members<O: Out>(

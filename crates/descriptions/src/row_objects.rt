@@ -20,7 +20,6 @@ use crate::report_objects::write_report_objects;
 use crate::row_head::append_head;
 use crate::row_members::row_members;
 use crate::times::Time;
-use crate::uncounted::Uncounted;
 use annotated_trace::notes::append_plain;
 use annotated_trace::printer::Printer;
 use annotated_trace::rows::Rows;
@@ -29,6 +28,7 @@ use line_model::fault::Fault;
 use line_model::lending::LentSink;
 use line_model::report::Report;
 use live_report::live::Live;
+use live_report::uncounted::Uncounted;
 use memchr::memrchr;
 use std::alloc::{AllocError, Allocator};
 
@@ -65,7 +65,7 @@ impl<A: Allocator + Copy> Past<A> {
             course: Course::new(alloc),
             rest: Rest {
                 calls: Calls::new(alloc),
-                uncounted: Uncounted::new(),
+                uncounted: Uncounted::none(),
             },
             time: None,
             members: Vec::new(alloc),
@@ -97,9 +97,10 @@ impl<A: Allocator + Copy> Past<A> {
         let Some(last) = observer.last_row() else {
             return Ok(());
         };
-        let facts = self.course.facts(&interface, octets, &last, observer)?;
+        self.course.take(&interface, octets, &last, observer)?;
+        let facts = self.course.facts(&interface, octets, &last, observer);
         self.rest.calls.take(&facts, self.course.ended(), time)?;
-        self.rest.uncounted.take(&facts);
+        self.rest.uncounted = observer.uncounted();
         if !told {
             return Ok(());
         }

@@ -1,12 +1,13 @@
 //! What a row is and did, in words.
 
-use crate::effects::{channel_move, event, of_call, restart_move};
-use crate::facts::{Fate, Reason, RowFacts};
+use crate::effects::{channel_move, event, of_call, reason_words, restart_move};
+use crate::facts::{Fate, RowFacts};
 use crate::messages::message;
 use crate::packets::packet;
 use crate::prose::Page;
 use line_model::event::What;
 use live_report::last_row::Known;
+use live_report::uncounted::Reason;
 
 /// Says what a row is, and on a further line what it did.
 pub fn row<P: Page>(facts: &RowFacts<'_>, notes: &mut P) {
@@ -57,7 +58,7 @@ fn left_out<P: Page>(facts: &RowFacts<'_>, notes: &mut P) {
         Fate::NotCounted(Reason::Finding | Reason::Restart) => {}
         Fate::NotCounted(reason) => {
             notes.say("; not counted: ");
-            notes.say(reason.words());
+            notes.say(reason_words(reason));
         }
         _ => {}
     }

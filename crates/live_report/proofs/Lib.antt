@@ -2,6 +2,7 @@ pub mod LaneLemmas
 pub mod EndingLemmas
 pub mod FindingLemmas
 pub mod LastLemmas
+pub mod UncountedLemmas
 pub mod StandLemmas
 pub mod TakeLemmas
 pub mod TellingLemmas

@@ -19,6 +19,7 @@ use Rattle.channel_run.specs.declared.live.LiveChannel.{LiveChannel}
 use Rattle.live_report.specs.declared.observer.Observer.{Observer}
 use Rattle.live_report.specs.Lanes.{begun_piece, LaneFor, OpenFor}
 use Rattle.live_report.specs.LastRows.{KnowsLast}
+use Rattle.live_report.specs.Uncounted.{none_left_out, uncounted_of}
 use Rattle.live_report.specs.Observing.{AreRows, Holds, StandsFor}
 use Rattle.live_report.proofs.LastLemmas.{no_row}
 use Rattle.line_model.proofs.LineLemmas.{last_or-add}
@@ -84,8 +85,8 @@ may_come c rs r last octets h =
 
 pub next_stands : {A C : Type 0} → (I : C → Interface) (N : C → ℕ) (S : C → Channel → Type 0) (i : Interface) (rs : List Row) (r : Row) (more : List Piece) (before new : Observer A C) (after : Cutting)
     → (s : StandsFor I N S i rs before) → AreRows (rs ++ r ∷ []) → Pushed i rs r more after → IsCutting after → IsCounted r s.cutting after → Holds I N S after (map value (given_of i rs) ++ map value more) new
-    → KnowsLast i (rs ++ r ∷ []) new.last new.events.items → StandsFor I N S i (rs ++ r ∷ []) new
-next_stands I N S i rs r more before new after s sound pushed bounds counted holds known = record {
+    → KnowsLast i (rs ++ r ∷ []) new.last new.events.items → new.uncounted ≡ uncounted_of i (rs ++ r ∷ []) → StandsFor I N S i (rs ++ r ∷ []) new
+next_stands I N S i rs r more before new after s sound pushed bounds counted holds known uncounted = record {
   sound = sound;
   cutting = after;
   cut = pushed.stands;
@@ -94,14 +95,15 @@ next_stands I N S i rs r more before new after s sound pushed bounds counted hol
   octets = counted.octets ∙ ap (λ n. n + length r.octets) s.octets ∙ sym (sum_by_push (λ (x : Row). length x.octets) rs r);
   holds = subst (λ reports. Holds I N S after reports new) (sym (ap (map value) pushed.given ∙ map-append value (given_of i rs) more)) holds;
   row = known;
+  uncounted = uncounted;
 }
 
 of_no_length : (ps : List Piece) → 0 ≡ length ps → ps ≡ []
 of_no_length [] h = refl
 of_no_length (p ∷ ps) h = absurd (omega (arith, h))
 
-pub nothing_taken : {A C : Type 0} → (I : C → Interface) (N : C → ℕ) (S : C → Channel → Type 0) (i : Interface) (o : Observer A C) → Holds I N S (no_cutting i) [] o → StandsFor I N S i [] o
-nothing_taken I N S i o holds = record {
+pub nothing_taken : {A C : Type 0} → (I : C → Interface) (N : C → ℕ) (S : C → Channel → Type 0) (i : Interface) (o : Observer A C) → Holds I N S (no_cutting i) [] o → o.uncounted ≡ none_left_out → StandsFor I N S i [] o
+nothing_taken I N S i o holds uncounted = record {
   sound = record { rising = λ k lt. absurd (omega (arith, lt)); numbers = λ k d lt. absurd (omega (arith, lt)); octets = omega arith };
   cutting = no_cutting i;
   cut = nothing_cut i;
@@ -110,4 +112,5 @@ nothing_taken I N S i o holds = record {
   octets = refl;
   holds = subst (λ reports. Holds I N S (no_cutting i) reports o) (sym (ap (map value) (of_no_length (given_of i []) (nothing_cut i).given))) holds;
   row = no_row i o.last o.events.items;
+  uncounted = uncounted;
 }

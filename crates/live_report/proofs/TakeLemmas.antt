@@ -25,6 +25,7 @@ use Rattle.report_merge.specs.Gathered.{gathered}
 use Rattle.channel_run.specs.declared.live.LiveChannel.{LiveChannel}
 use Rattle.live_report.specs.declared.observer.Observer.{Observer}
 use Rattle.live_report.specs.LastRows.{KnowsLast}
+use Rattle.live_report.specs.Uncounted.{uncounted_of}
 use Rattle.live_report.specs.Lanes.{begun_piece, LaneFor, OpenFor}
 use Rattle.live_report.specs.Turns.{MayTurn}
 use Rattle.live_report.specs.Observing.{AreRows, Holds, StandsFor}
@@ -165,11 +166,11 @@ holds_after I N S i rs c reports item step o new v s packet is h same on many en
 pub stands_after : {A C : Type 0} → (I : C → Interface) (N : C → ℕ) (S : C → Channel → Type 0) (i : Interface) (rs : List Row) (r : Row) (o new : Observer A C) (item : Item) (step : Step) (s : StandsFor I N S i rs o) → item.row ≡ r → AreRows (rs ++ item.row ∷ [])
     → item.packet ≡ packet_of s.cutting.interface item.row.octets → IsStep s.cutting.line s.cutting.epoch item step
     → Holds I N S (cutting_after s.cutting item step) (map value (given_of i rs) ++ map value (ended_by step.turn s.cutting.interface s.cutting.epoch item.row.number s.cutting.given s.cutting.open_rows)) new
-    → KnowsLast i (rs ++ item.row ∷ []) new.last new.events.items → StandsFor I N S i (rs ++ r ∷ []) new
-stands_after I N S i rs r o new item step s same sound packet is holds known =
+    → KnowsLast i (rs ++ item.row ∷ []) new.last new.events.items → new.uncounted ≡ uncounted_of i (rs ++ item.row ∷ []) → StandsFor I N S i (rs ++ r ∷ []) new
+stands_after I N S i rs r o new item step s same sound packet is holds known uncounted =
     let c = s.cutting in
     let after = cutting_after c item step in
     let t = is_taken c item step in
     subst (λ x. StandsFor I N S i (rs ++ x ∷ []) new) same
     (next_stands I N S i rs item.row (ended_by step.turn c.interface c.epoch item.row.number c.given c.open_rows) o new after s sound (takes i rs c after item step s.cut packet is t)
-    (bounds_after I N S i rs o item step s sound packet is) t.counted holds known)
+    (bounds_after I N S i rs o item step s sound packet is) t.counted holds known uncounted)

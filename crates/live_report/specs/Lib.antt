@@ -3,6 +3,7 @@ pub mod Turns
 pub mod Telling
 pub mod LastRows
 pub mod KeptRows
+pub mod Uncounted
 pub mod Observing
 pub mod Reports
 pub mod Found

@@ -14,6 +14,8 @@ use Rattle.restart_epochs.specs.Cutting.{Cutting, IsCutting, StandsFor as IsCutt
 use Rattle.report_merge.specs.Gathered.{gathered}
 use Rattle.live_report.specs.declared.observer.Observer.{Observer}
 use Rattle.live_report.specs.LastRows.{KnowsLast}
+use Rattle.live_report.specs.Uncounted.{uncounted_of}
+use Rattle.live_report.specs.declared.uncounted.Uncounted.{Uncounted}
 use Rattle.live_report.specs.Lanes.{OpenFor, begun_piece}
 
 -- rows as a trace has them: their numbers rise, and their octets are few
@@ -46,6 +48,7 @@ pub record StandsFor {A C : Type 0} (interface_of : C → Interface) (number_of 
   pub octets : cutting.octets ≡ sum_by (λ r. length r.octets) rs
   pub holds : Holds interface_of number_of stands_for cutting (map value (given_of i rs)) o
   pub row : KnowsLast i rs o.last o.events.items
+  pub uncounted : o.uncounted ≡ uncounted_of i rs
 
 -- the same two by the members of a machine of one channel
 abbrev pub IsHolding : {A C : Type 0} → Machine C A → Cutting → List PieceReport → Observer A C → Type 0
@@ -84,3 +87,8 @@ TellsReport m o result = (i : Interface) (rows : List Row) → HasWalked m i row
 abbrev pub TellsReportWith : {A C E : Type 0} → Machine C A → Observer A C → (more : List Row) → Result Report E → Type 0
 TellsReportWith m o more result =
     (i : Interface) (rows : List Row) → HasWalked m i rows o → AreRows (rows ++ more) → IfOk result (λ report. report ≡ report_of i (rows ++ more))
+
+-- of any rows that it has walked: what was not counted of them and these
+abbrev pub LeavesOutWith : {A C T E : Type 0} → Machine C A → Observer A C → (more : List Row) → Uncounted → Result T E → Type 0
+LeavesOutWith m o more uncounted result =
+    (i : Interface) (rows : List Row) → HasWalked m i rows o → AreRows (rows ++ more) → OnOk result (uncounted ≡ uncounted_of i (rows ++ more))

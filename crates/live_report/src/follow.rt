@@ -5,9 +5,11 @@ ghost use Rattle.line_model.specs.traces.Traces.{trace_report};
 ghost use Rattle.trace_text.specs.Progress.{bytes_fed};
 ghost use Rattle.live_report.specs.Found.{found_text};
 ghost use Rattle.live_report.specs.Follows.{FollowsOn, HasFindings, HasFindingsAtLine, HasFirst, HasFollowed, IsFed, OfFollowed, OfTold, RefusesOn};
+ghost use Rattle.live_report.specs.Uncounted.{trace_uncounted};
 ghost use Rattle.live_report.specs.Reports.{IsRefusal, IsReportFault, IsReported};
 
 use crate::live::Live;
+use crate::uncounted::Uncounted;
 use channel_run::run::Channel;
 use line_model::device::Sink;
 use line_model::fault::Fault;
@@ -103,13 +105,15 @@ impl<A: Allocator + Copy, C: Channel<A>> Follower<A, C> {
     }
 
     /// The text has ended, and its last line may lack its LF: writes the rest of its report, and answers its last line as
-    /// numbers. It refuses by the first faulty line, for want of memory, and where the sink fails; once `feed` has
-    /// refused, it answers the same.
-    pub fn end<K: Sink>(self, sink: &mut K) -> Result<Summary, Fault>
+    /// numbers, and the data that was not counted. It refuses by the first faulty line, for want of memory, and where the
+    /// sink fails; once `feed` has refused, it answers the same.
+    pub fn end<K: Sink>(self, sink: &mut K, uncounted: &mut Uncounted) -> Result<Summary, Fault>
         requires fed { IsFed C.interface_of C.number_of C.stands_for self }
         // A sink that has the lines of what was found so far has the report.
         ensures reported { OfTold C.Channel self (K.taken sink.old) (λ text before.
             IfOk result (IsReported text before (K.taken sink.new))) }
+        ensures uncounted { OfFollowed C.Channel self (λ text.
+            OnOk result (uncounted.new ≡ trace_uncounted text)) }
         ensures refused { OfFollowed C.Channel self (λ text. IfErr result (IsRefusal text)) }
         ensures kinds { IfErr result IsReportFault }
         ensures write_failed { OfFollowed C.Channel self (λ text.
@@ -128,7 +132,7 @@ impl<A: Allocator + Copy, C: Channel<A>> Follower<A, C> {
         if let Some(fault) = refused {
             return Err(fault);
         }
-        let report = live.whole()?;
+        let report = live.whole(uncounted)?;
         let (_, untold) = report.findings.as_slice().split_at(told);
         write_findings(untold, sink)?;
         write_rest(&report, sink)?;

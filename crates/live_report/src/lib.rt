@@ -9,5 +9,6 @@ pub mod laws;
 pub mod live;
 pub mod observer;
 mod telling;
+pub mod uncounted;
 mod watched;
 mod watching;

@@ -10,9 +10,11 @@ ghost use Rattle.trace_text.specs.EndedPart.{ended_part};
 ghost use Rattle.live_report.specs.Found.{IsFoundBy, found};
 ghost use Rattle.live_report.specs.Lives.{IsFed, IsFedOn, OfFed, RefusesEarly, WasFed};
 ghost use Rattle.live_report.specs.Reports.{IsMissing, IsRefusal, IsReportFault, IsReported, IsTaken};
+ghost use Rattle.live_report.specs.Uncounted.{trace_uncounted};
 ghost use Rattle.trace_text.specs.Watched.{IsReportOf};
 
 use crate::observer::Observer;
+use crate::uncounted::Uncounted;
 use crate::watching::{finish, watch};
 use channel_run::run::Channel;
 use line_model::device::Sink;
@@ -229,10 +231,12 @@ impl<A: Allocator + Copy, C: Channel<A>> Live<A, C> {
         Ok(report.summary)
     }
 
-    /// The report of the whole text.
-    pub fn whole(self) -> Result<Report<A>, Fault>
+    /// The report of the whole text, and the data that was not counted.
+    pub fn whole(self, uncounted: &mut Uncounted) -> Result<Report<A>, Fault>
         requires fed { IsFed C.interface_of C.number_of C.stands_for self }
         ensures told { OfFed C.Channel self (λ text. IfOk result (IsReportOf text)) }
+        ensures uncounted { OfFed C.Channel self (λ text.
+            OnOk result (uncounted.new ≡ trace_uncounted text)) }
         ensures refused { OfFed C.Channel self (λ text. IfErr result (IsFaultOf (fault text))) }
         ensures kinds { IfErr result IsTextFault }
         ensures again { (fault : Fault) → self.refused ≡ Some fault → result ≡ Err fault }
@@ -250,17 +254,25 @@ impl<A: Allocator + Copy, C: Channel<A>> Live<A, C> {
         let TextEnd { interface, has_row } = lines.end_row(&mut row)?;
         let alloc = *row.octets.allocator();
         match observer {
-            Some(observer) => finish(observer, has_row, &row),
-            None => finish(Observer::<A, C>::new(alloc, &interface), has_row, &row),
+            Some(observer) => finish(observer, has_row, &row, uncounted),
+            None => finish(
+                Observer::<A, C>::new(alloc, &interface),
+                has_row,
+                &row,
+                uncounted,
+            ),
         }
     }
 
-    /// The text has ended, and its last line may lack its LF: writes its report, and answers its last line as numbers.
-    /// It refuses by the first faulty line, for want of memory, and where the sink fails.
-    pub fn end<K: Sink>(self, sink: &mut K) -> Result<Summary, Fault>
+    /// The text has ended, and its last line may lack its LF: writes its report, and answers its last line as numbers,
+    /// and the data that was not counted. It refuses by the first faulty line, for want of memory, and where the sink
+    /// fails.
+    pub fn end<K: Sink>(self, sink: &mut K, uncounted: &mut Uncounted) -> Result<Summary, Fault>
         requires fed { IsFed C.interface_of C.number_of C.stands_for self }
         ensures reported { OfFed C.Channel self (λ text.
             IfOk result (IsReported text (K.taken sink.old) (K.taken sink.new))) }
+        ensures uncounted { OfFed C.Channel self (λ text.
+            OnOk result (uncounted.new ≡ trace_uncounted text)) }
         ensures refused { OfFed C.Channel self (λ text. IfErr result (IsRefusal text)) }
         ensures kinds { IfErr result IsReportFault }
         ensures write_failed { result ≡ Err Fault.Write
@@ -271,7 +283,7 @@ impl<A: Allocator + Copy, C: Channel<A>> Live<A, C> {
         ensures again { (fault : Fault) → self.refused ≡ Some fault
             → (result ≡ Err fault) × (sink.new ≡ sink.old) }
     {
-        let report = self.whole()?;
+        let report = self.whole(uncounted)?;
         write_report(&report, sink)?;
         Ok(report.summary)
     }

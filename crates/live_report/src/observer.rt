@@ -13,6 +13,7 @@ ghost use Rattle.channel_run.specs.Live.{channel_so_far};
 ghost use Rattle.channel_run.specs.Views.{IsViewOf};
 ghost use Rattle.live_report.specs.Lanes.{LanesStandFor};
 ghost use Rattle.live_report.specs.LastRows.{IsLastRow};
+ghost use Rattle.live_report.specs.Uncounted.{uncounted_of};
 ghost use Rattle.live_report.specs.declared.last_row.Known.TheVariants.{Restart};
 ghost use Rattle.live_report.specs.Turns.{FindsBy, HasEvents, KnowsBy, MayTurn, OfOpen, StandsAt};
 ghost use Rattle.live_report.specs.Observing.{open_piece, HasWalked, IsHolding, IsObserver, MayWalk, TellsFinding, TellsReport, WalksOn};
@@ -21,6 +22,7 @@ use crate::ending::end_channels;
 use crate::lanes::step_channel;
 use crate::last_row::{Kept, KeptRow, LastRow};
 use crate::telling::tell_channels;
+use crate::uncounted::Uncounted;
 use channel_run::live::LiveChannel;
 use channel_run::run::{Channel, View};
 use line_model::event::Event;
@@ -49,6 +51,8 @@ pub struct Observer<A: Allocator, C: Channel<A>> {
     last: Option<KeptRow>,
     /// The events of the last row that a channel took.
     events: Vec<Event, A>,
+    /// The data of the rows that was not counted.
+    uncounted: Uncounted,
 }
 
 /// A row of a packet that no channel takes, which the restart machine judged in a state.
@@ -85,6 +89,7 @@ impl<A: Allocator + Copy, C: Channel<A>> Observer<A, C> {
             lanes: ChannelTable::new(alloc),
             last: None,
             events: Vec::new(alloc),
+            uncounted: Uncounted::none(),
         }
     }
 
@@ -96,6 +101,7 @@ impl<A: Allocator + Copy, C: Channel<A>> Observer<A, C> {
             × MayTurn step.now.turn self.old.walk.interface item.now rows }
         requires pieces { self.old.ended.pieces + length self.old.lanes.channels < 2 ^ 32 }
         ensures walk { self.new.walk ≡ self.old.walk }
+        ensures uncounted { self.new.uncounted ≡ self.old.uncounted }
         ensures lanes { OfOpen C.Channel self.old.walk self.old.lanes (λ rows. (after : OpenRows)
             → MayTurn step.now.turn self.old.walk.interface item.now rows
             → HasTurned step.now.turn item.now rows after
@@ -176,6 +182,15 @@ impl<A: Allocator + Copy, C: Channel<A>> Observer<A, C> {
         self.events.as_slice()
     }
 
+    /// The data of the rows that was not counted, and why.
+    pub fn uncounted(&self) -> Uncounted
+        ensures kept { result ≡ self.now.uncounted }
+        ensures walked { (i : AnyInterface) (rows : List records.Row)
+            → HasWalked C.Channel i rows self.now → result ≡ uncounted_of i rows }
+    {
+        self.uncounted
+    }
+
     /// What is known of a logical channel in the epoch that goes on, if it has rows there.
     pub fn view(&self, channel: u16) -> Option<View>
         ensures held { (c : Cutting) (reports : List records.PieceReport)
@@ -204,6 +219,12 @@ impl<A: Allocator + Copy, C: Channel<A>> Observer<A, C> {
         let step = self.walk.step(&item)?;
         let last = self.turn(&step, &item)?;
         let finding = last.finding();
+        self.uncounted.take(
+            &self.walk.interface,
+            item.octets,
+            &last,
+            self.events.as_slice(),
+        );
         self.last = Some(last);
         self.walk.advance(step);
         Ok(finding)

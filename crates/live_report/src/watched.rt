@@ -6,6 +6,7 @@ ghost use Rattle.live_report.specs.Lives.{StandsFor};
 ghost use Rattle.trace_text.specs.FedBytes.{fed_length};
 
 use crate::live::Live;
+use crate::uncounted::Uncounted;
 use channel_run::run::Channel;
 use line_model::fault::Fault;
 use line_model::finding::Finding;
@@ -29,7 +30,7 @@ impl<A: Allocator + Copy, C: Channel<A>> Watcher<A> for Live<A, C> {
     }
 
     fn whole(self) -> Result<Report<A>, Fault> {
-        Live::whole(self)
+        Live::whole(self, &mut Uncounted::none())
     }
 
     ghost sound = { λ live text stands. stands.reads.sound };

@@ -7,9 +7,10 @@ ghost use Rattle.trace_text.specs.Progress.{bytes_fed};
 ghost use Rattle.trace_text.specs.StandsFor.{last_row, IsFaultOf, IsTextFault};
 ghost use Rattle.live_report.specs.Found.{IsFoundBy, found_at};
 ghost use Rattle.live_report.specs.Lives.{IsWatcher, OfWatched, Watches};
-ghost use Rattle.live_report.specs.Observing.{MayWalk, TellsReportWith};
+ghost use Rattle.live_report.specs.Observing.{LeavesOutWith, MayWalk, TellsReportWith};
 
 use crate::observer::Observer;
+use crate::uncounted::Uncounted;
 use channel_run::run::Channel;
 use line_model::fault::Fault;
 use line_model::finding::Finding;
@@ -48,31 +49,38 @@ pub fn watch<A: Allocator + Copy, C: Channel<A>>(
     Ok(())
 }
 
-/// The report of an observer, which first takes the row of a last line that no LF ended, if there is one.
+/// The report of an observer, which first takes the row of a last line that no LF ended, if there is one; and the data
+/// that was not counted.
 pub fn finish<A: Allocator + Copy, C: Channel<A>>(
     observer: Observer<A, C>,
     has_row: bool,
     row: &Row<A>,
+    uncounted: &mut Uncounted,
 ) -> Result<Report<A>, Fault>
     requires room { MayWalk C.Channel observer (last_row has_row row.now) }
     ensures report { TellsReportWith C.Channel observer (last_row has_row row.now) result }
+    ensures uncounted { LeavesOutWith C.Channel observer (last_row has_row row.now) uncounted.new result }
     ensures memory { IfErr result (λ fault. fault ≡ Memory) }
 {
     if has_row {
-        return take_last(observer, row);
+        return take_last(observer, row, uncounted);
     }
+    *uncounted = observer.uncounted();
     observer.end()
 }
 
-/// The report of an observer after one more row.
+/// The report of an observer after one more row, and the data that was not counted.
 fn take_last<A: Allocator + Copy, C: Channel<A>>(
     mut observer: Observer<A, C>,
     row: &Row<A>,
+    uncounted: &mut Uncounted,
 ) -> Result<Report<A>, Fault>
     requires room { MayWalk C.Channel observer (row.now ∷ []) }
     ensures report { TellsReportWith C.Channel observer (row.now ∷ []) result }
+    ensures uncounted { LeavesOutWith C.Channel observer (row.now ∷ []) uncounted.new result }
     ensures memory { IfErr result (λ fault. fault ≡ Memory) }
 {
     observer.take(row)?;
+    *uncounted = observer.uncounted();
     observer.end()
 }

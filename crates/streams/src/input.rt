@@ -73,4 +73,7 @@ pub trait Input: Source {
         ensures name { name_of self.new ≡ name_of self.old }
         ensures calls { Self.calls self.new ≡ Self.calls self.old }
         ensures failures { Self.failures self.new ≡ Self.failures self.old };
+
+    /// Whether a terminal shows how far the reading is.
+    fn shows_terminal(&self) -> bool;
 }

@@ -195,6 +195,10 @@ impl<R: Files + Clock, I: Read + Drop, W: Write + Drop> Input for FileInput<'_, 
     fn tell_progress(&mut self, telling: Telling) {
         self.progress.choose(telling);
     }
+
+    fn shows_terminal(&self) -> bool {
+        self.progress.is_terminal()
+    }
 }
 
 /// A writer of the system as a sink, which does not tell its bytes. Each write is one of the writer's, unbuffered, so nothing is left to flush.

@@ -51,6 +51,11 @@ impl<W: Write + Drop> Progress<W> {
         }
     }
 
+    /// Whether the writer is a terminal.
+    pub fn is_terminal(&self) -> bool {
+        self.is_terminal
+    }
+
     /// Chooses when it is told.
     pub fn choose(&mut self, telling: Telling) {
         self.telling = telling;

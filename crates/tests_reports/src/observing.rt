@@ -9,6 +9,7 @@ use channel_machine::channel::PlainChannel;
 use channel_run::run::Channel;
 use line_model::fault::Fault;
 use live_report::live::Live;
+use live_report::uncounted::Uncounted;
 use std::alloc::{Allocator, Global};
 use std::process::Abort;
 use tests_devices::{CutSink, Cuts};
@@ -49,7 +50,7 @@ fn ended<A: Allocator + Copy, C: Channel<A>>(alloc: Global, trace: Live<A, C>) -
     requires fed { IsFed C.interface_of C.number_of C.stands_for trace }
 {
     let mut sink = CutSink::new(alloc, Cuts::none());
-    let fault = trace.end(&mut sink).err();
+    let fault = trace.end(&mut sink, &mut Uncounted::none()).err();
     Answer {
         fault,
         bytes: sink.taken,

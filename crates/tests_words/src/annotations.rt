@@ -16,6 +16,7 @@ use line_model::finding::Finding;
 use line_model::lending::LentSink;
 use line_model::report::Report;
 use live_report::live::Live;
+use live_report::uncounted::Uncounted;
 use std::alloc::{AllocError, Allocator, Global};
 use std::process::Abort;
 use tests_devices::{CutSink, CutSource, Cuts};
@@ -99,7 +100,7 @@ fn report(alloc: Global, text: &[u8]) -> Answer {
     let mut sink = CutSink::new(alloc, Cuts::none());
     let mut trace = Live::<Global, PlainChannel<Global>>::new(alloc);
     let fault = match trace.feed(text) {
-        Ok(()) => trace.end(&mut sink).err(),
+        Ok(()) => trace.end(&mut sink, &mut Uncounted::none()).err(),
         Err(fault) => Some(fault),
     };
     Answer {

@@ -1,6 +1,7 @@
 //! A scan of one thread that follows a trace as it grows.
 
-ghost use Rattle.std.specs.Prelude.{◌≡◌, ℕ, ◌+◌, ◌<◌, ◌≤◌, ◌^◌, List, Some, Err, IfErr, IfOk};
+ghost use Rattle.std.specs.Prelude.{◌≡◌, ℕ, ◌+◌, ◌<◌, ◌≤◌, ◌^◌, List, Some, Err, IfErr, IfOk, OnOk};
+ghost use Rattle.live_report.specs.Uncounted.{trace_uncounted};
 ghost use Rattle.live_report.specs.Reports.{IsReported};
 ghost use Rattle.trace_text.specs.FedBytes.{fed_length};
 ghost use Rattle.trace_text.specs.Progress.{bytes_fed};
@@ -14,6 +15,7 @@ use line_model::device::{Sink, Source};
 use line_model::fault::Fault;
 use line_model::totals::Summary;
 use live_report::follow::Follower;
+use live_report::uncounted::Uncounted;
 use std::alloc::Allocator;
 use trace_text::consumer::{Consumer, read_to_end};
 
@@ -42,17 +44,21 @@ impl<A: Allocator + Copy, C: Channel<A>, K: Sink> Consumer<K> for Following<A, C
 }
 
 /// Walks a trace in one thread, and writes each finding as soon as the LF of its row was read, and the rest of the report
-/// where the source ends; so the bytes are those of `scan_alone`. Answers the report's last line as numbers. Refuses by
-/// the first faulty line as soon as it is known, behind what was found before it; where a device fails; and for want of
-/// memory.
+/// where the source ends; so the bytes are those of `scan_alone`. Answers the report's last line as numbers, and the data
+/// that was not counted. Refuses by the first faulty line as soon as it is known, behind what was found before it; where
+/// a device fails; and for want of memory.
 pub fn follow<A: Allocator + Copy, S: Source, K: Sink>(
     alloc: A,
     source: &mut S,
     sink: &mut K,
+    uncounted: &mut Uncounted,
 ) -> Result<Summary, Fault>
     // Of a text without a fault the sink took exactly the report.
     ensures reported { (text : List ℕ) → S.left source.old ≡ Some text
         → IfOk result (IsReported text (K.taken sink.old) (K.taken sink.new)) }
+    // And what was not counted of it is told.
+    ensures uncounted { (text : List ℕ) → S.left source.old ≡ Some text
+        → OnOk result (uncounted.new ≡ trace_uncounted text) }
     // A refusal is by the bytes that were given, and those before the last call of the source show no faulty line.
     ensures refused { (text : List ℕ) → S.left source.old ≡ Some text
         → IfErr result (IsRefusedBy IsFollowRefusal text (S.left source.new) (S.before source.new)) }
@@ -78,5 +84,5 @@ pub fn follow<A: Allocator + Copy, S: Source, K: Sink>(
         follower: Follower::<A, PackedChannel<A>>::new(alloc),
     };
     read_to_end(source, &mut following, sink)?;
-    following.follower.end(sink)
+    following.follower.end(sink, uncounted)
 }

@@ -1,8 +1,9 @@
 //! A scan of one thread.
 
-ghost use Rattle.std.specs.Prelude.{◌≡◌, ◌≢◌, ℕ, ◌+◌, ◌<◌, ◌≤◌, ◌^◌, List, Some, Err, IfOk, IfErr};
+ghost use Rattle.std.specs.Prelude.{◌≡◌, ◌≢◌, ℕ, ◌+◌, ◌<◌, ◌≤◌, ◌^◌, List, Some, Err, IfOk, IfErr, OnOk};
 ghost use Rattle.trace_text.specs.Sources.{IsRefusedBy};
 ghost use Rattle.trace_scan.specs.Readings.{IsRefusal};
+ghost use Rattle.live_report.specs.Uncounted.{trace_uncounted};
 ghost use Rattle.live_report.specs.Reports.{IsReported, IsTaken};
 ghost use Rattle.trace_scan.specs.Scan.{IsPartTaken, IsScanFault};
 ghost use Rattle.line_model.specs.traces.Traces.{trace_report};
@@ -13,20 +14,25 @@ use line_model::device::{Sink, Source};
 use line_model::fault::Fault;
 use line_model::totals::Summary;
 use live_report::live::Live;
+use live_report::uncounted::Uncounted;
 use std::alloc::Allocator;
 use trace_text::consumer::read_to_end;
 
 /// Walks a trace in one thread, writes what is found once the whole text was accepted, and answers the report's last
-/// line as numbers. Refuses as reading does, and where the sink fails. The fault of a line is the text's however it goes
-/// on (`line_model::laws::fault`).
+/// line as numbers, and the data that was not counted. Refuses as reading does, and where the sink fails. The fault of a
+/// line is the text's however it goes on (`line_model::laws::fault`).
 pub fn scan_alone<A: Allocator + Copy, S: Source, K: Sink>(
     alloc: A,
     source: &mut S,
     sink: &mut K,
+    uncounted: &mut Uncounted,
 ) -> Result<Summary, Fault>
     // Of a text without a fault the sink took exactly the report.
     ensures reported { (text : List ℕ) → S.left source.old ≡ Some text
         → IfOk result (IsReported text (K.taken sink.old) (K.taken sink.new)) }
+    // And what was not counted of it is told.
+    ensures uncounted { (text : List ℕ) → S.left source.old ≡ Some text
+        → OnOk result (uncounted.new ≡ trace_uncounted text) }
     // So it is with a source that does not tell its bytes.
     ensures of_text { IfOk result (λ sums. (text : List ℕ)
         × IsReported text (K.taken sink.old) (K.taken sink.new) sums) }
@@ -51,5 +57,5 @@ pub fn scan_alone<A: Allocator + Copy, S: Source, K: Sink>(
         live: Live::<A, PackedChannel<A>>::new(alloc),
     };
     read_to_end(source, &mut walk, sink)?;
-    walk.live.end(sink)
+    walk.live.end(sink, uncounted)
 }

@@ -9,6 +9,7 @@ use line_model::device::Sink;
 use line_model::fault::Fault;
 use line_model::totals::Summary;
 use live_report::follow::Follower;
+use live_report::uncounted::Uncounted;
 use std::alloc::{Allocator, Global};
 use std::process::Abort;
 use tests_devices::{CutSink, Cuts};
@@ -109,7 +110,7 @@ fn play_into(
 ) -> Result<Summary, Fault> {
     let mut trace = Follower::<Global, PlainChannel<Global>>::new(alloc);
     play_steps(rt, &mut trace, sink, steps);
-    trace.end(sink)
+    trace.end(sink, &mut Uncounted::none())
 }
 
 /// Plays steps with a follower of which nothing was fed, whose sink takes so many writes, and ends it.

@@ -3,6 +3,7 @@
 use line_model::device::{Sink, Source};
 use line_model::fault::Fault;
 use line_model::totals::{Summary, Totals};
+use live_report::uncounted::Uncounted;
 use std::alloc::{Allocator, Global};
 use std::sync::Wait;
 use std::thread::Threads;
@@ -61,8 +62,8 @@ fn scan_by<
     R: Threads + Wait + Clock + Sync,
 >(rt: &R, heap: A, gate: &G, way: Way, source: &mut S, sink: &mut K) -> Result<Scan<A>, Fault> {
     match way {
-        Way::Alone => unshared(heap, scan_alone(heap, source, sink)),
-        Way::Following => unshared(heap, follow(heap, source, sink)),
+        Way::Alone => unshared(heap, scan_alone(heap, source, sink, &mut Uncounted::none())),
+        Way::Following => unshared(heap, follow(heap, source, sink, &mut Uncounted::none())),
         Way::Crew(workers, capacity) => scan_with(
             rt,
             heap,

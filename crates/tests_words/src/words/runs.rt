@@ -93,6 +93,10 @@ impl Input for CutInput<'_> {
     }
 
     fn tell_progress(&mut self, _telling: Telling) {}
+
+    fn shows_terminal(&self) -> bool {
+        false
+    }
 }
 
 /// A sink that cuts and fails, and does not say why.

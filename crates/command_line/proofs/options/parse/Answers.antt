@@ -1,8 +1,8 @@
-use Rattle.std.proofs.Common.{◌≡◌, ◌∙◌, ap, refl, subst, sym, true, map, codes, ℕ, List}
+use Rattle.std.proofs.Common.{◌≡◌, ◌∙◌, ap, refl, subst, sym, true, map, codes, is_some, ℕ, List}
 use Rattle.clap.specs.Words.{HasKind, app_of, fault_of, found_of, first_value, is_simple, is_simple_and_free, matches_of, first_of}
 use Rattle.clap.proofs.OnLiterals.{clap_on_literals}
 use Rattle.clap.proofs.WalkLemmas.{first_value-rows}
-use Rattle.command_line.specs.Options.{AskFor, command, is_given, named_by}
+use Rattle.command_line.specs.Options.{AskFor, HasWorkers, command, is_given, named_by}
 use Rattle.command_line.proofs.options.parse.Goals as goal
 use Rattle.command_line.proofs.options.parse.Goals.{Joined-matches}
 
@@ -33,13 +33,19 @@ value_of c id =
     ∙ ap (first_of id) (rows ∙ ap (λ app. matches_of app (map (λ word. word.now) c.args.words.now)) told)
 
 pub returns-in-Ok-clause-workers : goal.returns-in-Ok-clause-workers
-returns-in-Ok-clause-workers c = λ text n asked is. c.options_in.ensures.workers text n (value_of c (codes "workers") ∙ asked) is
+returns-in-Ok-clause-workers c = subst (λ asked. HasWorkers asked c.options_in.result.workers) (value_of c (codes "workers")) c.options_in.ensures.workers
+
+pub returns-in-Ok-clause-crew : goal.returns-in-Ok-clause-crew
+returns-in-Ok-clause-crew c = c.options_in.ensures.crew ∙ ap is_some (value_of c (codes "workers"))
 
 pub returns-in-Ok-clause-alone : goal.returns-in-Ok-clause-alone
 returns-in-Ok-clause-alone c = c.options_in.ensures.alone ∙ ap is_given (value_of c (codes "alone"))
 
 pub returns-in-Ok-clause-progress : goal.returns-in-Ok-clause-progress
 returns-in-Ok-clause-progress c = c.options_in.ensures.progress ∙ ap is_given (value_of c (codes "progress"))
+
+pub returns-in-Ok-clause-notes : goal.returns-in-Ok-clause-notes
+returns-in-Ok-clause-notes c = c.options_in.ensures.notes ∙ ap is_given (value_of c (codes "notes"))
 
 pub returns-in-Ok-clause-follow : goal.returns-in-Ok-clause-follow
 returns-in-Ok-clause-follow c = c.options_in.ensures.follow ∙ ap is_given (value_of c (codes "follow"))

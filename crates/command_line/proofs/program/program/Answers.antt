@@ -1,9 +1,10 @@
-use Rattle.std.proofs.Common.{◌≡◌, ◌∙◌, sym, refl, option_map, Bool, true, false, true≢false, ℕ, List, Option, Some, None, IfSome, inr, map, subst, codes, ◌⊎◌}
+use Rattle.std.proofs.Common.{◌≡◌, ◌∙◌, sym, refl, option_map, Bool, true, false, true≢false, ℕ, List, Option, Some, None, IfSome, inr, ◌||◌, map, subst, codes, ◌⊎◌}
 use Rattle.std.specs.Prelude.{MatchOption, is_some}
 use Rattle.annotated_trace.specs.declared.rows.Rows.{Rows}
 use Rattle.annotated_trace.specs.declared.rows.Rows.TheVariants.{All}
 use Rattle.clap.specs.Words.{first_of, matches_of}
 use Rattle.command_line.specs.Explaining.{IsAnswered}
+use Rattle.command_line.specs.Notes.{notes_refused, refused_in, refuses_notes}
 use Rattle.command_line.specs.Options.{AreAskedRows, AreRowsBy, annotates, annotates_by, as_json, command, follows, named_trace, prints_rows}
 use Rattle.command_line.specs.Printing.{IsPrintAnswer, is_refused, printing_of}
 use Rattle.command_line.specs.declared.options.Form.TheVariants.{Comments, Objects}
@@ -56,14 +57,22 @@ as_objects words true None P h told p =
 as_objects words true (Some rows) P h told p = (rows, h.1, p)
 as_objects words false asked P h told p = absurd (true≢false (sym told))
 
+-- whether a note is refused
+same_refusal : (g : Over) → (c : goal.After-run g) → refused_in c.in-Ok.options ≡ notes_refused (map (λ word. word.now) c.args.words.now)
+unfolding AsksFor
+same_refusal g c =
+    let words : List (List ℕ) = map (λ word. word.now) c.args.words.now in
+    let asked = annotating words c.in-Ok.options.annotate c.in-Ok.ensures.annotate in
+    λ t. refuses_notes (c.in-Ok.ensures.notes t) ((c.in-Ok.ensures.rows t || asked t) || c.in-Ok.ensures.try_headers t) (c.in-Ok.ensures.crew t) (c.in-Ok.ensures.alone t) (c.in-Ok.ensures.follow t)
+
 pub returns-in-Ok-clause-told : goal.returns-in-Ok-clause-told
 unfolding Tells AsksFor
-returns-in-Ok-clause-told g c right unasked untried unannotated plain =
+returns-in-Ok-clause-told g c right unasked untried unannotated plain allowed =
     let words : List (List ℕ) = map (λ word. word.now) c.args.words.now in
     let none = none_printed words c.in-Ok.options.rows c.in-Ok.options.annotate c.in-Ok.ensures.annotate unannotated (c.in-Ok.ensures.rows ∙ plain) in
     subst (λ json. Tells g c json (follows words) (named_trace words)) c.in-Ok.ensures.json
     (subst (λ followed. Tells g c c.in-Ok.options.json followed (named_trace words)) c.in-Ok.ensures.follow
-    (subst (λ name. Tells g c c.in-Ok.options.json c.in-Ok.options.follow name) c.in-Ok.ensures.trace (c.run.ensures.told (c.in-Ok.ensures.explain ∙ unasked) (c.in-Ok.ensures.try_headers ∙ untried) none)))
+    (subst (λ name. Tells g c c.in-Ok.options.json c.in-Ok.options.follow name) c.in-Ok.ensures.trace (c.run.ensures.told (c.in-Ok.ensures.explain ∙ unasked) (c.in-Ok.ensures.try_headers ∙ untried) (same_refusal g c ∙ allowed) none)))
 
 -- what is answered where rows of a trace of this name are printed
 Prints : (g : Over) → (c : goal.After-run g) → (refused : Bool) → (name : Option (List ℕ)) → Printing → Type 0
@@ -74,19 +83,19 @@ Prints g c refused name printing =
 
 pub returns-in-Ok-clause-annotated : goal.returns-in-Ok-clause-annotated
 unfolding Prints AsksFor
-returns-in-Ok-clause-annotated g c right unasked untried asked plain =
+returns-in-Ok-clause-annotated g c right unasked untried asked plain allowed =
     let words : List (List ℕ) = map (λ word. word.now) c.args.words.now in
     let name : Option (List ℕ) = option_map (λ name. name.now) c.in-Ok.options.trace in
-    let of = with_comments words c.in-Ok.options.rows c.in-Ok.options.annotate (λ printing. Prints g c (is_refused printing.form c.in-Ok.options.json c.in-Ok.options.comments) name printing) c.in-Ok.ensures.annotate asked (c.in-Ok.ensures.rows ∙ plain) (c.run.ensures.printed (c.in-Ok.ensures.explain ∙ unasked) (c.in-Ok.ensures.try_headers ∙ untried)) in
+    let of = with_comments words c.in-Ok.options.rows c.in-Ok.options.annotate (λ printing. Prints g c (is_refused printing.form c.in-Ok.options.json c.in-Ok.options.comments) name printing) c.in-Ok.ensures.annotate asked (c.in-Ok.ensures.rows ∙ plain) (c.run.ensures.printed (c.in-Ok.ensures.explain ∙ unasked) (c.in-Ok.ensures.try_headers ∙ untried) (same_refusal g c ∙ allowed)) in
     let printing : Printing = record { form = Comments; rows = of.0 } in
     inr (of.0, of.1, subst (λ json. Prints g c json (named_trace words) printing) c.in-Ok.ensures.json (subst (λ named. Prints g c c.in-Ok.options.json named printing) c.in-Ok.ensures.trace of.2))
 
 pub returns-in-Ok-clause-rows : goal.returns-in-Ok-clause-rows
 unfolding Prints AsksFor
-returns-in-Ok-clause-rows g c right unasked untried asked =
+returns-in-Ok-clause-rows g c right unasked untried asked allowed =
     let words : List (List ℕ) = map (λ word. word.now) c.args.words.now in
     let name : Option (List ℕ) = option_map (λ name. name.now) c.in-Ok.options.trace in
-    let of = as_objects words c.in-Ok.options.rows c.in-Ok.options.annotate (λ printing. Prints g c (is_refused printing.form c.in-Ok.options.json c.in-Ok.options.comments) name printing) c.in-Ok.ensures.annotate (c.in-Ok.ensures.rows ∙ asked) (c.run.ensures.printed (c.in-Ok.ensures.explain ∙ unasked) (c.in-Ok.ensures.try_headers ∙ untried)) in
+    let of = as_objects words c.in-Ok.options.rows c.in-Ok.options.annotate (λ printing. Prints g c (is_refused printing.form c.in-Ok.options.json c.in-Ok.options.comments) name printing) c.in-Ok.ensures.annotate (c.in-Ok.ensures.rows ∙ asked) (c.run.ensures.printed (c.in-Ok.ensures.explain ∙ unasked) (c.in-Ok.ensures.try_headers ∙ untried) (same_refusal g c ∙ allowed)) in
     let printing : Printing = record { form = Objects; rows = of.0 } in
     inr (of.0, of.1, subst (λ comments. Prints g c comments (named_trace words) printing) c.in-Ok.ensures.comments (subst (λ named. Prints g c c.in-Ok.options.comments named printing) c.in-Ok.ensures.trace of.2))
 
@@ -99,13 +108,16 @@ Tries g c refused name =
 
 pub returns-in-Ok-clause-tried : goal.returns-in-Ok-clause-tried
 unfolding Tries
-returns-in-Ok-clause-tried g c right unasked asked =
+returns-in-Ok-clause-tried g c right unasked asked allowed =
     let words : List (List ℕ) = map (λ word. word.now) c.args.words.now in
     let name : Option (List ℕ) = option_map (λ name. name.now) c.in-Ok.options.trace in
     let same : cannot_try c.in-Ok.options.json c.in-Ok.options.follow c.in-Ok.options.rows (is_some c.in-Ok.options.annotate) ≡ cannot_try (as_json words) (follows words) (prints_rows words) (annotates words) =
     (λ j. cannot_try (c.in-Ok.ensures.json j) (c.in-Ok.ensures.follow j) (c.in-Ok.ensures.rows j) (annotating words c.in-Ok.options.annotate c.in-Ok.ensures.annotate j)) in
     inr (subst (λ refused. Tries g c refused (named_trace words)) same (subst (λ named. Tries g c (cannot_try c.in-Ok.options.json c.in-Ok.options.follow c.in-Ok.options.rows (is_some c.in-Ok.options.annotate)) named) c.in-Ok.ensures.trace
-    (c.run.ensures.tried (c.in-Ok.ensures.explain ∙ unasked) (c.in-Ok.ensures.try_headers ∙ asked))))
+    (c.run.ensures.tried (c.in-Ok.ensures.explain ∙ unasked) (c.in-Ok.ensures.try_headers ∙ asked) (same_refusal g c ∙ allowed))))
+
+pub returns-in-Ok-clause-notes : goal.returns-in-Ok-clause-notes
+returns-in-Ok-clause-notes g c right unasked refused = inr (c.run.ensures.refused (c.in-Ok.ensures.explain ∙ unasked) (same_refusal g c ∙ refused))
 
 pub returns-in-Ok-clause-explained : goal.returns-in-Ok-clause-explained
 returns-in-Ok-clause-explained g c word right asks =

@@ -1,7 +1,9 @@
-use Rattle.std.proofs.Common.{◌≡◌, ◌++◌, sym, subst, IfOk, append-nil}
+use Rattle.std.proofs.Common.{◌≡◌, ◌∙◌, ◌++◌, ap, sym, subst, IfOk, OnOk, append-nil}
 use Rattle.line_model.specs.observer.Report.{report_of}
 use Rattle.trace_text.specs.StandsFor.{last_row}
 use Rattle.live_report.specs.Observing.{AreRows}
+use Rattle.live_report.specs.Uncounted.{uncounted_of}
+use Rattle.live_report.proofs.TakeLemmas.{on_any}
 use Rattle.live_report.proofs.watching.finish.Goals as goal
 
 pub take_last-requires : goal.take_last-requires
@@ -18,3 +20,12 @@ pub returns-clause-report : goal.returns-clause-report
 returns-clause-report g c i rows s sound =
     subst (λ b. IfOk c.end.result (λ report. report ≡ report_of i (rows ++ last_row b c.args.row.now))) (sym c.if-has_row.false)
     (subst (λ l. IfOk c.end.result (λ report. report ≡ report_of i l)) (sym (append-nil rows)) (c.end.ensures.report i rows s))
+
+pub returns-then-has_row-clause-uncounted : goal.returns-then-has_row-clause-uncounted
+returns-then-has_row-clause-uncounted g c i rows s sound =
+    subst (λ b. OnOk c.take_last.result (c.take_last.new.uncounted ≡ uncounted_of i (rows ++ last_row b c.args.row.now))) (sym c.if-has_row.true)
+    (c.take_last.ensures.uncounted i rows s (subst (λ b. AreRows (rows ++ last_row b c.args.row.now)) c.if-has_row.true sound))
+
+pub returns-clause-uncounted : goal.returns-clause-uncounted
+returns-clause-uncounted g c i rows s sound =
+    on_any c.end.result _ (c.uncounted.ensures.walked i rows s ∙ ap (uncounted_of i) (sym (append-nil rows)) ∙ ap (λ b. uncounted_of i (rows ++ last_row b c.args.row.now)) (sym c.if-has_row.false))

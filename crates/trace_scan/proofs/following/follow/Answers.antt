@@ -1,7 +1,8 @@
-use Rattle.std.proofs.Common.{◌≡◌, ◌∙◌, ◌≤◌, ◌<◌, Err, arith}
+use Rattle.std.proofs.Common.{◌≡◌, ◌∙◌, ◌≤◌, ◌<◌, Err, OnOk, arith, subst, sym}
 use Rattle.std.proofs.lemmas.Result.{IfOk-from_err}
 use Rattle.line_model.specs.declared.fault.Fault.TheVariants.{Write}
 use Rattle.trace_text.proofs.SourceLemmas.{passed_on, same_fault}
+use Rattle.live_report.specs.Uncounted.{trace_uncounted}
 use Rattle.trace_scan.specs.Scan.{IsScanFault}
 use Rattle.trace_scan.proofs.FollowLemmas.{end_given, end_refused, end_reported, end_some, end_taken, fed_of, nothing_followed, same_taken, stop_kinds, stop_write, stopped_given, stopped_refused, stopped_taken}
 use Rattle.trace_scan.proofs.ScanLemmas.{end_kinds}
@@ -99,3 +100,11 @@ returns-in_err-read_to_end-clause-write_failed g c e =
 
 pub returns-in_err-read_to_end-clause-called : goal.returns-in_err-read_to_end-clause-called
 returns-in_err-read_to_end-clause-called g c = c.read_to_end.ensures.called
+
+pub returns-clause-uncounted : goal.returns-clause-uncounted
+returns-clause-uncounted g c text told =
+    let w = c.in_ok-read_to_end.ensures.whole in
+    subst (λ x. OnOk c.end.result (c.end.new.uncounted ≡ trace_uncounted x)) (sym (w.source text told).0) (c.end.ensures.uncounted w.text w.fed.stands)
+
+pub returns-in_err-read_to_end-clause-uncounted : goal.returns-in_err-read_to_end-clause-uncounted
+returns-in_err-read_to_end-clause-uncounted g c text told = IfOk-from_err _ _ c.from_residual.ensures.0

@@ -1,4 +1,4 @@
-use Rattle.std.proofs.Common.{◌≢◌, ◌≡◌, ◌∙◌, ◌<◌, Err, IfErr, refl, subst, sym, ap}
+use Rattle.std.proofs.Common.{◌≢◌, ◌≡◌, ◌∙◌, ◌<◌, Err, IfErr, OnOk, refl, subst, sym, ap}
 use Rattle.std.specs.Prelude.{IfSome}
 use Rattle.std.proofs.lemmas.Result.{IfOk-from_err}
 use Rattle.trace_text.specs.StandsFor.{IsTextFault}
@@ -6,6 +6,7 @@ use Rattle.trace_text.proofs.SourceLemmas.{passed_on, same_fault}
 use Rattle.trace_scan.proofs.Courses.{refused_by}
 use Rattle.line_model.specs.traces.Traces.{trace_report}
 use Rattle.live_report.specs.Reports.{IsTaken}
+use Rattle.live_report.specs.Uncounted.{trace_uncounted}
 use Rattle.line_model.specs.declared.fault.Fault.TheVariants.{Write}
 use Rattle.trace_scan.specs.Scan.{IsScanFault}
 use Rattle.trace_scan.proofs.ScanLemmas.{end_kinds, end_of_text, end_part, end_refused, nothing_taken, walk_kept, walk_kept_end, walk_kinds, walk_reported, walk_taken, walk_unwritten}
@@ -112,3 +113,11 @@ returns-in_err-read_to_end-clause-taken g c text told =
 
 pub returns-in_err-read_to_end-clause-called : goal.returns-in_err-read_to_end-clause-called
 returns-in_err-read_to_end-clause-called g c = c.read_to_end.ensures.called
+
+pub returns-clause-uncounted : goal.returns-clause-uncounted
+returns-clause-uncounted g c text told =
+    let w = c.in_ok-read_to_end.ensures.whole in
+    subst (λ x. OnOk c.end.result (c.end.new.uncounted ≡ trace_uncounted x)) (sym (w.source text told).0) (c.end.ensures.uncounted w.text w.fed.0)
+
+pub returns-in_err-read_to_end-clause-uncounted : goal.returns-in_err-read_to_end-clause-uncounted
+returns-in_err-read_to_end-clause-uncounted g c text told = IfOk-from_err _ _ c.from_residual.ensures.0

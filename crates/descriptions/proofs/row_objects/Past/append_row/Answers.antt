@@ -1,4 +1,4 @@
-use Rattle.std.proofs.Common.{◌≡◌, ◌∙◌, ◌++◌, ◌∷◌, [], ap, option_map, refl, subst, sym, true, false, not, Bool, List, Option, Some, None}
+use Rattle.std.proofs.Common.{◌≡◌, ◌∙◌, ◌++◌, ◌∷◌, [], ap, append-nil, option_map, refl, subst, sym, true, false, not, Bool, List, Option, Some, None}
 use Rattle.std.specs.Prelude.{OnOk}
 use Rattle.std.specs.Option.{option_to_list}
 use Rattle.line_model.specs.basics.Records.{Row}
@@ -32,8 +32,13 @@ returns-clause-object g c i before line r text s lines head row =
     let rows = rows-sound text s.reads.sound ∙ ap rows_in lines ∙ rows_written before line ∙ ap (λ o. rows_in before ++ option_to_list o) row in
     let walked = subst (λ rs. StandsFor g.C.Channel.interface_of g.C.Channel.number_of g.C.Channel.stands_for w.0 rs c.in-Some.observer.now) rows w.1.observes in
     let same : w.0 ≡ i = same_interface (head_of before) w.0 i (sym (headed_row before line r row) ∙ ap head_of (sym lines) ∙ sym s.reads.interface ∙ w.1.header) head in
-    let facts = c.in_ok-facts.ensures.facts w.0 (rows_in before) r (c.in-Some-last_row.ensures w.0 (rows_in before) r walked) in
+    let facts = c.facts-facts.ensures w.0 (rows_in before) r (c.in-Some-last_row.ensures w.0 (rows_in before) r walked) in
     let out = c.args.out.now.items in
     let after = c.append_object.new.out.items in
     subst (λ b. OnOk c.append_object.result (HasAppended (IsObjectWhere b i (rows_in before) r) out after)) (sym c.if-not-told.false)
     (subst (λ j. OnOk c.append_object.result (HasAppended (IsRowObject j (rows_in before) r) out after)) same (c.append_object.ensures w.0 (rows_in before) r facts))
+
+pub returns-then-not-told-clause-object : goal.returns-then-not-told-clause-object
+returns-then-not-told-clause-object g c i before line r text s lines head row =
+    subst (λ b. HasAppended (IsObjectWhere b i (rows_in before) r) c.args.out.now.items c.args.out.now.items) (sym c.if-not-told.true)
+    (record { bytes = []; appended = sym (append-nil c.args.out.now.items); formed = refl })

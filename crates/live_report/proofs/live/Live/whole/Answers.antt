@@ -4,6 +4,7 @@ use Rattle.trace_text.specs.StandsFor.{IsFaultOf, last_row}
 use Rattle.live_report.specs.Observing.{AreRows}
 use Rattle.live_report.proofs.LiveLemmas.{nothing_seen, watching_of}
 use Rattle.live_report.proofs.ReportLemmas.{memory_only, told_at, whole_header, whole_trace}
+use Rattle.live_report.proofs.UncountedLemmas.{of_the_text}
 use Rattle.live_report.proofs.live.Live.whole.Goals as goal
 
 pub finish-requires : goal.finish-requires
@@ -44,3 +45,20 @@ returns-clause-told g c text s =
 
 pub returns-clause-refused : goal.returns-clause-refused
 returns-clause-refused g c text s = memory_only (IsFaultOf (fault text)) c.finish-in-None.result c.finish-in-None.ensures.memory tt
+
+pub returns-in-Some-observer-clause-uncounted : goal.returns-in-Some-observer-clause-uncounted
+returns-in-Some-observer-clause-uncounted g c text s =
+    let seen = watching_of g.C.Channel.interface_of g.C.Channel.number_of g.C.Channel.stands_for c.args.self text c.in-Some-observer.observer s c.in-Some-observer.is in
+    let all = c.in_ok-interface.ensures.row text s.reads in
+    let sound = subst AreRows all (whole_trace text (c.in_ok-interface.ensures.ok text s.reads).0) in
+    of_the_text c.finish.result text seen.0 _ _ (c.finish.ensures.uncounted seen.0 (early_rows text) seen.1.observes sound)
+    (whole_header c.args.self.lines text seen.0 s.reads seen.1.header) all
+
+pub returns-clause-uncounted : goal.returns-clause-uncounted
+returns-clause-uncounted g c text s =
+    let none = nothing_seen g.C.Channel.interface_of g.C.Channel.number_of g.C.Channel.stands_for c.args.self text s c.in-None.is in
+    let all = c.in_ok-interface.ensures.row text s.reads in
+    let sound = subst AreRows all (whole_trace text (c.in_ok-interface.ensures.ok text s.reads).0) in
+    of_the_text c.finish-in-None.result text c.in_ok-interface.field-0.interface _ _
+    (c.finish-in-None.ensures.uncounted c.in_ok-interface.field-0.interface [] c.new.ensures (subst (λ rows. AreRows (rows ++ last_row c.in_ok-interface.field-0.has_row c.end_row.new.row)) none sound))
+    (c.in_ok-interface.ensures.ok text s.reads).1 (all ∙ ap (λ rows. rows ++ last_row c.in_ok-interface.field-0.has_row c.end_row.new.row) none)

@@ -16,3 +16,4 @@ returns g c =
       ended = c.new-2.ensures;
       lanes = lanes_none g.C.Channel.interface_of g.C.Channel.number_of g.C.Channel.stands_for c.args.interface.now 1 no_rows c.new-3.result (subst IsEmpty (sym c.new-3.ensures) (record { channels = refl; values = λ k. refl })) refl;
     })
+    c.none.ensures

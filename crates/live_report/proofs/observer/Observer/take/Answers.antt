@@ -1,4 +1,4 @@
-use Rattle.std.proofs.Common.{◌≡◌, ◌∙◌, arith, ap, subst, sym, refl, ◌<◌, [], ◌∷◌, ◌++◌, length, map, option_to_list}
+use Rattle.std.proofs.Common.{◌≡◌, ◌∙◌, arith, ap, subst, sym, refl, ◌<◌, [], ◌∷◌, ◌++◌, length, map, option_to_list, Some}
 use Rattle.std.specs.Vec.{vec_len, vec_capacity}
 use Rattle.line_model.specs.observer.Report.{report_of}
 use Rattle.line_model.specs.packets.Classes.{packet_of}
@@ -7,10 +7,12 @@ use Rattle.line_model.proofs.Posts.{length-values}
 use Rattle.restart_epochs.specs.Cutting.{given_of}
 use Rattle.restart_epochs.specs.Walks.{IsAdvanced}
 use Rattle.restart_epochs.proofs.Listings.{listing}
+use Rattle.live_report.specs.LastRows.{IsLastRow, KnowsLast}
 use Rattle.live_report.specs.Observing.{AreRows}
 use Rattle.live_report.specs.Turns.{MayTurn, StandsAt}
 use Rattle.live_report.proofs.FindingLemmas.{finds_after}
 use Rattle.live_report.proofs.LastLemmas.{last_known}
+use Rattle.live_report.proofs.UncountedLemmas.{few_with}
 use Rattle.live_report.proofs.TakeLemmas.{cut_after, cutting_after, has_turned, holds_after, is_taken, lanes_at, may_turn, rows_after, stands_after, step_of}
 use Rattle.live_report.proofs.observer.Observer.take.Goals as goal
 
@@ -69,10 +71,7 @@ returns-clause-stands g c i rs s sound =
     let may = subst (λ j. MayTurn step.turn j one s.cutting.open_rows) (sym (same.interface ∙ s.holds.interface)) (may_turn g.C.Channel.interface_of g.C.Channel.number_of g.C.Channel.stands_for i rs o one step s sound_one packet is) in
     let turned = has_turned step.turn one s.cutting.open_rows in
     let last = c.in_ok-last.last in
-    stands_after g.C.Channel.interface_of g.C.Channel.number_of g.C.Channel.stands_for i rs c.args.row.now o _ one step s row_is sound_one packet is
-    (holds_after g.C.Channel.interface_of g.C.Channel.number_of g.C.Channel.stands_for i rs s.cutting (map value (given_of i rs)) one step o _ v s.cut packet is s.holds same (subst (λ w. IsAdvanced step w c.advance.new.self) c.in_ok-last.ensures.walk c.advance.ensures) (length-values (given_of i rs) ∙ sym s.cut.given)
-    (c.in_ok-last.ensures.ended s.cutting.open_rows here (map value (given_of i rs)) s.holds.ended)
-    (c.in_ok-last.ensures.lanes s.cutting.open_rows here (rows_after step.turn one s.cutting.open_rows) may turned))
+    let known : KnowsLast i (rs ++ one.row ∷ []) (Some last) c.turn.new.self.events.items =
     (last_known i rs s.cutting (cutting_after s.cutting one step) one step v last _ _ s.cut (cut_after i rs s.cutting one step s.cut packet is) (is_taken s.cutting one step) packet is
     (same.interface ∙ s.holds.interface) (same.epoch ∙ s.holds.epoch) (same.machine ∙ s.holds.line) refl
     (record {
@@ -84,7 +83,14 @@ returns-clause-stands g c i rs s sound =
       after = c.in_ok-last.ensures.after s.cutting.open_rows here (rows_after step.turn one s.cutting.open_rows) may turned;
       came = c.in_ok-last.ensures.events s.cutting.open_rows here;
     })
-    (finds_after i rs s.cutting one step v _ s.cut packet is (same.interface ∙ s.holds.interface) (same.epoch ∙ s.holds.epoch) (c.in_ok-last.ensures.finding s.cutting.open_rows here)))
+    (finds_after i rs s.cutting one step v _ s.cut packet is (same.interface ∙ s.holds.interface) (same.epoch ∙ s.holds.epoch) (c.in_ok-last.ensures.finding s.cutting.open_rows here))) in
+    stands_after g.C.Channel.interface_of g.C.Channel.number_of g.C.Channel.stands_for i rs c.args.row.now o _ one step s row_is sound_one packet is
+    (holds_after g.C.Channel.interface_of g.C.Channel.number_of g.C.Channel.stands_for i rs s.cutting (map value (given_of i rs)) one step o _ v s.cut packet is s.holds same (subst (λ w. IsAdvanced step w c.advance.new.self) c.in_ok-last.ensures.walk c.advance.ensures) (length-values (given_of i rs) ∙ sym s.cut.given)
+    (c.in_ok-last.ensures.ended s.cutting.open_rows here (map value (given_of i rs)) s.holds.ended)
+    (c.in_ok-last.ensures.lanes s.cutting.open_rows here (rows_after step.turn one s.cutting.open_rows) may turned))
+    known
+    (c.take.ensures i rs one.row (subst (IsLastRow i rs one.row last) (sym c.as_slice-2.ensures.value) (known rs one.row refl)) (ap (λ w. w.interface) c.in_ok-last.ensures.walk ∙ same.interface ∙ s.holds.interface ∙ s.cut.interface) (ap (λ x. x.row.octets) c.item.view_is)
+    (few_with g.C.Channel.interface_of g.C.Channel.number_of g.C.Channel.stands_for i rs one.row o s sound_one) (c.in_ok-last.ensures.uncounted ∙ s.uncounted))
 
 pub returns-clause-finding : goal.returns-clause-finding
 returns-clause-finding g c i rs s =

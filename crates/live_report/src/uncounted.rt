@@ -1,0 +1,270 @@
+//! The data packets that were not counted, and why.
+
+ghost use Rattle.std.specs.Prelude.{◌≡◌, ◌++◌, ◌∷◌, [], List};
+ghost use Rattle.line_model.specs.basics.Records.{Row};
+ghost use Rattle.line_model.specs.channels.Channels as channels;
+ghost use Rattle.line_model.specs.declared.interface.Interface.{Interface as AnyInterface};
+ghost use Rattle.restart_epochs.specs.Cutting.{observer};
+ghost use Rattle.channel_run.specs.StatusWord.{view_in};
+ghost use Rattle.channel_run.specs.Views.{IsViewOf};
+ghost use Rattle.live_report.specs.LastRows.{IsLastRow};
+ghost use Rattle.live_report.specs.Uncounted.{AreFew, amount_for, counts_data, grown, has_finding, is_data, none_left_out, reason_at, reason_of_state, reason_on, uncounted_of, user_octets, with_one};
+
+use crate::last_row::{Kept, KeptRow, Known, LastRow};
+use channel_run::run::View;
+use channel_run::status_word::view_in;
+use data_transfer::packed::FlowWord;
+use line_model::event::{Event, What};
+use line_model::interface::Interface;
+use line_model::packet::{Packet, PacketKind};
+use line_model::state::ChannelState;
+use packet_decode::transfer::header_length;
+
+/// Why the data of a row was not counted.
+#[derive(Clone, Copy, PartialEq, Eq, Debug)]
+pub enum Reason {
+    /// The row has a finding.
+    Finding,
+    /// The DCE owes its indication.
+    Owed,
+    /// The logical channel is not in data transfer.
+    NotInTransfer,
+    /// A reset goes on, and the state discards data.
+    Discarded,
+    /// The recording began in the middle, and nothing is known of the channel.
+    Unknown,
+    /// A restart goes on.
+    Restart,
+}
+
+/// The reasons, in the order in which they are printed.
+pub const REASONS: [Reason; 6] = [
+    Reason::Finding,
+    Reason::Owed,
+    Reason::NotInTransfer,
+    Reason::Discarded,
+    Reason::Unknown,
+    Reason::Restart,
+];
+
+impl Reason {
+    /// Why a channel in a state passed over data with which nothing is wrong.
+    fn of_state(state: ChannelState, owed: bool) -> Reason
+        ensures { result ≡ reason_of_state state owed }
+    {
+        match state {
+            ChannelState::Unknown => Reason::Unknown,
+            ChannelState::Setup(_) => if owed {
+                Reason::Owed
+            } else {
+                Reason::NotInTransfer
+            },
+            ChannelState::Transfer(_) => if owed {
+                Reason::Owed
+            } else {
+                Reason::Discarded
+            },
+        }
+    }
+}
+
+/// Whether a packet is a data packet.
+fn is_data(packet: &Packet) -> bool
+    ensures { result ≡ is_data packet.now }
+{
+    match packet {
+        Packet::Channel { kind, .. } => matches!(kind, PacketKind::Data(_)),
+        _ => false,
+    }
+}
+
+/// Whether data was counted.
+fn counts_data(events: &[Event]) -> bool
+    ensures { result ≡ counts_data events.now }
+{
+    for event in events {
+        if let What::Data { .. } = event.what {
+            return true;
+        }
+    }
+    false
+}
+
+/// Whether something was found.
+fn has_finding(events: &[Event]) -> bool
+    ensures { result ≡ has_finding events.now }
+{
+    for event in events {
+        if let What::Found { .. } = event.what {
+            return true;
+        }
+    }
+    false
+}
+
+/// Why a channel did not count the data of a row with these events, by what was known of it before; none where it did.
+fn reason_on(view: &View, events: &[Event]) -> Option<Reason>
+    ensures { (i : AnyInterface) (c : channels.Channel) → IsViewOf i c view.now
+        → result ≡ reason_on c events.now }
+{
+    if counts_data(events) {
+        return None;
+    }
+    if has_finding(events) {
+        return Some(Reason::Finding);
+    }
+    Some(Reason::of_state(view.state, view.owed))
+}
+
+/// Why the data of a row was not counted; none where it has no data, or where it was counted.
+pub fn reason_of(last: &LastRow, events: &[Event]) -> Option<Reason>
+    ensures { (i : AnyInterface) (earlier : List Row) (r : Row)
+        → IsLastRow i earlier r last.now events.now
+        → result ≡ reason_at i (observer i earlier) r }
+{
+    if !is_data(&last.packet) {
+        return None;
+    }
+    match &last.before {
+        Known::Restart(_) => Some(Reason::Restart),
+        Known::Channel(view) => reason_on(view, events),
+    }
+}
+
+/// The same by the word of a channel, which is read only where its data was not counted.
+fn reason_in(word: &FlowWord, events: &[Event]) -> Option<Reason>
+    ensures { (i : AnyInterface) (c : channels.Channel) → IsViewOf i c (view_in word.now)
+        → result ≡ reason_on c events.now }
+{
+    if counts_data(events) {
+        return None;
+    }
+    reason_on(&view_in(word), events)
+}
+
+/// Why the data of a row that is kept was not counted, as `reason_of` has it.
+fn reason_kept(last: &KeptRow, events: &[Event]) -> Option<Reason>
+    ensures { (i : AnyInterface) (earlier : List Row) (r : Row)
+        → IsLastRow i earlier r last.now events.now
+        → result ≡ reason_at i (observer i earlier) r }
+{
+    if !is_data(&last.packet) {
+        return None;
+    }
+    match &last.before {
+        Kept::Restart(_) => Some(Reason::Restart),
+        Kept::Channel(word) => reason_in(word, events),
+    }
+}
+
+/// How many octets of user data a data packet has.
+fn user_octets(interface: &Interface, octets: &[u8]) -> u64
+    ensures { result ≡ user_octets interface.now octets.now }
+{
+    octets.len().saturating_sub(header_length(interface)) as u64
+}
+
+/// Some data packets.
+#[derive(Clone, Copy, PartialEq, Eq, Debug)]
+pub struct Amount {
+    /// How many packets.
+    pub packets: u64,
+    /// Their octets of user data.
+    pub octets: u64,
+}
+
+/// No packets.
+const NONE: Amount = Amount {
+    packets: 0,
+    octets: 0,
+};
+
+impl Amount {
+    /// One packet more. What is more than a number can hold stays at the greatest.
+    fn add(&mut self, octets: u64)
+        ensures { self.new ≡ grown octets self.old }
+    {
+        self.packets = self.packets.saturating_add(1);
+        self.octets = self.octets.saturating_add(octets);
+    }
+}
+
+/// The data packets that were not counted, by the reason.
+#[derive(Clone, Copy, PartialEq, Eq, Debug)]
+pub struct Uncounted {
+    /// The row has a finding.
+    pub finding: Amount,
+    /// The DCE owes its indication.
+    pub owed: Amount,
+    /// The logical channel is not in data transfer.
+    pub not_in_transfer: Amount,
+    /// A reset goes on, and the state discards data.
+    pub discarded: Amount,
+    /// The recording began in the middle, and nothing is known of the channel.
+    pub unknown: Amount,
+    /// A restart goes on.
+    pub restart: Amount,
+}
+
+impl Uncounted {
+    /// All data was counted.
+    pub fn none() -> Self
+        ensures { result ≡ none_left_out }
+    {
+        Uncounted {
+            finding: NONE,
+            owed: NONE,
+            not_in_transfer: NONE,
+            discarded: NONE,
+            unknown: NONE,
+            restart: NONE,
+        }
+    }
+
+    /// What was not counted for a reason.
+    pub fn amount(&self, reason: Reason) -> Amount
+        ensures { result ≡ amount_for reason self.now }
+    {
+        match reason {
+            Reason::Finding => self.finding,
+            Reason::Owed => self.owed,
+            Reason::NotInTransfer => self.not_in_transfer,
+            Reason::Discarded => self.discarded,
+            Reason::Unknown => self.unknown,
+            Reason::Restart => self.restart,
+        }
+    }
+
+    /// One packet more, which was not counted for a reason.
+    fn add(&mut self, reason: Reason, octets: u64)
+        ensures { self.new ≡ with_one reason octets self.old }
+    {
+        match reason {
+            Reason::Finding => self.finding.add(octets),
+            Reason::Owed => self.owed.add(octets),
+            Reason::NotInTransfer => self.not_in_transfer.add(octets),
+            Reason::Discarded => self.discarded.add(octets),
+            Reason::Unknown => self.unknown.add(octets),
+            Reason::Restart => self.restart.add(octets),
+        }
+    }
+
+    /// Takes the octets of a row with its events, as it was judged.
+    pub(crate) fn take(
+        &mut self,
+        interface: &Interface,
+        octets: &[u8],
+        last: &KeptRow,
+        events: &[Event],
+    )
+        ensures { (i : AnyInterface) (earlier : List Row) (r : Row)
+            → IsLastRow i earlier r last.now events.now
+            → interface.now ≡ i → octets.now ≡ r.octets → AreFew (earlier ++ r ∷ [])
+            → self.old ≡ uncounted_of i earlier
+            → self.new ≡ uncounted_of i (earlier ++ r ∷ []) }
+    {
+        if let Some(reason) = reason_kept(last, events) {
+            self.add(reason, user_octets(interface, octets));
+        }
+    }
+}
