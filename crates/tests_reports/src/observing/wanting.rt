@@ -122,7 +122,7 @@ fn check_told<A: Allocator + Copy, C: Channel<A>>(
     check(rt, alloc, trace, wanted);
 }
 
-/// Refuses one growth of a trace that is fed. Answers whether there was such a growth.
+/// Refuses the growths of a trace that is fed, from one on. Answers whether there was such a growth.
 fn check_feeding<A: Allocator + Copy, C: Channel<A>>(
     rt: &impl Abort,
     alloc: Global,
@@ -132,7 +132,7 @@ fn check_feeding<A: Allocator + Copy, C: Channel<A>>(
 ) -> bool
     requires fed { IsFed C.interface_of C.number_of C.stands_for trace.old }
 {
-    heap.refuse_one(good);
+    heap.refuse_from(good);
     let fault = feed_all(trace, CHUNKS.as_slice()).err();
     let refused = good < heap.asked();
     heap.grant_all();
