@@ -7,8 +7,8 @@ use Rattle.std.proofs.lemmas.Bool.{ne_eqb}
 use Rattle.line_model.specs.declared.event.Event.{Event}
 use Rattle.line_model.specs.declared.event.What.{What}
 use Rattle.line_model.specs.declared.interface.Interface.{Interface}
-use Rattle.line_model.specs.declared.verdict.Route.{Route}
-use Rattle.line_model.specs.declared.verdict.Route.TheVariants.{Pass, Found, Leave, Enter, ToChannel}
+use Rattle.line_model.specs.declared.route.Route.{Route}
+use Rattle.line_model.specs.declared.route.Route.TheVariants.{Pass, Found, Leave, Enter, ToChannel}
 use Rattle.line_model.specs.basics.Records.{CallRecord, Row}
 use Rattle.line_model.specs.channels.Channels.{Channel}
 use Rattle.line_model.specs.channels.ChannelStep.{channel_step}

@@ -7,8 +7,8 @@ use Rattle.std.proofs.lemmas.List.Elements.{filter_map-append}
 use Rattle.line_model.specs.declared.interface.Interface.{Interface}
 use Rattle.line_model.specs.declared.finding.Finding.{Finding}
 use Rattle.line_model.specs.declared.event.What.{What}
-use Rattle.line_model.specs.declared.verdict.Route.{Route}
-use Rattle.line_model.specs.declared.verdict.Route.TheVariants.{ToChannel, Leave, Enter, Found, Pass}
+use Rattle.line_model.specs.declared.route.Route.{Route}
+use Rattle.line_model.specs.declared.route.Route.TheVariants.{ToChannel, Leave, Enter, Found, Pass}
 use Rattle.line_model.specs.basics.Records.{Row, Item}
 use Rattle.line_model.specs.channels.RestartMachine.{LineState}
 use Rattle.line_model.specs.channels.Channels.{Channel, fresh, is_open}

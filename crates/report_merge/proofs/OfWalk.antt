@@ -5,8 +5,8 @@ use Rattle.std.specs.List.{filter, flat_map}
 use Rattle.std.specs.List.Sorted.{IsPermutation}
 use Rattle.std.proofs.lemmas.List.Sorted.{IsPermutation-refl, IsPermutation-sym, IsPermutation-trans, IsPermutation-append, sum_by-IsPermutation}
 use Rattle.line_model.specs.declared.interface.Interface.{Interface}
-use Rattle.line_model.specs.declared.verdict.Route.{Route}
-use Rattle.line_model.specs.declared.verdict.Route.TheVariants.{Found as ErrorFound, Leave}
+use Rattle.line_model.specs.declared.route.Route.{Route}
+use Rattle.line_model.specs.declared.route.Route.TheVariants.{Found as ErrorFound, Leave}
 use Rattle.line_model.specs.declared.event.What.{What}
 use Rattle.line_model.specs.declared.event.What.TheVariants.{Data}
 use Rattle.line_model.specs.declared.finding.Finding.{Finding}

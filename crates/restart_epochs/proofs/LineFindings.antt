@@ -5,8 +5,8 @@ use Rattle.std.proofs.lemmas.List.{map-append}
 use Rattle.std.proofs.lemmas.List.Elements.{filter_map-append}
 use Rattle.line_model.specs.declared.interface.Interface.{Interface}
 use Rattle.line_model.specs.declared.finding.Finding.{Finding}
-use Rattle.line_model.specs.declared.verdict.Route.{Route}
-use Rattle.line_model.specs.declared.verdict.Route.TheVariants.{Pass, Found, Leave, Enter, ToChannel}
+use Rattle.line_model.specs.declared.route.Route.{Route}
+use Rattle.line_model.specs.declared.route.Route.TheVariants.{Pass, Found, Leave, Enter, ToChannel}
 use Rattle.line_model.specs.declared.event.What.{What}
 use Rattle.line_model.specs.basics.Records.{Row}
 use Rattle.line_model.specs.channels.RestartMachine.{LineState}

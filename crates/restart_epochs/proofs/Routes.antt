@@ -6,8 +6,8 @@ use Rattle.line_model.specs.declared.state.RState.{RState}
 use Rattle.line_model.specs.declared.state.RState.TheVariants.{R1, R2, R3}
 use Rattle.line_model.specs.declared.table.Action.{Action}
 use Rattle.line_model.specs.declared.table.Action.TheVariants.{Move, Normal, Error, Discard, Pass as PassEntry, Ends, Below, ToChannel as ChannelEntry}
-use Rattle.line_model.specs.declared.verdict.Route.{Route}
-use Rattle.line_model.specs.declared.verdict.Route.TheVariants.{Pass, Found, Leave, Enter, ToChannel}
+use Rattle.line_model.specs.declared.route.Route.{Route}
+use Rattle.line_model.specs.declared.route.Route.TheVariants.{Pass, Found, Leave, Enter, ToChannel}
 use Rattle.line_model.specs.channels.Sequences.{eq_bool}
 use Rattle.line_model.specs.channels.Tables.{action}
 use Rattle.line_model.specs.channels.RestartMachine.{LineState, Routing, is_outside, restart_name, outside_step, restart_moving, restart_error, restart_fault, restart_step, passes_joining, inside_step, line_step}

@@ -6,8 +6,8 @@ use Rattle.line_model.specs.declared.packet.Class.{Class}
 use Rattle.line_model.specs.declared.state.Side.{Side}
 use Rattle.line_model.specs.declared.state.RState.{RState}
 use Rattle.line_model.specs.declared.state.RState.TheVariants.{R1, R2, R3}
-use Rattle.line_model.specs.declared.verdict.Route.{Route}
-use Rattle.line_model.specs.declared.verdict.Route.TheVariants.{Pass, Found, Leave, Enter, ToChannel}
+use Rattle.line_model.specs.declared.route.Route.{Route}
+use Rattle.line_model.specs.declared.route.Route.TheVariants.{Pass, Found, Leave, Enter, ToChannel}
 use Rattle.line_model.specs.basics.Records.{Row}
 use Rattle.line_model.specs.basics.Octets.{channel_of}
 use Rattle.line_model.specs.packets.Classes.{class_of}

@@ -3,8 +3,8 @@ use Rattle.std.proofs.Common.{◌≡◌, ◌∙◌, sym, ap, subst, refl, ℕ, �
 use Rattle.line_model.specs.declared.interface.Interface.{Interface}
 use Rattle.line_model.specs.declared.finding.Finding.{Finding}
 use Rattle.line_model.specs.declared.packet.Packet.{Packet}
-use Rattle.line_model.specs.declared.verdict.Route.{Route}
-use Rattle.line_model.specs.declared.verdict.Route.TheVariants.{ToChannel, Leave, Enter, Found, Pass}
+use Rattle.line_model.specs.declared.route.Route.{Route}
+use Rattle.line_model.specs.declared.route.Route.TheVariants.{ToChannel, Leave, Enter, Found, Pass}
 use Rattle.line_model.specs.basics.Records.{Row, Item, Piece}
 use Rattle.line_model.specs.basics.Octets.{channel_of}
 use Rattle.line_model.specs.packets.Classes.{class_of, packet_of, packet_class}

@@ -4,9 +4,9 @@ use Rattle.line_model.specs.declared.interface.Interface.{Interface}
 use Rattle.line_model.specs.declared.finding.Finding.{Finding}
 use Rattle.line_model.specs.declared.finding.Code.TheVariants.{Number}
 use Rattle.line_model.specs.declared.state.StateName.TheVariants.{R1}
-use Rattle.line_model.specs.declared.verdict.Route.{Route}
-use Rattle.line_model.specs.declared.verdict.Route.TheVariants.{Enter, Found, Leave}
-use Rattle.line_model.specs.declared.verdict.Route as route
+use Rattle.line_model.specs.declared.route.Route.{Route}
+use Rattle.line_model.specs.declared.route.Route.TheVariants.{Enter, Found, Leave}
+use Rattle.line_model.specs.declared.route.Route as route
 use Rattle.line_model.specs.basics.Octets.{channel_of}
 use Rattle.line_model.specs.basics.Records.{Row, Item}
 use Rattle.line_model.specs.channels.RestartMachine.{LineState, Routing, line_step}
