@@ -3,7 +3,7 @@
 
 That of x25scan is made of the words of crates/command_line and the table of crates/explanations, those of
 x25trace and x25page of their help. With --check it writes nothing, and says where a page is another one, where the help has other exit statuses
-than the table, and where the version names another kit than `rt version`. The last line is 'N passed, M failed'.
+than the table, and where the version names another logic than `rt version`. The last line is 'N passed, M failed'.
 """
 import re
 import subprocess
@@ -145,8 +145,8 @@ def complaints():
     table = [it["word"] for it in rows() if it["topic"] == "Status"]
     yield "exit statuses", [] if helped == table else [f"help has {helped}, the table {table}"]
     kit = subprocess.run(["rt", "version"], capture_output=True, text=True, check=False).stdout.strip()
-    named = told["VERSION"].split("\n")[-1]
-    yield "version", [] if named == f"proved with {kit}" else [f"it says {named!r}, and this is {kit!r}"]
+    logic, named = kit.rpartition(" ")[2], told["VERSION"].split("\n")[-1]
+    yield "version", [] if named == f"proved with Rattle, logic {logic}" else [f"it says {named!r}, and this is {kit!r}"]
 
 
 def check():

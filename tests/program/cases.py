@@ -64,7 +64,7 @@ def file_cases():
 
 def word_cases():
     """Words that ask for no scan, and wrong words."""
-    version = pattern(rb"x25scan \d+\.\d+\.\d+\nproved with rattle-kit-\S+ logic [0-9a-f]{16}\n")
+    version = pattern(rb"x25scan \d+\.\d+\.\d+\nproved with Rattle, logic [0-9a-f]{16}\n")
     yield Case("the version", ("--version",), report=version)
     yield Case("the version by its letter", ("-V",), report=version)
     helped = pattern(rb"Reports what .*Usage: x25scan \[OPTIONS\] \[FILE\].*--workers.*--alone.*--follow.*--json.*--annotate.*--rows.*--channel.*--call.*--progress.*--notes.*--explain.*Examples:\n.*Exit status:\n  0 .*\n  64 .*TRACE.md.*\n")

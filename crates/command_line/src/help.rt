@@ -1,7 +1,7 @@
 //! The texts of the program's help and of its version, from which the manual page is made too.
 
-/// The version of the program, and the identity of the kit that proved it, as `rt version` prints it.
-pub const VERSION: &str = "1.0.0\nproved with rattle-kit-13f logic dac8208d650f15bf";
+/// The version of the program, and the logic that proved it, whose identity `rt version` prints last.
+pub const VERSION: &str = "1.0.0\nproved with Rattle, logic dac8208d650f15bf";
 
 /// What the program does.
 pub const ABOUT: &str =
