@@ -116,11 +116,9 @@ impl<O: Out> Json<O> {
         self.text(text);
     }
 
-    /// Writes a member that is true or false.
-    pub fn flag_member(&mut self, beginning: &str, is_set: bool) {
-        self.member(beginning);
-        let word = if is_set { "true" } else { "false" };
-        self.raw(word.as_bytes());
+    /// Writes a member that is true or false, of which both forms are given, as `,"up":true` and `,"up":false`.
+    pub fn flag_member(&mut self, is_set: bool, set: &str, unset: &str) {
+        self.member(if is_set { set } else { unset });
     }
 
     /// Writes an object of a number and its name.

@@ -103,9 +103,13 @@ fn cause_members<O: Out>(json: &mut Json<O>, octets: &[u8], causes: Causes) {
 fn data_members<O: Out>(json: &mut Json<O>, facts: &RowFacts<'_>, header: &DataHeader) {
     json.number_member(",\"send\":", u64::from(header.send));
     json.number_member(",\"receive\":", u64::from(header.receive));
-    json.flag_member(",\"more\":", header.more);
-    json.flag_member(",\"qualified\":", header.qualified);
-    json.flag_member(",\"delivery\":", header.delivery);
+    json.flag_member(header.more, ",\"more\":true", ",\"more\":false");
+    json.flag_member(
+        header.qualified,
+        ",\"qualified\":true",
+        ",\"qualified\":false",
+    );
+    json.flag_member(header.delivery, ",\"delivery\":true", ",\"delivery\":false");
     let data = user_data(facts.interface, facts.octets);
     json.number_member(",\"octets\":", data.len() as u64);
     if let Some(octets) = facts.message {
@@ -194,8 +198,8 @@ fn call_members<O: Out>(json: &mut Json<O>, facts: &RowFacts<'_>) {
 fn field_members<O: Out>(json: &mut Json<O>, fields: &CallFields<'_>) {
     address_member(json, ",\"called\":", &fields.called);
     address_member(json, ",\"calling\":", &fields.calling);
-    json.flag_member(",\"reverse\":", fields.reverse);
-    json.flag_member(",\"fast\":", fields.fast);
+    json.flag_member(fields.reverse, ",\"reverse\":true", ",\"reverse\":false");
+    json.flag_member(fields.fast, ",\"fast\":true", ",\"fast\":false");
     let sizes = match fields.sizes {
         Some((called, calling)) => Some((u64::from(called), u64::from(calling))),
         None => None,
@@ -213,7 +217,7 @@ fn field_members<O: Out>(json: &mut Json<O>, fields: &CallFields<'_>) {
         json.hex(fields.user_data);
     }
     let is_pad = !fields.user_data.is_empty() && fields.user_data[0] == PAD;
-    json.flag_member(",\"pad\":", is_pad);
+    json.flag_member(is_pad, ",\"pad\":true", ",\"pad\":false");
 }
 
 /// A value for data from the called DTE, and one for data from the calling DTE.

@@ -19,22 +19,25 @@ pub fn row_members<O: Out>(
     facts: &RowFacts<'_>,
     ended: &[EndedCall],
     time: Option<Time>,
-    hex: &[u8],
+    digits: Option<&[u8]>,
 ) {
     if let Some(finding) = &facts.last.finding {
         finding_members(json, facts, finding);
     }
     json.number_member(",\"epoch\":", u64::from(facts.epoch));
-    json.flag_member(",\"owed\":", is_owed(facts));
+    json.flag_member(is_owed(facts), ",\"owed\":true", ",\"owed\":false");
     call_members(json, facts);
     ends_member(json, ended);
     not_counted_member(json, facts);
-    time_member(json, ",\"time\":", time);
+    match time {
+        Some(_) => time_member(json, ",\"time\":", time),
+        None => json.member(",\"time\":null"),
+    }
     json.word_member(
         ",\"type\":",
         packet_type(facts.last.side, &facts.last.packet),
     );
-    hex_member(json, facts, hex);
+    hex_member(json, facts, digits);
     packet_members(json, facts);
     settings_member(json, facts.events);
 }
@@ -71,8 +74,12 @@ fn call_members<O: Out>(json: &mut Json<O>, facts: &RowFacts<'_>) {
         0 => json.null(),
         call => json.value(u64::from(call)),
     }
-    json.flag_member(",\"begins\":", facts.calls.opened != 0);
-    json.flag_member(",\"up\":", is_up(facts.events));
+    json.flag_member(
+        facts.calls.opened != 0,
+        ",\"begins\":true",
+        ",\"begins\":false",
+    );
+    json.flag_member(is_up(facts.events), ",\"up\":true", ",\"up\":false");
 }
 
 /// Whether a call came into data transfer.
@@ -97,8 +104,11 @@ pub fn how_word(how: How) -> &'static str {
 
 /// The calls that a row ended.
 fn ends_member<O: Out>(json: &mut Json<O>, ended: &[EndedCall]) {
-    json.member(",\"ends\":");
-    json.raw(b"[");
+    if ended.is_empty() {
+        json.member(",\"ends\":[]");
+        return;
+    }
+    json.member(",\"ends\":[");
     let mut is_first = true;
     for ended in ended {
         if !is_first {
@@ -127,10 +137,9 @@ pub fn reason_word(reason: Reason) -> &'static str {
 
 /// Why the data of a row was not counted.
 fn not_counted_member<O: Out>(json: &mut Json<O>, facts: &RowFacts<'_>) {
-    json.member(",\"not_counted\":");
     match facts.fate {
-        Fate::NotCounted(reason) => json.word(reason_word(reason)),
-        _ => json.null(),
+        Fate::NotCounted(reason) => json.word_member(",\"not_counted\":", reason_word(reason)),
+        _ => json.member(",\"not_counted\":null"),
     }
 }
 
@@ -161,14 +170,17 @@ fn billionths<O: Out>(json: &mut Json<O>, billionths: u32) {
     }
 }
 
-/// The octets of a row: the hex digits of its line, where they are that many.
-fn hex_member<O: Out>(json: &mut Json<O>, facts: &RowFacts<'_>, hex: &[u8]) {
-    json.member(",\"hex\":");
-    if hex.len() == facts.octets.len().saturating_mul(2) {
-        json.raw(b"\"");
-        json.raw(hex);
-        json.raw(b"\"");
-    } else {
-        json.hex(facts.octets);
+/// The octets of a row: the hex digits of its line, where they are known, else those of the octets.
+fn hex_member<O: Out>(json: &mut Json<O>, facts: &RowFacts<'_>, digits: Option<&[u8]>) {
+    match digits {
+        Some(digits) => {
+            json.member(",\"hex\":\"");
+            json.raw(digits);
+            json.raw(b"\"");
+        }
+        None => {
+            json.member(",\"hex\":");
+            json.hex(facts.octets);
+        }
     }
 }

@@ -29,7 +29,6 @@ use line_model::lending::LentSink;
 use line_model::report::Report;
 use live_report::live::Live;
 use live_report::uncounted::Uncounted;
-use memchr::memrchr;
 use std::alloc::{AllocError, Allocator};
 
 /// Appends the object of a row, of which these are the members after its finding's code, on a line of its own.
@@ -122,19 +121,22 @@ fn write_members<A: Allocator>(
     let mut json = Json {
         out: Growing::new(members),
     };
-    row_members(&mut json, facts, ended, time, last_word(line));
+    let digits = last_digits(line, facts.octets.len());
+    row_members(&mut json, facts, ended, time, digits);
     json.out.answer()
 }
 
-/// What stands after the last space of a line, without its line feed.
-fn last_word(line: &[u8]) -> &[u8] {
+/// The hex digits at the end of a row's line that write so many octets, where they come after a space.
+fn last_digits(line: &[u8], octets: usize) -> Option<&[u8]> {
     let words = match line {
         [words @ .., b'\n'] => words,
         words => words,
     };
-    match memrchr(b' ', words) {
-        Some(place) => &words[place + 1..],
-        None => words,
+    let place = words.len().checked_sub(octets.saturating_mul(2))?;
+    let (front, digits) = words.split_at_checked(place)?;
+    match front {
+        [.., b' '] => Some(digits),
+        _ => None,
     }
 }
 
