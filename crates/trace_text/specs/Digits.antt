@@ -30,3 +30,9 @@ pub record BeginsDigits (text octets rest : List ℕ) : Type 0 where
   pub digits : List ℕ
   pub whole : text ≡ digits ++ 10 ∷ rest
   pub octets_are : AreOctets digits octets
+
+-- a text begins with digits that write the octets after those before, and an LF after them
+pub record EndsDigits (before text octets rest : List ℕ) : Type 0 where
+  pub last : List ℕ
+  pub front : octets ≡ before ++ last
+  pub digits : BeginsDigits text last rest

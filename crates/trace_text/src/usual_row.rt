@@ -44,7 +44,7 @@ fn split_front(last: u32, text: &[u8]) -> Option<(u32, Side, &[u8])>
 
 /// Puts the row of the line that a text begins with in the place of another, whose octets' room is used again, and returns
 /// what follows its LF. `None` where the line is faulty after a row of the number `last`, or is not the usual one: it has no
-/// octets, is no row, or ends within 31 bytes of the text's end; then what the row holds is not said.
+/// octets, or is no row. Then what the row holds is not said.
 pub fn read_usual<'a, A: Allocator>(last: u32, text: &'a [u8], row: &mut Row<A>) -> Option<&'a [u8]>
     ensures { IfSome result (λ rest. BeginsLine last text.now row.new rest.now) }
 {
