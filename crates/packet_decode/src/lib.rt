@@ -7,4 +7,5 @@ pub mod decode;
 mod facility;
 pub mod fields;
 mod lengths;
+pub mod rows;
 pub mod transfer;

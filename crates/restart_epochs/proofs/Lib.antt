@@ -11,6 +11,7 @@ pub mod GivenOut
 pub mod Bounds
 pub mod Taken
 pub mod Whole
+pub mod Decoded
 pub mod Heads
 pub mod OpenLaneLemmas
 pub mod Listings

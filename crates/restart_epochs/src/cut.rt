@@ -9,12 +9,15 @@ use crate::cutter::{Cut, Cutter};
 use line_model::fault::Fault;
 use line_model::interface::Interface;
 use line_model::row::Row;
-use packet_decode::decode::decode;
+use packet_decode::rows::decode_all;
 use std::alloc::Allocator;
+use std::thread::Threads;
 
 /// Cuts the rows of a trace into pieces by epoch and logical channel (profile). The pieces have the rows with the
-/// packets that their octets are. Refuses for want of memory alone.
-pub fn cut<A: Allocator + Copy>(
+/// packets that their octets are, which are decoded by the threads of all processors where there are many rows. Refuses
+/// for want of memory alone.
+pub fn cut<A: Allocator + Copy + Send + Sync>(
+    rt: &(impl Threads + Sync),
     interface: &Interface,
     rows: Vec<Row<A>, A>,
 ) -> Result<Cut<A>, Fault>
@@ -28,10 +31,11 @@ pub fn cut<A: Allocator + Copy>(
     ensures few { IfOk result (λ cut. length cut.pieces.items ≤ cut.packets) }
     ensures refused { IfErr result (λ fault. fault ≡ Memory) }
 {
-    let mut cutter = Cutter::new(*rows.allocator(), interface);
-    let mut pieces = Vec::new(*rows.allocator());
-    for row in rows {
-        let packet = decode(interface, row.octets.as_slice());
+    let alloc = *rows.allocator();
+    let packets = decode_all(rt, alloc, interface, rows.as_slice())?;
+    let mut cutter = Cutter::new(alloc, interface);
+    let mut pieces = Vec::new(alloc);
+    for (row, packet) in rows.into_iter().zip(packets) {
         cutter.push(&row.with_packet(packet), &mut pieces)?;
     }
     let Cut {

@@ -13,14 +13,13 @@ use line_model::piece::Piece;
 use line_model::row::Row;
 use line_model::state::Side;
 use packet_decode::decode::decode;
-use restart_epochs::cut::cut;
 use restart_epochs::cutter::{Cut, Cutter};
 use std::alloc::{Allocator, Global};
 use std::process::Abort;
 use std::test::Fail;
 
 /// Channels 1 to 4 are virtual.
-const PLAIN: Interface = Interface {
+pub(crate) const PLAIN: Interface = Interface {
     modulus: 8,
     window: 2,
     size: 128,

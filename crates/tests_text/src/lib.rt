@@ -9,6 +9,8 @@ mod devices;
 #[cfg(test)]
 mod epochs;
 #[cfg(test)]
+mod packets;
+#[cfg(test)]
 mod texts;
 #[cfg(test)]
 mod types;

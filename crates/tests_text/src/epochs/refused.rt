@@ -7,24 +7,33 @@ use restart_epochs::cut::cut;
 use std::alloc::Global;
 use std::process::Abort;
 use std::test::Fail;
+use std::thread::Threads;
 use tests_devices::scarce::Scarce;
 
 /// The most growths that this test looks for.
 const GROWTHS: u64 = 1000;
 
 /// Cuts an epoch, with one growth refused after so many: how many pieces there are, and whether one was refused.
-fn cut_with(heap: &Scarce<Global>, good: u64) -> Result<(Result<usize, Fault>, bool), Fail> {
+fn cut_with(
+    rt: &(impl Threads + Sync),
+    heap: &Scarce<Global>,
+    good: u64,
+) -> Result<(Result<usize, Fault>, bool), Fail> {
     let rows = rows_of(heap, EPOCH.as_slice())?;
     heap.refuse_one(good);
-    let pieces = cut(&PLAIN, rows).map(|cut| cut.pieces.len());
+    let pieces = cut(rt, &PLAIN, rows).map(|cut| cut.pieces.len());
     let refused = good < heap.asked();
     heap.grant_all();
     Ok((pieces, refused))
 }
 
 /// Refuses one growth of a cut, and sees that it answers want of memory. Answers whether there was such a growth.
-fn check_growth(rt: &impl Abort, heap: &Scarce<Global>, good: u64) -> Result<bool, Fail> {
-    let (pieces, refused) = cut_with(heap, good)?;
+fn check_growth(
+    rt: &(impl Abort + Threads + Sync),
+    heap: &Scarce<Global>,
+    good: u64,
+) -> Result<bool, Fail> {
+    let (pieces, refused) = cut_with(rt, heap, good)?;
     let wanted = if refused { Err(Fault::Memory) } else { Ok(4) };
     holds_at(rt, pieces == wanted, good);
     holds_at(rt, heap.held() == 0, good);
@@ -32,7 +41,7 @@ fn check_growth(rt: &impl Abort, heap: &Scarce<Global>, good: u64) -> Result<boo
 }
 
 /// How many growths a cut has, each of which is refused in turn.
-fn growths(rt: &impl Abort, heap: &Scarce<Global>) -> Result<u64, Fail> {
+fn growths(rt: &(impl Abort + Threads + Sync), heap: &Scarce<Global>) -> Result<u64, Fail> {
     for good in 0..GROWTHS {
         if !check_growth(rt, heap, good)? {
             return Ok(good);
