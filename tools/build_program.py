@@ -50,15 +50,15 @@ def uses():
     return {head.split()[0]: tail.split() for head, _, tail in pairs}
 
 
-def libraries():
-    """The repository's libraries that the program uses, each with those below it, lowest first."""
+def libraries(*above):
+    """The repository's libraries that crates use, each with those below it, lowest first."""
     used = uses()
 
     def below(name):
         mine = [it for it in used[name] if it in used]
         return set(mine).union(*map(below, mine))
 
-    found = {name: below(name) for name in below("x25scan")}
+    found = {name: below(name) for name in set().union(*map(below, above))}
     return dict(sorted(found.items(), key=lambda it: len(it[1])))
 
 
@@ -91,7 +91,7 @@ def is_older(file, others):
 
 def is_stale():
     """Whether the program is not built, or older than a source of it."""
-    return is_older(PROGRAM, [ROOT / "crates.txt", *(it for name in [*libraries(), "x25scan"] for it in sources(name))])
+    return is_older(PROGRAM, [ROOT / "crates.txt", *(it for name in [*libraries("x25scan"), "x25scan"] for it in sources(name))])
 
 
 def stale_libraries(below):
@@ -160,8 +160,8 @@ def prove_program(jobs, began):
 class Build:
     """A build in its course: which libraries are left, which are being proved by how many processors, which are proved."""
 
-    def __init__(self):
-        self.began, self.below, self.lanes = time.monotonic(), libraries(), lanes()
+    def __init__(self, *above):
+        self.began, self.below, self.lanes = time.monotonic(), libraries(*above), lanes()
         chain, stale = chains(self.below), stale_libraries(self.below)
         self.left, self.running, self.proved = sorted(stale, key=lambda it: -chain[it]), {}, set(self.below) - stale
         self.count = len(stale)
@@ -210,6 +210,25 @@ class Build:
         return self.failed
 
 
+def tell(failed, what):
+    """Prints what was said of those that failed, by their names, and what came of it."""
+    sys.stderr.writelines(line + "\n" for said in failed.values() for line in said.split("\n")[-60:])
+    say(f"{what}, since this was not proved or not built: {', '.join(failed)}")
+
+
+def build_libraries(*above):
+    """Proves and builds the libraries that crates use where they do not stand, and returns whether they do; waits for another build."""
+    kit()
+    for folder in (LIBRARIES, FRESH):
+        folder.mkdir(parents=True, exist_ok=True)
+    with (OUT / "lock").open("w") as lock:
+        fcntl.flock(lock, fcntl.LOCK_EX)
+        failed = Build(*above).prove_libraries()
+    if failed:
+        tell(failed, "the libraries were not built")
+    return not failed
+
+
 def build():
     """Builds the program, and returns whether it stands."""
     kit()
@@ -217,14 +236,13 @@ def build():
     began = time.time()
     for folder in (LIBRARIES, FRESH, PROGRAM.parent):
         folder.mkdir(parents=True, exist_ok=True)
-    going = Build()
+    going = Build("x25scan")
     failed = going.prove_libraries()
     if not failed:
         is_built, said = prove_program(going.lanes, began)
         failed = {} if is_built else {"x25scan": said}
     if failed:
-        sys.stderr.writelines(line + "\n" for said in failed.values() for line in said.split("\n")[-60:])
-        say(f"the program was not built, since this was not proved or not built: {', '.join(failed)}")
+        tell(failed, "the program was not built")
         return False
     say(f"built, {going.seconds()}")
     return True

@@ -25,7 +25,8 @@ pub fn annotate<A: Allocator + Copy, W: Watcher<A>, D: Describer<A, W>, S: Sourc
     requires fresh { W.stands_for trace [] }
     // The source gave a text without a fault, and the sink took an annotation of it, of exactly the rows that the
     // describer chooses.
-    ensures annotated { IfOk result (Annotates (D.rows describer) (S.left source.old) (S.left source.new)
+    ensures annotated { IfOk result (Annotates (D.rows describer) (S.left source.old)
+        (S.left source.new)
         (S.before source.new) (K.taken sink.old) (K.taken sink.new)) }
     // A refusal is by the bytes that were given, and those before the last call of the source show no faulty line; the
     // sink has a first part of their annotation.

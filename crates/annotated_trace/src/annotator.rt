@@ -93,13 +93,15 @@ impl<A: Allocator + Copy, W: Watcher<A>, D: Describer<A, W>> Annotator<A, W, D> 
         // A sink that has the annotation of the lines that ended has that of the text.
         ensures annotated { (text : List ℕ) (before : Option (List ℕ))
             → StandsFor (HasRead W.Watcher D.Describer) self text
-            → HasAnnotated self.choice before (K.taken sink.old) self.printing.held.items (ended_lines text)
+            → HasAnnotated self.choice before (K.taken sink.old) self.printing.held.items
+            (ended_lines text)
             → IfOk result (IsAnnotated self.choice text before (K.taken sink.new)) }
         ensures refused { (text : List ℕ) → StandsFor (HasRead W.Watcher D.Describer) self text
             → IfErr result (IsEndRefusal text) }
         ensures taken { (text : List ℕ) (before : Option (List ℕ))
             → StandsFor (HasRead W.Watcher D.Describer) self text
-            → HasAnnotated self.choice before (K.taken sink.old) self.printing.held.items (ended_lines text)
+            → HasAnnotated self.choice before (K.taken sink.old) self.printing.held.items
+            (ended_lines text)
             → result ≡ Err Fault.Write → HasFirstOf self.choice text before (K.taken sink.new) }
         ensures not_written { IfErr result (λ fault. fault ≢ Fault.Write → sink.new ≡ sink.old) }
         ensures kinds { IfErr result IsAnnotatorFault }

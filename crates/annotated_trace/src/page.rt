@@ -1,6 +1,6 @@
 //! The comments behind the last line of a text, as they go to a sink.
 
-ghost use Rattle.std.specs.Prelude.{◌≡◌, ℕ, ◌++◌, ◌∷◌, [], List, Option, if◌then◌else◌};
+ghost use Rattle.std.specs.Prelude.{◌≡◌, ◌∷◌, []};
 ghost use Rattle.hex.specs.Hex.{encode_upper};
 ghost use Rattle.line_model.specs.basics.Written.{HasFront, PutsTo};
 ghost use Rattle.annotated_trace.specs.Pages.{HasNoted, HasNotes};
@@ -92,7 +92,8 @@ impl<S: LentSink> ClosingPage<S> {
         ensures said { (notes : Remarks) → HasNoted S.before
             (S.taken self.old.sink, S.failures self.old.sink) self.old.buffer self.old.said
             notes → HasNoted S.before (S.taken self.new.sink, S.failures self.new.sink)
-            self.new.buffer self.new.said (record notes { line = with_words notes.line words.now }) }
+            self.new.buffer self.new.said
+            (record notes { line = with_words notes.line words.now }) }
     {
         let room = WORDS_LIMIT - self.said;
         let front = &words[..room.min(words.len())];
@@ -109,7 +110,8 @@ impl<S: LentSink> ClosingPage<S> {
         ensures said { (notes : Remarks) → HasNoted S.before
             (S.taken self.old.sink, S.failures self.old.sink) self.old.buffer self.old.said
             notes → HasNoted S.before (S.taken self.new.sink, S.failures self.new.sink)
-            self.new.buffer self.new.said (record notes { line = with_words notes.line words.now }) }
+            self.new.buffer self.new.said
+            (record notes { line = with_words notes.line words.now }) }
     {
         self.add(words.as_bytes())
     }

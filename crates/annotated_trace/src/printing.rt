@@ -269,9 +269,14 @@ impl<A: Allocator + Copy, W: Watcher<A>, P: Printer<A, W>> TracePrinter<A, W, P>
 
 impl<A: Allocator + Copy, W: Watcher<A>, P: Printer<A, W>, K: Sink> Consumer<K>
     for TracePrinter<A, W, P> {
-    ghost was_fed = { λ first start now sink text. HasWritten (HasFollowed W.Watcher P.Printer (P.rows first.printer)) W.size (IsPrintOf (P.form (P.rows first.printer)) []) (K.taken start) (K.taken sink) (K.failures start) (K.failures sink) text now };
+    ghost was_fed = { λ first start now sink text. HasWritten
+        (HasFollowed W.Watcher P.Printer (P.rows first.printer)) W.size
+        (IsPrintOf (P.form (P.rows first.printer)) []) (K.taken start) (K.taken sink)
+        (K.failures start) (K.failures sink) text now };
 
-    ghost refused = { λ first start now sink text last told. IsRefusedAfter (IsPrintOf (P.form (P.rows first.printer)) []) (K.taken start) (K.taken sink) (K.failures start) (K.failures sink) text last told };
+    ghost refused = { λ first start now sink text last told. IsRefusedAfter
+        (IsPrintOf (P.form (P.rows first.printer)) []) (K.taken start) (K.taken sink)
+        (K.failures start) (K.failures sink) text last told };
 
     ghost expects = { λ text. Unit {0} };
 
