@@ -5,6 +5,7 @@ use Rattle.std.specs.List.{filter, AllByRecursion}
 use Rattle.std.proofs.lemmas.List.{map-append, get_or-take, take-append-drop}
 use Rattle.std.proofs.lemmas.List.Sums.{take_while-cons}
 use Rattle.std.proofs.lemmas.Bool.{eq-eqb, and_from}
+use Rattle.line_model.specs.declared.state.Side.{Side}
 use Rattle.line_model.specs.declared.state.Side.TheVariants.{T, N}
 use Rattle.line_model.specs.declared.event.How.{How}
 use Rattle.line_model.specs.declared.event.What.{What}
@@ -380,6 +381,13 @@ other_within e no_open no_end = at e.what refl
     at (Data _ _) is = refl
     at (Setting _ _ _) is = refl
     at (Initial _) is = refl
+
+-- data neither opens nor ends a call, and has one length
+pub data_within : (e : Event) (x : Side) (n : ℕ) → e.what ≡ Data x n → IsWithin e
+data_within e x n is = ap (λ w. tells_end w || elim w [ Open o a b r ↦ true | _ ↦ false ]) is
+
+pub data_lengths : (e : Event) (x : Side) (n : ℕ) → e.what ≡ Data x n → segments_of (all_lengths (e ∷ [])) ≡ segments_of (n ∷ [])
+data_lengths e x n is = ap (λ w. segments_of (all_lengths (record { epoch = e.epoch; channel = e.channel; packet = e.packet; what = w } ∷ []))) is
 
 pub within_opens_none : (e : Event) → IsWithin e → is_opening e ≡ false
 within_opens_none e h = no_opening (is_end e) (is_opening e) h

@@ -2,8 +2,8 @@
 
 ghost use Rattle.std.specs.Prelude.{◌≡◌, ℕ, List, [], ◌∷◌, ◌++◌, Some, None, map, IfOk, IfErr, OnOk};
 ghost use Rattle.line_model.specs.declared.event.Event.{Event};
-ghost use Rattle.line_model.specs.declared.event.What.TheVariants.{Open, End};
-ghost use Rattle.call_accounts.specs.Counted.{Counts};
+ghost use Rattle.line_model.specs.declared.event.What.TheVariants.{Data, Open, End};
+ghost use Rattle.call_accounts.specs.Counted.{Counts, IsCountable};
 ghost use Rattle.call_accounts.specs.SoFar.{AddsEvent, AreCallsOf, IsOf, StandsFor, Tells, call_with, opening_of, ended_by, EndFirst};
 ghost use Rattle.line_model.specs.basics.Records as records;
 ghost use Rattle.line_model.specs.observer.Calls.{all_lengths, segments_of};
@@ -13,14 +13,22 @@ use line_model::address::Address;
 use line_model::call::{CallRecord, copies};
 use line_model::event::{Event, How, What};
 use line_model::fault::Fault;
+use line_model::state::Side;
 use std::alloc::{AllocError, Allocator};
+
+/// The segments of 64 octets of a data packet; the last one begun counts whole.
+pub fn segments_for(octets: u32) -> u64
+    ensures { result ≡ segments_of (octets ∷ []) }
+{
+    u64::from(octets).div_ceil(64)
+}
 
 /// The segments of 64 octets of an event, the last one begun counts whole; 0 where it is no data packet.
 pub fn segments_in(event: &Event) -> u64
     ensures { result ≡ segments_of (all_lengths (event.now ∷ [])) }
 {
     match event.what {
-        What::Data { octets, .. } => u64::from(octets).div_ceil(64),
+        What::Data { octets, .. } => segments_for(octets),
         _ => 0,
     }
 }
@@ -162,6 +170,18 @@ impl<A: Allocator + Clone> CallsSoFar<A> {
                 }
                 Ok(())
             }
+        }
+    }
+
+    /// Adds the event of a data packet of a side, which has so many segments (`segments_for`). It takes no memory.
+    pub fn add_data(&mut self, side: Side, octets: u32, segments: u64)
+        ensures { (epoch channel : ℕ) (es : List Event) (e : Event)
+            → StandsFor self.old epoch channel es → IsOf epoch channel e
+            → e.what ≡ Data side octets → segments ≡ segments_of (octets ∷ [])
+            → IsCountable (es ++ e ∷ []) → StandsFor self.new epoch channel (es ++ e ∷ []) }
+    {
+        if let Some(call) = &mut self.call {
+            call.counts.add_data(side, octets, segments);
         }
     }
 

@@ -84,6 +84,16 @@ told_message false b c l h e = cc
 told_message true false c l h e = cc
 told_message true true c l h e = ap (λ d. elim d [ true ↦ None | false ↦ Some l ]) e
 
+-- a packet with Q 0 belongs to no message
+pub without_q : (a b : Bool) → b ≡ false → (a && b) ≡ false
+without_q true b h = h
+without_q false b h = refl
+
+-- a message has Q 1
+pub second_of : (a b : Bool) → (a && b) ≡ true → b ≡ true
+second_of true b h = h
+second_of false b h = cc
+
 pub going_is : (i : Interface) (t : Transfer) (c : Channel) (x : Side) (p : AcceptedData) → StandsFor i t c →
     is_category_a (of_side x (assembly.sizes t.assembler)) p ≡ true → completed_message i x c p ≡ None
 going_is i t c x p stands a =

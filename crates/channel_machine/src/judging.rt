@@ -59,7 +59,7 @@ pub(crate) fn judged(
 }
 
 /// Whether a packet is data or RR in d1, as most are: both sides' tables have the same entry for it.
-fn is_usual(state: ChannelState, class: Class) -> bool
+pub(crate) fn is_usual(state: ChannelState, class: Class) -> bool
     ensures { OnTrue result (IsUsual state class) }
 {
     match state {

@@ -14,3 +14,4 @@ mod status;
 mod step;
 mod terms;
 mod transfer;
+mod usual;

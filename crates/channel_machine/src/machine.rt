@@ -7,7 +7,7 @@ use crate::events::EventOrigin;
 use crate::messages::BothSettings;
 use crate::status::StatusStore;
 use crate::terms::{Terms, is_pad_call, was_fast};
-use channel_run::run::{Channel, View};
+use channel_run::run::{Channel, Usual, View};
 use data_transfer::assembler::Assembler;
 use data_transfer::packed::FlowWord;
 use line_model::event::Event;
@@ -75,5 +75,9 @@ impl<A: Allocator + Clone, S: StatusStore + Drop> Channel<A> for StatusChannel<A
             packet: item.number,
         };
         self.handle(origin, item.side, &item.packet, item.octets, events)
+    }
+
+    fn step_usual(&mut self, item: &ItemRef<'_>) -> Option<Usual> {
+        self.handle_usual(item.side, &item.packet, item.octets)
     }
 }

@@ -15,6 +15,7 @@ use Rattle.line_model.specs.declared.event.What.{What}
 use Rattle.line_model.specs.declared.event.What.TheVariants.{Found, Data}
 use Rattle.line_model.specs.declared.event.Event.{Event}
 use Rattle.line_model.specs.declared.finding.Finding.{Finding}
+use Rattle.line_model.specs.declared.state.Side.{Side}
 use Rattle.line_model.specs.basics.Records.{Row, Item, Piece}
 use Rattle.line_model.specs.basics.Bounds.{IsPiece, IsItem, all_octets}
 use Rattle.line_model.specs.channels.Channels.{Channel, fresh, is_open}
@@ -32,7 +33,8 @@ use Rattle.line_model.proofs.ValueBounds.{value_bounds}
 use Rattle.line_model.proofs.OneFinding.{founds, step_one}
 use Rattle.call_accounts.specs.Counted.{IsCountable}
 use Rattle.call_accounts.specs.SoFar.{IsOf}
-use Rattle.channel_run.specs.Run.{row_events, end_events}
+use Rattle.channel_run.specs.Run.{row_events, end_events, usual_events}
+use Rattle.channel_run.specs.declared.run.Usual.{Usual}
 use Rattle.channel_run.specs.Tally.{IsWithin}
 use Rattle.channel_run.specs.Live.{channel_after, channel_so_far, so_far, with_item}
 use Rattle.channel_run.proofs.DataCounts.{piece_packets}
@@ -108,6 +110,13 @@ one_finding i e k c r es found is first =
     let same = few_findings e (Some k) r (channel_step i k c r).reported in
     ap option_to_list (first ∙ ap (λ l. slice_get (findings_of l) 0) is) ∙ first_alone (findings_of (row_events i e k c r)) (omega arith)
 
+-- ---- the events of a usual row
+
+pub usual_told : {i i' : Interface} {e e' k k' : ℕ} (c : Channel) (r : Row) (u : Usual)
+    → row_events i e k c r ≡ usual_events e k r u → i ≡ i' → e ≡ e' → k ≡ k' → row_events i' e' k' c r ≡ usual_events e' k' r u
+usual_told c r u told interface epoch number =
+    sym (λ j. row_events (interface j) (epoch j) (number j) c r) ∙ told ∙ (λ j. usual_events (epoch j) (number j) r u)
+
 -- ---- bounds
 
 pub piece_countable : (p : Piece) → IsPiece p.interface p.channel p.items → IsCountable (piece_events p)
@@ -144,6 +153,20 @@ segments_told es vs old by new is more step few =
     ap segments_of (lengths-more es vs) ∙ ap sum (map-append (λ (n : ℕ). (n + 63) / 64) (all_lengths es) (all_lengths vs)) ∙ sum-more (rounded (all_lengths es)) (rounded (all_lengths vs)) in
     let all : List Event = es ++ vs in
     omega (arith, is, more, step, both, few.octets, octets_weight all, segments_weight all, fewer_segments all)
+
+-- ---- the event of a data packet
+
+abbrev with_what : Event → What → Event
+with_what e w = record { epoch = e.epoch; channel = e.channel; packet = e.packet; what = w }
+
+pub data_finds_nothing : (e : Event) (x : Side) (n : ℕ) (fs : List Finding) → e.what ≡ Data x n → fs ≡ fs ++ findings_of (e ∷ [])
+data_finds_nothing e x n fs is = sym (ap (λ w. fs ++ findings_of (with_what e w ∷ [])) is ∙ append-nil fs)
+
+pub data_octets : (e : Event) (x : Side) (n : ℕ) → e.what ≡ Data x n → n ≡ sum (all_lengths (e ∷ []))
+data_octets e x n is = let one : sum (all_lengths (with_what e (Data x n) ∷ [])) ≡ n = omega arith in sym (ap (λ w. sum (all_lengths (with_what e w ∷ []))) is ∙ one)
+
+pub data_segments : (e : Event) (x : Side) (n : ℕ) → e.what ≡ Data x n → segments_of (all_lengths (e ∷ [])) ≡ segments_of (n ∷ [])
+data_segments e x n is = ap (λ w. segments_of (all_lengths (with_what e w ∷ []))) is
 
 -- ---- events, one after the other
 

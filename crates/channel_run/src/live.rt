@@ -1,6 +1,6 @@
 //! A channel that takes its rows as they come, and tells at any time what its piece is worth so far.
 
-ghost use Rattle.std.specs.Prelude.{◌≡◌, ℕ, List, [], ◌∷◌, ◌++◌, None, option_to_list, IfOk, IfErr, OnOk};
+ghost use Rattle.std.specs.Prelude.{◌≡◌, ℕ, List, [], ◌∷◌, ◌++◌, None, option_to_list, IfOk, IfErr, IfNone, IfSome, OnOk};
 ghost use Rattle.line_model.specs.declared.fault.Fault.TheVariants.{Memory};
 ghost use Rattle.line_model.specs.basics.Records.{Piece};
 ghost use Rattle.line_model.specs.basics.Bounds.{IsPiece};
@@ -8,11 +8,11 @@ ghost use Rattle.line_model.specs.pieces.Plans.{piece_events, value};
 ghost use Rattle.line_model.specs.observer.Report.{findings_of};
 ghost use Rattle.channel_run.specs.Tally.{Counts};
 ghost use Rattle.channel_run.specs.Live.{StandsFor, channel_so_far, so_far, with_item};
-ghost use Rattle.channel_run.specs.Run.{row_events};
+ghost use Rattle.channel_run.specs.Run.{row_events, usual_events};
 ghost use Rattle.channel_run.specs.StatusWord.{view_in};
 ghost use Rattle.channel_run.specs.Views.{IsViewOf};
 
-use crate::run::{Channel, View};
+use crate::run::{Channel, Usual, View};
 use crate::tally::Tally;
 use data_transfer::packed::FlowWord;
 use line_model::event::{Event, How, What};
@@ -76,6 +76,30 @@ impl<A: Allocator + Clone, C: Channel<A>> LiveChannel<A, C> {
         self.machine.step(self.epoch, item, events)?;
         let found = self.tally.record_all(events.as_slice())?;
         Ok(found)
+    }
+
+    /// Takes the next row as `take` does, if it is as most are (`Channel::step_usual`), and answers what it is: its
+    /// events are known by that. It takes no memory. `None`: the row is for `take`, and nothing has changed.
+    pub fn take_usual(&mut self, item: &ItemRef<'_>) -> Option<Usual>
+        requires room { (p : Piece) × StandsFor C.interface_of C.number_of C.stands_for self.old p
+            × IsPiece p.interface p.channel (p.items ++ item.now ∷ []) }
+        ensures stands { (p : Piece) → StandsFor C.interface_of C.number_of C.stands_for self.old p
+            → IsPiece p.interface p.channel (p.items ++ item.now ∷ [])
+            → IfSome result (λ _. StandsFor C.interface_of C.number_of C.stands_for self.new
+            (with_item p item.now)) }
+        ensures events { (p : Piece) → StandsFor C.interface_of C.number_of C.stands_for self.old p
+            → IfSome result (λ usual. row_events p.interface p.epoch p.channel (channel_so_far p)
+            item.now.row ≡ usual_events p.epoch p.channel item.now.row usual) }
+        ensures unchanged { IfNone result (self.new ≡ self.old) }
+    {
+        match self.machine.step_usual(item) {
+            Some(Usual::Data(octets)) => {
+                self.tally.add_data(item.side, octets);
+                Some(Usual::Data(octets))
+            }
+            Some(Usual::Ready) => Some(Usual::Ready),
+            None => None,
+        }
     }
 
     /// What is known of the channel after the rows so far.

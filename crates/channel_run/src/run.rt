@@ -1,13 +1,13 @@
 //! The run of a piece: any machine of one logical channel, over the rows of the piece.
 
-ghost use Rattle.std.specs.Prelude.{◌≡◌, ◌≤◌, ◌^◌, ◌++◌, ℕ, length, IfOk, IfErr, OnErr};
+ghost use Rattle.std.specs.Prelude.{◌≡◌, ◌≤◌, ◌^◌, ◌++◌, ℕ, length, IfOk, IfErr, IfNone, IfSome, OnErr};
 ghost use Rattle.line_model.specs.declared.fault.Fault.TheVariants.{Memory};
 ghost use Rattle.line_model.specs.channels.Channels as channels;
 ghost use Rattle.line_model.specs.channels.Channels.{fresh, is_open};
 ghost use Rattle.line_model.specs.channels.ChannelStep.{channel_step};
 ghost use Rattle.line_model.specs.basics.Bounds.{IsItem};
 ghost use Rattle.line_model.specs.pieces.Plans as plans;
-ghost use Rattle.channel_run.specs.Run.{row_events};
+ghost use Rattle.channel_run.specs.Run.{row_events, usual_events};
 ghost use Rattle.channel_run.specs.StatusWord.{view_in};
 ghost use Rattle.channel_run.specs.Views.{IsViewOf};
 
@@ -39,6 +39,15 @@ pub struct View {
     pub size_n: u16,
     /// Its windows and interrupts.
     pub flow: Flow,
+}
+
+/// What most packets are in d1, where nothing is wrong with them.
+#[derive(Clone, Copy)]
+pub enum Usual {
+    /// Data with Q 0 that was counted, with so many octets of user data.
+    Data(u32),
+    /// A receive ready.
+    Ready,
 }
 
 /// One logical channel of an interface: from its packets to events (X.25 Annexes B and C, clauses 4 to 6). What it
@@ -102,6 +111,22 @@ pub trait Channel<A: Allocator>: Drop {
         ensures unchanged { OnErr result ((self.new ≡ self.old)
             × (events.new.items ≡ events.old.items)) }
         ensures memory { IfErr result (λ fault. fault ≡ Memory) };
+
+    /// Takes a row of the channel as `step` does, if it is as most are: data with Q 0 or a receive ready in d1, with
+    /// which nothing is wrong. It takes no memory. `None`: the row is for `step`, and nothing has changed.
+    fn step_usual(&mut self, item: &ItemRef<'_>) -> Option<Usual>
+        requires item { IsItem (interface_of self.old) (number_of self.old) item.now }
+        ensures interface { (c : channels.Channel) → stands_for self.old c
+            → IfSome result (λ _. interface_of self.new ≡ interface_of self.old) }
+        ensures number { (c : channels.Channel) → stands_for self.old c
+            → IfSome result (λ _. number_of self.new ≡ number_of self.old) }
+        ensures stands { (c : channels.Channel) → stands_for self.old c
+            → IfSome result (λ _. stands_for self.new
+            (channel_step (interface_of self.old) (number_of self.old) c item.now.row).after) }
+        ensures events { (c : channels.Channel) (epoch : ℕ) → stands_for self.old c
+            → IfSome result (λ usual. row_events (interface_of self.old) epoch (number_of self.old) c
+            item.now.row ≡ usual_events epoch (number_of self.old) item.now.row usual) }
+        ensures unchanged { IfNone result (self.new ≡ self.old) };
 }
 
 /// What a piece is worth: the findings and calls of its rows on a fresh channel, and the octets and segments of its data

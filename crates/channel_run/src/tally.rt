@@ -3,6 +3,7 @@
 ghost use Rattle.std.specs.Prelude.{◌≡◌, ℕ, List, [], ◌∷◌, ◌++◌, sum, slice_get, IfOk, IfErr, OnOk};
 ghost use Rattle.std.specs.List.{AllByRecursion};
 ghost use Rattle.line_model.specs.declared.event.Event.{Event};
+ghost use Rattle.line_model.specs.declared.event.What.TheVariants.{Data};
 ghost use Rattle.line_model.specs.declared.fault.Fault.TheVariants.{Memory};
 ghost use Rattle.line_model.specs.observer.Calls.{all_lengths};
 ghost use Rattle.line_model.specs.observer.Report.{findings_of};
@@ -10,11 +11,12 @@ ghost use Rattle.call_accounts.specs.Counted.{IsCountable};
 ghost use Rattle.call_accounts.specs.SoFar.{IsOf};
 ghost use Rattle.channel_run.specs.Tally.{Counts, worth, IsWithin};
 
-use call_accounts::so_far::{CallsSoFar, segments_in};
+use call_accounts::so_far::{CallsSoFar, segments_for, segments_in};
 use line_model::event::{Event, What};
 use line_model::fault::Fault;
 use line_model::finding::Finding;
 use line_model::piece::PieceReport;
+use line_model::state::Side;
 use std::alloc::Allocator;
 
 /// What is counted of one logical channel in one epoch so far.
@@ -68,6 +70,18 @@ impl<A: Allocator + Clone> Tally<A> {
         self.segments = self.segments.saturating_add(segments);
         self.calls.add_event(event, segments)?;
         Ok(())
+    }
+
+    /// Records the event of a data packet of a side, with so many octets of user data. It takes no memory.
+    pub(crate) fn add_data(&mut self, side: Side, octets: u32)
+        ensures { (epoch channel : ℕ) (es : List Event) (e : Event) → Counts self.old epoch channel es
+            → IsOf epoch channel e → e.what ≡ Data side octets → IsCountable (es ++ e ∷ [])
+            → Counts self.new epoch channel (es ++ e ∷ []) }
+    {
+        let segments = segments_for(octets);
+        self.octets = self.octets.saturating_add(u64::from(octets));
+        self.segments = self.segments.saturating_add(segments);
+        self.calls.add_data(side, octets, segments);
     }
 
     /// Records the next events, and answers the first finding among them. It answers `Memory` alone; then it stands for

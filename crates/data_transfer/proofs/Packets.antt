@@ -4,7 +4,7 @@ use Rattle.std.specs.Prelude.{◌-◌, ◌&&◌, Option, Some, None}
 use Rattle.std.specs.List.{list_all}
 use Rattle.line_model.specs.channels.Channels.{AcceptedData}
 use Rattle.line_model.specs.channels.Sequences.{sequence_octets, eq_bool, is_alike}
-use Rattle.data_transfer.specs.Assembly.{Holds, AllHaveQ, kept_octets, is_like, with_more}
+use Rattle.data_transfer.specs.Assembly.{Holds, AllHaveQ, kept_by, kept_octets, kept_of, kept_with, is_like, with_more}
 use Rattle.data_transfer.specs.Sequences.{SequenceView}
 
 -- the front of two lists
@@ -61,12 +61,30 @@ alike_is b gs h holds = alike_by b.qualified gs h holds.qualified
     alike_by None gs h e = ap (λ l. is_alike h l) e
     alike_by (Some q) gs h all = all h.qualified
 
+-- where nothing is begun, nothing is kept
+kept_none : (o : Option Bool) (gs : List AcceptedData) → AllHaveQ o gs → is_like o true ≡ true → kept_of o gs ≡ kept_octets gs
+kept_none None gs all like = ap (λ l. kept_octets l) (sym all)
+kept_none (Some true) gs all like = refl
+kept_none (Some false) gs all like = cc
+
+kept_next : (q : Bool) (old : SequenceView) (gs : List AcceptedData) (h : AcceptedData) → Holds old gs → is_like old.qualified q ≡ true →
+    kept_with q old.octets h.octets ≡ kept_by q (gs ++ h ∷ [])
+kept_next true old gs h holds like = kept_more gs h old.octets (holds.octets ∙ kept_none old.qualified gs holds.qualified like)
+kept_next false old gs h holds like = refl
+
 pub holds_more : (old new : SequenceView) (gs : List AcceptedData) (h : AcceptedData) → Holds old gs → is_like old.qualified h.qualified ≡ true →
-    new.qualified ≡ Some h.qualified → new.octets ≡ with_more old.octets h.octets → Holds new (gs ++ h ∷ [])
+    new.qualified ≡ Some h.qualified → new.octets ≡ kept_with h.qualified old.octets h.octets → Holds new (gs ++ h ∷ [])
 holds_more old new gs h holds like q_is octets_is = record {
-  octets = octets_is ∙ kept_more gs h old.octets holds.octets;
+  octets = octets_is ∙ kept_next h.qualified old gs h holds like ∙ ap (λ o. kept_of o (gs ++ h ∷ [])) (sym q_is);
   qualified = subst (λ o. AllHaveQ o (gs ++ h ∷ [])) (sym q_is) (qualified_more old.qualified gs h holds.qualified like);
 }
 
-pub octets_more : (old : SequenceView) (gs : List AcceptedData) (h : AcceptedData) → Holds old gs → with_more old.octets h.octets ≡ kept_octets (gs ++ h ∷ [])
-octets_more old gs h holds = kept_more gs h old.octets holds.octets
+pub octets_more : (old : SequenceView) (gs : List AcceptedData) (h : AcceptedData) → Holds old gs → is_like old.qualified h.qualified ≡ true →
+    kept_with h.qualified old.octets h.octets ≡ kept_by h.qualified (gs ++ h ∷ [])
+octets_more old gs h holds like = kept_next h.qualified old gs h holds like
+
+-- a packet with Q 0 more, after others with Q 0
+pub holds_unqualified : (old new : SequenceView) (gs : List AcceptedData) (h : AcceptedData) → Holds old gs → h.qualified ≡ false → is_like old.qualified false ≡ true →
+    new.qualified ≡ Some false → new.octets ≡ [] → Holds new (gs ++ h ∷ [])
+holds_unqualified old new gs h holds q like q_is octets_is =
+    holds_more old new gs h holds (ap (λ b. is_like old.qualified b) q ∙ like) (q_is ∙ ap (λ b. Some b) (sym q)) (octets_is ∙ ap (λ b. kept_with b old.octets h.octets) (sym q))

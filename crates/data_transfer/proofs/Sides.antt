@@ -1,5 +1,5 @@
 -- A packet of one side, for both.
-use Rattle.std.proofs.Common.{◌≡◌, ℕ, true, false, sym, ap, subst, List, [], ◌∷◌, ◌++◌}
+use Rattle.std.proofs.Common.{◌≡◌, ℕ, Bool, true, false, sym, ap, subst, List, [], ◌∷◌, ◌++◌}
 use Rattle.line_model.specs.declared.state.Side.{Side}
 use Rattle.line_model.specs.declared.state.Side.TheVariants.{T, N}
 use Rattle.line_model.specs.channels.Channels.{AcceptedData}
@@ -7,8 +7,8 @@ use Rattle.line_model.specs.channels.FlowControl.{is_side}
 use Rattle.line_model.specs.channels.Sequences.{begun, is_category_a}
 use Rattle.data_transfer.proofs.SequenceLemmas.{begun-other, begun-more, begun-done}
 use Rattle.data_transfer.specs.Sequences.{SequenceView, Assembly}
-use Rattle.data_transfer.specs.Assembly.{Holds, IsPutOn}
-use Rattle.data_transfer.specs.Assembler.{StandsFor, IsPut}
+use Rattle.data_transfer.specs.Assembly.{Holds, IsPutOn, IsUnqualifiedOn}
+use Rattle.data_transfer.specs.Assembler.{StandsFor, IsPut, IsPutUnqualified}
 use Rattle.data_transfer.specs.declared.sequence.Put.{Put}
 use Rattle.data_transfer.specs.declared.sequence.Put.TheVariants.{Going, Complete, Mixed}
 
@@ -71,3 +71,37 @@ put_n (Complete s) old new hs h x_is size_is stands put = (
   put.5,
 )
 put_n Mixed old new hs h x_is size_is stands put = (put.0, ap (λ b. record old { of_n = b }) put.1)
+
+pub unqualified_t : (b : Bool) (old : Assembly) (new : SequenceView) (hs : List AcceptedData) (h : AcceptedData) → h.side ≡ T → new.size ≡ old.of_t.size →
+    StandsFor old hs → IsUnqualifiedOn b old.of_t new h (begun old.of_t.size T hs) → IsPutUnqualified old (record old { of_t = new }) T h hs
+unqualified_t true old new hs h x_is size_is stands put = (
+  put.0,
+  record {
+    of_t = subst (λ n. Holds new (begun n T (hs ++ h ∷ []))) (sym size_is) (going new old.of_t.size T hs h (ap (λ x. is_side T x) x_is) put.1 put.2);
+    of_n = apart old.of_n old.of_n.size N hs h (ap (λ x. is_side N x) x_is) stands.of_n;
+  },
+)
+unqualified_t false old new hs h x_is size_is stands put = (
+  put.0,
+  record {
+    of_t = subst (λ n. Holds new (begun n T (hs ++ h ∷ []))) (sym size_is) (done new old.of_t.size T hs h (ap (λ x. is_side T x) x_is) put.1 put.2);
+    of_n = apart old.of_n old.of_n.size N hs h (ap (λ x. is_side N x) x_is) stands.of_n;
+  },
+)
+
+pub unqualified_n : (b : Bool) (old : Assembly) (new : SequenceView) (hs : List AcceptedData) (h : AcceptedData) → h.side ≡ N → new.size ≡ old.of_n.size →
+    StandsFor old hs → IsUnqualifiedOn b old.of_n new h (begun old.of_n.size N hs) → IsPutUnqualified old (record old { of_n = new }) N h hs
+unqualified_n true old new hs h x_is size_is stands put = (
+  put.0,
+  record {
+    of_t = apart old.of_t old.of_t.size T hs h (ap (λ x. is_side T x) x_is) stands.of_t;
+    of_n = subst (λ n. Holds new (begun n N (hs ++ h ∷ []))) (sym size_is) (going new old.of_n.size N hs h (ap (λ x. is_side N x) x_is) put.1 put.2);
+  },
+)
+unqualified_n false old new hs h x_is size_is stands put = (
+  put.0,
+  record {
+    of_t = apart old.of_t old.of_t.size T hs h (ap (λ x. is_side T x) x_is) stands.of_t;
+    of_n = subst (λ n. Holds new (begun n N (hs ++ h ∷ []))) (sym size_is) (done new old.of_n.size N hs h (ap (λ x. is_side N x) x_is) put.1 put.2);
+  },
+)

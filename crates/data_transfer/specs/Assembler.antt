@@ -4,8 +4,8 @@ use Rattle.line_model.specs.declared.state.Side.{Side}
 use Rattle.line_model.specs.declared.state.Side.TheVariants.{T, N}
 use Rattle.line_model.specs.channels.Channels.{AcceptedData, Sides, of_side}
 use Rattle.line_model.specs.channels.Sequences.{begun, is_category_a, is_alike}
-use Rattle.data_transfer.specs.Assembly.{Holds, kept_octets}
-use Rattle.data_transfer.specs.Sequences.{Assembly}
+use Rattle.data_transfer.specs.Assembly.{Holds, kept_by}
+use Rattle.data_transfer.specs.Sequences.{Assembly, SequenceView}
 use Rattle.data_transfer.specs.UserOctets.{octets_in}
 use Rattle.data_transfer.specs.declared.sequence.Put.{Put}
 use Rattle.data_transfer.specs.declared.sequence.Put.TheVariants.{Going, Complete, Mixed}
@@ -23,11 +23,20 @@ pub record StandsFor (a : Assembly) (hs : List AcceptedData) : Type 0 where
 abbrev pub begun_by : Assembly → Side → List AcceptedData → List AcceptedData
 begun_by a x hs = begun (of_side x (sizes a)) x hs
 
+-- what is kept of a side
+abbrev pub begun_on : Assembly → Side → SequenceView
+begun_on a T = a.of_t
+begun_on a N = a.of_n
+
 -- what a packet does to an assembler
 abbrev pub IsPut : {A : Type 0} → Put A → (old new : Assembly) → Side → AcceptedData → List AcceptedData → Type 0
 IsPut Going old new x h hs =
     (is_alike h (begun_by old x hs) ≡ true) × (is_category_a (of_side x (sizes old)) h ≡ true) × StandsFor new (hs ++ h ∷ [])
 IsPut (Complete s) old new x h hs =
     (is_alike h (begun_by old x hs) ≡ true) × (is_category_a (of_side x (sizes old)) h ≡ false) × StandsFor new (hs ++ h ∷ [])
-    × (s.side ≡ x) × (s.qualified ≡ h.qualified) × (octets_in s.octets ≡ kept_octets (begun_by old x hs ++ h ∷ []))
+    × (s.side ≡ x) × (s.qualified ≡ h.qualified) × (octets_in s.octets ≡ kept_by h.qualified (begun_by old x hs ++ h ∷ []))
 IsPut Mixed old new x h hs = (is_alike h (begun_by old x hs) ≡ false) × (new ≡ old)
+
+-- what a packet with Q 0 does to an assembler, where its side has begun no sequence with Q 1
+abbrev pub IsPutUnqualified : (old new : Assembly) → Side → AcceptedData → List AcceptedData → Type 0
+IsPutUnqualified old new x h hs = (is_alike h (begun_by old x hs) ≡ true) × StandsFor new (hs ++ h ∷ [])

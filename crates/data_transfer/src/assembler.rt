@@ -1,10 +1,10 @@
 //! The sequences of both sides of a channel.
 
-ghost use Rattle.std.specs.Prelude.{◌≡◌, List, [], IfOk, IfErr, OnErr};
+ghost use Rattle.std.specs.Prelude.{◌≡◌, true, false, List, [], IfOk, IfErr, OnErr};
 ghost use Rattle.line_model.specs.channels.Channels.{AcceptedData};
 ghost use Rattle.line_model.specs.declared.fault.Fault.TheVariants.{Memory};
-ghost use Rattle.data_transfer.specs.Assembly.{heard, OnMixed};
-ghost use Rattle.data_transfer.specs.Assembler.{StandsFor, IsPut, sizes};
+ghost use Rattle.data_transfer.specs.Assembly.{heard, is_like, OnMixed};
+ghost use Rattle.data_transfer.specs.Assembler.{StandsFor, IsPut, IsPutUnqualified, begun_on, sizes};
 
 use crate::begun::Begun;
 use crate::sequence::{DataField, Put};
@@ -58,6 +58,31 @@ impl<A: Allocator + Clone> Assembler<A> {
             Side::T => self.of_t.put(&self.alloc, side, field),
             Side::N => self.of_n.put(&self.alloc, side, field),
         }
+    }
+
+    /// Whether a side has begun no sequence with Q 1, so that a packet with Q 0 may come.
+    pub fn is_unqualified(&self, side: Side) -> bool
+        ensures { result ≡ is_like (begun_on self.now side).qualified false }
+    {
+        match side {
+            Side::T => self.of_t.is_alike(false),
+            Side::N => self.of_n.is_alike(false),
+        }
+    }
+
+    /// Takes a data packet of a side with Q 0, whose numbers are valid, where the side has begun no sequence with Q 1.
+    #[tactic(auto, using(crate::proofs::Sides::unqualified_t, crate::proofs::Sides::unqualified_n))]
+    pub fn put_unqualified(&mut self, side: Side, field: &DataField<'_>)
+        requires unqualified { field.now.qualified ≡ false }
+        requires alike { is_like (begun_on self.old side).qualified false ≡ true }
+        ensures put { (hs : List AcceptedData) → StandsFor self.old hs
+            → IsPutUnqualified self.old self.new side (heard side field.now) hs }
+        ensures sizes { sizes self.new ≡ sizes self.old }
+    {
+        match side {
+            Side::T => self.of_t.put_unqualified(field),
+            Side::N => self.of_n.put_unqualified(field),
+        };
     }
 
     /// Forgets what was begun, as leaving d1 does; the sizes stay.

@@ -1,8 +1,9 @@
 //! The sequence that one side has begun.
 
-ghost use Rattle.std.specs.Prelude.{◌≡◌, ◌≤◌, List, [], IfOk, IfErr, OnOk, OnErr, true, Some, vec_len};
+ghost use Rattle.std.specs.Prelude.{◌≡◌, ◌≤◌, List, [], IfOk, IfErr, OnOk, OnErr, true, false, Some, vec_len};
 ghost use Rattle.line_model.specs.channels.Channels.{AcceptedData};
 ghost use Rattle.line_model.specs.declared.fault.Fault.TheVariants.{Memory};
+ghost use Rattle.line_model.specs.declared.state.Side.{Side as AnySide};
 
 use crate::sequence::{DataField, KEPT, Put, Sequence, UserData};
 use line_model::fault::Fault;
@@ -10,10 +11,18 @@ use line_model::state::Side;
 use std::alloc::Allocator;
 use std::marker::Model;
 
-/// The packets of a sequence that is not complete: their Q bit and their first 1,025 octets.
+/// The packets of a sequence that is not complete.
 #[derive(Drop)]
-struct Joined<A: Allocator> {
-    qualified: bool,
+enum Joined<A: Allocator> {
+    /// They have Q 0: no octets of them are kept, since no message can need them.
+    Unqualified,
+    /// They have Q 1.
+    Qualified(KeptOctets<A>),
+}
+
+/// The first 1,025 octets of the packets of a sequence.
+#[derive(Drop)]
+struct KeptOctets<A: Allocator> {
     octets: Vec<u8, A>,
     ghost few: { vec_len octets ≤ 1025 },
 }
@@ -34,12 +43,11 @@ impl<A: Allocator> Model for Begun<A> {
     ghost view = { λ b. record { size = b.size; qualified = joined_qualified b.joined; octets = joined_octets b.joined } };
 }
 
-impl<A: Allocator> Joined<A> {
+impl<A: Allocator> KeptOctets<A> {
     ghost use Rattle.data_transfer.specs.Assembly.{with_more};
 
     /// Keeps octets, as far as there is room.
     fn keep(&mut self, octets: &[u8]) -> Result<(), Fault>
-        ensures qualified { self.new.qualified ≡ self.old.qualified }
         ensures kept { OnOk result (self.new.octets.items
             ≡ with_more self.old.octets.items octets.now) }
         ensures unchanged { OnErr result (self.new.octets.items ≡ self.old.octets.items) }
@@ -52,7 +60,7 @@ impl<A: Allocator> Joined<A> {
 }
 
 impl<A: Allocator + Clone> Begun<A> {
-    ghost use Rattle.data_transfer.specs.Assembly.{Holds, IsPutOn, OnMixed, heard, is_like, with_more};
+    ghost use Rattle.data_transfer.specs.Assembly.{Holds, IsPutOn, IsUnqualifiedOn, OnMixed, heard, is_like, kept_with};
     ghost use Rattle.data_transfer.specs.UserOctets.{octets_in};
 
     /// Nothing is begun.
@@ -93,7 +101,7 @@ impl<A: Allocator + Clone> Begun<A> {
             self.join(alloc, field)?;
             return Ok(Put::Going);
         }
-        let octets = self.finish(field.octets)?;
+        let octets = self.finish(field)?;
         Ok(Put::Complete(Sequence {
             side,
             qualified: field.qualified,
@@ -101,12 +109,29 @@ impl<A: Allocator + Clone> Begun<A> {
         }))
     }
 
+    /// Takes the next packet of the side, which has Q 0, and answers whether more of its sequence follows.
+    pub(crate) fn put_unqualified(&mut self, field: &DataField<'_>) -> bool
+        requires unqualified { field.now.qualified ≡ false }
+        requires alike { is_like self.old.qualified false ≡ true }
+        ensures put { (side : AnySide) (gs : List AcceptedData) → Holds self.old gs
+            → IsUnqualifiedOn result self.old self.new (heard side field.now) gs }
+        ensures size { self.new.size ≡ self.old.size }
+    {
+        if field.is_category_a(self.size) {
+            self.joined = Some(Joined::Unqualified);
+            return true;
+        }
+        self.reset();
+        false
+    }
+
     /// Whether a Q bit is that of the packets begun.
-    fn is_alike(&self, qualified: bool) -> bool
+    pub(crate) fn is_alike(&self, qualified: bool) -> bool
         ensures { result ≡ is_like self.now.qualified qualified }
     {
         match &self.joined {
-            Some(joined) => joined.qualified == qualified,
+            Some(Joined::Qualified(_)) => qualified,
+            Some(Joined::Unqualified) => !qualified,
             None => true,
         }
     }
@@ -117,38 +142,48 @@ impl<A: Allocator + Clone> Begun<A> {
         ensures size { self.new.size ≡ self.old.size }
         ensures qualified { OnOk result (self.new.qualified ≡ Some field.now.qualified) }
         ensures kept { OnOk result (self.new.octets
-            ≡ with_more self.old.octets field.now.octets.now) }
+            ≡ kept_with field.now.qualified self.old.octets field.now.octets.now) }
         ensures unchanged { OnErr result (self.new ≡ self.old) }
         ensures memory { IfErr result (λ fault. fault ≡ Memory) }
     {
-        if let Some(joined) = &mut self.joined {
-            return joined.keep(field.octets);
+        if !field.qualified {
+            self.joined = Some(Joined::Unqualified);
+            return Ok(());
         }
-        let mut joined = Joined {
-            qualified: field.qualified,
+        if let Some(Joined::Qualified(kept)) = &mut self.joined {
+            return kept.keep(field.octets);
+        }
+        let mut kept = KeptOctets {
             octets: Vec::new(alloc.clone()?),
         };
-        joined.keep(field.octets)?;
-        self.joined = Some(joined);
+        kept.keep(field.octets)?;
+        self.joined = Some(Joined::Qualified(kept));
         Ok(())
     }
 
-    /// Moves out what was begun, with the octets of the last packet; nothing is begun then.
-    fn finish<'a>(&mut self, octets: &'a [u8]) -> Result<UserData<'a, A>, Fault>
+    /// Moves out what was begun, with the octets of the last packet; nothing is begun then. A sequence with Q 0 has
+    /// none.
+    fn finish<'a>(&mut self, field: &DataField<'a>) -> Result<UserData<'a, A>, Fault>
         ensures size { self.new.size ≡ self.old.size }
         ensures holds { OnOk result (Holds self.new []) }
-        ensures octets { IfOk result (λ u. octets_in u ≡ with_more self.old.octets octets.now) }
+        ensures octets { IfOk result (λ u. octets_in u
+            ≡ kept_with field.now.qualified self.old.octets field.now.octets.now) }
         ensures unchanged { OnErr result (self.new ≡ self.old) }
         ensures memory { IfErr result (λ fault. fault ≡ Memory) }
     {
-        let Some(mut joined) = self.joined.take() else {
+        let octets = field.octets;
+        if !field.qualified {
+            self.reset();
+            return Ok(UserData::OfOne(&octets[..0]));
+        }
+        let Some(Joined::Qualified(mut kept)) = self.joined.take() else {
             return Ok(UserData::OfOne(&octets[..octets.len().min(KEPT)]));
         };
-        if let Err(fault) = joined.keep(octets) {
-            self.joined = Some(joined);
+        if let Err(fault) = kept.keep(octets) {
+            self.joined = Some(Joined::Qualified(kept));
             return Err(fault);
         }
-        let Joined { octets, .. } = joined;
+        let KeptOctets { octets, .. } = kept;
         Ok(UserData::OfSeveral(octets))
     }
 }

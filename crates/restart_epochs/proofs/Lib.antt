@@ -17,3 +17,4 @@ pub mod OpenLaneLemmas
 pub mod Listings
 pub mod States
 pub mod Peeks
+pub mod HandingOn

@@ -50,6 +50,10 @@ pub record IsStep (line : LineState) (before : ℕ) (item : Item) (step : Step) 
   pub finding : option_to_list step.finding ≡ route_finding item.row (routed_at line item).route
   pub turn : step.turn ≡ turn_of item.row.octets (routed_at line item).route
 
+-- the step of a row that the restart machine hands on to a channel: the walk stays as it is
+abbrev pub handing_on : {A : Type 0} → EpochWalk A → (channel : ℕ) → Step
+handing_on w channel = record { machine = w.machine; epoch = w.epoch; finding = None; turn = ToChannel channel }
+
 -- before the first row
 pub record IsFresh {A : Type 0} (i : Interface) (w : EpochWalk A) : Type 0 where
   pub interface : w.interface ≡ i

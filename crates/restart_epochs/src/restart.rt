@@ -9,9 +9,9 @@ ghost use Rattle.line_model.specs.channels.RestartMachine.{restart_fault, restar
 
 use line_model::diagnostic::{PACKET_TOO_LONG, PACKET_TOO_SHORT};
 use line_model::packet::{Class, Packet};
+pub use line_model::route::Route;
 use line_model::state::{RState, Side, StateName};
 use line_model::table::{Action, table_n, table_t};
-pub use line_model::route::Route;
 use std::marker::Model;
 
 /// The restart machine: its state, and whether the DCE still owes its indication.
@@ -102,7 +102,7 @@ impl Restart {
     }
 
     /// Whether a packet goes to its channel as most do: data or RR in r1, where no indication is owed.
-    fn hands_on(&self, class: Class) -> bool
+    pub(crate) fn hands_on(&self, class: Class) -> bool
         ensures { OnTrue result (IsHandedOn self.now class) }
     {
         match self.state {

@@ -1,10 +1,10 @@
 //! The walk over the rows of a trace, but for what stands on the logical channels: the restart machine, the epoch, and
 //! what it found.
 
-ghost use Rattle.std.specs.Prelude.{option_to_list, ◌≡◌, ℕ, ◌<◌, ◌+◌, ◌^◌, List, ◌++◌, IfOk, OnOk, OnErr};
+ghost use Rattle.std.specs.Prelude.{option_to_list, ◌≡◌, ℕ, ◌<◌, ◌+◌, ◌^◌, List, ◌++◌, IfOk, IfSome, OnOk, OnErr};
 ghost use Rattle.std.specs.Vec.{vec_len, vec_capacity};
 ghost use Rattle.line_model.specs.observer.Observer.{line_in_r1};
-ghost use Rattle.restart_epochs.specs.Walks.{epoch_after, route_finding, turn_of, IsAdvanced, IsFresh, IsSameWalk, IsStep};
+ghost use Rattle.restart_epochs.specs.Walks.{epoch_after, handing_on, route_finding, turn_of, IsAdvanced, IsFresh, IsSameWalk, IsStep};
 
 use crate::restart::{Restart, Route};
 use line_model::finding::{Code, Finding};
@@ -85,6 +85,26 @@ impl<A: Allocator> EpochWalk<A> {
         })
     }
 
+    /// The logical channel of a row that goes there as most do, data or a receive ready in r1: its step is a
+    /// `handing_on`. `None`: the row is for `step`.
+    pub fn usual_channel(&self, item: &ItemRef<'_>) -> Option<u16>
+        ensures { IfSome result (λ channel. IsStep self.now.machine self.now.epoch item.now
+            (handing_on self.now channel)) }
+    {
+        if !self.machine.hands_on(item.packet.class()) {
+            return None;
+        }
+        Some(logical_channel(item.octets))
+    }
+
+    /// Goes past a row that leaves the walk as it is, as one does that `usual_channel` has a channel for.
+    pub fn count_row(&mut self)
+        requires packets { self.old.packets + 1 < 2 ^ 32 }
+        ensures { self.new ≡ record self.old { packets = self.old.packets + 1 } }
+    {
+        self.packets += 1;
+    }
+
     /// Goes past the row of a step.
     pub fn advance(&mut self, step: Step)
         requires room { vec_len self.old.findings < vec_capacity self.old.findings }
@@ -96,7 +116,7 @@ impl<A: Allocator> EpochWalk<A> {
         }
         self.machine = step.machine;
         self.epoch = step.epoch;
-        self.packets += 1;
+        self.count_row();
     }
 }
 

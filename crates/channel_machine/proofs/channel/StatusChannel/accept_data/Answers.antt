@@ -7,7 +7,7 @@ use Rattle.line_model.specs.channels.Sequences.{sequence_octets}
 use Rattle.line_model.specs.packets.Formats.{is_pad_call}
 use Rattle.line_model.specs.channels.ChannelStep.{counts_of}
 use Rattle.data_transfer.specs.Assembler.{IsPut, begun_by}
-use Rattle.data_transfer.specs.Assembly.{OnMixed}
+use Rattle.data_transfer.specs.Assembly.{OnMixed, kept_by}
 use Rattle.data_transfer.specs.declared.sequence.Put.TheVariants.{Going, Complete, Mixed}
 use Rattle.channel_machine.specs.Events.{event_at}
 use Rattle.channel_machine.specs.Messages.{message_reports}
@@ -15,7 +15,7 @@ use Rattle.channel_machine.specs.TermsStand.{is_pad}
 use Rattle.channel_machine.specs.Transfers.{Transfer, IsHeard, packet, counted_in_force}
 use Rattle.channel_machine.specs.Channels.{Known, known, Stands, IsMemory}
 use Rattle.channel_machine.proofs.InForce.{pad_stands}
-use Rattle.channel_machine.proofs.Hearing.{in_force, refused, mixed, accepted, going_is, untold_is, told_is}
+use Rattle.channel_machine.proofs.Hearing.{in_force, refused, mixed, accepted, going_is, second_of, untold_is, told_is}
 use Rattle.channel_machine.proofs.channel.StatusChannel.accept_data.Goals as goal
 
 pub returns-in-Err-clause-heard : goal.returns-in-Err-clause-heard
@@ -104,7 +104,7 @@ returns-then-carries_message-2-clause-heard g c k s =
     let pad : c.is_pad_call.result ≡ is_pad_call k = c.is_pad_call.ensures ∙ ap (λ o. is_pad o) c.call.ensures ∙ pad_stands before.terms k st.terms in
     let m : List ℕ = sequence_octets (begun_by i.assembler c.args.side k.heard ++ h ∷ []) in
     let told : (is_pad_call k && h.qualified) ≡ true = ap (λ a. a && h.qualified) (sym pad) ∙ sym c.is_message-carries_message.ensures ∙ c.if-carries_message-2.true in
-    let octets = c.as_slice.ensures ∙ b.5 in
+    let octets = c.as_slice.ensures ∙ b.5 ∙ ap (λ q. kept_by q (begun_by i.assembler c.args.side k.heard ++ h ∷ [])) (second_of (is_pad_call k) h.qualified told) in
     let new : Transfer = record { flow = after.flow; assembler = c.put.new.self; settings = c.report_message.new.self } in
     subst (λ o. IsHeard None o.terms.interface c.args.origin o.transfer new c.args.events.now.items c.report_message.new.events.items c.args.side h (counted_in_force o.terms.interface c.args.side c.args.header.now.send c.args.header.now.receive k) k) c.self.view_is
     (accepted c.in_default.field-0 before.terms.interface c.args.origin old.transfer new c.args.events.now.items c.report_message.new.events.items

@@ -31,7 +31,7 @@ returns-clause-put g c gs h =
       finished.holds,
       refl,
       refl,
-      finished.octets ∙ octets_more old gs p h,
+      finished.octets ∙ octets_more old gs p h like,
     )
 
 pub returns-in_err-join-clause-put : goal.returns-in_err-join-clause-put
