@@ -62,3 +62,15 @@ put_back I N S i e k rows more item before after live stepped out stands put has
         let ne = eqb-false j k other in
         subst (λ o. LaneFor I N S (begun_piece i e j (rows_of more j)) o) (sym (put.others j ne))
         (subst (λ items. LaneFor I N S (begun_piece i e j items) (value_at before j)) (sym (has.others j ne)) (out.others j ne))
+
+-- a live channel that is put back as it was
+pub put_same : {A C : Type 0} → (I : C → Interface) (N : C → ℕ) (S : C → Channel → Type 0) (i : Interface) (e k : ℕ) (rows : OpenRows) (before middle after : OpenLanes (LiveChannel A C)) (live stepped : LiveChannel A C)
+    → OpenFor I N S i e rows before → HasTaken k (Some live) before middle → stepped ≡ live → HasPut k stepped middle after → OpenFor I N S i e rows after
+put_same I N S i e k rows before middle after live stepped f t same put = record {
+  channels = put.channels ∙ t.channels ∙ f.channels;
+  each = λ j. subst (λ o. LaneFor I N S (begun_piece i e j (rows_of rows j)) o) (sym (at j (eqb j k) refl)) (f.each j);
+}
+  where
+    at : (j : ℕ) (b : Bool) → eqb j k ≡ b → value_at after j ≡ value_at before j
+    at j true here = ap (value_at after) (eqb-true j k here) ∙ put.value ∙ ap (λ l. Some l) same ∙ t.value ∙ ap (value_at before) (sym (eqb-true j k here))
+    at j false other = put.others j (eqb-false j k other) ∙ t.others j (eqb-false j k other)

@@ -4,6 +4,7 @@ pub mod FindingLemmas
 pub mod LastLemmas
 pub mod UncountedLemmas
 pub mod StandLemmas
+pub mod UsualLemmas
 pub mod TakeLemmas
 pub mod TellingLemmas
 pub mod WholeLemmas

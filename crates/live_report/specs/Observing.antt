@@ -74,6 +74,17 @@ abbrev pub WalksOn : {A C T E : Type 0} → Machine C A → (before : Observer A
 WalksOn m before row after result =
     (i : Interface) (rows : List Row) → HasWalked m i rows before → AreRows (rows ++ row ∷ []) → OnOk result (HasWalked m i (rows ++ row ∷ []) after)
 
+-- of any rows that it has walked: it has walked them and this one, or only them still
+abbrev pub WalksOnFrom : {A C : Type 0} → Machine C A → (before : Observer A C) → Row → (after : Observer A C) → Type 0
+WalksOnFrom m before row after = (i : Interface) (rows : List Row) → HasWalked m i rows before → AreRows (rows ++ row ∷ []) → HasWalked m i (rows ++ row ∷ []) after
+
+abbrev pub WalksStill : {A C : Type 0} → Machine C A → (before after : Observer A C) → Type 0
+WalksStill m before after = (i : Interface) (rows : List Row) → HasWalked m i rows before → HasWalked m i rows after
+
+-- of any rows that it has walked: nothing is found on this one
+abbrev pub FindsNothing : {A C : Type 0} → Machine C A → Observer A C → Row → Type 0
+FindsNothing m o row = (i : Interface) (rows : List Row) → HasWalked m i rows o → (report_of i (rows ++ row ∷ [])).findings ≡ (report_of i rows).findings
+
 -- of any rows that it has walked: the finding on this one comes behind all that was found before
 abbrev pub TellsFinding : {A C E : Type 0} → Machine C A → Observer A C → Row → Result (Option Finding) E → Type 0
 TellsFinding m o row result =

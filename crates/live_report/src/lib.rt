@@ -10,5 +10,6 @@ pub mod live;
 pub mod observer;
 mod telling;
 pub mod uncounted;
+mod usual;
 mod watched;
 mod watching;

@@ -4,6 +4,8 @@ ghost use Rattle.std.specs.Prelude.{◌≡◌, ◌<◌, ◌+◌, ◌^◌, ◌++�
 ghost use Rattle.line_model.specs.basics.Records as records;
 ghost use Rattle.line_model.specs.declared.fault.Fault.TheVariants.{Memory};
 ghost use Rattle.line_model.specs.declared.interface.Interface.{Interface as AnyInterface};
+ghost use Rattle.std.specs.Bool.{MatchBool, OnTrue};
+ghost use Rattle.line_model.specs.packets.Classes.{packet_of};
 ghost use Rattle.line_model.specs.pieces.Plans.{value};
 ghost use Rattle.restart_epochs.specs.OpenRows.{OpenRows};
 ghost use Rattle.restart_epochs.specs.Cutting.{Cutting, ended_by, observer, HasTurned};
@@ -16,13 +18,14 @@ ghost use Rattle.live_report.specs.LastRows.{IsLastRow};
 ghost use Rattle.live_report.specs.Uncounted.{uncounted_of};
 ghost use Rattle.live_report.specs.declared.last_row.Known.TheVariants.{Restart};
 ghost use Rattle.live_report.specs.Turns.{FindsBy, HasEvents, KnowsBy, MayTurn, OfOpen, StandsAt};
-ghost use Rattle.live_report.specs.Observing.{open_piece, HasWalked, IsHolding, IsObserver, MayWalk, TellsFinding, TellsReport, WalksOn};
+ghost use Rattle.live_report.specs.Observing.{open_piece, FindsNothing, HasWalked, IsHolding, IsObserver, MayWalk, TellsFinding, TellsReport, WalksOn, WalksOnFrom, WalksStill};
 
 use crate::ending::end_channels;
 use crate::lanes::step_channel;
 use crate::last_row::{Kept, KeptRow, LastRow};
 use crate::telling::tell_channels;
 use crate::uncounted::Uncounted;
+use crate::usual::{put_usual, step_usual};
 use channel_run::live::LiveChannel;
 use channel_run::run::{Channel, View};
 use line_model::event::Event;
@@ -216,8 +219,60 @@ impl<A: Allocator + Copy, C: Channel<A>> Observer<A, C> {
         ensures memory { IfErr result (λ fault. fault ≡ Memory) }
     {
         let item = row.with_packet(decode(&self.walk.interface, row.octets.as_slice()));
-        let step = self.walk.step(&item)?;
-        let last = self.turn(&step, &item)?;
+        if self.take_usual(&item)? {
+            return Ok(None);
+        }
+        self.take_any(&item)
+    }
+
+    /// Takes the next row, if it is as most are, and answers whether it did; else it stands for the same rows as before.
+    fn take_usual(&mut self, item: &ItemRef<'_>) -> Result<bool, Fault>
+        requires room { MayWalk C.Channel self.old (item.now.row ∷ []) }
+        requires packet { item.now.packet ≡ packet_of self.old.walk.interface item.now.row.octets }
+        ensures taken { IfOk result (λ taken. MatchBool taken
+            (WalksOnFrom C.Channel self.old item.now.row self.new)
+            (WalksStill C.Channel self.old self.new)) }
+        ensures interface { OnOk result (self.new.walk.interface ≡ self.old.walk.interface) }
+        ensures finding { IfOk result (λ taken. OnTrue taken (FindsNothing C.Channel self.old item.now.row)) }
+        ensures memory { IfErr result (λ fault. fault ≡ Memory) }
+    {
+        let Some(channel) = self.walk.usual_channel(item) else {
+            return Ok(false);
+        };
+        let Some(row) = step_usual(&self.walk, channel, item, &mut self.lanes) else {
+            return Ok(false);
+        };
+        put_usual(self.walk.epoch, channel, item, row.usual, &mut self.events)?;
+        let kept = KeptRow {
+            number: item.number,
+            side: item.side,
+            packet: item.packet,
+            channel: Some(channel),
+            before: Kept::Channel(row.before),
+            after: Kept::Channel(row.after),
+            finding: None,
+        };
+        self.uncounted.take(
+            &self.walk.interface,
+            item.octets,
+            &kept,
+            self.events.as_slice(),
+        );
+        self.last = Some(kept);
+        self.walk.count_row();
+        Ok(true)
+    }
+
+    /// Takes the next row with its packet, as `take` does.
+    fn take_any(&mut self, item: &ItemRef<'_>) -> Result<Option<Finding>, Fault>
+        requires room { MayWalk C.Channel self.old (item.now.row ∷ []) }
+        requires packet { item.now.packet ≡ packet_of self.old.walk.interface item.now.row.octets }
+        ensures stands { WalksOn C.Channel self.old item.now.row self.new result }
+        ensures finding { TellsFinding C.Channel self.old item.now.row result }
+        ensures memory { IfErr result (λ fault. fault ≡ Memory) }
+    {
+        let step = self.walk.step(item)?;
+        let last = self.turn(&step, item)?;
         let finding = last.finding();
         self.uncounted.take(
             &self.walk.interface,
