@@ -1,7 +1,7 @@
 //! Worked traces that are read in steps of any size while workers take their pieces.
 
 ghost use Rattle.std.specs.Prelude.{◌≡◌, Some};
-ghost use Rattle.line_model.specs.traces.Traces.{trace_plan};
+ghost use Rattle.trace_scan.specs.TextCuts.{trace_plan_as_read};
 
 use line_model::fault::Fault;
 use line_model::packet::Packet;
@@ -29,7 +29,7 @@ fn read_by<P: Plan + Send + Sync, R: Threads + Wait + Clock + Sync>(
     text: &[u8],
     cuts: Cuts,
 ) -> Option<Result<Read, Fault>>
-    requires plan { P.pieces ≡ Some (trace_plan text.now) }
+    requires plan { P.pieces ≡ Some (trace_plan_as_read text.now) }
 {
     let mut source = CutSource::new(text, cuts);
     let reading = ReadingTask {

@@ -5,7 +5,6 @@ use Rattle.std.specs.Option.{option_map}
 use Rattle.line_model.specs.work.Book.{KnownPlan}
 use Rattle.line_model.specs.basics.Records.{Piece}
 use Rattle.line_model.specs.text.Text.{early, fault}
-use Rattle.line_model.specs.traces.Traces.{trace_plan}
 use Rattle.line_model.specs.declared.fault.Fault.{Fault}
 use Rattle.line_model.specs.declared.fault.Fault.TheVariants.{Memory, Trace, Read as ReadFailed}
 use Rattle.line_model.proofs.TextLemmas.{early_rows-nothing}
@@ -16,7 +15,7 @@ use Rattle.trace_text.proofs.SourceLemmas.{all_sound as sound_at_end, sound_befo
 use Rattle.shared_work.specs.queue.Passes.{PassView, QueueId}
 use Rattle.shared_work.specs.declared.queue.rule.Record.{Record}
 use Rattle.workers.specs.Workers.{HasFed}
-use Rattle.trace_scan.specs.TextCuts.{HasTaken, IsPlanOf}
+use Rattle.trace_scan.specs.TextCuts.{trace_plan_as_read, HasTaken, IsPlanOf}
 use Rattle.trace_scan.specs.Readings.{HasRead, IsFedTextOf, IsReadOf, IsReadingFault, IsRefusal, IsRefusedText}
 use Rattle.trace_scan.specs.declared.feeding.Read.{Read}
 use Rattle.trace_scan.specs.declared.text_cutter.TextCutter.{TextCutter}
@@ -41,19 +40,19 @@ nothing_fed queue pass c taken none no_ends no_pieces same =
 
 -- ---- the plan of the text
 
-plan_begun : (left : Option (List ℕ)) (text : List ℕ) → BeginsSo left text → IsPlanOf (option_map trace_plan left) text
+plan_begun : (left : Option (List ℕ)) (text : List ℕ) → BeginsSo left text → IsPlanOf (option_map trace_plan_as_read left) text
 plan_begun None text h = tt
-plan_begun (Some all) text h = (h.0, ap trace_plan h.1)
+plan_begun (Some all) text h = (h.0, ap trace_plan_as_read h.1)
 
-pub plan_expected : (known : KnownPlan) (left : Option (List ℕ)) → known ≡ option_map trace_plan left → MayBeFed left (IsPlanOf known)
+pub plan_expected : (known : KnownPlan) (left : Option (List ℕ)) → known ≡ option_map trace_plan_as_read left → MayBeFed left (IsPlanOf known)
 plan_expected known left e text begins = subst (λ ps. IsPlanOf ps text) (sym e) (plan_begun left text begins)
 
-plan_ended : (left after asked : Option (List ℕ)) (text : List ℕ) → IsAllGiven left after asked text → IfSome (option_map trace_plan left) (λ ps. ps ≡ trace_plan text)
+plan_ended : (left after asked : Option (List ℕ)) (text : List ℕ) → IsAllGiven left after asked text → IfSome (option_map trace_plan_as_read left) (λ ps. ps ≡ trace_plan_as_read text)
 plan_ended None after asked text source = tt
-plan_ended (Some all) after asked text source = ap trace_plan (source all refl).0
+plan_ended (Some all) after asked text source = ap trace_plan_as_read (source all refl).0
 
-pub plan_whole : (known : KnownPlan) (left after asked : Option (List ℕ)) (text : List ℕ) → known ≡ option_map trace_plan left → IsAllGiven left after asked text → IfSome known (λ ps. ps ≡ trace_plan text)
-plan_whole known left after asked text e source = subst (λ ps. IfSome ps (λ l. l ≡ trace_plan text)) (sym e) (plan_ended left after asked text source)
+pub plan_whole : (known : KnownPlan) (left after asked : Option (List ℕ)) (text : List ℕ) → known ≡ option_map trace_plan_as_read left → IsAllGiven left after asked text → IfSome known (λ ps. ps ≡ trace_plan_as_read text)
+plan_whole known left after asked text e source = subst (λ ps. IfSome ps (λ l. l ≡ trace_plan_as_read text)) (sym e) (plan_ended left after asked text source)
 
 -- ---- what is told at the end
 

@@ -8,10 +8,10 @@ use Rattle.trace_text.specs.Progress.{Progress}
 use Rattle.trace_text.specs.StandsFor.{StandsFor, TakesRow, ReadsChunk}
 use Rattle.trace_text.proofs.Grows.{head_stays, no_rows}
 use Rattle.trace_text.proofs.RefusalLemmas.{head_stands}
-use Rattle.restart_epochs.specs.Cutting.{HasAppended, given_of}
+use Rattle.restart_epochs.specs.Cutting.{HasAppended}
 use Rattle.restart_epochs.proofs.Listings.{nothing_cut}
 use Rattle.trace_scan.specs.declared.text_cutter.RowCutter.{RowCutter}
-use Rattle.trace_scan.specs.TextCuts.{HasCut, IsCutTo, IsTrace, known_of, known_pieces}
+use Rattle.trace_scan.specs.TextCuts.{given_as_read, HasCut, IsCutTo, IsTrace, known_of, known_pieces}
 use Rattle.trace_scan.proofs.Rows.{appended_next, appended_none}
 use Rattle.trace_scan.proofs.Heads.{known_under, next_trace}
 use Rattle.trace_scan.proofs.Cuts.{cut_row}
@@ -20,8 +20,8 @@ no_length : (ps : List Piece) → 0 ≡ length ps → ps ≡ []
 no_length [] h = refl
 no_length (p ∷ ps) h = absurd cc
 
-pub none_of : (i : Interface) → given_of i [] ≡ []
-none_of i = no_length (given_of i []) (nothing_cut i).given
+pub none_of : (i : Interface) → given_as_read i [] ≡ []
+none_of i = no_length (given_as_read i []) (nothing_cut i).given
 
 of_no_rows : (o : Option Interface) → known_of o [] ≡ []
 of_no_rows None = refl
@@ -55,14 +55,14 @@ first_cut text chunk rest row lines after i f s none t kept same cut = cut_row t
 
 -- the pieces that are known whole with the first row, and with those behind it
 pub first_pieces : (i : Interface) (text chunk rest : List ℕ) (row : Row) (lines after last : Progress) (out now out_after : List Piece) → StandsFor lines text → early_rows text ≡ [] → (t : TakesRow lines after chunk rest row)
-    → HasAppended out now (given_of i []) (given_of i ([] ++ row ∷ [])) → HasAppended now out_after (given_of i (early_rows (text ++ t.taken))) (given_of i (early_rows ((text ++ t.taken) ++ rest)))
+    → HasAppended out now (given_as_read i []) (given_as_read i ([] ++ row ∷ [])) → HasAppended now out_after (given_as_read i (early_rows (text ++ t.taken))) (given_as_read i (early_rows ((text ++ t.taken) ++ rest)))
     → StandsFor last (text ++ chunk) → last.interface ≡ Some i → HasAppended out out_after (known_pieces text) (known_pieces (text ++ chunk))
 first_pieces i text chunk rest row lines after last out now out_after s none t first more stands header =
     let all = chunk_text lines after text chunk rest row t in
-    let here : given_of i ([] ++ row ∷ []) ≡ given_of i (early_rows (text ++ t.taken)) = ap (λ rows. given_of i (rows ++ row ∷ [])) (sym none) ∙ ap (given_of i) (sym (t.rows text s)) in
-    let both = appended_next out now out_after (given_of i []) (given_of i (early_rows (text ++ t.taken))) (given_of i (early_rows ((text ++ t.taken) ++ rest))) (subst (HasAppended out now (given_of i [])) here first) more in
-    let from = subst (λ ps. HasAppended out out_after ps (given_of i (early_rows ((text ++ t.taken) ++ rest)))) (none_of i ∙ sym (none_known text none)) both in
-    subst (HasAppended out out_after (known_pieces text)) (ap (λ x. given_of i (early_rows x)) all ∙ sym (known_under last (text ++ chunk) i stands header)) from
+    let here : given_as_read i ([] ++ row ∷ []) ≡ given_as_read i (early_rows (text ++ t.taken)) = ap (λ rows. given_as_read i (rows ++ row ∷ [])) (sym none) ∙ ap (given_as_read i) (sym (t.rows text s)) in
+    let both = appended_next out now out_after (given_as_read i []) (given_as_read i (early_rows (text ++ t.taken))) (given_as_read i (early_rows ((text ++ t.taken) ++ rest))) (subst (HasAppended out now (given_as_read i [])) here first) more in
+    let from = subst (λ ps. HasAppended out out_after ps (given_as_read i (early_rows ((text ++ t.taken) ++ rest)))) (none_of i ∙ sym (none_known text none)) both in
+    subst (HasAppended out out_after (known_pieces text)) (ap (λ x. given_as_read i (early_rows x)) all ∙ sym (known_under last (text ++ chunk) i stands header)) from
 
 -- ---- the text has ended
 
@@ -78,11 +78,11 @@ pub whole_head : (lines : Progress) (text : List ℕ) (i : Interface) → Stands
 whole_head lines text i s e = known_head lines.interface i (λ j h. sym (ap head (sym (append-nil text)) ∙ head_stays text [] j s.sound (sym (head_stands lines text s) ∙ h)) ∙ e)
 
 -- the pieces that are known whole, by the header of the whole text
-pub known_with : (lines : Progress) (text : List ℕ) (i : Interface) → StandsFor lines text → IfSome lines.interface (λ j. j ≡ i) → known_pieces text ≡ given_of i (early_rows text)
+pub known_with : (lines : Progress) (text : List ℕ) (i : Interface) → StandsFor lines text → IfSome lines.interface (λ j. j ≡ i) → known_pieces text ≡ given_as_read i (early_rows text)
 known_with lines text i s same = at lines.interface refl same
   where
-    at : (o : Option Interface) → lines.interface ≡ o → IfSome o (λ j. j ≡ i) → known_pieces text ≡ given_of i (early_rows text)
+    at : (o : Option Interface) → lines.interface ≡ o → IfSome o (λ j. j ≡ i) → known_pieces text ≡ given_as_read i (early_rows text)
     at None h same =
         let none = no_rows lines text s h in
-        none_known text none ∙ sym (ap (given_of i) none ∙ none_of i)
-    at (Some j) h same = known_under lines text j s h ∙ ap (λ x. given_of x (early_rows text)) same
+        none_known text none ∙ sym (ap (given_as_read i) none ∙ none_of i)
+    at (Some j) h same = known_under lines text j s h ∙ ap (λ x. given_as_read x (early_rows text)) same

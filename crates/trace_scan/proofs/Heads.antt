@@ -8,10 +8,9 @@ use Rattle.trace_text.specs.StandsFor.{StandsFor, TakesRow}
 use Rattle.trace_text.proofs.Grows.{early_head_stays}
 use Rattle.trace_text.proofs.RefusalLemmas.{head_stands}
 use Rattle.trace_text.proofs.RowsOfText.{early_numbers, early_octets, early_rises, text_numbers, text_octets, text_rises}
-use Rattle.restart_epochs.specs.Cutting.{given_of}
 use Rattle.trace_scan.specs.declared.text_cutter.RowCutter.{RowCutter}
 use Rattle.trace_scan.specs.declared.text_cutter.TextCutter.{TextCutter}
-use Rattle.trace_scan.specs.TextCuts.{AreCut, HasTaken, IsCutTo, IsTrace, known_of, known_pieces}
+use Rattle.trace_scan.specs.TextCuts.{given_as_read, AreCut, HasTaken, IsCutTo, IsTrace, known_of, known_pieces}
 
 -- ---- rows as a text has them
 
@@ -32,7 +31,7 @@ pub header_stays : (reader after : Progress) (text more : List ℕ) (i : Interfa
 header_stays reader after text more i s h kept = kept ∙ early_head_stays text more i s.sound (sym (head_stands reader text s) ∙ h)
 
 -- the pieces of a text whose header is known
-pub known_under : (reader : Progress) (text : List ℕ) (i : Interface) → StandsFor reader text → reader.interface ≡ Some i → known_pieces text ≡ given_of i (early_rows text)
+pub known_under : (reader : Progress) (text : List ℕ) (i : Interface) → StandsFor reader text → reader.interface ≡ Some i → known_pieces text ≡ given_as_read i (early_rows text)
 known_under reader text i s h = ap (λ o. known_of o (early_rows text)) (sym (head_stands reader text s) ∙ h)
 
 -- ---- the row cutter

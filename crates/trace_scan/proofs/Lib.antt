@@ -1,3 +1,8 @@
+mod Fronts
+mod HeardAlike
+mod StepsAlike
+mod ReadAlike
+mod ReadRows
 pub mod Rows
 pub mod Heads
 pub mod Cuts

@@ -6,8 +6,9 @@ use Rattle.line_model.specs.basics.Records.{Row, Piece}
 use Rattle.line_model.specs.work.Book.{KnownPlan, IsPlanned}
 use Rattle.line_model.specs.pieces.Plans.{plan}
 use Rattle.line_model.proofs.BookTotals.{numbers_law}
-use Rattle.restart_epochs.specs.Cutting.{given_of}
 use Rattle.restart_epochs.proofs.Heads.{given_first}
+use Rattle.trace_scan.specs.TextCuts.{given_as_read}
+use Rattle.trace_scan.specs.Unread.{all_as_read}
 use Rattle.workers.specs.Workers.{ArePlanned}
 
 get_behind : {X : Type 0} (xs ys : List X) (k : ℕ) → slice_get (xs ++ ys) (length xs + k) ≡ slice_get ys k
@@ -42,11 +43,12 @@ rest_of None first pieces given e h = tt
 rest_of (Some ps) first pieces given e h = (h.0, ap (λ l. l ++ h.0) e ∙ h.1)
 
 -- those that are known whole with some more rows
-pub given_next : (known : KnownPlan) (i : Interface) (rs : List Row) (first pieces : List Piece) (n : ℕ) → n ≡ length first → first ++ pieces ≡ given_of i rs
-    → IfSome known (λ ps. (rest : List Piece) × (given_of i rs ++ rest ≡ ps)) → ArePlanned known n pieces
+pub given_next : (known : KnownPlan) (i : Interface) (rs : List Row) (first pieces : List Piece) (n : ℕ) → n ≡ length first → first ++ pieces ≡ given_as_read i rs
+    → IfSome known (λ ps. (rest : List Piece) × (given_as_read i rs ++ rest ≡ ps)) → ArePlanned known n pieces
 given_next known i rs first pieces n count whole planned =
-    let all = given_first i rs [] in
-    are_next known i rs first pieces all.0 n count (ap (λ l. l ++ all.0) whole ∙ all.1 ∙ ap (plan i) (append-nil rs)) (rest_of known first pieces (given_of i rs) whole planned)
+    let kept = all_as_read i rs in
+    let all = given_first i kept [] in
+    are_next known i kept first pieces all.0 n count (ap (λ l. l ++ all.0) whole ∙ all.1 ∙ ap (plan i) (append-nil kept)) (rest_of known first pieces (given_as_read i rs) whole planned)
 
 none_behind : (known : KnownPlan) (first pieces all : List Piece) → first ++ pieces ≡ all → IfSome known (λ ps. ps ≡ all) → IfSome known (λ ps. (rest : List Piece) × ((first ++ pieces) ++ rest ≡ ps))
 none_behind None first pieces all e h = tt

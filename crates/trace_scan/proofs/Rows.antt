@@ -3,12 +3,17 @@ use Rattle.std.proofs.Common.{◌≡◌, ◌∙◌, sym, ap, subst, ℕ, suc, �
 use Rattle.std.specs.Prelude.{All}
 use Rattle.std.proofs.lemmas.List.{map-append}
 use Rattle.std.proofs.lemmas.List.Sums.{sum_by_push, sum_by-append}
-use Rattle.line_model.specs.basics.Records.{Row, Piece}
+use Rattle.line_model.specs.declared.interface.Interface.{Interface}
+use Rattle.line_model.specs.declared.packet.Packet.{Packet}
+use Rattle.line_model.specs.basics.Records.{Row, Item, Piece}
 use Rattle.line_model.specs.text.Text.{last_or}
 use Rattle.line_model.proofs.Rising.{RisesFrom, rises-from_index}
 use Rattle.line_model.proofs.LineLemmas.{last_or-add}
 use Rattle.restart_epochs.specs.Cutting.{Cutting, IsCounted, HasAppended, StandsFor as IsCutterOf}
 use Rattle.restart_epochs.proofs.Whole.{MayCome}
+use Rattle.trace_scan.specs.Unread.{as_read, all_as_read}
+use Rattle.trace_scan.proofs.ReadAlike.{more_read}
+use Rattle.trace_scan.proofs.ReadRows.{counted_read}
 use Rattle.trace_scan.specs.TextCuts.{HasCut, IsCounting, IsTrace}
 use Rattle.trace_scan.specs.declared.text_cutter.RowCutter.{RowCutter}
 
@@ -48,8 +53,11 @@ room_for before r c counting trace =
     omega (arith, octets, few, sum_by_push (λ (x : Row). length x.octets) before r)
 
 -- a row was cut
-pub cut_more : {A : Type 0} (f : RowCutter A) (next : Cutting) (before : List Row) (r : Row) → IsCounting before f.cutter → IsCutterOf f.interface (before ++ r ∷ []) next → IsCounted r f.cutter next → HasCut {A = A} (before ++ r ∷ []) (record { interface = f.interface; cutter = next })
-cut_more f next before r counting stands counted = record { stands = stands; counting = counts_one before r f.cutter next counting counted }
+pub cut_more : {A : Type 0} (f : RowCutter A) (next : Cutting) (before : List Row) (r : Row) → IsCounting before f.cutter → IsCutterOf f.interface (all_as_read f.interface before ++ as_read f.interface r ∷ []) next → IsCounted (as_read f.interface r) f.cutter next → HasCut {A = A} (before ++ r ∷ []) (record { interface = f.interface; cutter = next })
+cut_more f next before r counting stands counted = record {
+  stands = subst (λ rs. IsCutterOf f.interface rs next) (sym (more_read f.interface before (r ∷ []))) stands;
+  counting = counts_one before r f.cutter next counting (counted_read f.interface r f.cutter next counted);
+}
 
 -- nothing was appended
 pub appended_none : (out known : List Piece) → HasAppended out out known known
@@ -70,3 +78,7 @@ all_appended out out_after known known_after none h = h.known_has ∙ ap (λ l. 
 -- so many pieces were fed as are known
 pub all_fed : (len n m : ℕ) (known pieces known_after : List Piece) → len ≡ length pieces → n ≡ length known → known_after ≡ known ++ pieces → m ≡ n + len → m ≡ length known_after
 all_fed len n m known pieces known_after l all more fed = fed ∙ ap₂ (λ a b. a + b) all l ∙ sym (ap (λ (ps : List Piece). length ps) more ∙ length-append known pieces)
+
+-- the row that the cutter is given
+pub item_read : (i : Interface) (r s : Row) (p : Packet) (item : Item) → item ≡ record { row = s; packet = p } → s ≡ as_read i r → item ≡ record { row = as_read i r; packet = p }
+item_read i r s p item e f = e ∙ ap (λ (x : Row). record { row = x; packet = p }) f

@@ -9,37 +9,37 @@ use Rattle.line_model.specs.work.Book.{KnownPlan}
 use Rattle.line_model.specs.pieces.Plans.{plan, line_findings}
 use Rattle.line_model.specs.basics.Records.{Row, Piece}
 use Rattle.line_model.specs.text.Text.{early, early_head, early_rows, fault, head, rows}
-use Rattle.line_model.specs.traces.Traces.{trace_plan}
-use Rattle.restart_epochs.specs.Cutting.{given_of}
 use Rattle.restart_epochs.proofs.Heads.{given_first}
+use Rattle.trace_scan.specs.Unread.{all_as_read}
+use Rattle.trace_scan.proofs.ReadAlike.{more_read}
 use Rattle.trace_text.specs.StandsFor.{IsFaultOf}
 use Rattle.trace_text.proofs.Grows.{head_stays, rows_first}
 use Rattle.workers.specs.Workers.{ArePlanned}
-use Rattle.trace_scan.specs.TextCuts.{IsPlanOf, known_of, known_pieces}
+use Rattle.trace_scan.specs.TextCuts.{trace_plan_as_read, given_as_read, IsPlanOf, known_of, known_pieces}
 use Rattle.trace_scan.specs.Readings.{IsCutOf, IsReadOf}
 use Rattle.trace_scan.specs.declared.feeding.Read.{Read}
 use Rattle.trace_scan.proofs.Nexts.{given_next}
 
-pub plan_of_head : (text : List ℕ) (i : Interface) → head text ≡ Some i → trace_plan text ≡ plan i (rows text)
-plan_of_head text i h = ap (λ (o : Option Interface). elim o as (λ _. List Piece) [ None ↦ [] | Some j ↦ plan j (rows text) ]) h
+pub plan_of_head : (text : List ℕ) (i : Interface) → head text ≡ Some i → trace_plan_as_read text ≡ plan i (all_as_read i (rows text))
+plan_of_head text i h = ap (λ (o : Option Interface). elim o as (λ _. List Piece) [ None ↦ [] | Some j ↦ plan j (all_as_read j (rows text)) ]) h
 
 stands_first : (known : KnownPlan) (i : Interface) (given : List ℕ) (rs : List Row) → early given ≡ None → early_head given ≡ Some i → early_rows given ≡ rs → IsPlanOf known given
-    → IfSome known (λ ps. (rest : List Piece) × (given_of i rs ++ rest ≡ ps))
+    → IfSome known (λ ps. (rest : List Piece) × (given_as_read i rs ++ rest ≡ ps))
 stands_first None i given rs sound e same h = tt
 stands_first (Some ps) i given rs sound e same h =
     let all = rows_first given h.0 sound in
-    let first = given_first i rs all.0 in
-    (first.0, first.1 ∙ ap (λ l. plan i (l ++ all.0)) (sym same) ∙ ap (plan i) (sym all.1) ∙ sym (plan_of_head (given ++ h.0) i (head_stays given h.0 i sound e)) ∙ sym h.1)
+    let first = given_first i (all_as_read i rs) (all_as_read i all.0) in
+    (first.0, first.1 ∙ ap (plan i) (sym (more_read i rs all.0)) ∙ ap (λ l. plan i (all_as_read i (l ++ all.0))) (sym same) ∙ ap (λ l. plan i (all_as_read i l)) (sym all.1) ∙ sym (plan_of_head (given ++ h.0) i (head_stays given h.0 i sound e)) ∙ sym h.1)
 
-ends_with : (known : KnownPlan) (i : Interface) (text : List ℕ) (rs : List Row) → head text ≡ Some i → rows text ≡ rs → IfSome known (λ ps. ps ≡ trace_plan text) → IfSome known (λ ps. (rest : List Piece) × (given_of i rs ++ rest ≡ ps))
+ends_with : (known : KnownPlan) (i : Interface) (text : List ℕ) (rs : List Row) → head text ≡ Some i → rows text ≡ rs → IfSome known (λ ps. ps ≡ trace_plan_as_read text) → IfSome known (λ ps. (rest : List Piece) × (given_as_read i rs ++ rest ≡ ps))
 ends_with None i text rs e same h = tt
 ends_with (Some ps) i text rs e same h =
-    let first = given_first i rs [] in
-    (first.0, first.1 ∙ ap (plan i) (append-nil rs) ∙ ap (plan i) (sym same) ∙ sym (plan_of_head text i e) ∙ sym h)
+    let first = given_first i (all_as_read i rs) [] in
+    (first.0, first.1 ∙ ap (plan i) (append-nil (all_as_read i rs)) ∙ ap (λ l. plan i (all_as_read i l)) (sym same) ∙ sym (plan_of_head text i e) ∙ sym h)
 
-pub plan_is : (known : KnownPlan) (text : List ℕ) (i j : Interface) (rs : List Row) → head text ≡ Some i → j ≡ i → rows text ≡ rs → IfSome known (λ ps. ps ≡ trace_plan text) → IfSome known (λ ps. ps ≡ plan j rs)
+pub plan_is : (known : KnownPlan) (text : List ℕ) (i j : Interface) (rs : List Row) → head text ≡ Some i → j ≡ i → rows text ≡ rs → IfSome known (λ ps. ps ≡ trace_plan_as_read text) → IfSome known (λ ps. ps ≡ plan j (all_as_read j rs))
 plan_is None text i j rs e same told h = tt
-plan_is (Some ps) text i j rs e same told h = h ∙ plan_of_head text i e ∙ (λ k. plan (sym same k) (told k))
+plan_is (Some ps) text i j rs e same told h = h ∙ plan_of_head text i e ∙ (λ k. plan (sym same k) (all_as_read (sym same k) (told k)))
 
 pub read_of : {A : Type 0} (text : List ℕ) (i j : Interface) (rs : List Row) (fed : List Piece) (r : Read A) → fault text ≡ None → head text ≡ Some i → j ≡ i → rows text ≡ rs → IsCutOf j rs fed r → IsReadOf text fed r
 read_of text i j rs fed r sound e same told cut =
@@ -49,7 +49,7 @@ read_of text i j rs fed r sound e same told cut =
       header = e ∙ ap Some (sym same ∙ here);
       cut = record {
         interface = refl;
-        all = cut.all ∙ (λ k. plan (here k) (sym told k));
+        all = cut.all ∙ (λ k. plan (here k) (all_as_read (here k) (sym told k)));
         interface_findings = cut.interface_findings ∙ (λ k. line_findings (here k) (sym told k));
         packets = cut.packets ∙ ap (λ (l : List Row). length l) (sym told);
         pieces = cut.pieces;
@@ -79,5 +79,5 @@ part_next known text part pieces n sound count more planned = at (early_head (te
         (stands_first known i (text ++ part) (early_rows (text ++ part)) sound h refl planned)
 
 -- those that are known whole with the last line
-pub line_next : (known : KnownPlan) (text : List ℕ) (i : Interface) (pieces : List Piece) (n : ℕ) → head text ≡ Some i → n ≡ length (known_pieces text) → given_of i (rows text) ≡ known_pieces text ++ pieces → IfSome known (λ ps. ps ≡ trace_plan text) → ArePlanned known n pieces
+pub line_next : (known : KnownPlan) (text : List ℕ) (i : Interface) (pieces : List Piece) (n : ℕ) → head text ≡ Some i → n ≡ length (known_pieces text) → given_as_read i (rows text) ≡ known_pieces text ++ pieces → IfSome known (λ ps. ps ≡ trace_plan_as_read text) → ArePlanned known n pieces
 line_next known text i pieces n header count more planned = given_next known i (rows text) (known_pieces text) pieces n count (sym more) (ends_with known i text (rows text) header refl planned)

@@ -1,3 +1,4 @@
+pub mod Unread
 pub mod TextCuts
 pub mod Readings
 pub mod Scan

@@ -11,14 +11,15 @@ use Rattle.line_model.specs.declared.fault.Fault.{Fault}
 use Rattle.line_model.specs.declared.fault.Fault.TheVariants.{Memory, Trace, Read as ReadFailed, Write, Start}
 use Rattle.shared_work.specs.queue.Passes.{PassView, QueueId}
 use Rattle.workers.specs.Workers.{HasFed}
+use Rattle.trace_scan.specs.Unread.{all_as_read}
 use Rattle.trace_scan.specs.TextCuts.{IsFedTo}
 use Rattle.trace_scan.specs.declared.text_cutter.TextCutter.{TextCutter}
 use Rattle.trace_scan.specs.declared.feeding.Read.{Read}
 
--- this is what the rows of an interface say, and the pieces of their plan were fed, all and in order
+-- this is what the rows of an interface say, and the pieces of their plan were fed, all and in order, with the rows as their channels read them
 pub record IsCutOf {A : Type 0} (i : Interface) (rs : List Row) (fed : List Piece) (r : Read A) : Type 0 where
   pub interface : r.interface ≡ i
-  pub all : fed ≡ plan i rs
+  pub all : fed ≡ plan i (all_as_read i rs)
   pub interface_findings : r.interface_findings.items ≡ line_findings i rs
   pub packets : r.packets ≡ length rs
   pub pieces : r.pieces ≡ length fed

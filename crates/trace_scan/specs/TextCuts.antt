@@ -4,9 +4,10 @@ use Rattle.std.specs.List.Sorted.{IsStrictlyIncreasing}
 use Rattle.line_model.specs.declared.interface.Interface.{Interface}
 use Rattle.line_model.specs.work.Book.{KnownPlan}
 use Rattle.line_model.specs.basics.Records.{Row, Piece}
-use Rattle.line_model.specs.text.Text.{early_head, early_rows, last_or}
-use Rattle.line_model.specs.traces.Traces.{trace_plan}
+use Rattle.line_model.specs.pieces.Plans.{plan}
+use Rattle.line_model.specs.text.Text.{early_head, early_rows, head, last_or, rows}
 use Rattle.restart_epochs.specs.Cutting.{Cutting, StandsFor as IsCutterOf, given_of}
+use Rattle.trace_scan.specs.Unread.{all_as_read}
 use Rattle.shared_work.specs.queue.Passes.{PassView}
 use Rattle.trace_text.specs.Progress.{Progress}
 use Rattle.trace_text.specs.StandsFor.{StandsFor}
@@ -24,9 +25,9 @@ pub record IsCounting (rs : List Row) (c : Cutting) : Type 0 where
   pub last : c.last ≡ last_or 0 (map (λ r. r.number) rs)
   pub octets : c.octets ≡ sum_by (λ r. length r.octets) rs
 
--- the cutter was given these rows
+-- the cutter was given these rows as their channels read them
 pub record HasCut {A : Type 0} (rs : List Row) (f : RowCutter A) : Type 0 where
-  pub stands : IsCutterOf f.interface rs f.cutter
+  pub stands : IsCutterOf f.interface (all_as_read f.interface rs) f.cutter
   pub counting : IsCounting rs f.cutter
 
 -- a text was read so far, and the rows of the lines that an LF ended were cut
@@ -57,10 +58,18 @@ pub record HasTaken {A : Type 0} (text : List ℕ) (c : TextCutter A) : Type 0 w
 abbrev pub OfTaken : {A : Type 0} → TextCutter A → (List ℕ → Type 0) → Type 0
 OfTaken c Fact = (text : List ℕ) → HasTaken text c → Fact text
 
+-- the pieces of some rows that are known whole, with the rows as their channels read them
+abbrev pub given_as_read : Interface → List Row → List Piece
+given_as_read i rs = given_of i (all_as_read i rs)
+
+-- the plan of a text, with the rows as their channels read them
+abbrev pub trace_plan_as_read : List ℕ → List Piece
+trace_plan_as_read x = elim (head x) [ None ↦ [] | Some i ↦ plan i (all_as_read i (rows x)) ]
+
 -- the pieces of some rows that are known whole, where there is a header
 abbrev pub known_of : Option Interface → List Row → List Piece
 known_of None rs = []
-known_of (Some i) rs = given_of i rs
+known_of (Some i) rs = given_as_read i rs
 
 -- the pieces of a text that are known whole
 abbrev pub known_pieces : List ℕ → List Piece
@@ -74,4 +83,4 @@ pub record IsFedTo {A : Type 0} (text : List ℕ) (fed : PassView) (c : TextCutt
 
 -- the plan, where it is known, is that of a text that begins so
 abbrev pub IsPlanOf : KnownPlan → List ℕ → Type 0
-IsPlanOf plan text = IfSome plan (λ ps. (rest : List ℕ) × (ps ≡ trace_plan (text ++ rest)))
+IsPlanOf plan text = IfSome plan (λ ps. (rest : List ℕ) × (ps ≡ trace_plan_as_read (text ++ rest)))

@@ -3,16 +3,15 @@
 ghost use Rattle.std.specs.Prelude.{◌≡◌, ℕ, ◌+◌, ◌<◌, ◌≤◌, ◌^◌, [], List, IfErr, IfOk, IfSome, length};
 ghost use Rattle.std.specs.Option.{option_map};
 ghost use Rattle.line_model.specs.text.Text.{fault};
-ghost use Rattle.line_model.specs.traces.Traces.{trace_plan};
 ghost use Rattle.line_model.specs.declared.fault.Fault.TheVariants.{Memory};
 ghost use Rattle.line_model.specs.pieces.Plans.{plan};
 ghost use Rattle.line_model.specs.basics.Records as records;
-ghost use Rattle.restart_epochs.specs.Cutting.{given_of};
+ghost use Rattle.trace_scan.specs.Unread.{all_as_read};
 ghost use Rattle.trace_text.specs.FedBytes.{fed_length};
 ghost use Rattle.trace_text.specs.Progress.{bytes_fed};
 ghost use Rattle.trace_text.specs.StandsFor.{IsFaultOf, IsTextFault};
 ghost use Rattle.workers.specs.Workers.{HasFed};
-ghost use Rattle.trace_scan.specs.TextCuts.{HasCut, IsFedTo, IsPlanOf};
+ghost use Rattle.trace_scan.specs.TextCuts.{HasCut, IsFedTo, IsPlanOf, given_as_read, trace_plan_as_read};
 ghost use Rattle.trace_scan.specs.Readings.{HasRead, IsCutOf, IsFedTextOf, IsOutcome, IsReadOf, IsRefusedText};
 
 use crate::text_cutter::{RowCutter, TextCutter};
@@ -48,13 +47,13 @@ fn feed_open_epoch<P: Plan, A: Allocator + Copy, R: Wait + Clock>(
     requires queue { pass.old.queue ≡ work.now.queue }
     requires open { pass.old.record_of.ends ≡ 0 }
     requires ready { (rows : List records.Row) × HasCut rows row_cutter
-        × (pass.old.record_of.fed ≡ length (given_of row_cutter.interface rows))
-        × (pass.old.pieces ≡ given_of row_cutter.interface rows)
-        × IfSome P.pieces (λ ps. ps ≡ plan row_cutter.interface rows) }
+        × (pass.old.record_of.fed ≡ length (given_as_read row_cutter.interface rows))
+        × (pass.old.pieces ≡ given_as_read row_cutter.interface rows)
+        × IfSome P.pieces (λ ps. ps ≡ plan row_cutter.interface (all_as_read row_cutter.interface rows)) }
     ensures queue { pass.new.queue ≡ pass.old.queue }
     ensures kept { HasFed pass.old.record_of pass.new.record_of }
     ensures cut { (rows : List records.Row) → HasCut rows row_cutter
-        → pass.old.pieces ≡ given_of row_cutter.interface rows
+        → pass.old.pieces ≡ given_as_read row_cutter.interface rows
         → IfOk result (IsCutOf row_cutter.interface rows pass.new.pieces) }
     ensures memory { IfErr result (λ fault. fault ≡ Memory) }
 {
@@ -86,7 +85,7 @@ fn finish<P: Plan, A: Allocator + Copy, R: Wait + Clock>(
     requires queue { pass.old.queue ≡ work.now.queue }
     requires open { pass.old.record_of.ends ≡ 0 }
     requires ready { (given : List ℕ) × IsFedTo given pass.old text
-        × IfSome P.pieces (λ ps. ps ≡ trace_plan given) }
+        × IfSome P.pieces (λ ps. ps ≡ trace_plan_as_read given) }
     ensures queue { pass.new.queue ≡ pass.old.queue }
     ensures kept { HasFed pass.old.record_of pass.new.record_of }
     ensures read { (given : List ℕ) → IsFedTo given pass.old text
@@ -142,7 +141,7 @@ fn read_all<P: Plan, A: Allocator + Copy, S: Source, R: Wait + Clock>(
     requires queue { pass.old.queue ≡ work.now.queue }
     requires first { (pass.old.record_of.fed ≡ 0) × (pass.old.record_of.ends ≡ 0) }
     requires none { pass.old.pieces ≡ [] }
-    requires plan { P.pieces ≡ option_map trace_plan (S.left source.old) }
+    requires plan { P.pieces ≡ option_map trace_plan_as_read (S.left source.old) }
     ensures queue { pass.new.queue ≡ pass.old.queue }
     ensures kept { HasFed pass.old.record_of pass.new.record_of }
     ensures read { HasRead (S.left source.old) (S.left source.new) (S.before source.new)
@@ -170,7 +169,7 @@ pub struct ReadingTask<'a, A: Allocator, S> {
 
 impl<'a, P: Plan, A: Allocator + Copy, S: Source> Feed<P, A> for ReadingTask<'a, A, S> {
     // The plan is that of the bytes that the source tells.
-    ghost can_feed = { λ task. P.pieces ≡ option_map trace_plan (S.left task.source.now) };
+    ghost can_feed = { λ task. P.pieces ≡ option_map trace_plan_as_read (S.left task.source.now) };
 
     ghost feed_gives = { λ task fed after. (after.source.ghost_name ≡ task.source.ghost_name) × IsOutcome (S.left task.source.now) (S.left after.source.now) (S.before after.source.now) (S.failures task.source.now < S.failures after.source.now) fed after.outcome × (S.calls task.source.now < S.calls after.source.now) × (S.calls after.source.now ≤ S.calls task.source.now + (2 ^ 30 + 1)) };
 

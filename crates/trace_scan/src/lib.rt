@@ -14,3 +14,4 @@ mod trials;
 mod tried_lines;
 mod tried_text;
 pub mod trying;
+pub mod unread;

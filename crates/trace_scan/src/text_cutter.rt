@@ -3,15 +3,18 @@
 ghost use Rattle.std.specs.Prelude.{◌≡◌, ℕ, ◌++◌, ◌∷◌, ◌+◌, ◌≤◌, ◌^◌, [], List, Option, None, Some, IfErr, IfOk, IfSome, OnOk, length};
 ghost use Rattle.line_model.specs.text.Text.{early, early_rows, fault, head, rows};
 ghost use Rattle.line_model.specs.basics.Records as records;
+ghost use Rattle.line_model.specs.packets.Classes.{packet_of};
 ghost use Rattle.line_model.specs.declared.interface.Interface.{Interface as AnyInterface};
 ghost use Rattle.line_model.specs.declared.fault.Fault.TheVariants.{Memory};
 ghost use Rattle.trace_text.specs.Progress.{bytes_fed};
 ghost use Rattle.trace_text.specs.StandsFor.{last_row, IsFaultOf, IsTextFault};
-ghost use Rattle.restart_epochs.specs.Cutting.{HasAppended, given_of};
-ghost use Rattle.trace_scan.specs.TextCuts.{AreCut, HasCut, HasTaken, IsCutTo, IsTrace, OfCut, OfCutTo, OfTaken, known_pieces};
+ghost use Rattle.restart_epochs.specs.Cutting.{HasAppended};
+ghost use Rattle.trace_scan.specs.TextCuts.{AreCut, HasCut, HasTaken, IsCutTo, IsTrace, OfCut, OfCutTo, OfTaken, given_as_read, known_pieces};
 
+use crate::unread::leave_out_unread;
 use line_model::fault::Fault;
 use line_model::interface::Interface;
+use line_model::packet::Packet;
 use line_model::piece::Piece;
 use line_model::row::Row;
 use line_model::state::Side;
@@ -19,6 +22,13 @@ use packet_decode::decode::decode;
 use restart_epochs::cutter::Cutter;
 use std::alloc::{Allocator, Global};
 use trace_text::lines::Lines;
+
+/// The packet that the octets of a row are.
+fn packet_of_row<A: Allocator>(interface: &Interface, row: &Row<A>) -> Packet
+    ensures { result ≡ packet_of interface.now row.now.octets }
+{
+    decode(interface, row.octets.as_slice())
+}
 
 /// The cutter of a text whose header was read.
 #[derive(Drop)]
@@ -39,20 +49,22 @@ impl<A: Allocator + Copy> RowCutter<A> {
         }
     }
 
-    /// Cuts a row, and appends the pieces that are known whole with it.
-    fn cut(&mut self, row: &Row<A>, pieces: &mut Vec<Piece<A>, A>) -> Result<(), Fault>
+    /// Cuts a row, and appends the pieces that are known whole with it. User data that the row's channel does not read is
+    /// left out, in the row too.
+    fn cut(&mut self, row: &mut Row<A>, pieces: &mut Vec<Piece<A>, A>) -> Result<(), Fault>
         requires next { (before : List records.Row) × HasCut before self.old
-            × IsTrace (before ++ row.now ∷ []) }
+            × IsTrace (before ++ row.old ∷ []) }
         ensures interface { self.new.interface ≡ self.old.interface }
         ensures cut { OfCut self.old (λ before.
-            OnOk result (HasCut (before ++ row.now ∷ []) self.new)) }
+            OnOk result (HasCut (before ++ row.old ∷ []) self.new)) }
         ensures pieces { OfCut self.old (λ before.
             OnOk result (HasAppended pieces.old.items pieces.new.items
-            (given_of self.old.interface before) (given_of self.old.interface
-            (before ++ row.now ∷ [])))) }
+            (given_as_read self.old.interface before) (given_as_read self.old.interface
+            (before ++ row.old ∷ [])))) }
         ensures memory { IfErr result (λ fault. fault ≡ Memory) }
     {
-        let packet = decode(&self.interface, row.octets.as_slice());
+        let packet = packet_of_row(&self.interface, row);
+        leave_out_unread(&packet, row)?;
         self.cutter.push(&row.with_packet(packet), pieces)
     }
 
@@ -60,18 +72,18 @@ impl<A: Allocator + Copy> RowCutter<A> {
     fn cut_last(
         &mut self,
         has_row: bool,
-        row: &Row<A>,
+        row: &mut Row<A>,
         pieces: &mut Vec<Piece<A>, A>,
     ) -> Result<(), Fault>
         requires next { (before : List records.Row) × HasCut before self.old
-            × IsTrace (before ++ last_row has_row row.now) }
+            × IsTrace (before ++ last_row has_row row.old) }
         ensures interface { self.new.interface ≡ self.old.interface }
         ensures cut { OfCut self.old (λ before.
-            OnOk result (HasCut (before ++ last_row has_row row.now) self.new)) }
+            OnOk result (HasCut (before ++ last_row has_row row.old) self.new)) }
         ensures pieces { OfCut self.old (λ before.
             OnOk result (HasAppended pieces.old.items pieces.new.items
-            (given_of self.old.interface before) (given_of self.old.interface
-            (before ++ last_row has_row row.now)))) }
+            (given_as_read self.old.interface before) (given_as_read self.old.interface
+            (before ++ last_row has_row row.old)))) }
         ensures memory { IfErr result (λ fault. fault ≡ Memory) }
     {
         if has_row {
@@ -94,8 +106,8 @@ impl<A: Allocator + Copy> RowCutter<A> {
         ensures cut { OfCutTo lines.old self.old (λ text.
             OnOk result (IsCutTo (text ++ bytes.now) lines.new self.new)) }
         ensures pieces { OfCutTo lines.old self.old (λ text.
-            OnOk result (HasAppended pieces.old.items pieces.new.items (given_of self.old.interface
-            (early_rows text)) (given_of self.old.interface (early_rows (text ++ bytes.now))))) }
+            OnOk result (HasAppended pieces.old.items pieces.new.items (given_as_read self.old.interface
+            (early_rows text)) (given_as_read self.old.interface (early_rows (text ++ bytes.now))))) }
         ensures refused { OfCutTo lines.old self.old (λ text.
             IfErr result (IsFaultOf (early (text ++ bytes.now)))) }
         ensures size { OnOk result (bytes_fed lines.new ≡ bytes_fed lines.old + length bytes.now) }
@@ -199,7 +211,7 @@ impl<A: Allocator + Copy> TextCutter<A> {
             unreachable!();
         };
         let mut row_cutter = RowCutter::new(*self.row.octets.allocator(), &interface);
-        row_cutter.cut(&self.row, pieces)?;
+        row_cutter.cut(&mut self.row, pieces)?;
         row_cutter.cut_lines(rest, &mut self.lines, &mut self.row, pieces)?;
         self.row_cutter = Some(row_cutter);
         Ok(())
@@ -235,7 +247,7 @@ impl<A: Allocator + Copy> TextCutter<A> {
         ensures cut { OfTaken self (λ text. IfOk result (HasCut (rows text))) }
         ensures pieces { OfTaken self (λ text.
             IfOk result (λ row_cutter. HasAppended pieces.old.items pieces.new.items
-            (known_pieces text) (given_of row_cutter.interface (rows text)))) }
+            (known_pieces text) (given_as_read row_cutter.interface (rows text)))) }
         ensures refused { OfTaken self (λ text. IfErr result (IsFaultOf (fault text))) }
         ensures kinds { IfErr result IsTextFault }
     {
@@ -246,7 +258,7 @@ impl<A: Allocator + Copy> TextCutter<A> {
         } = self;
         let end = lines.end_row(&mut row)?;
         let mut row_cutter = row_cutter_of(*row.octets.allocator(), &end.interface, row_cutter);
-        row_cutter.cut_last(end.has_row, &row, pieces)?;
+        row_cutter.cut_last(end.has_row, &mut row, pieces)?;
         Ok(row_cutter)
     }
 }

@@ -2,12 +2,13 @@
 
 ghost use Rattle.std.specs.Prelude.{◌≡◌, ◌≢◌, ℕ, ◌+◌, ◌<◌, ◌≤◌, ◌⊎◌, ◌^◌, List, Some, Ok, Err, IfOk, IfErr, IfSome, is_some, is_ok, true, vec_len};
 ghost use Rattle.std.specs.Option.{option_map};
-ghost use Rattle.line_model.specs.traces.Traces.{trace_plan, trace_report};
+ghost use Rattle.line_model.specs.traces.Traces.{trace_report};
 ghost use Rattle.line_model.specs.work.Book.{sum_of};
 ghost use Rattle.live_report.specs.Reports.{IsReported, IsTaken};
 ghost use Rattle.trace_text.specs.Sources.{IsRefusedBy};
 ghost use Rattle.trace_scan.specs.Readings.{IsRefusal};
 ghost use Rattle.trace_scan.specs.Scan.{IsPartTaken};
+ghost use Rattle.trace_scan.specs.TextCuts.{trace_plan_as_read};
 ghost use Rattle.trace_scan.specs.Threaded.{AreScanParts, IsStopped, IsWorkedFault, trace_totals};
 
 use crate::feeding::{Read, ReadingTask};
@@ -65,7 +66,7 @@ fn work_on_trace<
     capacity: usize,
     gate: &G,
 ) -> Result<ScanParts<A>, Fault>
-    requires plan { P.pieces ≡ option_map trace_plan (S.left source.old) }
+    requires plan { P.pieces ≡ option_map trace_plan_as_read (S.left source.old) }
     requires workers { (0 < workers) × (workers ≤ 64) }
     requires capacity { (0 < capacity) × (capacity ≤ 4096) }
     ensures parts { IfOk result (AreScanParts P.pieces workers (S.left source.old)

@@ -1,10 +1,10 @@
 use Rattle.std.proofs.Common.{◌∙◌, ◌++◌, ◌∷◌, [], Some, ap, refl, subst, sym}
 use Rattle.std.proofs.lemmas.Result.{IfOk-from_err}
 use Rattle.line_model.specs.text.Text.{early, early_rows}
-use Rattle.restart_epochs.specs.Cutting.{HasAppended, given_of}
+use Rattle.restart_epochs.specs.Cutting.{HasAppended}
 use Rattle.trace_text.proofs.SourceLemmas.{passed_on}
 use Rattle.trace_text.specs.StandsFor.{IsFaultOf, ReadsChunk, StandsFor, TakesRow}
-use Rattle.trace_scan.specs.TextCuts.{IsCutTo}
+use Rattle.trace_scan.specs.TextCuts.{given_as_read, IsCutTo}
 use Rattle.trace_scan.proofs.Heads.{no_rows_yet, none_cut, taken_of}
 use Rattle.trace_scan.proofs.Firsts.{chunk_text, first_cut, first_pieces, first_trace, no_row_came}
 use Rattle.trace_scan.proofs.text_cutter.TextCutter.begin.Goals as goal
@@ -66,7 +66,7 @@ returns-clause-pieces g c text taken =
     let all = chunk_text c.args.self.now.lines c.next_row.new.self text c.args.bytes.now c.in-Some.rest.now c.next_row.new.row t in
     first_pieces i text c.args.bytes.now c.in-Some.rest.now c.next_row.new.row c.args.self.now.lines c.next_row.new.self c.cut_lines.new.lines c.args.pieces.now.items c.cut.new.pieces.items c.cut_lines.new.pieces.items taken.reads
     (no_rows_yet c.args.self.now text taken c.requires.bare) t
-    (subst (λ j. HasAppended c.args.pieces.now.items c.cut.new.pieces.items (given_of j []) (given_of j ([] ++ c.next_row.new.row ∷ []))) (sym c.in_ok-cut.ensures.interface) (c.in_ok-cut.ensures.pieces [] c.new-row_cutter.ensures.cut))
+    (subst (λ j. HasAppended c.args.pieces.now.items c.cut.new.pieces.items (given_as_read j []) (given_as_read j ([] ++ c.next_row.new.row ∷ []))) (sym c.in_ok-cut.ensures.interface) (c.in_ok-cut.ensures.pieces [] c.new-row_cutter.ensures.cut))
     (c.in_ok-cut_lines.ensures.pieces (text ++ t.taken) begun)
     (subst (StandsFor c.cut_lines.new.lines) all after.reads) (after.header ∙ ap Some c.in_ok-cut_lines.ensures.interface)
 

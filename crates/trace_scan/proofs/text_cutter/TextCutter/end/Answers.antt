@@ -1,8 +1,7 @@
 use Rattle.std.proofs.Common.{◌∙◌, ◌++◌, Some, ap, subst, sym}
 use Rattle.line_model.specs.text.Text.{early_rows}
 use Rattle.trace_text.specs.StandsFor.{last_row}
-use Rattle.restart_epochs.specs.Cutting.{given_of}
-use Rattle.trace_scan.specs.TextCuts.{HasCut, IsTrace}
+use Rattle.trace_scan.specs.TextCuts.{given_as_read, HasCut, IsTrace}
 use Rattle.trace_scan.proofs.Heads.{whole_trace}
 use Rattle.trace_scan.proofs.Firsts.{appended_as, known_with, whole_head}
 use Rattle.trace_scan.proofs.text_cutter.TextCutter.end.Goals as goal
@@ -34,6 +33,6 @@ returns-clause-pieces g c text taken =
     let same = whole_head c.args.self.lines text c.in_ok-end.end.interface taken.reads end.1 in
     let i = c.row_cutter_of-row_cutter.ensures.interface (early_rows text) c.args.self.lines.interface taken.cut same in
     appended_as c.args.pieces.now.items c.cut_last.new.pieces.items _ _ _ _
-    (known_with c.args.self.lines text c.in_ok-end.end.interface taken.reads same ∙ ap (λ x. given_of x (early_rows text)) (sym i))
-    (ap (given_of c.cut_last.new.self.interface) (c.in_ok-end.ensures.row text taken.reads) ∙ ap (λ x. given_of x (early_rows text ++ last_row c.in_ok-end.end.has_row c.end_row.new.row)) c.in_ok-cut_last.ensures.interface)
+    (known_with c.args.self.lines text c.in_ok-end.end.interface taken.reads same ∙ ap (λ x. given_as_read x (early_rows text)) (sym i))
+    (ap (given_as_read c.cut_last.new.self.interface) (c.in_ok-end.ensures.row text taken.reads) ∙ ap (λ x. given_as_read x (early_rows text ++ last_row c.in_ok-end.end.has_row c.end_row.new.row)) c.in_ok-cut_last.ensures.interface)
     (c.in_ok-cut_last.ensures.pieces (early_rows text) (c.row_cutter_of-row_cutter.ensures.cut (early_rows text) c.args.self.lines.interface taken.cut same))
