@@ -9,9 +9,9 @@ ghost use Rattle.line_model.specs.channels.RestartMachine.{restart_fault, restar
 
 use line_model::diagnostic::{PACKET_TOO_LONG, PACKET_TOO_SHORT};
 use line_model::packet::{Class, Packet};
+pub use line_model::route::Route;
 use line_model::state::{RState, Side, StateName};
 use line_model::table::{Action, table_n, table_t};
-pub use line_model::route::Route;
 use std::marker::Model;
 
 /// The restart machine: its state, and whether the DCE still owes its indication.
