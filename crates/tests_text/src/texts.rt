@@ -1,6 +1,7 @@
 //! Texts from outside, read in chunks of several sizes.
 
 mod refused;
+mod rows;
 
 use crate::checks::{holds_at, holds_for};
 use line_model::fault::{Fault, Kind};

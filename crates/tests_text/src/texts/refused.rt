@@ -45,12 +45,12 @@ fn is_right(
     }
 }
 
-/// Refuses one growth of a reader, and sees that it answers want of memory from then on. Answers whether there was such
-/// a growth, and whether all was right.
+/// Refuses the growths of a reader from one on, and sees that it answers want of memory from then on. Answers whether
+/// there was such a growth, and whether all was right.
 fn refuse_growth(heap: &Scarce<Global>, good: u64) -> (bool, bool) {
     let mut lines = Lines::new(heap);
     let mut rows = Vec::new(heap);
-    heap.refuse_one(good);
+    heap.refuse_from(good);
     let answer = feed(&mut lines, &mut rows);
     let refused = good < heap.asked();
     heap.grant_all();

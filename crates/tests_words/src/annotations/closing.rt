@@ -162,14 +162,14 @@ fn is_right(alloc: Global, answer: &Answer, refused: bool) -> Result<bool, Alloc
     }
 }
 
-/// Refuses one growth, and sees that nothing of the closing was written. Answers whether there was such a growth.
+/// Refuses the growths from one on, and sees that nothing of the closing was written. Answers whether there was such a growth.
 fn check_growth(
     rt: &impl Abort,
     alloc: Global,
     heap: &Scarce<Global>,
     good: usize,
 ) -> Result<bool, AllocError> {
-    heap.refuse_one(good as u64);
+    heap.refuse_from(good as u64);
     let answer = annotated(heap, alloc, Cuts::of_steps(7, 7), TIMES);
     let refused = (good as u64) < heap.asked();
     holds_for(rt, is_right(alloc, &answer, refused)?, good);
