@@ -144,8 +144,11 @@ pub fn run_piece<A: Allocator + Clone, C: Channel<A>>(
         piece.channel,
         piece.epoch,
     )?;
-    let mut events = Vec::new(alloc);
+    let mut events = Vec::new(alloc.clone()?);
+    let mut octets = Vec::new(alloc);
     for item in piece.items.iter() {
+        item.unfold(&mut octets)?;
+        let item = item.with_octets(&octets);
         live.take(&item, &mut events)?;
     }
     let report = live.end(piece.id, piece.end)?;

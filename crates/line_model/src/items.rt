@@ -1,6 +1,7 @@
-//! Rows with their packets, in two lists: what stands before the octets of each row, and all octets.
+//! Rows with their packets, in two lists: what stands before the octets of each row, and the octets that are kept.
 
-ghost use Rattle.std.specs.Prelude.{◌≡◌, ◌<◌, ◌≤◌, ◌^◌, ◌++◌, ◌∷◌, [], length, OnErr, OnOk, IfErr, IfOk, ◌==◌};
+ghost use Rattle.std.specs.Prelude.{◌≡◌, ◌++◌, ◌∷◌, [], length, replicate, true, OnErr, OnOk, IfErr, IfOk, ◌==◌};
+ghost use Rattle.line_model.specs.basics.Items.{kept_of, unfolded};
 ghost use Rattle.line_model.specs.declared.fault.Fault.TheVariants.{Memory};
 
 use crate::fault::Fault;
@@ -9,21 +10,40 @@ use crate::state::Side;
 use std::alloc::{AllocError, Allocator, Global};
 use std::marker::Model;
 
+/// How many octets of a row are kept in any case: those before the user data, whatever the modulus is.
+const FRONT: usize = 4;
+
 /// A row with its packet, but for its octets.
 #[derive(Clone, Copy)]
 pub struct Head {
     number: u32,
     side: Side,
     packet: Packet,
+    /// Whether the octets after the fourth are all 0. They are not kept then.
+    is_blank: bool,
     /// How many octets the row has.
     octets: usize,
 }
 
-/// Rows with their packets, in order. It takes memory for all heads and for all octets, and none for a single row.
+impl Head {
+    /// How many octets of the row are kept.
+    fn kept(&self) -> usize
+        ensures { result ≡ kept_of self.now.is_blank self.now.octets }
+    {
+        if self.is_blank {
+            FRONT.min(self.octets)
+        } else {
+            self.octets
+        }
+    }
+}
+
+/// Rows with their packets, in order. It takes memory for all heads and for all octets, and none for a single row. Octets
+/// at the end of a row take none where all after the fourth are 0.
 ///
 /// ```text
-///  heads   1 T call, 5 octets │ 2 N accepted, 3 octets │ 3 T data, 4 octets
-///  octets  10 01 0B 00 00       10 01 0F                 10 01 00 AA
+///  heads   1 T call, 5 octets │ 2 N accepted, 3 octets │ 3 T data, 68 octets, blank
+///  octets  10 01 0B 00 01       10 01 0F                 10 01 00 00
 /// ```
 #[derive(Drop)]
 pub struct Items<A: Allocator = Global> {
@@ -64,6 +84,47 @@ impl<'a> Model for ItemRef<'a> {
     ghost view = { λ i. record { row = record { number = i.number; side = i.side; octets = i.octets.now }; packet = i.packet } };
 }
 
+/// A row with its packet as it is kept: the octets at its end may be left out, which are 0.
+#[derive(Drop)]
+pub struct KeptItem<'a> {
+    head: Head,
+    octets: &'a [u8],
+}
+
+impl<'a> Model for KeptItem<'a> {
+    ghost use Rattle.line_model.specs.basics.Records as records;
+    ghost use Rattle.line_model.specs.basics.Items.{unfolded};
+
+    ghost Value = { records.Item };
+
+    ghost view = { λ i. record { row = record { number = i.head.number; side = i.head.side; octets = unfolded i.head.octets i.octets.now }; packet = i.head.packet } };
+}
+
+impl<'a> KeptItem<'a> {
+    /// Writes all octets of the row, in place of those that the list has.
+    pub fn unfold<A: Allocator>(&self, octets: &mut Vec<u8, A>) -> Result<(), AllocError>
+        ensures { OnOk result (octets.new.items ≡ self.now.row.octets) }
+    {
+        octets.clear();
+        octets.extend_from_slice(self.octets)?;
+        octets.resize(self.head.octets.max(self.octets.len()), 0)?;
+        Ok(())
+    }
+
+    /// The row with its octets, which `unfold` wrote.
+    pub fn with_octets<'b>(&self, octets: &'b [u8]) -> ItemRef<'b>
+        requires unfolded { octets.now ≡ self.now.row.octets }
+        ensures { result ≡ self.now }
+    {
+        ItemRef {
+            number: self.head.number,
+            side: self.head.side,
+            octets,
+            packet: self.head.packet,
+        }
+    }
+}
+
 /// The rows that are left of some, first to last.
 #[derive(Drop)]
 pub struct Iter<'a> {
@@ -84,7 +145,7 @@ impl<'a> Model for Iter<'a> {
 }
 
 impl<'a> Iterator for Iter<'a> {
-    type Item = ItemRef<'a>;
+    type Item = KeptItem<'a>;
 
     ghost use Rattle.std.specs.Iterator.{YieldsFirst, item_count};
 
@@ -92,18 +153,39 @@ impl<'a> Iterator for Iter<'a> {
 
     ghost remaining = { item_count (λ left. left) };
 
-    fn next(&mut self) -> Option<ItemRef<'a>> {
+    fn next(&mut self) -> Option<KeptItem<'a>> {
         let (head, heads) = self.heads.split_first()?;
-        let (octets, rest) = self.octets.split_at(head.octets);
+        let (octets, rest) = self.octets.split_at(head.kept());
         self.heads = heads;
         self.octets = rest;
-        Some(ItemRef {
-            number: head.number,
-            side: head.side,
+        Some(KeptItem {
+            head: *head,
             octets,
-            packet: head.packet,
         })
     }
+}
+
+/// Whether octets are all 0. It looks at each of them, so that several are looked at in one step.
+fn is_zero(octets: &[u8]) -> bool
+    ensures { result ≡ true → octets.now ≡ replicate (length octets.now) 0 }
+{
+    let mut greatest = 0;
+    for octet in octets {
+        greatest = greatest.max(*octet);
+    }
+    greatest == 0
+}
+
+/// What is kept of the octets of a row, and whether the others are all 0.
+fn kept_octets(octets: &[u8]) -> (&[u8], bool)
+    ensures same { unfolded (length octets.now) result.0.now ≡ octets.now }
+    ensures kept { kept_of result.1 (length octets.now) ≡ length result.0.now }
+{
+    let (front, rest) = octets.split_at(FRONT.min(octets.len()));
+    if is_zero(rest) {
+        return (front, true);
+    }
+    (octets, false)
 }
 
 impl<A: Allocator> Items<A> {
@@ -126,7 +208,7 @@ impl<A: Allocator> Items<A> {
         self.heads.allocator()
     }
 
-    /// The rows in order.
+    /// The rows in order, as they are kept.
     pub fn iter(&self) -> Iter<'_>
         ensures { result ≡ self.now }
     {
@@ -149,12 +231,14 @@ impl<A: Allocator> Items<A> {
         ensures ok { OnOk result (self.new ≡ self.old ++ item.now ∷ []) }
         ensures refused { OnErr result (self.new ≡ self.old) }
     {
+        let (kept, is_blank) = kept_octets(item.octets);
         self.heads.reserve(1)?;
-        self.octets.extend_from_slice(item.octets)?;
+        self.octets.extend_from_slice(kept)?;
         self.heads.push_reserved(Head {
             number: item.number,
             side: item.side,
             packet: item.packet,
+            is_blank,
             octets: item.octets.len(),
         });
         Ok(())

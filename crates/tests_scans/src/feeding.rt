@@ -4,6 +4,7 @@ ghost use Rattle.std.specs.Prelude.{◌≡◌, Some};
 ghost use Rattle.trace_scan.specs.TextCuts.{trace_plan_as_read};
 
 use line_model::fault::Fault;
+use line_model::items::{ItemRef, KeptItem};
 use line_model::packet::Packet;
 use line_model::piece::{Piece, Plan};
 use std::alloc::Global;
@@ -180,6 +181,21 @@ fn cut(alloc: Global, first: &[u8], rest: &[u8]) -> Result<[Vec<Piece>; 3], Fail
     Ok([early, late, last])
 }
 
+/// Whether this is a row on its channel, by its number and octets.
+fn is_row(item: &ItemRef<'_>, channel: u16, row: &(u32, &[u8])) -> bool {
+    matches!(item.packet, Packet::Channel { channel: own, .. } if own == channel)
+        && item.number == row.0
+        && item.octets == row.1
+}
+
+/// Whether this is a row on its channel, once its octets are written to a list.
+fn is_kept(item: &KeptItem<'_>, channel: u16, row: &(u32, &[u8]), octets: &mut Vec<u8>) -> bool {
+    match item.unfold(octets) {
+        Ok(()) => is_row(&item.with_octets(octets), channel, row),
+        Err(_) => false,
+    }
+}
+
 /// Whether this is the piece of an id, with these rows on its channel, by their numbers and octets.
 fn is_piece(piece: &Piece, id: u32, end: Option<u32>, channel: u16, rows: &[(u32, &[u8])]) -> bool {
     if piece.id != id || piece.end != end || piece.channel != channel {
@@ -188,16 +204,17 @@ fn is_piece(piece: &Piece, id: u32, end: Option<u32>, channel: u16, rows: &[(u32
     if piece.items.len() != rows.len() {
         return false;
     }
-    piece.items.iter().zip(rows).all(|(item, row)| {
-        matches!(item.packet, Packet::Channel { channel: own, .. } if own == channel)
-            && item.number == row.0
-            && item.octets == row.1
-    })
+    let mut octets = Vec::new(*piece.items.allocator());
+    let mut same = true;
+    for (item, row) in piece.items.iter().zip(rows) {
+        same = same && is_kept(&item, channel, row, &mut octets);
+    }
+    same
 }
 
-/// A text of three pieces, of which two are known whole at its restart.
+/// A text of three pieces, of which two are known whole at its restart. The last one has data with Q 0 and with Q 1.
 const CUT: &[u8] =
-    b"X25 1 MOD 8 WIN 2 SIZE 128 PVC 0 SVC 4\n1 T 10030B0000\n2 T 10010B0000\n3 N 10030F\n4 T 1000FB0000\n5 N 1000FF\n6 T 100100AA";
+    b"X25 1 MOD 8 WIN 2 SIZE 128 PVC 0 SVC 4\n1 T 10030B0000\n2 T 10010B0000\n3 N 10030F\n4 T 1000FB0000\n5 N 1000FF\n6 T 100100AABBCC\n7 N 900100AABBCC";
 
 /// Whether these are the two pieces before the restart, in the order of their channels.
 fn are_closed(pieces: &[Piece]) -> bool {
@@ -210,10 +227,12 @@ fn are_closed(pieces: &[Piece]) -> bool {
         && is_piece(three, 1, Some(4), 3, &[(1, call), (3, accepted)])
 }
 
-/// Whether this is the piece behind the restart.
+/// Whether this is the piece behind the restart: user data with Q 0 is left out, and that with Q 1 is kept.
 fn is_open(pieces: &[Piece]) -> bool {
+    let unread: &[u8] = &[0x10, 1, 0, 0xAA, 0, 0];
+    let qualified: &[u8] = &[0x90, 1, 0, 0xAA, 0xBB, 0xCC];
     match pieces {
-        [open] => is_piece(open, 2, None, 1, &[(6, &[0x10, 1, 0, 0xAA])]),
+        [open] => is_piece(open, 2, None, 1, &[(6, unread), (7, qualified)]),
         _ => false,
     }
 }

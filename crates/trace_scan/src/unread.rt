@@ -38,7 +38,8 @@ fn blank<A: Allocator>(octets: &mut Vec<u8, A>) -> Result<(), AllocError>
     Ok(())
 }
 
-/// Puts 0 in the place of the user data of a row with this packet, where its channel does not read it.
+/// Puts 0 in the place of each octet after the fourth of a row with this packet, where the packet has user data that its
+/// channel does not read.
 pub fn leave_out_unread<A: Allocator>(packet: &Packet, row: &mut Row<A>) -> Result<(), AllocError>
     ensures { (i : Interface) → packet.now ≡ packet_of i row.old.octets
         → OnOk result (row.new ≡ as_read i row.old) }

@@ -47,7 +47,10 @@ fn followed<A: Allocator + Copy, C: Channel<A>>(
     told: &mut Vec<Told, A>,
 ) -> Result<PieceReport<A>, Fault> {
     let mut live = LiveChannel::<A, C>::fresh(alloc, &piece.interface, piece.channel, piece.epoch)?;
+    let mut octets = Vec::new(alloc);
     for item in piece.items.iter() {
+        item.unfold(&mut octets)?;
+        let item = item.with_octets(&octets);
         let finding = live.take(&item, events)?;
         told.push(told_of(&live, alloc, piece.id, finding)?)?;
     }

@@ -1,6 +1,6 @@
 //! Rows with their packets in two lists, by values from outside.
 
-use line_model::items::{ItemRef, Items};
+use line_model::items::{ItemRef, Items, KeptItem};
 use line_model::packet::{DataHeader, Packet, PacketKind};
 use line_model::state::Side;
 use std::test::Fail;
@@ -47,8 +47,21 @@ const DATA: Line = (
     },
 );
 
-/// A call request on channel 1, a row without octets, a call that is connected, and data.
-const LINES: [Line; 4] = [CALL, (2, Side::T, b"", Packet::Short), ACCEPTED, DATA];
+/// A row whose octets after the fourth are 0.
+const ZEROS: Line = (11, Side::N, b"\x10\x02\x22\xaa\0\0\0", Packet::Unassigned);
+
+/// A row whose octets end in 0, but for one of them.
+const ZEROS_AND_ONE: Line = (12, Side::T, b"\x10\x02\x22\xaa\0\x01\0", Packet::Unassigned);
+
+/// A call request on channel 1, a row without octets, a call that is connected, data, and rows with zeros.
+const LINES: [Line; 6] = [
+    CALL,
+    (2, Side::T, b"", Packet::Short),
+    ACCEPTED,
+    DATA,
+    ZEROS,
+    ZEROS_AND_ONE,
+];
 
 /// Appends rows.
 fn push_all(items: &mut Items, lines: &[Line]) -> Result<(), Fail> {
@@ -69,13 +82,22 @@ fn is_line(row: &ItemRef<'_>, line: &Line) -> bool {
     row.number == *number && row.side == *side && row.octets == *octets && row.packet == *packet
 }
 
+/// Whether this is the row of a line, once its octets are written to a list.
+fn is_kept(row: &KeptItem<'_>, line: &Line, octets: &mut Vec<u8>) -> bool {
+    match row.unfold(octets) {
+        Ok(()) => is_line(&row.with_octets(octets), line),
+        Err(_) => false,
+    }
+}
+
 /// Whether the rows are these, in this order.
 fn rows_are(items: &Items, lines: &[Line]) -> bool {
     let mut same = items.len() == lines.len() && items.is_empty() == lines.is_empty();
     let mut rows = items.iter();
+    let mut octets = Vec::new(*items.allocator());
     for line in lines {
         match rows.next() {
-            Some(row) => same = same && is_line(&row, line),
+            Some(row) => same = same && is_kept(&row, line, &mut octets),
             None => return false,
         }
     }

@@ -17,7 +17,8 @@ pub take-requires : goal.take-requires
 take-requires g c =
     let p = c.args.piece.now in
     let whole : IsPiece p.interface p.channel p.items = subst (λ q. IsPiece q.interface q.channel q.items) c.piece.view_is c.piece.invariant in
-    record { room = (record p { items = c.loop-item.yielded }, c.loop-item.invariant.stands, next_item p.interface p.channel p.items c.loop-item.yielded _ c.next.new.self c.in-Some.item _ whole c.loop-item.invariant.left c.in-Some.ensures.steps refl) }
+    let room = next_item p.interface p.channel p.items c.loop-item.yielded _ c.next.new.self c.in-Some.item _ whole c.loop-item.invariant.left c.in-Some.ensures.steps refl in
+    record { room = (record p { items = c.loop-item.yielded }, c.loop-item.invariant.stands, subst (λ t. IsPiece p.interface p.channel (c.loop-item.yielded ++ t ∷ [])) (sym c.with_octets-item.ensures) room) }
 
 pub loop-item-preserved : goal.loop-item-preserved
 loop-item-preserved g c =
@@ -25,6 +26,7 @@ loop-item-preserved g c =
     let whole : IsPiece p.interface p.channel p.items = subst (λ q. IsPiece q.interface q.channel q.items) c.piece.view_is c.piece.invariant in
     let room = next_item p.interface p.channel p.items c.loop-item.yielded _ c.next.new.self c.in-Some.item _ whole c.loop-item.invariant.left c.in-Some.ensures.steps refl in
     record {
-      stands = c.in_ok-take.ensures.stands (record p { items = c.loop-item.yielded }) c.loop-item.invariant.stands room;
+      stands = subst (λ t. StandsFor g.C.Channel.interface_of g.C.Channel.number_of g.C.Channel.stands_for c.take.new.self (record p { items = c.loop-item.yielded ++ t ∷ [] })) c.with_octets-item.ensures
+          (c.in_ok-take.ensures.stands (record p { items = c.loop-item.yielded }) c.loop-item.invariant.stands (subst (λ t. IsPiece p.interface p.channel (c.loop-item.yielded ++ t ∷ [])) (sym c.with_octets-item.ensures) room));
       left = c.loop-item.invariant.left ∙ ap (λ l. c.loop-item.yielded ++ l) c.in-Some.ensures.steps ∙ sym (append_assoc c.loop-item.yielded (c.in-Some.item ∷ []) c.next.new.self);
     }

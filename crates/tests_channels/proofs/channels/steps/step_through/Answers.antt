@@ -19,7 +19,8 @@ step_until_taken-requires g c =
     All-head (IsItem i 1) c.in-Some.item c.next.new.self (subst (All (IsItem i 1)) c.in-Some.ensures.steps c.loop-item.invariant.left) in
     let own = subst (λ n. IsItem i n c.in-Some.item) (sym c.loop-item.invariant.number) first in
     let is = subst (λ x. IsItem x (g.C.Channel.number_of c.loop-item.channel) c.in-Some.item) (sym c.loop-item.invariant.interface) own in
-    λ k. ((refl, tt), is)
+    let same = subst (IsItem (g.C.Channel.interface_of c.loop-item.channel) (g.C.Channel.number_of c.loop-item.channel)) (sym c.with_octets-item.ensures) is in
+    λ k. ((refl, tt), same)
 
 pub loop-item-preserved : goal.loop-item-preserved
 loop-item-preserved g c =
