@@ -50,6 +50,7 @@ impl<A: Allocator + Clone, S: StatusStore> StatusChannel<A, S> {
     }
 
     /// What a packet of data transfer says, or the first fault of its format. No direction is against it.
+    #[inline(always)]
     pub(crate) fn read_transfer<'a>(
         &self,
         side: Side,

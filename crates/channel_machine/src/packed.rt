@@ -89,6 +89,7 @@ impl StatusStore for PackedStatus {
         }
     }
 
+    #[inline(always)]
     fn data(&mut self, side: Side, send: u8, receive: u8) -> Result<(), u8> {
         self.word.data(side, send, receive)
     }

@@ -218,14 +218,15 @@ impl<A: Allocator + Copy, C: Channel<A>> Observer<A, C> {
         ensures finding { TellsFinding C.Channel self.old row.now result }
         ensures memory { IfErr result (λ fault. fault ≡ Memory) }
     {
-        let item = row.with_packet(decode(&self.walk.interface, row.octets.as_slice()));
-        if self.take_usual(&item)? {
+        let packet = decode(&self.walk.interface, row.octets.as_slice());
+        if self.take_usual(&row.with_packet(packet))? {
             return Ok(None);
         }
-        self.take_any(&item)
+        self.take_any(&row.with_packet(packet))
     }
 
     /// Takes the next row, if it is as most are, and answers whether it did; else it stands for the same rows as before.
+    #[inline(always)]
     fn take_usual(&mut self, item: &ItemRef<'_>) -> Result<bool, Fault>
         requires room { MayWalk C.Channel self.old (item.now.row ∷ []) }
         requires packet { item.now.packet ≡ packet_of self.old.walk.interface item.now.row.octets }
@@ -264,6 +265,7 @@ impl<A: Allocator + Copy, C: Channel<A>> Observer<A, C> {
     }
 
     /// Takes the next row with its packet, as `take` does.
+    #[inline(never)]
     fn take_any(&mut self, item: &ItemRef<'_>) -> Result<Option<Finding>, Fault>
         requires room { MayWalk C.Channel self.old (item.now.row ∷ []) }
         requires packet { item.now.packet ≡ packet_of self.old.walk.interface item.now.row.octets }

@@ -143,6 +143,7 @@ fn reason_in(word: &FlowWord, events: &[Event]) -> Option<Reason>
 }
 
 /// Why the data of a row that is kept was not counted, as `reason_of` has it.
+#[inline(always)]
 fn reason_kept(last: &KeptRow, events: &[Event]) -> Option<Reason>
     ensures { (i : AnyInterface) (earlier : List Row) (r : Row)
         → IsLastRow i earlier r last.now events.now
@@ -250,6 +251,7 @@ impl Uncounted {
     }
 
     /// Takes the octets of a row with its events, as it was judged.
+    #[inline(always)]
     pub(crate) fn take(
         &mut self,
         interface: &Interface,
