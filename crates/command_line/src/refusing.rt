@@ -50,11 +50,10 @@ fn print_reason<E: Sink>(
 
 /// Prints what is wrong with a faulty line of the trace.
 fn print_advice<S: Input, E: Sink>(alloc: Global, source: &S, errors: &mut E, kind: Kind) {
-    let heard = source.heard();
-    let Ok(text) = heard.text(alloc) else {
+    let Ok(heard) = source.heard(alloc) else {
         return;
     };
-    if let Ok(sentence) = advice(alloc, kind, text.as_slice(), heard.is_whole()) {
+    if let Ok(sentence) = advice(alloc, kind, heard.text.as_slice(), heard.is_whole) {
         print_more(alloc, errors, source.name(), &sentence);
     }
 }

@@ -1,13 +1,16 @@
 //! Where traces come from and where reports go: the two traits that the scans are generic over, and devices over memory.
 
-ghost use Rattle.std.specs.Prelude.{◌≡◌, ℕ, List, Option, Some, IfOk, IfErr, OnOk, OnErr, IfSome, ◌+◌, ◌++◌, ◌≤◌, ◌<◌, length, take, drop, if◌then◌else◌, IsErr};
+ghost use Rattle.std.specs.Prelude.{◌≡◌, ℕ, List, Option, Some, IfOk, IfErr, OnOk, OnErr, IfSome, ◌+◌, ◌^◌, ◌++◌, ◌≤◌, ◌<◌, length, take, drop, if◌then◌else◌, IsErr};
 ghost use Rattle.std.specs.Result.{is_err};
 ghost use Rattle.line_model.specs.basics.Device.{Gives, with_more};
 
 use crate::history::{Count, History};
 use std::alloc::Allocator;
 
-/// Where a trace comes from, in pieces of any size.
+/// The most bytes that a source gives at once.
+pub const CHUNK: usize = 1 << 16;
+
+/// Where a trace comes from, in chunks of any size up to 65,536 bytes, which it lends.
 pub trait Source {
     /// The bytes that it will give up to its end, where it tells them.
     ghost left: { Self → Option (List ℕ) };
@@ -15,20 +18,27 @@ pub trait Source {
     /// The bytes that were left before its last call, where it tells them.
     ghost before: { Self → Option (List ℕ) };
 
+    /// The bytes that its last call gave.
+    ghost last_given: { Self → List ℕ };
+
     /// How often it was asked.
     ghost calls: { Self → ℕ };
 
     /// How often it failed.
     ghost failures: { Self → ℕ };
 
-    /// Puts bytes at the front of a buffer, and says how many; 0 is the end.
-    fn read(&mut self, buffer: &mut [u8]) -> Result<usize, ()>
-        ensures fits { IfOk result (λ n. n ≤ length buffer.old) }
-        ensures given { IfOk result (λ n. Gives (left self.old) (left self.new) (take n buffer.new) (length buffer.old)) }
+    /// Reads the next bytes, at most 65,536; none is the end.
+    fn read(&mut self) -> Result<(), ()>
+        ensures few { OnOk result (length (last_given self.new) ≤ 2 ^ 16) }
+        ensures given { OnOk result (Gives (left self.old) (left self.new) (last_given self.new)) }
         ensures failed { OnErr result (left self.new ≡ left self.old) }
         ensures before { before self.new ≡ left self.old }
         ensures calls { calls self.new ≡ calls self.old + 1 }
         ensures failures { failures self.new ≡ (if is_err result then failures self.old + 1 else failures self.old) };
+
+    /// The bytes that its last call gave.
+    fn latest(&self) -> &[u8]
+        ensures { result.now ≡ last_given self.now };
 }
 
 /// Where a report goes.
@@ -52,6 +62,7 @@ pub trait Sink {
 #[derive(Drop)]
 pub struct SliceSource<'a> {
     rest: &'a [u8],
+    latest: &'a [u8],
     before: History,
     calls: Count,
 }
@@ -64,6 +75,7 @@ impl<'a> SliceSource<'a> {
     {
         SliceSource {
             rest: bytes,
+            latest: b"",
             before: History::of(bytes),
             calls: Count::new(),
         }
@@ -75,18 +87,23 @@ impl Source for SliceSource<'_> {
 
     ghost before = { λ s. Some s.before.bytes };
 
+    ghost last_given = { λ s. s.latest.now };
+
     ghost calls = { λ s. s.calls };
 
     ghost failures = { λ s. 0 };
 
-    fn read(&mut self, buffer: &mut [u8]) -> Result<usize, ()> {
+    fn read(&mut self) -> Result<(), ()> {
         self.before = History::of(self.rest);
         self.calls.add_one();
-        let n = self.rest.len().min(buffer.len());
-        let (front, back) = self.rest.split_at(n);
-        buffer[..n].copy_from_slice(front);
+        let (front, back) = self.rest.split_at(self.rest.len().min(CHUNK));
+        self.latest = front;
         self.rest = back;
-        Ok(n)
+        Ok(())
+    }
+
+    fn latest(&self) -> &[u8] {
+        self.latest
     }
 }
 

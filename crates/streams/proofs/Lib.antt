@@ -1,2 +1,3 @@
 pub mod FirstBytesLemmas
 pub mod LastBytesLemmas
+pub mod StretchLemmas

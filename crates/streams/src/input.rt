@@ -4,9 +4,9 @@ ghost use Rattle.std.specs.Prelude.{◌≡◌, ◌⊎◌, ℕ, List, Option, Non
 ghost use Rattle.streams.specs.OpenFaults.{IsByItsReason};
 
 use crate::first_bytes::FirstBytes;
-use crate::last_bytes::LastBytes;
 use crate::progress::Telling;
 use line_model::device::Source;
+use std::alloc::{AllocError, Global};
 use std::io;
 use thiserror::Error;
 
@@ -34,6 +34,14 @@ pub struct OpenRefusal {
     pub fault: OpenFault,
     /// What the system says.
     pub reason: io::Error,
+}
+
+/// The last bytes that a source gave, at least 65,536, or all where it gave fewer.
+#[derive(Drop)]
+pub struct Heard {
+    pub text: Vec<u8>,
+    /// Whether they are all that it gave.
+    pub is_whole: bool,
 }
 
 /// A source that begins as standard input, and turns to the trace that is opened by its name.
@@ -65,7 +73,7 @@ pub trait Input: Source {
     fn begun(&self) -> &FirstBytes;
 
     /// The last bytes that it gave.
-    fn heard(&self) -> &LastBytes;
+    fn heard(&self, alloc: Global) -> Result<Heard, AllocError>;
 
     /// Chooses when it tells how far the reading is.
     fn tell_progress(&mut self, telling: Telling)

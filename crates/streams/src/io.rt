@@ -1,16 +1,17 @@
 //! Readers and writers of the system as sources and sinks.
 
-ghost use Rattle.std.specs.Prelude.{◌≡◌, ◌≤◌, IfErr, IfOk, length};
+ghost use Rattle.std.specs.Prelude.{◌≡◌, ◌≤◌, ◌^◌, IfErr, length};
+ghost use Rattle.streams.specs.LastBytes.{last_read};
 ghost use Rattle.streams.specs.OpenFaults.{IsByItsReason};
 
 use crate::first_bytes::FirstBytes;
-use crate::input::{Input, OpenFault, OpenRefusal};
+use crate::input::{Heard, Input, OpenFault, OpenRefusal};
 use crate::last_bytes::LastBytes;
 use crate::output::Output;
 use crate::progress::{Progress, Telling};
 use line_model::device::{Sink, Source};
 use line_model::history::Count;
-use std::alloc::Global;
+use std::alloc::{AllocError, Global};
 use std::fs::OpenFile;
 use std::io::{ErrorKind, Read, Write};
 use std::rt::Files;
@@ -18,7 +19,7 @@ use std::time::Clock;
 use std::{fs, io};
 
 /// Standard input, or the file that was opened in its place, as a source that does not tell its bytes. Each read is one
-/// of the reader's, unbuffered.
+/// of the reader's, into the room that keeps its last bytes.
 #[derive(Drop)]
 pub struct FileInput<'a, R: Files + Clock, I: Read + Drop, W: Write + Drop> {
     alloc: Global,
@@ -59,7 +60,7 @@ impl<'a, R: Files + Clock, I: Read + Drop, W: Write + Drop> FileInput<'a, R, I, 
             file: None,
             name: None,
             begun: FirstBytes::new(alloc),
-            heard: LastBytes::new(alloc),
+            heard: LastBytes::new(),
             progress,
             failure: None,
             calls: Count::new(),
@@ -68,8 +69,8 @@ impl<'a, R: Files + Clock, I: Read + Drop, W: Write + Drop> FileInput<'a, R, I, 
     }
 
     /// Reads from standard input, which is told once where it is a terminal.
-    fn read_standard(&mut self, buffer: &mut [u8]) -> io::Result<usize>
-        ensures fits { IfOk result (λ n. n ≤ length buffer.old) }
+    fn read_standard(&mut self) -> io::Result<()>
+        ensures few { length (last_read self.new.heard) ≤ 2 ^ 16 }
         ensures calls { self.new.calls ≡ self.old.calls }
         ensures failures { self.new.failures ≡ self.old.failures }
     {
@@ -77,49 +78,53 @@ impl<'a, R: Files + Clock, I: Read + Drop, W: Write + Drop> FileInput<'a, R, I, 
             self.is_terminal = false;
             self.progress.tell_terminal();
         }
-        self.standard.read(buffer)
-    }
-
-    /// Keeps bytes that were read.
-    fn keep(&mut self, bytes: &[u8])
-        ensures calls { self.new.calls ≡ self.old.calls }
-        ensures failures { self.new.failures ≡ self.old.failures }
-    {
-        self.begun.keep(bytes);
-        self.heard.keep(bytes);
-        self.progress.read(self.system, bytes);
+        self.heard.read(&mut self.standard)
     }
 
     /// Reads from the file that was opened, else from standard input.
-    fn read_some(&mut self, buffer: &mut [u8]) -> io::Result<usize>
-        ensures fits { IfOk result (λ n. n ≤ length buffer.old) }
+    fn read_some(&mut self) -> io::Result<()>
+        ensures few { length (last_read self.new.heard) ≤ 2 ^ 16 }
         ensures calls { self.new.calls ≡ self.old.calls }
         ensures failures { self.new.failures ≡ self.old.failures }
     {
         match &mut self.file {
-            Some(file) => file.read(buffer),
-            None => self.read_standard(buffer),
+            Some(file) => self.heard.read(file),
+            None => self.read_standard(),
         }
+    }
+
+    /// Keeps the first bytes, and tells how far the reading is.
+    fn note_latest(&mut self)
+        ensures heard { self.new.heard ≡ self.old.heard }
+        ensures calls { self.new.calls ≡ self.old.calls }
+        ensures failures { self.new.failures ≡ self.old.failures }
+    {
+        let latest = self.heard.latest();
+        self.begun.keep(latest);
+        self.progress.read(self.system, latest);
     }
 }
 
 impl<R: Files + Clock, I: Read + Drop, W: Write + Drop> Source for FileInput<'_, R, I, W> {
     ghost use Rattle.std.specs.Prelude.{None};
+    ghost use Rattle.streams.specs.LastBytes.{last_read};
 
     ghost left = { λ s. None };
 
     ghost before = { λ s. None };
 
+    ghost last_given = { λ s. last_read s.heard };
+
     ghost calls = { λ s. s.calls };
 
     ghost failures = { λ s. s.failures };
 
-    fn read(&mut self, buffer: &mut [u8]) -> Result<usize, ()> {
+    fn read(&mut self) -> Result<(), ()> {
         self.calls.add_one();
-        match self.read_some(buffer) {
-            Ok(n) => {
-                self.keep(&buffer[..n]);
-                Ok(n)
+        match self.read_some() {
+            Ok(()) => {
+                self.note_latest();
+                Ok(())
             }
             Err(error) => {
                 self.failure = Some(error);
@@ -127,6 +132,10 @@ impl<R: Files + Clock, I: Read + Drop, W: Write + Drop> Source for FileInput<'_,
                 Err(())
             }
         }
+    }
+
+    fn latest(&self) -> &[u8] {
+        self.heard.latest()
     }
 }
 
@@ -188,8 +197,11 @@ impl<R: Files + Clock, I: Read + Drop, W: Write + Drop> Input for FileInput<'_, 
         &self.begun
     }
 
-    fn heard(&self) -> &LastBytes {
-        &self.heard
+    fn heard(&self, alloc: Global) -> Result<Heard, AllocError> {
+        Ok(Heard {
+            text: self.heard.text(alloc)?,
+            is_whole: self.heard.is_whole(),
+        })
     }
 
     fn tell_progress(&mut self, telling: Telling) {

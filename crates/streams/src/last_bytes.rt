@@ -1,31 +1,56 @@
-//! The last bytes that a source gave.
+//! The last bytes that a reader gave, where they were read.
 
-ghost use Rattle.std.specs.Prelude.{◌≡◌, ℕ, ◌+◌, ◌≤◌, ◌^◌, List, [], ◌++◌, IfOk, length, true};
-ghost use Rattle.streams.specs.LastBytes.{IsEndOf, IsWholeOrEmpty, size_of};
+ghost use Rattle.std.specs.Prelude.{◌≡◌, ℕ, ◌+◌, ◌≤◌, ◌^◌, List, [], ◌++◌, IfOk, OnOk, length, true};
+ghost use Rattle.std.specs.Io.KnownBytes.{Consumes};
+ghost use Rattle.streams.specs.LastBytes.{HasRead, IsEndOf, bytes_of, last_read};
 
+use crate::stretch::Stretch;
+use line_model::device::CHUNK;
 use std::alloc::{AllocError, Global};
-use std::mem;
+use std::io;
+use std::io::Read;
+use std::marker::Model;
 
-/// How many bytes a stretch has at the most, but for one that came at once.
-const STRETCH: usize = 1 << 16;
-
-/// The end of what a source gave: at least its last 65,536 bytes, or all where it gave fewer. It forgets where memory
-/// is refused.
+/// The end of what a reader gave: at least its last 65,536 bytes, or all where it gave fewer. Two stretches of 65,536
+/// bytes are filled in turn, so nothing is copied to keep it, and no memory is asked for.
+///
+/// ```text
+///  given so far:  X25 1 MOD 8 ..\n1 T 10010B0000\n .. 70 N 1001|
+///                 `-- let go --'`-- the stretch before --'`-- the latest --'
+/// ```
 #[derive(Drop)]
 pub struct LastBytes {
-    before: Vec<u8>,
-    latest: Vec<u8>,
+    first: Stretch,
+    second: Stretch,
+    /// Whether the second stretch is the latest.
+    is_second: bool,
+    /// Where the bytes of the last read begin in the latest stretch.
+    start: usize,
     whole: bool,
+}
+
+impl Model for LastBytes {
+    ghost use Rattle.std.specs.Prelude.{◌≤◌, if◌then◌else◌, length};
+    ghost use Rattle.streams.specs.LastBytes.{Kept};
+
+    ghost Value = { Kept };
+
+    ghost view = { λ h. record { before = if h.is_second then h.first else h.second; latest = if h.is_second then h.second else h.first; start = h.start; whole = h.whole } };
+
+    ghost invariant = { λ h. h.start ≤ length (if h.is_second then h.second else h.first) };
 }
 
 impl LastBytes {
     /// Nothing was given yet.
-    pub fn new(alloc: Global) -> Self
-        ensures { IsEndOf [] result }
+    pub fn new() -> Self
+        ensures end { IsEndOf [] result }
+        ensures none { last_read result ≡ [] }
     {
         LastBytes {
-            before: Vec::new(alloc),
-            latest: Vec::new(alloc),
+            first: Stretch::new(),
+            second: Stretch::new(),
+            is_second: false,
+            start: 0,
             whole: true,
         }
     }
@@ -37,51 +62,112 @@ impl LastBytes {
         self.whole
     }
 
-    /// The latest stretch becomes the one before.
-    fn turn(&mut self)
-        ensures { (given : List ℕ) → IsEndOf given self.old → IsEndOf given self.new }
+    fn latest_stretch(&self) -> &Stretch
+        ensures { result.now ≡ self.now.latest }
     {
-        if !self.before.is_empty() {
+        if self.is_second {
+            &self.second
+        } else {
+            &self.first
+        }
+    }
+
+    fn before(&self) -> &Stretch
+        ensures { result.now ≡ self.now.before }
+    {
+        if self.is_second {
+            &self.first
+        } else {
+            &self.second
+        }
+    }
+
+    /// Lets go of the stretch before.
+    fn clear_before(&mut self)
+        ensures { self.new ≡ record self.old { before = [] } }
+    {
+        if self.is_second {
+            self.first.clear();
+        } else {
+            self.second.clear();
+        }
+    }
+
+    /// The stretch before and the latest change places.
+    fn swap(&mut self)
+        ensures { self.new ≡ record self.old { before = self.old.latest; latest = self.old.before; start = 0 } }
+    {
+        self.is_second = !self.is_second;
+        self.start = 0;
+    }
+
+    /// The full stretch becomes the one before, which is let go and filled next.
+    fn turn(&mut self)
+        requires { length self.old.latest ≡ 2 ^ 16 }
+        ensures end { (given : List ℕ) → IsEndOf given self.old → IsEndOf given self.new }
+        ensures few { self.old.whole ≡ true → length (bytes_of self.old) ≤ 2 ^ 16 → self.new.whole ≡ true }
+    {
+        let is_first = self.before().len() == 0;
+        self.clear_before();
+        self.swap();
+        if !is_first {
             self.whole = false;
         }
-        mem::swap(&mut self.before, &mut self.latest);
-        self.latest.clear();
     }
 
-    /// Lets go of all bytes.
-    fn forget(&mut self)
-        ensures end { (given : List ℕ) → IsEndOf given self.new }
-        ensures empty { self.new.before.items ++ self.new.latest.items ≡ [] }
+    /// Turns where the latest stretch is full.
+    fn make_room(&mut self)
+        ensures end { (given : List ℕ) → IsEndOf given self.old → IsEndOf given self.new }
+        ensures few { self.old.whole ≡ true → length (bytes_of self.old) ≤ 2 ^ 16 → self.new.whole ≡ true }
     {
-        self.before.clear();
-        self.latest.clear();
-        self.whole = false;
-    }
-
-    /// Keeps bytes that were given.
-    pub fn keep(&mut self, bytes: &[u8])
-        ensures end { (given : List ℕ) → IsEndOf given self.old
-            → IsEndOf (given ++ bytes.now) self.new }
-        // While there are few, it has them all; or memory was refused.
-        ensures few { self.old.whole ≡ true → size_of self.old + length bytes.now ≤ 2 ^ 16
-            → IsWholeOrEmpty self.new }
-    {
-        if self.latest.len().saturating_add(bytes.len()) > STRETCH {
+        if self.latest_stretch().len() == CHUNK {
             self.turn();
         }
-        if self.latest.extend_from_slice(bytes).is_err() {
-            self.forget();
+    }
+
+    /// Reads once into the room of the latest stretch.
+    fn fill<R: Read>(&mut self, from: &mut R) -> io::Result<()>
+        ensures grown { HasRead self.old self.new }
+        ensures given { OnOk result (Consumes (R.remaining from.old) (R.remaining from.new) (last_read self.new)) }
+        ensures at_most { length self.new.latest ≤ 2 ^ 16 }
+    {
+        self.start = self.latest_stretch().len();
+        if self.is_second {
+            self.second.fill(from)
+        } else {
+            self.first.fill(from)
         }
+    }
+
+    /// Reads once. Where the latest stretch is full, the other is filled from its beginning.
+    pub fn read<R: Read>(&mut self, from: &mut R) -> io::Result<()>
+        ensures end { (given : List ℕ) → IsEndOf given self.old
+            → IsEndOf (given ++ last_read self.new) self.new }
+        ensures given { OnOk result (Consumes (R.remaining from.old) (R.remaining from.new) (last_read self.new)) }
+        ensures at_most { length (last_read self.new) ≤ 2 ^ 16 }
+        // While there are few, it has them all.
+        ensures few { self.old.whole ≡ true → length (bytes_of self.old) ≤ 2 ^ 16
+            → self.new.whole ≡ true }
+    {
+        self.make_room();
+        self.fill(from)
+    }
+
+    /// The bytes of the last read; none where it failed.
+    pub fn latest(&self) -> &[u8]
+        ensures bytes { result.now ≡ last_read self.now }
+    {
+        let latest = self.latest_stretch().as_slice();
+        &latest[self.start..]
     }
 
     /// What it has of the bytes that were given, their end.
     pub fn text(&self, alloc: Global) -> Result<Vec<u8>, AllocError>
-        ensures { IfOk result (λ text. text.items ≡ self.now.before.items
-            ++ self.now.latest.items) }
+        ensures { IfOk result (λ text. text.items ≡ bytes_of self.now) }
     {
         let mut text = Vec::new(alloc);
-        text.extend_from_slice(self.before.as_slice())?;
-        text.extend_from_slice(self.latest.as_slice())?;
+        text.extend_from_slice(self.before().as_slice())?;
+        text.extend_from_slice(self.latest_stretch().as_slice())?;
         Ok(text)
     }
 }

@@ -8,3 +8,4 @@ pub mod io;
 pub mod last_bytes;
 pub mod output;
 pub mod progress;
+mod stretch;

@@ -5,7 +5,7 @@ ghost use Rattle.std.specs.Prelude.{◌≡◌, [], Some};
 
 pub mod scarce;
 
-use line_model::device::{Sink, Source};
+use line_model::device::{CHUNK, Sink, Source};
 use line_model::history::{Count, History};
 use std::alloc::Global;
 
@@ -13,6 +13,7 @@ use std::alloc::Global;
 #[derive(Drop)]
 pub struct CutSource<'a> {
     pub rest: &'a [u8],
+    pub latest: &'a [u8],
     pub step: usize,
     pub good: usize,
     pub before: History,
@@ -29,6 +30,7 @@ impl<'a> CutSource<'a> {
     {
         CutSource {
             rest: bytes,
+            latest: b"",
             step: cuts.read_step,
             good: cuts.good_bytes,
             before: History::of(bytes),
@@ -45,24 +47,30 @@ impl Source for CutSource<'_> {
 
     ghost before = { λ s. Some s.before.bytes };
 
+    ghost last_given = { λ s. s.latest.now };
+
     ghost calls = { λ s. s.calls };
 
     ghost failures = { λ s. s.failures };
 
-    fn read(&mut self, buffer: &mut [u8]) -> Result<usize, ()> {
+    fn read(&mut self) -> Result<(), ()> {
         self.before = History::of(self.rest);
         self.calls.add_one();
         if self.good == 0 {
             self.failures.add_one();
             return Err(());
         }
-        let most = self.rest.len().min(buffer.len());
+        let most = self.rest.len().min(CHUNK);
         let n = most.min(self.step.max(1)).min(self.good);
         let (front, back) = self.rest.split_at(n);
-        buffer[..n].copy_from_slice(front);
+        self.latest = front;
         self.rest = back;
         self.good -= n;
-        Ok(n)
+        Ok(())
+    }
+
+    fn latest(&self) -> &[u8] {
+        self.latest
     }
 }
 

@@ -1,5 +1,5 @@
 -- What a source gave, call by call.
-use Rattle.std.proofs.Common.{◌≡◌, ◌∙◌, sym, ap, subst, refl, ℕ, ◌<◌, ◌≤◌, ◌^◌, List, [], ◌++◌, length, take, Option, Some, None, Result, Ok, Err, IfErr, IsErrAnd, append-nil, append_assoc, arith, length-take, inl, inr}
+use Rattle.std.proofs.Common.{◌≡◌, ◌∙◌, sym, ap, subst, refl, ℕ, ◌≤◌, ◌^◌, List, [], ◌++◌, length, Option, Some, None, Result, Ok, Err, IfErr, IsErrAnd, append-nil, append_assoc, arith, inl, inr}
 use Rattle.line_model.specs.basics.Device.{Gives}
 use Rattle.line_model.specs.text.Text.{begun_line, early, ended_lines, size_of}
 use Rattle.line_model.specs.declared.fault.Fault.{Fault}
@@ -17,8 +17,8 @@ pub record Reached (left after : Option (List ℕ)) (was_fed : List ℕ → Type
 pub begun : (left : Option (List ℕ)) (was_fed : List ℕ → Type 0) → was_fed [] → Reached left left was_fed
 begun left was_fed fed = record { text = []; fed = fed; source = λ text told. (text, refl, told) }
 
-pub given_more : (left after next : Option (List ℕ)) (given bytes : List ℕ) (room : ℕ) → IsGiven left after given → Gives after next bytes room → IsGiven left next (given ++ bytes)
-given_more left after next given bytes room source gives text told =
+pub given_more : (left after next : Option (List ℕ)) (given bytes : List ℕ) → IsGiven left after given → Gives after next bytes → IsGiven left next (given ++ bytes)
+given_more left after next given bytes source gives text told =
     let before = source text told in
     let more = gives.told before.0 before.2 in
     (more.0, before.1 ∙ ap (λ xs. given ++ xs) more.2 ∙ sym (append_assoc given bytes more.0), more.1)
@@ -27,15 +27,15 @@ pub begins_so : (left after : Option (List ℕ)) (given : List ℕ) → IsGiven 
 begins_so None after given source = tt
 begins_so (Some all) after given source = let g = source all refl in (g.0, g.1)
 
--- the source gave nothing more, where there was room
-pub all_read : (left after next asked : Option (List ℕ)) (was_fed : List ℕ → Type 0) (bytes : List ℕ) (room : ℕ) → (r : Reached left after was_fed) → early r.text ≡ None → Gives after next bytes room → asked ≡ after → 0 < room → bytes ≡ [] → IsFedAll left next asked was_fed
-all_read left after next asked was_fed bytes room r sound gives same some none = record {
+-- the source gave nothing more
+pub all_read : (left after next asked : Option (List ℕ)) (was_fed : List ℕ → Type 0) (bytes : List ℕ) → (r : Reached left after was_fed) → early r.text ≡ None → Gives after next bytes → asked ≡ after → bytes ≡ [] → IsFedAll left next asked was_fed
+all_read left after next asked was_fed bytes r sound gives same none = record {
   text = r.text;
   fed = r.fed;
   sound = sound;
   source = λ text told.
       let before = r.source text told in
-      let rest = gives.end before.0 before.2 some none in
+      let rest = gives.end before.0 before.2 none in
       let more = gives.told before.0 before.2 in (
         before.1 ∙ ap (λ xs. r.text ++ xs) rest ∙ append-nil r.text,
         more.1 ∙ ap (λ xs. Some xs) (sym (ap (λ xs. xs ++ more.0) none) ∙ sym more.2 ∙ rest),
@@ -44,13 +44,13 @@ all_read left after next asked was_fed bytes room r sound gives same some none =
 }
 
 -- what the last call gave was refused
-pub refused_at : (left after next asked : Option (List ℕ)) (had_fed was_fed : List ℕ → Type 0) (refused : (fed last : List ℕ) → Fault → Type 0) (told : Fault) (last : List ℕ) (room : ℕ) → (r : Reached left after had_fed) → early r.text ≡ None → Gives after next last room → asked ≡ after → length last ≤ 2 ^ 16
+pub refused_at : (left after next asked : Option (List ℕ)) (had_fed was_fed : List ℕ → Type 0) (refused : (fed last : List ℕ) → Fault → Type 0) (told : Fault) (last : List ℕ) → (r : Reached left after had_fed) → early r.text ≡ None → Gives after next last → asked ≡ after → length last ≤ 2 ^ 16
     → refused r.text last told → IsFedUpTo left next asked was_fed refused told
-refused_at left after next asked had_fed was_fed refused told last room r sound gives same few why = record {
+refused_at left after next asked had_fed was_fed refused told last r sound gives same few why = record {
   fed = r.text;
   last = last;
   few = few;
-  given = given_more left after next r.text last room r.source gives;
+  given = given_more left after next r.text last r.source gives;
   before = subst (λ o. IsGiven left o r.text) (sym same) r.source;
   sound = sound;
   why = inr why;
@@ -67,10 +67,6 @@ failed_read left after next asked was_fed refused r sound kept same = record {
   sound = sound;
   why = inl (record { failure = refl; none = refl; stands = r.fed });
 }
-
--- what a call gave into a buffer of 65,536 bytes
-pub few_given : (n room : ℕ) (bytes : List ℕ) → n ≤ room → room ≤ 2 ^ 16 → length (take n bytes) ≤ 2 ^ 16
-few_given n room bytes fits small = omega (arith, fits, small, length-take n bytes)
 
 -- a text of which no line is faulty so far is no longer than a text may be
 pub few_bytes : (x : List ℕ) → early x ≡ None → length x ≤ 1073741824

@@ -6,9 +6,6 @@ ghost use Rattle.trace_text.specs.Sources.{IsFedAll, IsFedUpTo, MayBeFed};
 use line_model::device::Source;
 use line_model::fault::Fault;
 
-/// The bytes that are asked for at once.
-const CHUNK: usize = 1 << 16;
-
 /// What takes a text, chunk by chunk, and puts what it makes of it into an `O`.
 pub trait Consumer<O> {
     ghost use Rattle.std.specs.Prelude.{◌≡◌, ◌≢◌, ℕ, ◌++◌, List, None, IfErr, OnOk, length};
@@ -68,12 +65,14 @@ pub fn read_to_end<O, T: Consumer<O>, S: Source>(
     ensures called { S.calls source.old < S.calls source.new }
     ensures asked { S.calls source.new ≤ S.calls source.old + (2 ^ 30 + 1) }
 {
-    let mut buffer = [0; CHUNK];
     loop {
-        match source.read(&mut buffer) {
-            Ok(0) => return Ok(()),
-            Ok(n) => consumer.feed(&buffer[..n], out)?,
-            Err(()) => return Err(Fault::Read),
+        let Ok(()) = source.read() else {
+            return Err(Fault::Read);
+        };
+        let chunk = source.latest();
+        if chunk.is_empty() {
+            return Ok(());
         }
+        consumer.feed(chunk, out)?;
     }
 }

@@ -3,7 +3,7 @@
 use crate::scans::NO_ROWS;
 use crate::scans::checks::same_number;
 use crate::scans::runs::{Outcome, Way, outcome_of, scan_from};
-use line_model::device::Source;
+use line_model::device::{CHUNK, Source};
 use line_model::fault::Fault;
 use line_model::history::{Count, History};
 use std::alloc::Global;
@@ -19,6 +19,7 @@ use trace_scan::gate::OpenGate;
 #[derive(Drop)]
 struct NotingSource<'a> {
     rest: &'a [u8],
+    latest: &'a [u8],
     before: History,
     calls: Count,
     heap: &'a Scarce<Global>,
@@ -33,21 +34,26 @@ impl Source for NotingSource<'_> {
 
     ghost before = { λ s. Some s.before.bytes };
 
+    ghost last_given = { λ s. s.latest.now };
+
     ghost calls = { λ s. s.calls };
 
     ghost failures = { λ s. 0 };
 
-    fn read(&mut self, buffer: &mut [u8]) -> Result<usize, ()> {
+    fn read(&mut self) -> Result<(), ()> {
         self.before = History::of(self.rest);
         self.calls.add_one();
         if self.growths_before.is_none() {
             self.growths_before = Some(self.heap.asked());
         }
-        let n = self.rest.len().min(buffer.len());
-        let (front, back) = self.rest.split_at(n);
-        buffer[..n].copy_from_slice(front);
+        let (front, back) = self.rest.split_at(self.rest.len().min(CHUNK));
+        self.latest = front;
         self.rest = back;
-        Ok(n)
+        Ok(())
+    }
+
+    fn latest(&self) -> &[u8] {
+        self.latest
     }
 }
 
@@ -67,6 +73,7 @@ fn scan_noting<R: Threads + Wait + Clock + Sync>(
 ) -> Noted {
     let mut source = NotingSource {
         rest: NO_ROWS.text,
+        latest: b"",
         before: History::new(),
         calls: Count::new(),
         heap,

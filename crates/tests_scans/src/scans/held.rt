@@ -3,7 +3,7 @@
 use crate::scans::crews::{Work, agree, findings};
 use crate::scans::runs::{NONE, Scanned, Way, scan_from, scan_through};
 use crate::scans::worked::{Table, trace};
-use line_model::device::Source;
+use line_model::device::{CHUNK, Source};
 use line_model::fault::Fault;
 use line_model::history::{Count, History};
 use line_model::piece::{Piece, PieceReport};
@@ -186,6 +186,7 @@ fn line_length(text: &[u8]) -> usize {
 #[derive(Drop)]
 struct WaitingSource<'a> {
     rest: &'a [u8],
+    latest: &'a [u8],
     before: History,
     calls: Count,
     record: &'a Record,
@@ -202,11 +203,13 @@ impl Source for WaitingSource<'_> {
 
     ghost before = { λ s. Some s.before.bytes };
 
+    ghost last_given = { λ s. s.latest.now };
+
     ghost calls = { λ s. s.calls };
 
     ghost failures = { λ s. 0 };
 
-    fn read(&mut self, buffer: &mut [u8]) -> Result<usize, ()> {
+    fn read(&mut self) -> Result<(), ()> {
         self.before = History::of(self.rest);
         self.calls.add_one();
         if self.rest.starts_with(b"5 ") {
@@ -215,12 +218,16 @@ impl Source for WaitingSource<'_> {
         if self.rest.starts_with(b"7 ") {
             self.four_at_row_7 = self.record.wait_for(0, 4);
         }
-        let most = self.rest.len().min(buffer.len());
+        let most = self.rest.len().min(CHUNK);
         let n = most.min(line_length(self.rest).max(1));
         let (front, back) = self.rest.split_at(n);
-        buffer[..n].copy_from_slice(front);
+        self.latest = front;
         self.rest = back;
-        Ok(n)
+        Ok(())
+    }
+
+    fn latest(&self) -> &[u8] {
+        self.latest
     }
 }
 
@@ -255,6 +262,7 @@ fn scan_waiting<R: Threads + Wait + Clock + Sync + Abort>(
 ) -> Scanned {
     let mut source = WaitingSource {
         rest: trace(rt, Table::Epochs, "three-epochs").text,
+        latest: b"",
         before: History::new(),
         calls: Count::new(),
         record,

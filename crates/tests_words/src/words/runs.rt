@@ -2,15 +2,14 @@
 
 use command_line::program::program;
 use line_model::device::{Sink, Source};
-use std::alloc::Global;
+use std::alloc::{AllocError, Global};
 use std::io;
 use std::io::ErrorKind;
 use std::sync::Wait;
 use std::thread::Threads;
 use std::time::Clock;
 use streams::first_bytes::FirstBytes;
-use streams::input::{Input, OpenFault, OpenRefusal};
-use streams::last_bytes::LastBytes;
+use streams::input::{Heard, Input, OpenFault, OpenRefusal};
 use streams::output::Output;
 use streams::progress::Telling;
 use tests_devices::{CutSink, CutSource, Cuts};
@@ -34,9 +33,10 @@ pub struct NamedText<'a> {
 #[derive(Drop)]
 struct CutInput<'a> {
     source: CutSource<'a>,
+    /// The whole text of the source.
+    text: &'a [u8],
     file: NamedText<'a>,
     begun: FirstBytes,
-    heard: LastBytes,
 }
 
 impl Source for CutInput<'_> {
@@ -46,15 +46,20 @@ impl Source for CutInput<'_> {
 
     ghost before = { λ s. Some s.source.before.bytes };
 
+    ghost last_given = { λ s. s.source.latest.now };
+
     ghost calls = { λ s. s.source.calls };
 
     ghost failures = { λ s. s.source.failures };
 
-    fn read(&mut self, buffer: &mut [u8]) -> Result<usize, ()> {
-        let n = self.source.read(buffer)?;
-        self.begun.keep(&buffer[..n]);
-        self.heard.keep(&buffer[..n]);
-        Ok(n)
+    fn read(&mut self) -> Result<(), ()> {
+        self.source.read()?;
+        self.begun.keep(self.source.latest);
+        Ok(())
+    }
+
+    fn latest(&self) -> &[u8] {
+        self.source.latest
     }
 }
 
@@ -73,6 +78,7 @@ impl Input for CutInput<'_> {
             });
         }
         self.source.rest = self.file.text;
+        self.text = self.file.text;
         Ok(())
     }
 
@@ -88,8 +94,14 @@ impl Input for CutInput<'_> {
         &self.begun
     }
 
-    fn heard(&self) -> &LastBytes {
-        &self.heard
+    fn heard(&self, alloc: Global) -> Result<Heard, AllocError> {
+        let given = self.text.len().saturating_sub(self.source.rest.len());
+        let mut text = Vec::new(alloc);
+        text.extend_from_slice(&self.text[..given])?;
+        Ok(Heard {
+            text,
+            is_whole: true,
+        })
     }
 
     fn tell_progress(&mut self, _telling: Telling) {}
@@ -134,9 +146,9 @@ pub fn run_beside<R: Threads + Wait + Clock + Sync>(
 ) -> Ran {
     let mut source = CutInput {
         source: CutSource::new(text, cuts),
+        text,
         file,
         begun: FirstBytes::new(alloc),
-        heard: LastBytes::new(alloc),
     };
     let mut sink = CutOutput {
         sink: CutSink::new(alloc, cuts),

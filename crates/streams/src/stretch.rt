@@ -1,0 +1,73 @@
+//! A stretch of bytes that reads fill.
+
+ghost use Rattle.std.specs.Prelude.{◌≡◌, ℕ, ◌≤◌, ◌^◌, ◌++◌, List, [], length, OnErr, OnOk};
+ghost use Rattle.std.specs.Io.KnownBytes.{Consumes};
+
+use line_model::device::CHUNK;
+use std::io;
+use std::io::Read;
+use std::marker::Model;
+
+/// At most 65,536 bytes that a reader gave, one read after another.
+#[derive(Drop)]
+pub(crate) struct Stretch {
+    bytes: [u8; CHUNK],
+    len: usize,
+}
+
+impl Model for Stretch {
+    ghost use Rattle.std.specs.Prelude.{ℕ, ◌≤◌, ◌^◌, List, take};
+
+    ghost Value = { List ℕ };
+
+    ghost view = { λ s. take s.len s.bytes };
+
+    ghost invariant = { λ s. s.len ≤ 2 ^ 16 };
+}
+
+impl Stretch {
+    /// No bytes yet.
+    pub fn new() -> Self
+        ensures { result ≡ [] }
+    {
+        Stretch {
+            bytes: [0; CHUNK],
+            len: 0,
+        }
+    }
+
+    /// How many bytes it has.
+    pub fn len(&self) -> usize
+        ensures value { result ≡ length self.now }
+        ensures few { result ≤ 2 ^ 16 }
+    {
+        self.len
+    }
+
+    /// Its bytes.
+    pub fn as_slice(&self) -> &[u8]
+        ensures bytes { result.now ≡ self.now }
+        ensures few { length result.now ≤ 2 ^ 16 }
+    {
+        &self.bytes[..self.len]
+    }
+
+    /// Lets go of its bytes.
+    pub fn clear(&mut self)
+        ensures { self.new ≡ [] }
+    {
+        self.len = 0;
+    }
+
+    /// Reads once, into the room that is left.
+    pub fn fill<R: Read>(&mut self, from: &mut R) -> io::Result<()>
+        ensures grown { (more : List ℕ) × (self.new ≡ self.old ++ more)
+            × OnOk result (Consumes (R.remaining from.old) (R.remaining from.new) more) }
+        ensures same { OnErr result (self.new ≡ self.old) }
+        ensures few { length self.new ≤ 2 ^ 16 }
+    {
+        let n = from.read(&mut self.bytes[self.len..])?;
+        self.len += n;
+        Ok(())
+    }
+}
