@@ -91,7 +91,11 @@ impl StatusStore for PackedStatus {
 
     #[inline(always)]
     fn data(&mut self, side: Side, send: u8, receive: u8) -> Result<(), u8> {
-        self.word.data(side, send, receive)
+        // Each side by itself, so that the places of its numbers in the word are constants.
+        match side {
+            Side::T => self.word.data(Side::T, send, receive),
+            Side::N => self.word.data(Side::N, send, receive),
+        }
     }
 
     fn ack(&mut self, side: Side, receive: u8) -> Result<(), u8> {

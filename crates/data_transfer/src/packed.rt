@@ -96,6 +96,7 @@ impl FlowWord {
 
     /// Judges a data packet of a side by its P(S) and then its P(R): 1 where P(S) is not the next number or lies
     /// outside the window, 2 where P(R) acknowledges no packet sent (X.25 clauses 4.4.1.1 to 4.4.1.3).
+    #[inline(always)]
     pub fn data(&mut self, side: Side, send: u8, receive: u8) -> Result<(), u8>
         ensures modulus { self.new.flow.modulus ≡ self.old.flow.modulus }
         ensures windows { self.new.flow.windows ≡ self.old.flow.windows }
