@@ -1,5 +1,5 @@
 -- What was counted of a row's data.
-use Rattle.std.proofs.Common.{◌≡◌, ◌∙◌, sym, ap, subst, refl, ℕ, ◌+◌, ◌<◌, List, [], ◌∷◌, ◌++◌, take, drop, length, get_or, Option, Some, None}
+use Rattle.std.proofs.Common.{◌≡◌, ◌∙◌, sym, ap, subst, refl, ℕ, ◌+◌, ◌<◌, List, [], ◌∷◌, ◌++◌, take, drop, length, get_or, Option, Some, None, Bool, cond, true, false, true≢false}
 use Rattle.std.proofs.lemmas.List.{take_more, take-append-drop}
 use Rattle.std.proofs.lemmas.List.Elements.{filter_map-append}
 use Rattle.line_model.specs.basics.Records.{Row}
@@ -11,8 +11,16 @@ use Rattle.line_model.specs.declared.event.What.TheVariants.{Found, Open, Up, En
 use Rattle.line_model.specs.declared.state.Side.{Side}
 use Rattle.line_model.specs.declared.interface.Interface.{Interface}
 use Rattle.line_model.specs.observer.Calls.{all_lengths, segments_of}
-use Rattle.line_model.specs.observer.Machine.{Observer}
+use Rattle.line_model.specs.observer.Machine.{Observer, routed}
+use Rattle.line_model.specs.observer.Observer.{x25}
+use Rattle.line_model.specs.packets.Classes.{packet_of}
 use Rattle.channel_run.specs.Run.{row_events}
+use Rattle.restart_epochs.specs.Cutting.{observer}
+use Rattle.live_report.specs.LastRows.{IsLastRow}
+use Rattle.live_report.specs.Uncounted.{counts_data, has_finding, is_data, reason_at, reason_by, reason_of_state, reason_on}
+use Rattle.live_report.specs.declared.last_row.LastRow.{LastRow}
+use Rattle.live_report.specs.declared.uncounted.Reason.{Reason}
+use Rattle.live_report.specs.declared.uncounted.Reason.TheVariants.{Finding}
 use Rattle.descriptions.specs.Facts.{IsFateOf}
 use Rattle.descriptions.specs.RowObjects.{events_at}
 use Rattle.descriptions.specs.declared.facts.Fate.TheVariants.{Counted}
@@ -55,3 +63,24 @@ pub events_are : (i : Interface) (o : Observer LineState Channel) (r : Row) (cha
     → ((k : ℕ) → channel ≡ Some k → told ≡ row_events i o.epoch k (o.states k) r) → events ≡ events_at i taker o r
 events_are i o r channel None told events is taken untaken came = untaken is
 events_are i o r channel (Some k) told events is taken untaken came = taken k is ∙ came k is
+
+-- ---- data that was counted is not left out
+
+counted_on : (c : Channel) (es : List Event) → counts_data es ≡ true → None ≡ reason_on c es
+counted_on c es h = ap (λ b. cond b None (cond (has_finding es) (Some Finding) (Some (reason_of_state c.state c.owed)))) (sym h)
+
+counted_by : (i : Interface) (o : Observer LineState Channel) (r : Row) (events : List Event) (taker : Option ℕ) → (taker ≡ None → events ≡ [])
+    → ((k : ℕ) → taker ≡ Some k → events ≡ row_events i o.epoch k (o.states k) r) → counts_data events ≡ true → None ≡ reason_by i taker o r
+counted_by i o r events None untaken came counts = absurd (true≢false (sym counts ∙ ap counts_data (untaken refl)))
+counted_by i o r events (Some k) untaken came counts = counted_on (o.states k) events counts ∙ ap (reason_on (o.states k)) (came k refl)
+
+none_if : (b : Bool) (why : Option Reason) → None ≡ why → None ≡ cond b why None
+none_if true why h = h
+none_if false why h = refl
+
+pub counted_reason : (i : Interface) (earlier : List Row) (r : Row) (last : LastRow) (events : List Event) → IsLastRow i earlier r last events → (last.channel ≡ None → events ≡ [])
+    → counts_data events ≡ true → None ≡ reason_at i (observer i earlier) r
+counted_reason i earlier r last events l untaken counts =
+    let o = observer i earlier in
+    let taker = routed (x25 i) o.line r in
+    none_if (is_data (packet_of i r.octets)) (reason_by i taker o r) (counted_by i o r events taker (λ e. untaken (l.channel ∙ e)) (λ k e. l.came k (l.channel ∙ e)) counts)

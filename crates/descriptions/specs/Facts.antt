@@ -1,7 +1,6 @@
 -- The facts of a row, as the definitions' walk has them.
 use Rattle.std.specs.Prelude.{◌≡◌, ℕ, List, [], ◌∷◌, ◌++◌, Option, None, Some, option_to_list}
 use Rattle.line_model.specs.basics.Records.{Row}
-use Rattle.line_model.specs.declared.event.Event.{Event}
 use Rattle.line_model.specs.declared.interface.Interface.{Interface}
 use Rattle.line_model.specs.observer.Calls.{all_lengths, segments_of}
 use Rattle.line_model.specs.observer.Machine.{routed}
@@ -10,9 +9,11 @@ use Rattle.line_model.specs.observer.Report.{report_of}
 use Rattle.line_model.specs.packets.Classes.{packet_of}
 use Rattle.restart_epochs.specs.Cutting.{observer}
 use Rattle.live_report.specs.LastRows.{IsKnown}
+use Rattle.live_report.specs.Uncounted.{reason_at}
+use Rattle.live_report.specs.declared.uncounted.Reason.{Reason}
 use Rattle.descriptions.specs.RowObjects.{events_at}
 use Rattle.descriptions.specs.declared.facts.Fate.{Fate}
-use Rattle.descriptions.specs.declared.facts.Fate.TheVariants.{Counted}
+use Rattle.descriptions.specs.declared.facts.Fate.TheVariants.{Counted, NotCounted}
 use Rattle.descriptions.specs.declared.facts.RowFacts.{RowFacts}
 
 -- what became of the data of a row whose data packets have these lengths: the first one is counted, with its segments
@@ -22,7 +23,12 @@ IsFateOf [] _ = Unit {0}
 IsFateOf (n ∷ ns) (Counted octets segments) = (octets ≡ n) × (segments ≡ segments_of (n ∷ []))
 IsFateOf (n ∷ ns) _ = ⊥
 
--- a row after others, what was known before and after it by the machine that judged it, what it found, and what it counted
+-- why the data of a row was not counted, as its fate has it; none where it has no data, or where it was counted
+abbrev pub reason_told : Fate → Option Reason
+reason_told (NotCounted reason) = Some reason
+reason_told _ = None
+
+-- a row after others, what was known before and after it by the machine that judged it, what it found, what it counted, and why it did not
 pub record AreFactsOf (i : Interface) (earlier : List Row) (r : Row) (facts : RowFacts) : Type 0 where
   pub number : facts.last.now.number ≡ r.number
   pub side : facts.last.now.side ≡ r.side
@@ -31,3 +37,4 @@ pub record AreFactsOf (i : Interface) (earlier : List Row) (r : Row) (facts : Ro
   pub after : IsKnown i (routed (x25 i) (observer i earlier).line r) (observer i (earlier ++ r ∷ [])) facts.last.now.after
   pub finding : (report_of i (earlier ++ r ∷ [])).findings ≡ (report_of i earlier).findings ++ option_to_list facts.last.now.finding
   pub fate : IsFateOf (all_lengths (events_at i (routed (x25 i) (observer i earlier).line r) (observer i earlier) r)) facts.fate
+  pub reason : reason_told facts.fate ≡ reason_at i (observer i earlier) r

@@ -1,6 +1,6 @@
 //! Which rows are those of one call.
 
-ghost use Rattle.std.specs.Prelude.{◌≡◌, ℕ, ◌++◌, ◌∷◌, ◌||◌, [], List};
+ghost use Rattle.std.specs.Prelude.{◌≡◌, ◌++◌, ◌∷◌, ◌||◌, [], List};
 ghost use Rattle.std.specs.List.{AllByRecursion};
 ghost use Rattle.line_model.specs.declared.event.Event.{Event as AnyEvent};
 ghost use Rattle.line_model.specs.declared.interface.Interface.{Interface};
@@ -52,7 +52,8 @@ impl CallRows {
 
     /// A call is opened.
     fn open(&mut self, epoch: u32, channel: u16)
-        ensures heard { (es : List AnyEvent) (e : AnyEvent) → OpensAt epoch channel e → Hears epoch es self.old
+        ensures heard { (es : List AnyEvent) (e : AnyEvent) → OpensAt epoch channel e
+            → Hears epoch es self.old
             → Hears epoch (es ++ e ∷ []) self.new }
         ensures number { self.new.number ≡ self.old.number }
     {
@@ -66,7 +67,8 @@ impl CallRows {
 
     /// The call that is open on a logical channel ends.
     fn end(&mut self, epoch: u32, channel: u16)
-        ensures heard { (es : List AnyEvent) (e : AnyEvent) → EndsAt epoch channel e → Hears epoch es self.old
+        ensures heard { (es : List AnyEvent) (e : AnyEvent) → EndsAt epoch channel e
+            → Hears epoch es self.old
             → Hears epoch (es ++ e ∷ []) self.new }
         ensures number { self.new.number ≡ self.old.number }
     {

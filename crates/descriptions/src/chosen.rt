@@ -71,7 +71,8 @@ impl Chosen {
 
     /// Judges the observer's last row, the next one: whether it is told of.
     fn judge<A: Allocator + Copy, C: Channel<A>>(&mut self, observer: &Observer<A, C>) -> bool
-        ensures told { (i : Interface) (before : List Row) (r : Row) → Follows i before self.old.call
+        ensures told { (i : Interface) (before : List Row) (r : Row)
+            → Follows i before self.old.call
             → self.old.call.number ≡ asked_call self.old.rows
             → HasWalked C.Channel i (before ++ r ∷ []) observer.now
             → result ≡ is_told self.old.rows i before r }

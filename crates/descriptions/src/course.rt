@@ -1,11 +1,13 @@
 //! What is remembered of the rows before: the calls, and the sequences of data that PAD calls have begun.
 
-ghost use Rattle.std.specs.Prelude.{◌≡◌, ◌<◌, ◌++◌, ◌∷◌, [], ℕ, List, None, OnOk, Some, length};
+ghost use Rattle.std.specs.Prelude.{◌≡◌, ◌<◌, [], ℕ, List, None, OnOk, Some, length};
 ghost use Rattle.line_model.specs.basics.Records.{Row};
 ghost use Rattle.line_model.specs.declared.interface.Interface.{Interface as AnyInterface};
 ghost use Rattle.line_model.specs.observer.Calls.{all_lengths};
+ghost use Rattle.restart_epochs.specs.Cutting.{observer};
 ghost use Rattle.live_report.specs.LastRows.{IsLastRow};
-ghost use Rattle.descriptions.specs.Facts.{AreFactsOf, IsFateOf};
+ghost use Rattle.live_report.specs.Uncounted.{reason_at};
+ghost use Rattle.descriptions.specs.Facts.{AreFactsOf, IsFateOf, reason_told};
 
 use crate::facts::{
     CallMove, EndedCall, Fate, RowFacts, counted_in, data_header, is_clear, user_data,
@@ -286,7 +288,10 @@ fn events_of<'a, A: Allocator + Copy, C: Channel<A>>(
 
 /// What became of the data of a row with these events.
 fn fate(last: &LastRow, events: &[Event]) -> Fate
-    ensures { IsFateOf (all_lengths events.now) result }
+    ensures counted { IsFateOf (all_lengths events.now) result }
+    ensures reason { (i : AnyInterface) (earlier : List Row) (r : Row)
+        → IsLastRow i earlier r last.now events.now → (last.now.channel ≡ None → events.now ≡ [])
+        → reason_told result ≡ reason_at i (observer i earlier) r }
 {
     match counted_in(events) {
         Some(counted) => counted,
@@ -296,7 +301,10 @@ fn fate(last: &LastRow, events: &[Event]) -> Fate
 
 /// What became of the data of a row that was not counted.
 fn passed_over(last: &LastRow, events: &[Event]) -> Fate
-    ensures { IsFateOf [] result }
+    ensures counted { IsFateOf [] result }
+    ensures reason { (i : AnyInterface) (earlier : List Row) (r : Row)
+        → IsLastRow i earlier r last.now events.now
+        → reason_told result ≡ reason_at i (observer i earlier) r }
 {
     match reason_of(last, events) {
         Some(reason) => Fate::NotCounted(reason),

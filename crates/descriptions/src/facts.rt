@@ -1,8 +1,9 @@
 //! What a row is and did, as the observer judged it.
 
-ghost use Rattle.std.specs.Prelude.{◌≡◌, [], MatchOption};
+ghost use Rattle.std.specs.Prelude.{◌≡◌, [], IfSome, MatchOption, None, true};
 ghost use Rattle.line_model.specs.observer.Calls.{all_lengths};
-ghost use Rattle.descriptions.specs.Facts.{IsFateOf};
+ghost use Rattle.live_report.specs.Uncounted.{counts_data};
+ghost use Rattle.descriptions.specs.Facts.{IsFateOf, reason_told};
 
 use call_accounts::so_far::segments_in;
 use channel_run::run::View;
@@ -140,8 +141,10 @@ pub fn data_header(packet: &Packet) -> Option<DataHeader> {
 
 /// What became of the data of a packet with these events, where it was counted.
 pub fn counted_in(events: &[Event]) -> Option<Fate>
-    ensures { MatchOption result (all_lengths events.now ≡ [])
+    ensures fate { MatchOption result (all_lengths events.now ≡ [])
         (λ fate. IsFateOf (all_lengths events.now) fate) }
+    ensures counted { IfSome result (λ fate. (reason_told fate ≡ None)
+        × (counts_data events.now ≡ true)) }
 {
     for event in events {
         if let What::Data { octets, .. } = event.what {

@@ -18,7 +18,8 @@ use std::alloc::{AllocError, Allocator};
 
 /// Appends words, one after the other.
 fn append_words<A: Allocator>(words: &[&[u8]], out: &mut Vec<u8, A>) -> Result<(), AllocError>
-    ensures { OnOk result (out.new.items ≡ out.old.items ++ joined (map (λ word. word.now) words.now)) }
+    ensures { OnOk result (out.new.items ≡ out.old.items
+        ++ joined (map (λ word. word.now) words.now)) }
 {
     for word in words {
         out.extend_from_slice(word)?;
@@ -61,7 +62,8 @@ fn channel_digits<'a>(packet: &Packet, buffer: &'a mut Buffer) -> &'a [u8]
 fn append_states<A: Allocator>(facts: &RowFacts<'_>, out: &mut Vec<u8, A>) -> Result<(), AllocError>
     ensures { (r : Row) → facts.now.last.now.number ≡ r.number → facts.now.last.now.side ≡ r.side
         → OnOk result (out.new.items ≡ out.old.items ++ state_members r
-        (named_channel facts.now.last.now.packet) (known_word facts.now.last.now.before) (known_word facts.now.last.now.after)) }
+        (named_channel facts.now.last.now.packet) (known_word facts.now.last.now.before)
+        (known_word facts.now.last.now.after)) }
 {
     let mut number = Buffer::new();
     let mut channel = Buffer::new();
@@ -138,7 +140,8 @@ pub fn append_head<A: Allocator>(
     out: &mut Vec<u8, A>,
 ) -> Result<(), AllocError>
     ensures { (i : Interface) (earlier : List Row) (r : Row) → AreFactsOf i earlier r facts.now
-        → OnOk result (out.new.items ≡ out.old.items ++ row_head i earlier r facts.now.last.now.finding) }
+        → OnOk result (out.new.items ≡ out.old.items
+        ++ row_head i earlier r facts.now.last.now.finding) }
 {
     append_states(facts, out)?;
     append_counted(facts.fate, out)?;

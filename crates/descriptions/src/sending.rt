@@ -1,7 +1,6 @@
 //! JSON on its way to a sink.
 
-ghost use Rattle.std.specs.Prelude.{◌≡◌, ◌<◌, ℕ, List, Option, IfErr, OnErr, OnOk};
-ghost use Rattle.line_model.specs.basics.Written.{PutsTo};
+ghost use Rattle.std.specs.Prelude.{◌≡◌, ◌<◌, IfErr, OnErr};
 ghost use Rattle.descriptions.specs.Sent.{HasSent, IsAnything};
 ghost use Rattle.annotated_trace.specs.Printed.{HasTaken};
 

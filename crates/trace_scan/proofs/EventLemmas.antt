@@ -1,14 +1,13 @@
--- Whether events have a finding, and whether they count data.
+-- Whether events have a finding.
 use Rattle.std.proofs.Common.{◌≡◌, ◌∙◌, sym, ap, refl, ℕ, ◌+◌, ◌<◌, true, true≢false, List, [], ◌∷◌, ◌++◌, take, drop, length, get_or}
 use Rattle.std.proofs.lemmas.List.{take_more, take-append-drop}
 use Rattle.std.proofs.lemmas.List.Elements.{filter_map-append}
 use Rattle.line_model.specs.declared.event.Event.{Event}
 use Rattle.line_model.specs.declared.event.What.{What}
-use Rattle.line_model.specs.declared.event.What.TheVariants.{Found, Data}
+use Rattle.line_model.specs.declared.event.What.TheVariants.{Found}
 use Rattle.line_model.specs.declared.finding.Code.{Code}
 use Rattle.line_model.specs.declared.state.Side.{Side}
 use Rattle.line_model.specs.declared.state.StateName.{StateName}
-use Rattle.line_model.specs.observer.Calls.{all_lengths}
 use Rattle.line_model.specs.observer.Report.{findings_of}
 use Rattle.line_model.specs.pieces.Plan.{has_some}
 
@@ -40,24 +39,3 @@ none_of e what is h = ap (λ w. findings_of (record e { what = w } ∷ [])) is
 
 pub none_found : (es : List Event) (i : ℕ) (e : Event) → i < length es → e ≡ get_or es i e → ((x : Side) (s : StateName) (c : Code) → ¬ (e.what ≡ Found x s c)) → findings_of (take i es) ≡ [] → findings_of (take (i + 1) es) ≡ []
 none_found es i e lt is other none = founds_next es i e lt is ∙ (λ t. none t ++ none_of e e.what refl other t)
-
--- ---- data
-
-lengths_of : (first later : List Event) → all_lengths (first ++ later) ≡ all_lengths first ++ all_lengths later
-lengths_of first later = filter_map-append _ first later
-
-lengths_next : (es : List Event) (i : ℕ) (e : Event) → i < length es → e ≡ get_or es i e → all_lengths (take (i + 1) es) ≡ all_lengths (take i es) ++ all_lengths (e ∷ [])
-lengths_next es i e lt is = ap all_lengths (take_more es i e lt ∙ ap (λ x. take i es ++ x ∷ []) (sym is)) ∙ lengths_of (take i es) (e ∷ [])
-
-pub data_at : (es : List Event) (i : ℕ) (e : Event) (x : Side) (n : ℕ) → i < length es → e ≡ get_or es i e → e.what ≡ Data x n → has_some (all_lengths es) ≡ true
-data_at es i e x n lt is told =
-    let own : has_some (all_lengths (e ∷ [])) ≡ true = ap (λ w. has_some (all_lengths (record e { what = w } ∷ []))) told in
-    let first : has_some (all_lengths (take (i + 1) es)) ≡ true = ap (λ l. has_some l) (lengths_next es i e lt is) ∙ some_behind (all_lengths (take i es)) (all_lengths (e ∷ [])) own in
-    ap (λ l. has_some (all_lengths l)) (sym (take-append-drop (i + 1) es)) ∙ ap (λ l. has_some l) (lengths_of (take (i + 1) es) (drop (i + 1) es)) ∙ some_before (all_lengths (take (i + 1) es)) (all_lengths (drop (i + 1) es)) first
-
-no_data : (e : Event) (what : What) → e.what ≡ what → ((x : Side) (n : ℕ) → ¬ (what ≡ Data x n)) → all_lengths (e ∷ []) ≡ []
-no_data e (Data x n) is h = absurd (h x n refl)
-no_data e what is h = ap (λ w. all_lengths (record e { what = w } ∷ [])) is
-
-pub none_counted : (es : List Event) (i : ℕ) (e : Event) → i < length es → e ≡ get_or es i e → ((x : Side) (n : ℕ) → ¬ (e.what ≡ Data x n)) → all_lengths (take i es) ≡ [] → all_lengths (take (i + 1) es) ≡ []
-none_counted es i e lt is other none = lengths_next es i e lt is ∙ (λ t. none t ++ no_data e e.what refl other t)

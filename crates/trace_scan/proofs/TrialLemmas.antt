@@ -1,29 +1,30 @@
 -- What one more row does to the observer of a header, and what it counts.
-use Rattle.std.proofs.Common.{◌≡◌, ◌≢◌, ◌∙◌, sym, ap, subst, refl, ℕ, ◌+◌, ◌-◌, ◌≤◌, ◌&&◌, Bool, true, false, not, cond, List, [], ◌∷◌, ◌++◌, map, length, sum, Option, Some, None, arith, append-nil, length-append}
+use Rattle.std.proofs.Common.{◌≡◌, ◌≢◌, ◌∙◌, sym, ap, subst, refl, ℕ, ◌+◌, ◌-◌, ◌≤◌, ◌&&◌, Bool, true, false, not, cond, List, [], ◌∷◌, ◌++◌, map, length, sum, Option, Some, None, arith, append-nil, append_assoc, length-append, length-drop, sum_by}
 use Rattle.std.specs.List.{filter_map, flat_map}
 use Rattle.std.specs.Option.{option_to_list}
 use Rattle.std.specs.Prelude.{IfSome}
-use Rattle.std.proofs.lemmas.Grind.{flat_map-append}
 use Rattle.std.proofs.lemmas.List.{map-append}
 use Rattle.std.proofs.lemmas.List.Elements.{filter_map-append}
+use Rattle.std.proofs.lemmas.List.Sums.{sum_by-append}
 use Rattle.line_model.specs.declared.interface.Interface.{Interface}
 use Rattle.line_model.specs.declared.event.Event.{Event}
-use Rattle.line_model.specs.declared.event.What.{What}
 use Rattle.line_model.specs.declared.finding.Finding.{Finding}
 use Rattle.line_model.specs.declared.route.Route.{Route}
 use Rattle.line_model.specs.declared.route.Route.TheVariants.{ToChannel, Leave, Enter, Found, Pass}
+use Rattle.line_model.specs.basics.Octets.{channel_of}
 use Rattle.line_model.specs.basics.Records.{Row, Item}
 use Rattle.line_model.specs.channels.Channels.{Channel, fresh, is_open}
 use Rattle.line_model.specs.channels.RestartMachine.{LineState, line_step}
-use Rattle.line_model.specs.observer.Machine.{Machine, Observer, after, after_routed, line_moved, walk}
-use Rattle.line_model.specs.observer.MachineEvents.{RowEvent, stamp, closed_events, row_events as all_row_events, row_events_routed, told, walk_events}
-use Rattle.line_model.specs.observer.Calls.{all_lengths}
+use Rattle.line_model.specs.observer.Machine.{Observer, after, after_routed, line_moved, routed, walk}
+use Rattle.line_model.specs.observer.MachineEvents.{stamp, closed_events, row_events as all_row_events, row_events_routed, walk_events}
 use Rattle.line_model.specs.observer.Observer.{x25, start, routing, is_ready, route_found, restart_end_if, restart_end, event_of, events}
 use Rattle.line_model.specs.observer.Report.{findings_of, report_of}
 use Rattle.line_model.specs.packets.Classes.{header_length, packet_of}
-use Rattle.line_model.specs.pieces.Plan.{has_some}
 use Rattle.line_model.proofs.PacketClass.{class_is}
-use Rattle.call_accounts.proofs.CountedLemmas.{sum-more}
+use Rattle.channel_run.specs.Run.{row_events}
+use Rattle.live_report.specs.Uncounted.{LeftOut, counts_data, has_finding, is_data, left_out, left_out_at, left_out_by, reason_by, reason_of_state, user_octets}
+use Rattle.live_report.specs.declared.uncounted.Reason.{Reason}
+use Rattle.live_report.specs.declared.uncounted.Reason.TheVariants.{Finding as Finds, Restart as Restarts}
 use Rattle.restart_epochs.specs.Cutting.{observer}
 use Rattle.restart_epochs.specs.declared.walk.Turn.TheVariants.{ToChannel as GoesToChannel}
 use Rattle.line_model.specs.basics.Bounds.{IsItem}
@@ -35,7 +36,7 @@ use Rattle.restart_epochs.proofs.KeptLine.{kept_line}
 use Rattle.restart_epochs.proofs.LineFindings.{events_append, found_here}
 use Rattle.restart_epochs.proofs.Routes.{is_to_channel, is_quiet, fits, leaves_at, enters_at, quiet_at}
 use Rattle.restart_epochs.proofs.Steps.{on_channel, routed_to, routed_none}
-use Rattle.trace_scan.specs.Tried.{events_after, is_data, states_after, uncounted, uncounted_in}
+use Rattle.trace_scan.specs.Tried.{events_after, states_after, uncounted_in}
 
 -- ---- the events of one more row
 
@@ -49,18 +50,43 @@ events_more i rs r =
     ∙ map-append event_of (walk_events (x25 i) (start i) rs) (all_row_events (x25 i) (observer i rs) r ++ [])
     ∙ ap (λ l. events i rs ++ map event_of l) (append-nil (all_row_events (x25 i) (observer i rs) r))
 
-told_append : {X L S E : Type 0} → (m : Machine X L S E) (o : Observer L S) (p q : List X) → told m o (p ++ q) ≡ told m o p ++ told m (walk m o p) q
-told_append m o [] q = refl
-told_append m o (x ∷ p) q = ap (λ l. (x, all_row_events m o x) ∷ l) (told_append m (after m o x) p q)
+left_from : (i : Interface) (o : Observer LineState Channel) (rs : List Row) (r : Row) → left_out i o (rs ++ r ∷ []) ≡ left_out i o rs ++ left_out_at i (walk (x25 i) o rs) r
+left_from i o [] r = append-nil (left_out_at i o r)
+left_from i o (x ∷ rs) r =
+    ap (λ ds. left_out_at i o x ++ ds) (left_from i (after (x25 i) o x) rs r)
+    ∙ sym (append_assoc (left_out_at i o x) (left_out i (after (x25 i) o x) rs) (left_out_at i (walk (x25 i) (after (x25 i) o x) rs) r))
 
-uncounted_more : (i : Interface) (rs : List Row) (r : Row) → uncounted i (rs ++ r ∷ []) ≡ uncounted i rs ++ uncounted_in i r (told_of i rs r)
-uncounted_more i rs r =
-    let f : Row × List (RowEvent Row What) → List ℕ = λ t. uncounted_in i t.0 (map event_of t.1) in
-    ap (flat_map f) (told_append (x25 i) (start i) rs (r ∷ []))
-    ∙ flat_map-append f (told (x25 i) (start i) rs) ((r, all_row_events (x25 i) (observer i rs) r) ∷ [])
-    ∙ ap (λ l. uncounted i rs ++ l) (append-nil (uncounted_in i r (told_of i rs r)))
+-- ---- what is left out of one more row
 
--- ---- the end of calls, where r1 is left, is no finding and no data
+-- as many packets as there are lengths, and their octets
+pub record IsLeft (ds : List LeftOut) (ns : List ℕ) : Type 0 where
+  pub packets : length ds ≡ length ns
+  pub octets : sum_by (λ (d : LeftOut). d.octets) ds ≡ sum ns
+
+left_if : (b d f : Bool) (why : Reason) (n : ℕ) → IsLeft (left_out_by (cond b (cond d None (cond f (Some Finds) (Some why))) None) n) (cond (b && not d) (n ∷ []) [])
+left_if false d f why n = record { packets = refl; octets = refl }
+left_if true true f why n = record { packets = refl; octets = refl }
+left_if true false true why n = record { packets = refl; octets = refl }
+left_if true false false why n = record { packets = refl; octets = refl }
+
+-- where a logical channel takes the row
+left_on : (i : Interface) (o : Observer LineState Channel) (r : Row) (k : ℕ) → routed (x25 i) o.line r ≡ Some k → IsLeft (left_out_at i o r) (uncounted_in i r (row_events i o.epoch k (o.states k) r))
+left_on i o r k to =
+    let es : List Event = row_events i o.epoch k (o.states k) r in
+    subst (λ q. IsLeft (left_out_by (cond (is_data (packet_of i r.octets)) (reason_by i q o r) None) (user_octets i r.octets)) (uncounted_in i r es)) (sym to)
+    (left_if (is_data (packet_of i r.octets)) (counts_data es) (has_finding es) (reason_of_state (o.states k).state (o.states k).owed) (user_octets i r.octets))
+
+left_in_restart : (b : Bool) (n : ℕ) → IsLeft (left_out_by (cond b (Some Restarts) None) n) (cond (b && true) (n ∷ []) [])
+left_in_restart true n = record { packets = refl; octets = refl }
+left_in_restart false n = record { packets = refl; octets = refl }
+
+-- where none takes it
+left_untaken : (i : Interface) (o : Observer LineState Channel) (r : Row) → routed (x25 i) o.line r ≡ None → IsLeft (left_out_at i o r) (uncounted_in i r [])
+left_untaken i o r to =
+    subst (λ q. IsLeft (left_out_by (cond (is_data (packet_of i r.octets)) (reason_by i q o r) None) (user_octets i r.octets)) (uncounted_in i r [])) (sym to)
+    (left_in_restart (is_data (packet_of i r.octets)) (user_octets i r.octets))
+
+-- ---- the end of calls, where r1 is left, is no finding
 
 ends_none : {X : Type 0} → (f : Event → Option X) → ((e k : ℕ) (r : Row) (b : Bool) → filter_map f (map event_of (stamp e (Some k) r (restart_end_if b))) ≡ []) → (o : Observer LineState Channel) (r : Row) (ks : List ℕ)
     → filter_map f (map event_of (flat_map (λ k. stamp o.epoch (Some k) r (restart_end (o.states k))) ks)) ≡ []
@@ -83,19 +109,6 @@ end_found : (e k : ℕ) (r : Row) (b : Bool) → findings_of (map event_of (stam
 end_found e k r true = refl
 end_found e k r false = refl
 
-end_counted : (e k : ℕ) (r : Row) (b : Bool) → all_lengths (map event_of (stamp e (Some k) r (restart_end_if b))) ≡ []
-end_counted e k r true = refl
-end_counted e k r false = refl
-
--- the restart machine tells no data
-line_counted : (e : ℕ) (r : Row) (q : Route) → all_lengths (map event_of (stamp e None r (route_found r q))) ≡ []
-line_counted e r (Found s n) = refl
-line_counted e r (Leave (Some n)) = refl
-line_counted e r (Leave None) = refl
-line_counted e r Pass = refl
-line_counted e r Enter = refl
-line_counted e r ToChannel = refl
-
 -- ---- by the step of a row
 
 -- the restart machine on the next row of a walk
@@ -112,7 +125,7 @@ pub record Steps (i : Interface) (rs : List Row) (r : Row) (step : Step) : Type 
   pub renewed : step.epoch ≢ (observer i rs).epoch → (k : ℕ) → (observer i (rs ++ r ∷ [])).states k ≡ fresh i step.epoch k
   pub next : step.epoch ≤ (observer i rs).epoch + 1
   pub found : findings_of (told_of i rs r) ≡ option_to_list step.finding ++ findings_of (events_after step.turn i (observer i rs).epoch (observer i rs).states r)
-  pub counted : all_lengths (told_of i rs r) ≡ all_lengths (events_after step.turn i (observer i rs).epoch (observer i rs).states r)
+  pub left : IsLeft (left_out_at i (observer i rs) r) (uncounted_in i r (events_after step.turn i (observer i rs).epoch (observer i rs).states r))
 
 -- a turn that goes to no channel
 abbrev IsQuietTurn : Interface → Observer LineState Channel → Row → Turn → Type 0
@@ -167,7 +180,7 @@ steps i rs item line epoch step same_line same_epoch packet is = at (routing i o
           next = omega (arith, same);
           found = ap (λ q. findings_of (map event_of (row_events_routed (x25 i) o r q))) goes ∙ ap (λ t. findings_of (events_after t i o.epoch o.states r)) (sym here)
               ∙ ap (λ l. l ++ findings_of (events_after step.turn i o.epoch o.states r)) (sym (finding ToChannel e));
-          counted = ap (λ q. all_lengths (map event_of (row_events_routed (x25 i) o r q))) goes ∙ ap (λ t. all_lengths (events_after t i o.epoch o.states r)) (sym here);
+          left = subst (λ t. IsLeft (left_out_at i o r) (uncounted_in i r (events_after t i o.epoch o.states r))) (sym here) (left_on i o r (channel_of r.octets) goes);
         }
 
     -- the events of a row that goes to no channel
@@ -180,16 +193,6 @@ steps i rs item line epoch step same_line same_epoch packet is = at (routing i o
         ∙ ap (λ l. findings_of (map event_of own) ++ l) (closed_none _ end_found i o r (is_ready o.line) (is_ready (routing i o.line r).after))
         ∙ append-nil (findings_of (map event_of own))
         ∙ found_here o.epoch r (routing i o.line r).route ∙ ap (route_finding r) e ∙ sym (finding q e)
-
-    counted_on_line : is_to_channel (routing i o.line r).route ≡ false → all_lengths (told_of i rs r) ≡ []
-    counted_on_line to =
-        let own = stamp o.epoch None r (route_found r (routing i o.line r).route) in
-        let closed = closed_events (x25 i) o r (is_ready o.line) (is_ready (routing i o.line r).after) in
-        ap (λ n. all_lengths (map event_of (row_events_routed (x25 i) o r n))) (routed_none i o.line r to)
-        ∙ ap all_lengths (map-append event_of own closed) ∙ filter_map-append _ (map event_of own) (map event_of closed)
-        ∙ ap (λ l. all_lengths (map event_of own) ++ l) (closed_none _ end_counted i o r (is_ready o.line) (is_ready (routing i o.line r).after))
-        ∙ append-nil (all_lengths (map event_of own))
-        ∙ line_counted o.epoch r (routing i o.line r).route
 
     moved_by : is_to_channel (routing i o.line r).route ≡ false → now ≡ line_moved (x25 i) o (routing i o.line r).after (is_ready o.line) (is_ready (routing i o.line r).after)
     moved_by to = observer_more i rs r ∙ ap (after_routed (x25 i) o r) (routed_none i o.line r to)
@@ -204,7 +207,7 @@ steps i rs item line epoch step same_line same_epoch packet is = at (routing i o
           renewed = λ ne k. absurd (ne same);
           next = omega (arith, same);
           found = found_on_line q e to ∙ sym (ap (λ l. option_to_list step.finding ++ findings_of l) quiet.1 ∙ append-nil (option_to_list step.finding));
-          counted = counted_on_line to ∙ sym (ap all_lengths quiet.1);
+          left = subst (λ es. IsLeft (left_out_at i o r) (uncounted_in i r es)) (sym quiet.1) (left_untaken i o r (routed_none i o.line r to));
         }
 
     enters : (routing i o.line r).route ≡ Enter → now ≡ record { epoch = o.epoch + 1; line = (routing i o.line r).after; states = fresh i (o.epoch + 1) } → Steps i rs r step
@@ -219,7 +222,7 @@ steps i rs item line epoch step same_line same_epoch packet is = at (routing i o
           renewed = λ ne k. ap (λ n. n.states k) moved ∙ ap (λ n. fresh i n k) (sym later);
           next = omega (arith, later);
           found = found_on_line Enter e to ∙ sym (ap (λ l. option_to_list step.finding ++ findings_of l) quiet.1 ∙ append-nil (option_to_list step.finding));
-          counted = counted_on_line to ∙ sym (ap all_lengths quiet.1);
+          left = subst (λ es. IsLeft (left_out_at i o r) (uncounted_in i r es)) (sym quiet.1) (left_untaken i o r (routed_none i o.line r to));
         }
 
     at : (q : Route) → (routing i o.line r).route ≡ q → Steps i rs r step
@@ -250,28 +253,26 @@ findings_more i rs r = ap findings_of (events_more i rs r) ∙ filter_map-append
 pub count_more : (i : Interface) (rs : List Row) (r : Row) → length (report_of i (rs ++ r ∷ [])).findings ≡ length (report_of i rs).findings + length (findings_of (told_of i rs r))
 count_more i rs r = ap (λ (l : List Finding). length l) (findings_more i rs r) ∙ length-append (report_of i rs).findings (findings_of (told_of i rs r))
 
-pub packets_more : (i : Interface) (rs : List Row) (r : Row) → length (uncounted i (rs ++ r ∷ [])) ≡ length (uncounted i rs) + length (uncounted_in i r (told_of i rs r))
-packets_more i rs r = ap (λ (l : List ℕ). length l) (uncounted_more i rs r) ∙ length-append (uncounted i rs) (uncounted_in i r (told_of i rs r))
+pub packets_more : (i : Interface) (rs : List Row) (r : Row) → length (left_out i (start i) (rs ++ r ∷ [])) ≡ length (left_out i (start i) rs) + length (left_out_at i (observer i rs) r)
+packets_more i rs r = ap (λ (l : List LeftOut). length l) (left_from i (start i) rs r) ∙ length-append (left_out i (start i) rs) (left_out_at i (observer i rs) r)
 
-pub octets_more : (i : Interface) (rs : List Row) (r : Row) → sum (uncounted i (rs ++ r ∷ [])) ≡ sum (uncounted i rs) + sum (uncounted_in i r (told_of i rs r))
-octets_more i rs r = ap sum (uncounted_more i rs r) ∙ sum-more (uncounted i rs) (uncounted_in i r (told_of i rs r))
-
--- whether data was counted is all that the events say of it
-pub uncounted_by : (i : Interface) (r : Row) (es fs : List Event) → all_lengths es ≡ all_lengths fs → uncounted_in i r es ≡ uncounted_in i r fs
-uncounted_by i r es fs h = ap (λ (l : List ℕ). cond (is_data (packet_of i r.octets) && not (has_some l)) ((length r.octets - header_length i) ∷ []) []) h
+pub octets_more : (i : Interface) (rs : List Row) (r : Row)
+    → sum_by (λ (d : LeftOut). d.octets) (left_out i (start i) (rs ++ r ∷ [])) ≡ sum_by (λ (d : LeftOut). d.octets) (left_out i (start i) rs) + sum_by (λ (d : LeftOut). d.octets) (left_out_at i (observer i rs) r)
+octets_more i rs r =
+    ap (sum_by (λ (d : LeftOut). d.octets)) (left_from i (start i) rs r) ∙ sum_by-append (λ (d : LeftOut). d.octets) (left_out i (start i) rs) (left_out_at i (observer i rs) r)
 
 pub one_uncounted : (i : Interface) (r : Row) (es : List Event) → length (uncounted_in i r es) ≤ 1
-one_uncounted i r es = at (is_data (packet_of i r.octets) && not (has_some (all_lengths es)))
+one_uncounted i r es = at (is_data (packet_of i r.octets) && not (counts_data es))
   where
-    at : (b : Bool) → length (cond b ((length r.octets - header_length i) ∷ []) []) ≤ 1
+    at : (b : Bool) → length (cond b (user_octets i r.octets ∷ []) []) ≤ 1
     at true = omega arith
     at false = omega arith
 
 pub few_uncounted : (i : Interface) (r : Row) (es : List Event) → sum (uncounted_in i r es) ≤ length r.octets
-few_uncounted i r es = at (is_data (packet_of i r.octets) && not (has_some (all_lengths es)))
+few_uncounted i r es = at (is_data (packet_of i r.octets) && not (counts_data es))
   where
-    at : (b : Bool) → sum (cond b ((length r.octets - header_length i) ∷ []) []) ≤ length r.octets
-    at true = omega arith
+    at : (b : Bool) → sum (cond b (user_octets i r.octets ∷ []) []) ≤ length r.octets
+    at true = omega (arith, length-drop (header_length i) r.octets)
     at false = omega arith
 
 -- ---- what is needed of a step before it is taken

@@ -25,7 +25,7 @@ use Rattle.trace_scan.specs.TextCuts.{IsTrace}
 use Rattle.trace_scan.specs.Tried.{AreLanesOf, HasWalked, IsFew, IsLaneOf, events_after, states_after, tally_of, uncounted_in}
 use Rattle.trace_scan.specs.declared.trial.Tally.{Tally}
 use Rattle.trace_scan.specs.declared.trial.Trial.{Trial}
-use Rattle.trace_scan.proofs.TrialLemmas.{Steps, count_more, few_uncounted, octets_more, one_uncounted, packets_more, told_of, uncounted_by}
+use Rattle.trace_scan.proofs.TrialLemmas.{Steps, count_more, few_uncounted, octets_more, one_uncounted, packets_more}
 
 -- ---- a trace has few rows
 
@@ -110,14 +110,12 @@ one_after i rs r step none = at step.turn refl
 pub tally_after : (i : Interface) (rs : List Row) (r : Row) (step : Step) (before after : Tally) → before ≡ tally_of i rs → Steps i rs r step
     → Counts i r (option_to_list step.finding) (events_after step.turn i (observer i rs).epoch (observer i rs).states r) before after → after ≡ tally_of i (rs ++ r ∷ [])
 tally_after i rs r step before after was s c =
-    let es : List Event = events_after step.turn i (observer i rs).epoch (observer i rs).states r in
-    let same = uncounted_by i r (told_of i rs r) es s.counted in
     let findings : after.findings ≡ (tally_of i (rs ++ r ∷ [])).findings =
     c.findings ∙ (λ j. (was j).findings + length (sym s.found j)) ∙ sym (count_more i rs r) in
     let packets : after.packets ≡ (tally_of i (rs ++ r ∷ [])).packets =
-    c.packets ∙ (λ j. (was j).packets + length (sym same j)) ∙ sym (packets_more i rs r) in
+    c.packets ∙ (λ j. (was j).packets + sym s.left.packets j) ∙ sym (packets_more i rs r) in
     let octets : after.octets ≡ (tally_of i (rs ++ r ∷ [])).octets =
-    c.octets ∙ (λ j. (was j).octets + sum (sym same j)) ∙ sym (octets_more i rs r) in
+    c.octets ∙ (λ j. (was j).octets + sym s.left.octets j) ∙ sym (octets_more i rs r) in
     λ j. record { findings = findings j; packets = packets j; octets = octets j }
 
 pub few_after : (i : Interface) (rs : List Row) (r : Row) (found : List Finding) (es : List Event) (epoch packets next_epoch next_packets : ℕ) (before after : Tally) → IsFew rs epoch packets before → length (found ++ findings_of es) ≤ 1

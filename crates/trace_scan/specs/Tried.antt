@@ -1,48 +1,33 @@
 -- What the rows of a trace count under a header.
-use Rattle.std.specs.Prelude.{◌≡◌, ℕ, ◌-◌, ◌≤◌, ◌+◌, Bool, true, false, not, ◌&&◌, List, [], ◌∷◌, ◌++◌, length, map, flat_map, sum, sum_by, Option, Some, None, if◌then◌else◌}
+use Rattle.std.specs.Prelude.{◌≡◌, ℕ, ◌≤◌, ◌+◌, not, ◌&&◌, List, [], ◌∷◌, ◌++◌, length, sum_by, Option, Some, None, if◌then◌else◌}
 use Rattle.line_model.specs.basics.Records.{Row}
 use Rattle.line_model.specs.channels.ChannelStep.{channel_step}
 use Rattle.line_model.specs.channels.Channels.{Channel, fresh}
 use Rattle.line_model.specs.declared.event.Event.{Event}
 use Rattle.line_model.specs.declared.interface.Interface.{Interface}
-use Rattle.line_model.specs.declared.packet.Packet.{Packet}
-use Rattle.line_model.specs.declared.packet.Packet.TheVariants as packet
-use Rattle.line_model.specs.declared.packet.PacketKind.TheVariants as kind
-use Rattle.line_model.specs.observer.Calls.{all_lengths}
 use Rattle.line_model.specs.observer.Machine.{with_state}
-use Rattle.line_model.specs.observer.MachineEvents.{told}
-use Rattle.line_model.specs.observer.Observer.{event_of, start, x25}
+use Rattle.line_model.specs.observer.Observer.{start}
 use Rattle.line_model.specs.observer.Report.{report_of}
-use Rattle.line_model.specs.packets.Classes.{header_length, packet_of}
-use Rattle.line_model.specs.pieces.Plan.{has_some}
+use Rattle.line_model.specs.packets.Classes.{packet_of}
 use Rattle.channel_run.specs.Run.{row_events}
 use Rattle.channel_run.specs.declared.run.Channel.{Ghosts as Machine}
 use Rattle.restart_epochs.specs.Cutting.{observer}
 use Rattle.restart_epochs.specs.OpenLanes.{OpenLanes, value_at}
 use Rattle.restart_epochs.specs.declared.walk.Turn.{Turn}
 use Rattle.restart_epochs.specs.declared.walk.Turn.TheVariants.{ToChannel}
+use Rattle.live_report.specs.Uncounted.{counts_data, is_data, left_out, user_octets}
 use Rattle.trace_scan.specs.declared.trial.Tally.{Tally}
 use Rattle.trace_scan.specs.declared.trial.Trial.{Trial}
 
 -- ---- the definition
 
--- whether a packet is a data packet on a logical channel of the interface
-abbrev pub is_data : Packet → Bool
-is_data (packet.Channel k (kind.Data header)) = true
-is_data _ = false
-
--- the length of the user data of a row that is a data packet and whose events count no data; nothing for another row
-abbrev pub uncounted_in : Interface → Row → List Event → List ℕ
-uncounted_in i r es =
-    if is_data (packet_of i r.octets) && not (has_some (all_lengths es)) then (length r.octets - header_length i) ∷ [] else []
-
--- the lengths of the user data that the walk over some rows does not count, in order
-abbrev pub uncounted : Interface → List Row → List ℕ
-uncounted i rs = flat_map (λ t. uncounted_in i t.0 (map event_of t.1)) (told (x25 i) (start i) rs)
-
--- the findings of the walk over some rows, and the data packets that it does not count, with their octets of user data
+-- the findings of the walk over some rows, and the data packets that it leaves out, with their octets of user data
 abbrev pub tally_of : Interface → List Row → Tally
-tally_of i rs = record { findings = length (report_of i rs).findings; packets = length (uncounted i rs); octets = sum (uncounted i rs) }
+tally_of i rs = record {
+  findings = length (report_of i rs).findings;
+  packets = length (left_out i (start i) rs);
+  octets = sum_by (λ d. d.octets) (left_out i (start i) rs);
+}
 
 -- ---- what a trial keeps
 
@@ -64,6 +49,10 @@ states_after _ i states r = states
 abbrev pub events_after : Turn → Interface → (epoch : ℕ) → (ℕ → Channel) → Row → List Event
 events_after (ToChannel k) i e states r = row_events i e k (states k) r
 events_after _ i e states r = []
+
+-- the length of the user data of a row that is a data packet and whose events count no data; nothing for another row
+abbrev pub uncounted_in : Interface → Row → List Event → List ℕ
+uncounted_in i r es = if is_data (packet_of i r.octets) && not (counts_data es) then user_octets i r.octets ∷ [] else []
 
 -- its numbers stay within their types
 pub record IsFew (rs : List Row) (epoch packets : ℕ) (tally : Tally) : Type 0 where

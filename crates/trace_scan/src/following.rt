@@ -26,9 +26,11 @@ struct Following<A: Allocator, C: Channel<A>> {
 }
 
 impl<A: Allocator + Copy, C: Channel<A>, K: Sink> Consumer<K> for Following<A, C> {
-    ghost was_fed = { λ first start now sink text. IsFollowed C.Channel (K.taken start) (K.taken sink) (K.failures start) (K.failures sink) text now.follower };
+    ghost was_fed = { λ first start now sink text. IsFollowed C.Channel (K.taken start)
+        (K.taken sink) (K.failures start) (K.failures sink) text now.follower };
 
-    ghost refused = { λ first start now sink text last told. IsRefusedAfter (K.taken start) (K.taken sink) (K.failures start) (K.failures sink) text last told };
+    ghost refused = { λ first start now sink text last told. IsRefusedAfter (K.taken start)
+        (K.taken sink) (K.failures start) (K.failures sink) text last told };
 
     ghost expects = { λ text. Unit {0} };
 
@@ -40,7 +42,8 @@ impl<A: Allocator + Copy, C: Channel<A>, K: Sink> Consumer<K> for Following<A, C
 
     ghost sound = { λ first start now sink text fed. fed.stands.live.reads.sound };
 
-    ghost sized = { λ first start now sink text fed. fed_length now.follower.live.lines text fed.stands.live.reads };
+    ghost sized = { λ first start now sink text fed. fed_length now.follower.live.lines text
+        fed.stands.live.reads };
 }
 
 /// Walks a trace in one thread, and writes each finding as soon as the LF of its row was read, and the rest of the report
@@ -61,7 +64,8 @@ pub fn follow<A: Allocator + Copy, S: Source, K: Sink>(
         → OnOk result (uncounted.new ≡ trace_uncounted text) }
     // A refusal is by the bytes that were given, and those before the last call of the source show no faulty line.
     ensures refused { (text : List ℕ) → S.left source.old ≡ Some text
-        → IfErr result (IsRefusedBy IsFollowRefusal text (S.left source.new) (S.before source.new)) }
+        → IfErr result (IsRefusedBy IsFollowRefusal text (S.left source.new)
+        (S.before source.new)) }
     ensures kinds { IfErr result IsScanFault }
     ensures read_failed { result ≡ Err Fault.Read → S.failures source.old < S.failures source.new }
     ensures write_failed { result ≡ Err Fault.Write → K.failures sink.old < K.failures sink.new }

@@ -1,8 +1,8 @@
 //! The headers that are tried on the rows of a trace.
 
-ghost use Rattle.std.specs.Prelude.{◌≡◌, ◌==◌, ◌++◌};
+ghost use Rattle.std.specs.Prelude.{◌≡◌, ◌==◌};
 ghost use Rattle.std.specs.List.{list_any};
-ghost use Rattle.line_model.specs.basics.Limits.{is_channels, is_numbering, packet_sizes};
+ghost use Rattle.line_model.specs.basics.Limits.{is_numbering, packet_sizes};
 ghost use Rattle.trace_scan.specs.Headers.{windows, with_numbers};
 
 use line_model::interface::Interface;

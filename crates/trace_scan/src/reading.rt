@@ -20,9 +20,11 @@ pub struct Walk<A: Allocator, C: Channel<A>> {
 }
 
 impl<A: Allocator + Copy, C: Channel<A>, K> Consumer<K> for Walk<A, C> {
-    ghost was_fed = { λ first start now sink text. WasFed C.Channel text now.live × (sink ≡ start) };
+    ghost was_fed = { λ first start now sink text. WasFed C.Channel text now.live
+        × (sink ≡ start) };
 
-    ghost refused = { λ first start now sink text last told. IsFaultOf (early (text ++ last)) told × IsTextFault told × (sink ≡ start) };
+    ghost refused = { λ first start now sink text last told. IsFaultOf (early (text ++ last)) told
+        × IsTextFault told × (sink ≡ start) };
 
     ghost expects = { λ text. Unit {0} };
 

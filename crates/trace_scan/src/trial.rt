@@ -7,7 +7,6 @@ ghost use Rattle.line_model.specs.channels.Channels as channels;
 ghost use Rattle.line_model.specs.channels.ChannelStep.{channel_step};
 ghost use Rattle.line_model.specs.declared.fault.Fault.TheVariants.{Memory};
 ghost use Rattle.line_model.specs.declared.interface.Interface.{Interface as AnyInterface};
-ghost use Rattle.line_model.specs.observer.Calls.{all_lengths};
 ghost use Rattle.line_model.specs.observer.Machine.{with_state};
 ghost use Rattle.line_model.specs.observer.Report.{findings_of};
 ghost use Rattle.line_model.specs.packets.Classes.{packet_of};
@@ -16,7 +15,8 @@ ghost use Rattle.channel_run.specs.Run.{row_events};
 ghost use Rattle.restart_epochs.specs.OpenLanes.{no_lanes, value_at};
 ghost use Rattle.restart_epochs.specs.Walks.{channel_in};
 ghost use Rattle.trace_scan.specs.TextCuts.{IsTrace};
-ghost use Rattle.trace_scan.specs.Tried.{AreLanesOf, HasWalked, IsLaneOf, MayWalk, events_after, is_data, states_after, uncounted_in};
+ghost use Rattle.live_report.specs.Uncounted.{counts_data, is_data};
+ghost use Rattle.trace_scan.specs.Tried.{AreLanesOf, HasWalked, IsLaneOf, MayWalk, events_after, states_after, uncounted_in};
 
 use channel_run::run::Channel;
 use line_model::event::{Event, What};
@@ -59,7 +59,9 @@ impl Tally {
     /// Counts a finding, if a row has one.
     fn count_finding(&mut self, found: bool)
         requires { self.old.findings + 1 < 2 ^ 32 }
-        ensures { self.new ≡ record self.old { findings = self.old.findings + (if found then 1 else 0) } }
+        ensures { self.new ≡ record self.old {
+          findings = self.old.findings + (if found then 1 else 0);
+        } }
     {
         if found {
             self.findings += 1;
@@ -125,7 +127,7 @@ fn has_finding(events: &[Event]) -> bool
 
 /// Whether events count data.
 fn has_data(events: &[Event]) -> bool
-    ensures { result ≡ has_some (all_lengths events.now) }
+    ensures { result ≡ counts_data events.now }
 {
     for event in events {
         if let What::Data { .. } = event.what {
@@ -139,13 +141,10 @@ fn has_data(events: &[Event]) -> bool
 fn is_data(packet: &Packet) -> bool
     ensures { result ≡ is_data packet.now }
 {
-    matches!(
-        packet,
-        Packet::Channel {
-            kind: PacketKind::Data(_),
-            ..
-        }
-    )
+    match packet {
+        Packet::Channel { kind, .. } => matches!(kind, PacketKind::Data(_)),
+        _ => false,
+    }
 }
 
 /// The length of the user data of a row, where it is a data packet and its events count no data.
@@ -168,9 +167,11 @@ fn take_out<A: Allocator + Copy, C: Channel<A>>(
     channel: u16,
     lanes: &mut ChannelTable<C, A>,
 ) -> Result<Box<C, A>, Fault>
-    ensures out { (states : ℕ → channels.Channel) → AreLanesOf C.Channel interface.now epoch states lanes.old
-        → IfOk result (λ c. IsLaneOf C.Channel interface.now epoch channel (states channel) (Some c.value)) }
-    ensures others { (states : ℕ → channels.Channel) → AreLanesOf C.Channel interface.now epoch states lanes.old
+    ensures out { (states : ℕ → channels.Channel)
+        → AreLanesOf C.Channel interface.now epoch states lanes.old → IfOk result (λ c.
+        IsLaneOf C.Channel interface.now epoch channel (states channel) (Some c.value)) }
+    ensures others { (states : ℕ → channels.Channel)
+        → AreLanesOf C.Channel interface.now epoch states lanes.old
         → OnOk result ((k : ℕ) → k ≢ channel
         → IsLaneOf C.Channel interface.now epoch k (states k) (value_at lanes.new k)) }
     ensures room { OnOk result (channel < length lanes.new.lanes) }
@@ -197,7 +198,8 @@ fn step_lane<A: Allocator + Copy, C: Channel<A>>(
         × AreLanesOf C.Channel walk.now.interface walk.now.epoch states lanes.old }
     ensures lanes { (states : ℕ → channels.Channel)
         → AreLanesOf C.Channel walk.now.interface walk.now.epoch states lanes.old
-        → OnOk result (AreLanesOf C.Channel walk.now.interface walk.now.epoch (with_state states channel
+        → OnOk result (AreLanesOf C.Channel walk.now.interface walk.now.epoch
+        (with_state states channel
         (channel_step walk.now.interface channel (states channel) item.now.row).after) lanes.new) }
     ensures events { (states : ℕ → channels.Channel)
         → AreLanesOf C.Channel walk.now.interface walk.now.epoch states lanes.old
@@ -251,7 +253,8 @@ impl<A: Allocator + Copy, C: Channel<A>> Trial<A, C> {
     ) -> Result<(), Fault>
         requires item { IfSome (channel_in turn) (λ k. IsItem self.old.walk.interface k item.now) }
         requires lanes { (states : ℕ → channels.Channel)
-            × AreLanesOf C.Channel self.old.walk.interface self.old.walk.epoch states self.old.lanes }
+            × AreLanesOf C.Channel self.old.walk.interface self.old.walk.epoch states
+            self.old.lanes }
         ensures walk { self.new.walk ≡ self.old.walk }
         ensures tally { self.new.tally ≡ self.old.tally }
         ensures lanes { (states : ℕ → channels.Channel)

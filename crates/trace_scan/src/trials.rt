@@ -1,6 +1,6 @@
 //! All headers that are tried on the rows of a trace.
 
-ghost use Rattle.std.specs.Prelude.{◌≡◌, ◌==◌, ℕ, ◌+◌, ◌<◌, ◌^◌, ◌++◌, ◌∷◌, [], List, IfErr, IfOk, OnOk, if◌then◌else◌, option_to_list};
+ghost use Rattle.std.specs.Prelude.{◌≡◌, ◌==◌, ◌+◌, ◌<◌, ◌^◌, ◌++◌, ◌∷◌, [], List, IfErr, IfOk, OnOk, if◌then◌else◌, option_to_list};
 ghost use Rattle.line_model.specs.basics.Octets.{bits, octet};
 ghost use Rattle.line_model.specs.basics.Records as records;
 ghost use Rattle.line_model.specs.declared.fault.Fault.TheVariants.{Memory};
@@ -181,7 +181,8 @@ impl<A: Allocator + Copy, C: Channel<A>> Trials<A, C> {
     /// Takes the next row. It refuses for want of memory alone, and stands for nothing then.
     pub fn take(&mut self, row: &Row<A>) -> Result<(), Fault>
         requires next { MayTry C.Channel IsTrace row.now self.old }
-        ensures trying { (i : AnyInterface) (rows : List records.Row) → IsTrying C.Channel i rows self.old
+        ensures trying { (i : AnyInterface) (rows : List records.Row)
+            → IsTrying C.Channel i rows self.old
             → IsTrace (rows ++ row.now ∷ [])
             → OnOk result (IsTrying C.Channel i (rows ++ row.now ∷ []) self.new) }
         ensures memory { IfErr result (λ fault. fault ≡ Memory) }

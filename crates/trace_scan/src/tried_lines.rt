@@ -6,7 +6,7 @@ ghost use Rattle.line_model.specs.basics.Written.{PutsTo, TakesAll, TakesFront};
 ghost use Rattle.line_model.specs.declared.fault.Fault.TheVariants.{Memory};
 ghost use Rattle.line_model.specs.declared.interface.Interface.{Interface as AnyInterface};
 ghost use Rattle.line_model.specs.basics.Records as records;
-ghost use Rattle.trace_scan.specs.TriedLines.{column, fewest, first_numbers, form_of, header_line, is_first_form, joining, named, ranges, rank, tried_by, tried_line, tried_text};
+ghost use Rattle.trace_scan.specs.TriedLines.{column, fewest, first_numbers, header_line, is_first_form, joining, named, ranges, rank, tried_by, tried_line, tried_text};
 ghost use Rattle.trace_scan.specs.Tried.{tally_of};
 ghost use Rattle.trace_scan.specs.Trials.{AreTrials};
 

@@ -1,6 +1,6 @@
 //! A text whose rows are taken by the trials of all headers as it is read.
 
-ghost use Rattle.std.specs.Prelude.{◌≡◌, ℕ, ◌++◌, ◌∷◌, ◌+◌, ◌≤◌, ◌^◌, [], List, Option, Some, IfErr, IfOk, IfSome, OnOk, length, is_some, true};
+ghost use Rattle.std.specs.Prelude.{◌≡◌, ℕ, ◌++◌, ◌∷◌, [], List, Option, IfErr, IfOk, IfSome, OnOk, is_some, true};
 ghost use Rattle.line_model.specs.basics.Records as records;
 ghost use Rattle.line_model.specs.declared.fault.Fault.TheVariants.{Memory};
 ghost use Rattle.line_model.specs.declared.interface.Interface.{Interface as AnyInterface};
@@ -9,7 +9,7 @@ ghost use Rattle.trace_text.specs.FedBytes.{fed_length};
 ghost use Rattle.trace_text.specs.Progress.{bytes_fed};
 ghost use Rattle.trace_text.specs.StandsFor.{IsFaultOf, IsTextFault, last_row};
 ghost use Rattle.trace_scan.specs.TextCuts.{IsTrace};
-ghost use Rattle.trace_scan.specs.Trials.{AreTried, HasTaken, IsTriedText, IsTrying, MayTry};
+ghost use Rattle.trace_scan.specs.Trials.{AreTried, HasTaken, IsTriedText, IsTrying};
 
 use crate::trial::Trial;
 use crate::trials::Trials;
@@ -46,9 +46,11 @@ fn take_last<A: Allocator + Copy, C: Channel<A>>(
     has_row: bool,
     row: &Row<A>,
 ) -> Result<(), Fault>
-    requires next { (i : AnyInterface) × (rows : List records.Row) × IsTrying C.Channel i rows trials.old
+    requires next { (i : AnyInterface) × (rows : List records.Row)
+        × IsTrying C.Channel i rows trials.old
         × IsTrace (rows ++ last_row has_row row.now) }
-    ensures trying { (i : AnyInterface) (rows : List records.Row) → IsTrying C.Channel i rows trials.old
+    ensures trying { (i : AnyInterface) (rows : List records.Row)
+        → IsTrying C.Channel i rows trials.old
         → IsTrace (rows ++ last_row has_row row.now)
         → OnOk result (IsTrying C.Channel i (rows ++ last_row has_row row.now) trials.new) }
     ensures memory { IfErr result (λ fault. fault ≡ Memory) }
@@ -159,7 +161,8 @@ impl<A: Allocator + Copy, C: Channel<A>> TriedText<A, C> {
 impl<A: Allocator + Copy, C: Channel<A>, K> Consumer<K> for TriedText<A, C> {
     ghost was_fed = { λ first start now sink text. HasTaken C.Channel text now × (sink ≡ start) };
 
-    ghost refused = { λ first start now sink text last told. IsFaultOf (early (text ++ last)) told × IsTextFault told × (sink ≡ start) };
+    ghost refused = { λ first start now sink text last told. IsFaultOf (early (text ++ last)) told
+        × IsTextFault told × (sink ≡ start) };
 
     ghost expects = { λ text. Unit {0} };
 

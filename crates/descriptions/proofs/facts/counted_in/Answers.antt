@@ -1,13 +1,17 @@
-use Rattle.std.proofs.Common.{◌≡◌, ◌∙◌, ap, sym, subst, length}
+use Rattle.std.proofs.Common.{◌∙◌, ap, refl, sym}
 use Rattle.descriptions.proofs.FactLemmas.{counted_at, none_next}
-use Rattle.descriptions.specs.Facts.{IsFateOf}
-use Rattle.line_model.specs.observer.Calls.{all_lengths}
-use Rattle.descriptions.specs.declared.facts.Fate.TheVariants.{Counted}
+use Rattle.std.proofs.lemmas.List.Folds.{list_any_at}
+use Rattle.live_report.specs.Uncounted.{tells_data}
 use Rattle.descriptions.proofs.facts.counted_in.Goals as goal
 
-pub returns-in-Data : goal.returns-in-Data
-returns-in-Data c =
+pub returns-in-Data-clause-fate : goal.returns-in-Data-clause-fate
+returns-in-Data-clause-fate c =
     counted_at c.args.events.now c.loop-event.event-index c.event-item.result c.in-Data.side c.in-Data.octets c.segments_in.result c.loop-event-test.true c.event-item.is c.in-Data.is c.loop-event.invariant.none c.segments_in.ensures
+
+pub returns-in-Data-clause-counted : goal.returns-in-Data-clause-counted
+returns-in-Data-clause-counted c =
+    let told = ap (λ e. tells_data e.what) (sym c.event-item.is) ∙ ap tells_data c.in-Data.is in
+    (refl, list_any_at (λ e. tells_data e.what) c.args.events.now c.loop-event.event-index c.event-item.result c.loop-event-test.true told)
 
 pub loop-event-preserved : goal.loop-event-preserved
 loop-event-preserved c = record {

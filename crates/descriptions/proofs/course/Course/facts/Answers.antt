@@ -1,4 +1,4 @@
-use Rattle.std.proofs.Common.{◌++◌, ◌∷◌, [], subst}
+use Rattle.std.proofs.Common.{◌∙◌, ◌++◌, ◌∷◌, [], subst}
 use Rattle.line_model.specs.observer.Calls.{all_lengths}
 use Rattle.line_model.specs.observer.Machine.{routed}
 use Rattle.line_model.specs.observer.Observer.{x25}
@@ -21,5 +21,17 @@ returns g c i earlier r l =
       finding = l.finding;
       fate = subst (λ es. IsFateOf (all_lengths es) c.fate.result)
           (events_are i o r c.args.last.now.channel taker c.args.observer.now.events.items c.events_of-events.result.now l.channel c.events_of-events.ensures.taken c.events_of-events.ensures.untaken l.came)
-          c.fate.ensures;
+          c.fate.ensures.counted;
+      reason = c.fate.ensures.reason i earlier r
+          (record {
+            number = l.number;
+            side = l.side;
+            packet = l.packet;
+            channel = l.channel;
+            before = l.before;
+            after = l.after;
+            finding = l.finding;
+            came = λ k is. c.events_of-events.ensures.taken k is ∙ l.came k is;
+          })
+          c.events_of-events.ensures.untaken;
     }
