@@ -53,7 +53,7 @@ mixed u i s t new flow before after x p r c stands answer other same none =
 settled : (i : Interface) (t new : Transfer) (c : Channel) (x : Side) (p : AcceptedData) (v : Counts) (m : Option (List ℕ)) → StandsFor i t c → p.side ≡ x →
     v.sent ≡ with_side x (of_side x (sent_by c.heard) + 1) (sent_by c.heard) → v.unconfirmed ≡ c.unconfirmed → Stands new.flow v →
     new.flow.modulus ≡ t.flow.modulus → new.flow.windows ≡ t.flow.windows →
-    assembly.StandsFor new.assembler (c.heard ++ p ∷ []) → assembly.sizes new.assembler ≡ assembly.sizes t.assembler →
+    assembly.Follows new.assembler (c.heard ++ p ∷ []) → assembly.sizes new.assembler ≡ assembly.sizes t.assembler →
     SettingsStand new.settings (told_after x c.told m) → StandsFor i new (hearing x p v m c).after
 settled i t new c x p v m stands side_is sent_is unconfirmed_is flow modulus windows sequences sizes settings = record {
   flow = subst (λ s. Stands new.flow (record { sent = s; acknowledged = v.acknowledged; unconfirmed = c.unconfirmed })) (sent_is ∙ sent_more x c.heard p side_is)
@@ -117,7 +117,7 @@ pub accepted : {U : Type 0} (u : U) (i : Interface) (s : EventOrigin) (t new : T
     StandsFor i t c → p.side ≡ x → Answers (Ok u) t.flow new.flow (counted_in_force i x sn rn c) →
     is_alike p (assembly.begun_by t.assembler x c.heard) ≡ true → completed_message i x c p ≡ m →
     new.flow.modulus ≡ t.flow.modulus → new.flow.windows ≡ t.flow.windows →
-    assembly.StandsFor new.assembler (c.heard ++ p ∷ []) → assembly.sizes new.assembler ≡ assembly.sizes t.assembler → SettingsStand new.settings (told_after x c.told m) →
+    assembly.Follows new.assembler (c.heard ++ p ∷ []) → assembly.sizes new.assembler ≡ assembly.sizes t.assembler → SettingsStand new.settings (told_after x c.told m) →
     ((v : Counts) → Reports s before after (hearing x p v m c).reported) → IsHeard None i s t new before after x p (counted_in_force i x sn rn c) c
 accepted u i s t new before after c x sn rn p m stands side_is answer alike completes modulus windows sequences sizes settings events =
     let r : Result Counts ℕ = counted_in_force i x sn rn c in

@@ -29,7 +29,7 @@ pub record StandsFor (i : Interface) (t : Transfer) (c : Channel) : Type 0 where
   pub flow : Stands t.flow (counts_of c)
   pub modulus : t.flow.modulus ≡ i.modulus
   pub windows : t.flow.windows ≡ record { of_t = window_in_force i c T; of_n = window_in_force i c N }
-  pub sequences : assembly.StandsFor t.assembler c.heard
+  pub sequences : assembly.Follows t.assembler c.heard
   pub sizes : assembly.sizes t.assembler ≡ record { of_t = size_in_force i c T; of_n = size_in_force i c N }
   pub settings : SettingsStand t.settings c.told
 

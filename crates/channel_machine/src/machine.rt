@@ -24,6 +24,7 @@ impl<A: Allocator + Clone, S: StatusStore + Drop> Channel<A> for StatusChannel<A
 
     ghost stands_for = { StandsForReached };
 
+    #[tactic(auto, using(data_transfer::proofs::Sides::follows_of))]
     fn fresh(alloc: A, interface: &Interface, channel: u16, epoch: u32) -> Self {
         let terms = Terms::new(*interface);
         StatusChannel {

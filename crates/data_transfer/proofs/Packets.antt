@@ -4,7 +4,7 @@ use Rattle.std.specs.Prelude.{◌-◌, ◌&&◌, Option, Some, None}
 use Rattle.std.specs.List.{list_all}
 use Rattle.line_model.specs.channels.Channels.{AcceptedData}
 use Rattle.line_model.specs.channels.Sequences.{sequence_octets, eq_bool, is_alike}
-use Rattle.data_transfer.specs.Assembly.{Holds, AllHaveQ, kept_by, kept_octets, kept_of, kept_with, is_like, with_more}
+use Rattle.data_transfer.specs.Assembly.{Holds, HoldsQualified, AllHaveQ, kept_octets, is_like, with_more}
 use Rattle.data_transfer.specs.Sequences.{SequenceView}
 
 -- the front of two lists
@@ -54,37 +54,49 @@ qualified_more (Some q) gs h all like = λ r.
     same false false true e = refl
     same false false false e = refl
 
-pub alike_is : (b : SequenceView) (gs : List AcceptedData) (h : AcceptedData) → Holds b gs → is_alike h gs ≡ is_like b.qualified h.qualified
-alike_is b gs h holds = alike_by b.qualified gs h holds.qualified
-  where
-    alike_by : (o : Option Bool) (gs : List AcceptedData) (h : AcceptedData) → AllHaveQ o gs → is_alike h gs ≡ is_like o h.qualified
-    alike_by None gs h e = ap (λ l. is_alike h l) e
-    alike_by (Some q) gs h all = all h.qualified
-
--- where nothing is begun, nothing is kept
-kept_none : (o : Option Bool) (gs : List AcceptedData) → AllHaveQ o gs → is_like o true ≡ true → kept_of o gs ≡ kept_octets gs
-kept_none None gs all like = ap (λ l. kept_octets l) (sym all)
-kept_none (Some true) gs all like = refl
-kept_none (Some false) gs all like = cc
-
-kept_next : (q : Bool) (old : SequenceView) (gs : List AcceptedData) (h : AcceptedData) → Holds old gs → is_like old.qualified q ≡ true →
-    kept_with q old.octets h.octets ≡ kept_by q (gs ++ h ∷ [])
-kept_next true old gs h holds like = kept_more gs h old.octets (holds.octets ∙ kept_none old.qualified gs holds.qualified like)
-kept_next false old gs h holds like = refl
+pub alike_is : (o : Option Bool) (gs : List AcceptedData) (h : AcceptedData) → AllHaveQ o gs → is_alike h gs ≡ is_like o h.qualified
+alike_is None gs h e = ap (λ l. is_alike h l) e
+alike_is (Some q) gs h all = all h.qualified
 
 pub holds_more : (old new : SequenceView) (gs : List AcceptedData) (h : AcceptedData) → Holds old gs → is_like old.qualified h.qualified ≡ true →
-    new.qualified ≡ Some h.qualified → new.octets ≡ kept_with h.qualified old.octets h.octets → Holds new (gs ++ h ∷ [])
+    new.qualified ≡ Some h.qualified → new.octets ≡ with_more old.octets h.octets → Holds new (gs ++ h ∷ [])
 holds_more old new gs h holds like q_is octets_is = record {
-  octets = octets_is ∙ kept_next h.qualified old gs h holds like ∙ ap (λ o. kept_of o (gs ++ h ∷ [])) (sym q_is);
+  octets = octets_is ∙ kept_more gs h old.octets holds.octets;
   qualified = subst (λ o. AllHaveQ o (gs ++ h ∷ [])) (sym q_is) (qualified_more old.qualified gs h holds.qualified like);
 }
 
-pub octets_more : (old : SequenceView) (gs : List AcceptedData) (h : AcceptedData) → Holds old gs → is_like old.qualified h.qualified ≡ true →
-    kept_with h.qualified old.octets h.octets ≡ kept_by h.qualified (gs ++ h ∷ [])
-octets_more old gs h holds like = kept_next h.qualified old gs h holds like
+pub octets_more : (old : SequenceView) (gs : List AcceptedData) (h : AcceptedData) → Holds old gs → with_more old.octets h.octets ≡ kept_octets (gs ++ h ∷ [])
+octets_more old gs h holds = kept_more gs h old.octets holds.octets
 
--- a packet with Q 0 more, after others with Q 0
-pub holds_unqualified : (old new : SequenceView) (gs : List AcceptedData) (h : AcceptedData) → Holds old gs → h.qualified ≡ false → is_like old.qualified false ≡ true →
-    new.qualified ≡ Some false → new.octets ≡ [] → Holds new (gs ++ h ∷ [])
-holds_unqualified old new gs h holds q like q_is octets_is =
-    holds_more old new gs h holds (ap (λ b. is_like old.qualified b) q ∙ like) (q_is ∙ ap (λ b. Some b) (sym q)) (octets_is ∙ ap (λ b. kept_with b old.octets h.octets) (sym q))
+-- what holds of packets holds too where octets may be left out
+pub without_octets : (b : SequenceView) (gs : List AcceptedData) → Holds b gs → HoldsQualified b gs
+without_octets b gs holds = record { octets = λ e. holds.octets; qualified = holds.qualified }
+
+-- a packet with Q 1 more, where octets of packets with Q 0 were left out
+pub octets_qualified : (old : SequenceView) (gs : List AcceptedData) (h : AcceptedData) → HoldsQualified old gs → is_like old.qualified h.qualified ≡ true →
+    h.qualified ≡ true → with_more old.octets h.octets ≡ kept_octets (gs ++ h ∷ [])
+octets_qualified old gs h holds like q = kept_more gs h old.octets (holds.octets (ap (λ b. is_like old.qualified b) (sym q) ∙ like))
+
+pub qualified_holds_more : (old new : SequenceView) (gs : List AcceptedData) (h : AcceptedData) → HoldsQualified old gs → is_like old.qualified h.qualified ≡ true →
+    new.qualified ≡ Some h.qualified → new.octets ≡ with_more old.octets h.octets → HoldsQualified new (gs ++ h ∷ [])
+qualified_holds_more old new gs h holds like q_is octets_is = record {
+  octets = λ e. octets_is ∙ octets_qualified old gs h holds like (is_true h.qualified (ap (λ o. is_like o true) (sym q_is) ∙ e));
+  qualified = subst (λ o. AllHaveQ o (gs ++ h ∷ [])) (sym q_is) (qualified_more old.qualified gs h holds.qualified like);
+}
+  where
+    is_true : (q : Bool) → eq_bool q true ≡ true → q ≡ true
+    is_true true e = refl
+    is_true false e = cc
+
+-- a packet with Q 0 more, whose octets are left out
+pub unqualified_holds_more : (old new : SequenceView) (gs : List AcceptedData) (h : AcceptedData) → HoldsQualified old gs → h.qualified ≡ false →
+    is_like old.qualified false ≡ true → new.qualified ≡ Some false → HoldsQualified new (gs ++ h ∷ [])
+unqualified_holds_more old new gs h holds q like q_is =
+    let like_h : is_like old.qualified h.qualified ≡ true = ap (λ b. is_like old.qualified b) q ∙ like in
+    record {
+      octets = λ e. no_message new.octets (kept_octets (gs ++ h ∷ [])) (sym (ap (λ o. is_like o true) q_is) ∙ e);
+      qualified = subst (λ o. AllHaveQ o (gs ++ h ∷ [])) (ap (λ b. Some b) q ∙ sym q_is) (qualified_more old.qualified gs h holds.qualified like_h);
+    }
+  where
+    no_message : (xs ys : List ℕ) → false ≡ true → xs ≡ ys
+    no_message xs ys e = cc

@@ -28,43 +28,34 @@ abbrev pub is_like : Option Bool → Bool → Bool
 is_like None r = true
 is_like (Some q) r = eq_bool q r
 
--- what is kept of a sequence by its Q bit: with Q 0 nothing, since no message needs it
-abbrev pub kept_by : (qualified : Bool) → List AcceptedData → List ℕ
-kept_by true gs = kept_octets gs
-kept_by false gs = []
-
--- the same where nothing may be begun
-abbrev pub kept_of : Option Bool → List AcceptedData → List ℕ
-kept_of None gs = []
-kept_of (Some q) gs = kept_by q gs
-
 -- octets and more of them, as far as there is room
 abbrev pub with_more : List ℕ → List ℕ → List ℕ
 with_more old more = old ++ take (1025 - length old) more
 
--- what is kept with one packet more, by its Q bit
-abbrev pub kept_with : (qualified : Bool) → (old more : List ℕ) → List ℕ
-kept_with true old more = with_more old more
-kept_with false old more = []
-
 -- what is kept of the packets that a side has begun
 pub record Holds (b : SequenceView) (gs : List AcceptedData) : Type 0 where
-  pub octets : b.octets ≡ kept_of b.qualified gs
+  pub octets : b.octets ≡ kept_octets gs
   pub qualified : AllHaveQ b.qualified gs
 
--- what a packet does to those that were begun
-abbrev pub IsPutOn : {A : Type 0} → Put A → (old new : SequenceView) → Side → AcceptedData → List AcceptedData → Type 0
-IsPutOn Going old new x h gs =
-    (is_alike h gs ≡ true) × (is_category_a old.size h ≡ true) × Holds new (gs ++ h ∷ [])
-IsPutOn (Complete s) old new x h gs =
-    (is_alike h gs ≡ true) × (is_category_a old.size h ≡ false) × Holds new []
-    × (s.side ≡ x) × (s.qualified ≡ h.qualified) × (octets_in s.octets ≡ kept_by h.qualified (gs ++ h ∷ []))
-IsPutOn Mixed old new x h gs = (is_alike h gs ≡ false) × (new ≡ old)
+-- the same where octets of packets with Q 0 were left out: the Q bit, and the octets where a packet with Q 1 may come
+pub record HoldsQualified (b : SequenceView) (gs : List AcceptedData) : Type 0 where
+  pub octets : is_like b.qualified true ≡ true → b.octets ≡ kept_octets gs
+  pub qualified : AllHaveQ b.qualified gs
 
--- what a packet with Q 0 does to those that were begun, which have Q 0 too: it goes on with them, or ends their sequence
-abbrev pub IsUnqualifiedOn : (goes_on : Bool) → (old new : SequenceView) → AcceptedData → List AcceptedData → Type 0
-IsUnqualifiedOn true old new h gs = (is_alike h gs ≡ true) × (is_category_a old.size h ≡ true) × Holds new (gs ++ h ∷ [])
-IsUnqualifiedOn false old new h gs = (is_alike h gs ≡ true) × (is_category_a old.size h ≡ false) × Holds new []
+-- what a packet does to what is kept of its side
+abbrev pub IsPutOn : {A : Type 0} → Put A → (old new : SequenceView) → Side → AcceptedData → Type 0
+IsPutOn Going old new x h =
+    (is_like old.qualified h.qualified ≡ true) × (is_category_a old.size h ≡ true)
+    × (new.qualified ≡ Some h.qualified) × (new.octets ≡ with_more old.octets h.octets)
+IsPutOn (Complete s) old new x h =
+    (is_like old.qualified h.qualified ≡ true) × (is_category_a old.size h ≡ false) × Holds new []
+    × (s.side ≡ x) × (s.qualified ≡ h.qualified) × (octets_in s.octets ≡ with_more old.octets h.octets)
+IsPutOn Mixed old new x h = (is_like old.qualified h.qualified ≡ false) × (new ≡ old)
+
+-- what a packet with Q 0 does, whose octets are left out: its sequence goes on, or ends
+abbrev pub IsUnqualifiedOn : (goes_on : Bool) → (old new : SequenceView) → AcceptedData → Type 0
+IsUnqualifiedOn true old new h = (is_category_a old.size h ≡ true) × (new.qualified ≡ Some false) × (new.octets ≡ old.octets)
+IsUnqualifiedOn false old new h = (is_category_a old.size h ≡ false) × Holds new []
 
 -- a fact where a packet is refused for its Q bit
 abbrev pub OnMixed : {A : Type 0} → Put A → Type 0 → Type 0

@@ -1,16 +1,19 @@
 -- What the packets begun of a side show.
-use Rattle.std.specs.Prelude.{ℕ, Bool, true, false, List, [], Option, Some, None}
+use Rattle.std.specs.Prelude.{ℕ, Bool, List, [], Option, Some, None}
 use Rattle.data_transfer.specs.declared.begun.Joined.{Joined}
-use Rattle.data_transfer.specs.declared.begun.Joined.TheVariants.{Unqualified, Qualified}
+use Rattle.data_transfer.specs.declared.begun.KeptOctets.{KeptOctets}
 
 -- their Q bit, if there are any
 abbrev pub joined_qualified : {A : Type 0} → Option (Joined A) → Option Bool
 joined_qualified None = None
-joined_qualified (Some Unqualified) = Some false
-joined_qualified (Some (Qualified k)) = Some true
+joined_qualified (Some j) = Some j.qualified
+
+-- octets that may be kept
+abbrev pub octets_of : {A : Type 0} → Option (KeptOctets A) → List ℕ
+octets_of None = []
+octets_of (Some k) = k.octets.items
 
 -- their octets that are kept
 abbrev pub joined_octets : {A : Type 0} → Option (Joined A) → List ℕ
 joined_octets None = []
-joined_octets (Some Unqualified) = []
-joined_octets (Some (Qualified k)) = k.octets.items
+joined_octets (Some j) = octets_of j.kept

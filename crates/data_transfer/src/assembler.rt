@@ -4,7 +4,7 @@ ghost use Rattle.std.specs.Prelude.{◌≡◌, true, false, List, [], IfOk, IfEr
 ghost use Rattle.line_model.specs.channels.Channels.{AcceptedData};
 ghost use Rattle.line_model.specs.declared.fault.Fault.TheVariants.{Memory};
 ghost use Rattle.data_transfer.specs.Assembly.{heard, is_like, OnMixed};
-ghost use Rattle.data_transfer.specs.Assembler.{StandsFor, IsPut, IsPutUnqualified, begun_on, sizes};
+ghost use Rattle.data_transfer.specs.Assembler.{StandsFor, Follows, IsPut, IsPutFollowed, IsPutUnqualified, begun_on, sizes};
 
 use crate::begun::Begun;
 use crate::sequence::{DataField, Put};
@@ -44,11 +44,14 @@ impl<A: Allocator + Clone> Assembler<A> {
     }
 
     /// Takes a data packet of a side, whose numbers are valid. A packet with another Q bit than those begun, and a
-    /// refusal for memory, change nothing.
-    #[tactic(auto, using(crate::proofs::Sides::put_t, crate::proofs::Sides::put_n))]
+    /// refusal for memory, change nothing. A complete sequence has the octets of the packets that came by this call,
+    /// the first 1,025.
+    #[tactic(auto, using(crate::proofs::Sides::put_t, crate::proofs::Sides::put_n, crate::proofs::Sides::put_followed_t, crate::proofs::Sides::put_followed_n))]
     pub fn put<'a>(&mut self, side: Side, field: &DataField<'a>) -> Result<Put<'a, A>, Fault>
         ensures put { (hs : List AcceptedData) → StandsFor self.old hs
             → IfOk result (λ p. IsPut p self.old self.new side (heard side field.now) hs) }
+        ensures follows { (hs : List AcceptedData) → Follows self.old hs
+            → IfOk result (λ p. IsPutFollowed p self.old self.new side (heard side field.now) hs) }
         ensures sizes { sizes self.new ≡ sizes self.old }
         ensures mixed { IfOk result (λ p. OnMixed p (self.new ≡ self.old)) }
         ensures unchanged { OnErr result (self.new ≡ self.old) }
@@ -71,11 +74,12 @@ impl<A: Allocator + Clone> Assembler<A> {
     }
 
     /// Takes a data packet of a side with Q 0, whose numbers are valid, where the side has begun no sequence with Q 1.
+    /// It leaves its octets out, and takes no memory.
     #[tactic(auto, using(crate::proofs::Sides::unqualified_t, crate::proofs::Sides::unqualified_n))]
     pub fn put_unqualified(&mut self, side: Side, field: &DataField<'_>)
         requires unqualified { field.now.qualified ≡ false }
         requires alike { is_like (begun_on self.old side).qualified false ≡ true }
-        ensures put { (hs : List AcceptedData) → StandsFor self.old hs
+        ensures put { (hs : List AcceptedData) → Follows self.old hs
             → IsPutUnqualified self.old self.new side (heard side field.now) hs }
         ensures sizes { sizes self.new ≡ sizes self.old }
     {

@@ -1,7 +1,6 @@
 //! The sequence that one side has begun.
 
-ghost use Rattle.std.specs.Prelude.{◌≡◌, ◌≤◌, List, [], IfOk, IfErr, OnOk, OnErr, true, false, Some, vec_len};
-ghost use Rattle.line_model.specs.channels.Channels.{AcceptedData};
+ghost use Rattle.std.specs.Prelude.{◌≡◌, ◌≤◌, [], IfOk, IfErr, OnOk, OnErr, true, false, Some, vec_len};
 ghost use Rattle.line_model.specs.declared.fault.Fault.TheVariants.{Memory};
 ghost use Rattle.line_model.specs.declared.state.Side.{Side as AnySide};
 
@@ -13,14 +12,14 @@ use std::marker::Model;
 
 /// The packets of a sequence that is not complete.
 #[derive(Drop)]
-enum Joined<A: Allocator> {
-    /// They have Q 0: no octets of them are kept, since no message can need them.
-    Unqualified,
-    /// They have Q 1.
-    Qualified(KeptOctets<A>),
+struct Joined<A: Allocator> {
+    /// The Q bit of all of them.
+    qualified: bool,
+    /// The octets of those that were put with their octets, none where there are no such packets.
+    kept: Option<KeptOctets<A>>,
 }
 
-/// The first 1,025 octets of the packets of a sequence.
+/// The first 1,025 octets of packets.
 #[derive(Drop)]
 struct KeptOctets<A: Allocator> {
     octets: Vec<u8, A>,
@@ -60,7 +59,7 @@ impl<A: Allocator> KeptOctets<A> {
 }
 
 impl<A: Allocator + Clone> Begun<A> {
-    ghost use Rattle.data_transfer.specs.Assembly.{Holds, IsPutOn, IsUnqualifiedOn, OnMixed, heard, is_like, kept_with};
+    ghost use Rattle.data_transfer.specs.Assembly.{Holds, IsPutOn, IsUnqualifiedOn, OnMixed, heard, is_like, with_more};
     ghost use Rattle.data_transfer.specs.UserOctets.{octets_in};
 
     /// Nothing is begun.
@@ -80,15 +79,14 @@ impl<A: Allocator + Clone> Begun<A> {
     }
 
     /// Takes the next packet of the side.
-    #[tactic(auto, using(crate::proofs::Packets::alike_is, crate::proofs::Packets::holds_more))]
     pub(crate) fn put<'a>(
         &mut self,
         alloc: &A,
         side: Side,
         field: &DataField<'a>,
     ) -> Result<Put<'a, A>, Fault>
-        ensures put { (gs : List AcceptedData) → Holds self.old gs
-            → IfOk result (λ p. IsPutOn p self.old self.new side (heard side field.now) gs) }
+        ensures put { IfOk result
+            (λ p. IsPutOn p self.old self.new side (heard side field.now)) }
         ensures size { self.new.size ≡ self.old.size }
         ensures mixed { IfOk result (λ p. OnMixed p (self.new ≡ self.old)) }
         ensures unchanged { OnErr result (self.new ≡ self.old) }
@@ -101,7 +99,7 @@ impl<A: Allocator + Clone> Begun<A> {
             self.join(alloc, field)?;
             return Ok(Put::Going);
         }
-        let octets = self.finish(field)?;
+        let octets = self.finish(field.octets)?;
         Ok(Put::Complete(Sequence {
             side,
             qualified: field.qualified,
@@ -109,16 +107,16 @@ impl<A: Allocator + Clone> Begun<A> {
         }))
     }
 
-    /// Takes the next packet of the side, which has Q 0, and answers whether more of its sequence follows.
+    /// Takes the next packet of the side, which has Q 0, without its octets, and answers whether more of its sequence
+    /// follows.
     pub(crate) fn put_unqualified(&mut self, field: &DataField<'_>) -> bool
-        requires unqualified { field.now.qualified ≡ false }
         requires alike { is_like self.old.qualified false ≡ true }
-        ensures put { (side : AnySide) (gs : List AcceptedData) → Holds self.old gs
-            → IsUnqualifiedOn result self.old self.new (heard side field.now) gs }
+        ensures put { (side : AnySide)
+            → IsUnqualifiedOn result self.old self.new (heard side field.now) }
         ensures size { self.new.size ≡ self.old.size }
     {
         if field.is_category_a(self.size) {
-            self.joined = Some(Joined::Unqualified);
+            self.join_unqualified();
             return true;
         }
         self.reset();
@@ -130,9 +128,23 @@ impl<A: Allocator + Clone> Begun<A> {
         ensures { result ≡ is_like self.now.qualified qualified }
     {
         match &self.joined {
-            Some(Joined::Qualified(_)) => qualified,
-            Some(Joined::Unqualified) => !qualified,
+            Some(joined) => joined.qualified == qualified,
             None => true,
+        }
+    }
+
+    /// Counts a packet with Q 0 among those begun, without its octets.
+    fn join_unqualified(&mut self)
+        requires { is_like self.old.qualified false ≡ true }
+        ensures size { self.new.size ≡ self.old.size }
+        ensures qualified { self.new.qualified ≡ Some false }
+        ensures octets { self.new.octets ≡ self.old.octets }
+    {
+        if self.joined.is_none() {
+            self.joined = Some(Joined {
+                qualified: false,
+                kept: None,
+            });
         }
     }
 
@@ -142,45 +154,52 @@ impl<A: Allocator + Clone> Begun<A> {
         ensures size { self.new.size ≡ self.old.size }
         ensures qualified { OnOk result (self.new.qualified ≡ Some field.now.qualified) }
         ensures kept { OnOk result (self.new.octets
-            ≡ kept_with field.now.qualified self.old.octets field.now.octets.now) }
+            ≡ with_more self.old.octets field.now.octets.now) }
         ensures unchanged { OnErr result (self.new ≡ self.old) }
         ensures memory { IfErr result (λ fault. fault ≡ Memory) }
     {
-        if !field.qualified {
-            self.joined = Some(Joined::Unqualified);
-            return Ok(());
-        }
-        if let Some(Joined::Qualified(kept)) = &mut self.joined {
+        if let Some(
+            Joined {
+                kept: Some(kept),
+                ..
+            },
+        ) = &mut self.joined
+        {
             return kept.keep(field.octets);
         }
         let mut kept = KeptOctets {
             octets: Vec::new(alloc.clone()?),
         };
         kept.keep(field.octets)?;
-        self.joined = Some(Joined::Qualified(kept));
+        self.joined = Some(Joined {
+            qualified: field.qualified,
+            kept: Some(kept),
+        });
         Ok(())
     }
 
-    /// Moves out what was begun, with the octets of the last packet; nothing is begun then. A sequence with Q 0 has
-    /// none.
-    fn finish<'a>(&mut self, field: &DataField<'a>) -> Result<UserData<'a, A>, Fault>
+    /// Moves out what was begun, with the octets of the last packet; nothing is begun then.
+    fn finish<'a>(&mut self, octets: &'a [u8]) -> Result<UserData<'a, A>, Fault>
         ensures size { self.new.size ≡ self.old.size }
         ensures holds { OnOk result (Holds self.new []) }
-        ensures octets { IfOk result (λ u. octets_in u
-            ≡ kept_with field.now.qualified self.old.octets field.now.octets.now) }
+        ensures octets { IfOk result (λ u. octets_in u ≡ with_more self.old.octets octets.now) }
         ensures unchanged { OnErr result (self.new ≡ self.old) }
         ensures memory { IfErr result (λ fault. fault ≡ Memory) }
     {
-        let octets = field.octets;
-        if !field.qualified {
-            self.reset();
-            return Ok(UserData::OfOne(&octets[..0]));
-        }
-        let Some(Joined::Qualified(mut kept)) = self.joined.take() else {
+        let Some(
+            Joined {
+                qualified,
+                kept: Some(mut kept),
+            },
+        ) = self.joined.take()
+        else {
             return Ok(UserData::OfOne(&octets[..octets.len().min(KEPT)]));
         };
         if let Err(fault) = kept.keep(octets) {
-            self.joined = Some(Joined::Qualified(kept));
+            self.joined = Some(Joined {
+                qualified,
+                kept: Some(kept),
+            });
             return Err(fault);
         }
         let KeptOctets { octets, .. } = kept;

@@ -5,7 +5,7 @@ ghost use Rattle.std.specs.Prelude.{◌≡◌};
 use line_model::state::Side;
 use std::alloc::{Allocator, Global};
 
-/// How many octets of a sequence with Q 1 are kept: one more than a PAD message may have.
+/// How many octets of a sequence are kept: one more than a PAD message may have.
 pub const KEPT: usize = 1025;
 
 /// A data packet without its sequence numbers: the Q, M and D bits and the user data (X.25 clause 5.3.1).
@@ -64,7 +64,7 @@ pub struct Sequence<'a, A: Allocator = Global> {
     pub side: Side,
     /// The Q bit of all its packets.
     pub qualified: bool,
-    /// Its user data, the first 1,025 octets; of a sequence with Q 0 none.
+    /// Its user data, the first 1,025 octets, without those of packets that came by `put_unqualified`.
     pub octets: UserData<'a, A>,
 }
 

@@ -6,8 +6,8 @@ use Rattle.line_model.specs.channels.Channels.{AcceptedData}
 use Rattle.line_model.specs.channels.Sequences.{sequence_octets}
 use Rattle.line_model.specs.packets.Formats.{is_pad_call}
 use Rattle.line_model.specs.channels.ChannelStep.{counts_of}
-use Rattle.data_transfer.specs.Assembler.{IsPut, begun_by}
-use Rattle.data_transfer.specs.Assembly.{OnMixed, kept_by}
+use Rattle.data_transfer.specs.Assembler.{IsPutFollowed, begun_by}
+use Rattle.data_transfer.specs.Assembly.{OnMixed}
 use Rattle.data_transfer.specs.declared.sequence.Put.TheVariants.{Going, Complete, Mixed}
 use Rattle.channel_machine.specs.Events.{event_at}
 use Rattle.channel_machine.specs.Messages.{message_reports}
@@ -40,8 +40,8 @@ returns-in-Mixed-clause-heard g c k s =
     let st : Stands old k = subst (λ o. Stands o k) (sym c.self.view_is) s in
     let h : AcceptedData = packet c.args.side c.args.header.now c.args.user_data.now in
     let r = counted_in_force before.terms.interface c.args.side c.args.header.now.send c.args.header.now.receive k in
-    let b : IsPut {A = g.row.A.Denot} Mixed i.assembler c.put.new.self c.args.side h k.heard =
-    subst (λ q. IsPut q i.assembler c.put.new.self c.args.side h k.heard) c.in-Mixed.is (c.in_ok-put.ensures.put k.heard st.transfer.sequences) in
+    let b : IsPutFollowed {A = g.row.A.Denot} Mixed i.assembler c.put.new.self c.args.side h k.heard =
+    subst (λ q. IsPutFollowed q i.assembler c.put.new.self c.args.side h k.heard) c.in-Mixed.is (c.in_ok-put.ensures.follows k.heard st.transfer.sequences) in
     let new : Transfer = record old.transfer { assembler = c.put.new.self } in
     subst (λ o. IsHeard (Some INCONSISTENT_Q_BIT_SETTING) o.terms.interface c.args.origin o.transfer new c.args.events.now.items c.reserve.new.self.items c.args.side h (counted_in_force o.terms.interface c.args.side c.args.header.now.send c.args.header.now.receive k) k) c.self.view_is
     (mixed c.in_default.field-0 before.terms.interface c.args.origin old.transfer new after.flow c.args.events.now.items c.reserve.new.self.items c.args.side h r k st.transfer
@@ -57,8 +57,8 @@ returns-in-Going-clause-heard g c k s =
     let st : Stands old k = subst (λ o. Stands o k) (sym c.self.view_is) s in
     let h : AcceptedData = packet c.args.side c.args.header.now c.args.user_data.now in
     let r = counted_in_force before.terms.interface c.args.side c.args.header.now.send c.args.header.now.receive k in
-    let b : IsPut {A = g.row.A.Denot} Going i.assembler c.put.new.self c.args.side h k.heard =
-    subst (λ q. IsPut q i.assembler c.put.new.self c.args.side h k.heard) c.in-Going.is (c.in_ok-put.ensures.put k.heard st.transfer.sequences) in
+    let b : IsPutFollowed {A = g.row.A.Denot} Going i.assembler c.put.new.self c.args.side h k.heard =
+    subst (λ q. IsPutFollowed q i.assembler c.put.new.self c.args.side h k.heard) c.in-Going.is (c.in_ok-put.ensures.follows k.heard st.transfer.sequences) in
     let new : Transfer = record old.transfer { flow = after.flow; assembler = c.put.new.self } in
     subst (λ o. IsHeard None o.terms.interface c.args.origin o.transfer new c.args.events.now.items c.push_reserved.new.self.items c.args.side h (counted_in_force o.terms.interface c.args.side c.args.header.now.send c.args.header.now.receive k) k) c.self.view_is
     (accepted c.in_default.field-0 before.terms.interface c.args.origin old.transfer new c.args.events.now.items c.push_reserved.new.self.items
@@ -77,8 +77,8 @@ returns-else-carries_message-2-clause-heard g c k s =
     let st : Stands old k = subst (λ o. Stands o k) (sym c.self.view_is) s in
     let h : AcceptedData = packet c.args.side c.args.header.now c.args.user_data.now in
     let r = counted_in_force before.terms.interface c.args.side c.args.header.now.send c.args.header.now.receive k in
-    let b : IsPut (Complete c.in-Complete.sequence) i.assembler c.put.new.self c.args.side h k.heard =
-    subst (λ q. IsPut q i.assembler c.put.new.self c.args.side h k.heard) c.in-Complete.is (c.in_ok-put.ensures.put k.heard st.transfer.sequences) in
+    let b : IsPutFollowed (Complete c.in-Complete.sequence) i.assembler c.put.new.self c.args.side h k.heard =
+    subst (λ q. IsPutFollowed q i.assembler c.put.new.self c.args.side h k.heard) c.in-Complete.is (c.in_ok-put.ensures.follows k.heard st.transfer.sequences) in
     let pad : c.is_pad_call.result ≡ is_pad_call k = c.is_pad_call.ensures ∙ ap (λ o. is_pad o) c.call.ensures ∙ pad_stands before.terms k st.terms in
     let new : Transfer = record old.transfer { flow = after.flow; assembler = c.put.new.self } in
     subst (λ o. IsHeard None o.terms.interface c.args.origin o.transfer new c.args.events.now.items c.push_reserved-in-Complete.new.self.items c.args.side h (counted_in_force o.terms.interface c.args.side c.args.header.now.send c.args.header.now.receive k) k) c.self.view_is
@@ -99,12 +99,12 @@ returns-then-carries_message-2-clause-heard g c k s =
     let st : Stands old k = subst (λ o. Stands o k) (sym c.self.view_is) s in
     let h : AcceptedData = packet c.args.side c.args.header.now c.args.user_data.now in
     let r = counted_in_force before.terms.interface c.args.side c.args.header.now.send c.args.header.now.receive k in
-    let b : IsPut (Complete c.in-Complete.sequence) i.assembler c.put.new.self c.args.side h k.heard =
-    subst (λ q. IsPut q i.assembler c.put.new.self c.args.side h k.heard) c.in-Complete.is (c.in_ok-put.ensures.put k.heard st.transfer.sequences) in
+    let b : IsPutFollowed (Complete c.in-Complete.sequence) i.assembler c.put.new.self c.args.side h k.heard =
+    subst (λ q. IsPutFollowed q i.assembler c.put.new.self c.args.side h k.heard) c.in-Complete.is (c.in_ok-put.ensures.follows k.heard st.transfer.sequences) in
     let pad : c.is_pad_call.result ≡ is_pad_call k = c.is_pad_call.ensures ∙ ap (λ o. is_pad o) c.call.ensures ∙ pad_stands before.terms k st.terms in
     let m : List ℕ = sequence_octets (begun_by i.assembler c.args.side k.heard ++ h ∷ []) in
     let told : (is_pad_call k && h.qualified) ≡ true = ap (λ a. a && h.qualified) (sym pad) ∙ sym c.is_message-carries_message.ensures ∙ c.if-carries_message-2.true in
-    let octets = c.as_slice.ensures ∙ b.5 ∙ ap (λ q. kept_by q (begun_by i.assembler c.args.side k.heard ++ h ∷ [])) (second_of (is_pad_call k) h.qualified told) in
+    let octets = c.as_slice.ensures ∙ b.5 (second_of (is_pad_call k) h.qualified told) in
     let new : Transfer = record { flow = after.flow; assembler = c.put.new.self; settings = c.report_message.new.self } in
     subst (λ o. IsHeard None o.terms.interface c.args.origin o.transfer new c.args.events.now.items c.report_message.new.events.items c.args.side h (counted_in_force o.terms.interface c.args.side c.args.header.now.send c.args.header.now.receive k) k) c.self.view_is
     (accepted c.in_default.field-0 before.terms.interface c.args.origin old.transfer new c.args.events.now.items c.report_message.new.events.items
