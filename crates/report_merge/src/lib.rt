@@ -7,4 +7,5 @@ mod lines;
 pub mod merging;
 pub mod parts;
 pub mod text;
+mod turns;
 pub mod words;

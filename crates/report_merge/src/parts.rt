@@ -8,6 +8,7 @@ ghost use Rattle.line_model.specs.observer.Report.{report_of};
 ghost use Rattle.report_merge.specs.Gathered.{gathered};
 ghost use Rattle.report_merge.specs.Merged.{IsMerged, IsOfWalk};
 
+use crate::turns::in_turn;
 use call_accounts::account::accounts_of;
 use call_accounts::peak::peak_of;
 use line_model::call::{CallRecord, copies};
@@ -130,6 +131,7 @@ impl<A: Allocator + Clone> Parts<A> {
         let mut line = line;
         findings.append(&mut line)?;
         let findings = by_packet(findings);
+        let calls = in_turn(line.allocator().clone()?, calls)?;
         let calls = by_opening(calls);
         let accounts = accounts_of(line.allocator().clone()?, calls.as_slice())?;
         let peak = peak_of(line.allocator().clone()?, calls.as_slice())?;

@@ -1,0 +1,79 @@
+//! Calls brought near to the order of their opening packets, with few moves of their large records.
+
+ghost use Rattle.std.specs.Prelude.{◌≡◌, ◌<◌, IfOk, length, vec_len, All};
+ghost use Rattle.std.specs.List.Sorted.{IsPermutation};
+
+use line_model::call::CallRecord;
+use std::alloc::{AllocError, Allocator};
+
+/// The opening packet of a call, and the place that its record is to come from.
+#[derive(Drop)]
+struct Turn {
+    packet: u32,
+    place: usize,
+}
+
+/// The turns of calls, in the order of the calls.
+fn turns<A: Allocator>(alloc: A, calls: &[CallRecord<A>]) -> Result<Vec<Turn, A>, AllocError>
+    ensures len { IfOk result (λ turns. vec_len turns ≡ length calls.now) }
+    ensures places { IfOk result (λ turns. All (λ turn. turn.place < length calls.now) turns.items) }
+{
+    let mut turns = Vec::with_capacity(alloc, calls.len())?;
+    for (place, call) in calls.iter().enumerate() {
+        turns.push(Turn {
+            packet: call.opened,
+            place,
+        })?;
+    }
+    Ok(turns)
+}
+
+/// Brings the record of a turn to its place, the record of the turn of that place to the place that it leaves, and so
+/// on, until a record comes from a place that is done. A place is done where its turn names the place itself.
+fn go_round<A: Allocator>(calls: &mut [CallRecord<A>], turns: &mut [Turn], first: usize)
+    requires len { length turns.old ≡ length calls.old }
+    requires places { All (λ turn. turn.place < length calls.old) turns.old }
+    requires first { first < length calls.old }
+    ensures permutation { IsPermutation calls.old calls.new }
+    ensures calls { length calls.new ≡ length calls.old }
+    ensures turns { length turns.new ≡ length turns.old }
+    ensures places { All (λ turn. turn.place < length calls.old) turns.new }
+{
+    let mut place = first;
+    let mut from = turns[place].place;
+    for _ in 0..turns.len() {
+        if turns[from].place == from {
+            break;
+        }
+        calls.swap(place, from);
+        turns[place].place = place;
+        place = from;
+        from = turns[place].place;
+    }
+    turns[place].place = place;
+}
+
+/// Brings each record to the place of its turn.
+fn take_turns<A: Allocator>(calls: &mut [CallRecord<A>], turns: &mut [Turn])
+    requires len { length turns.old ≡ length calls.old }
+    requires places { All (λ turn. turn.place < length calls.old) turns.old }
+    ensures { IsPermutation calls.old calls.new }
+{
+    for place in 0..calls.len() {
+        go_round(calls, turns, place);
+    }
+}
+
+/// The calls, each record moved to the place that the order of the opening packets gives it. It refuses for want of
+/// memory alone.
+pub(crate) fn in_turn<A: Allocator>(
+    alloc: A,
+    mut calls: Vec<CallRecord<A>, A>,
+) -> Result<Vec<CallRecord<A>, A>, AllocError>
+    ensures { IfOk result (λ moved. IsPermutation calls.items moved.items) }
+{
+    let mut turns = turns(alloc, &calls)?;
+    turns.sort_unstable_by_key(|turn| turn.packet);
+    take_turns(calls.as_mut_slice(), turns.as_mut_slice());
+    Ok(calls)
+}
