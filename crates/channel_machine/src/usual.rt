@@ -11,7 +11,6 @@ ghost use Rattle.packet_decode.specs.Transfers.{AreTransferOf, IsShort};
 ghost use Rattle.channel_machine.specs.declared.events.EventOrigin.{EventOrigin};
 ghost use Rattle.channel_machine.specs.Channels.{Stands, Does};
 ghost use Rattle.channel_machine.specs.Events.{event_at};
-ghost use Rattle.channel_machine.specs.Reached.{IsReached};
 ghost use Rattle.channel_machine.specs.Sizes.{largest_size};
 ghost use Rattle.channel_machine.specs.Usual.{IsUsual, told_of};
 

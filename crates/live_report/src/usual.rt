@@ -1,6 +1,6 @@
 //! The rows that are as most are: data with Q 0 and receive ready in d1, with which nothing is wrong.
 
-ghost use Rattle.std.specs.Prelude.{◌≡◌, ◌<◌, ◌++◌, ◌∷◌, [], IfNone, IfSome, OnOk, length};
+ghost use Rattle.std.specs.Prelude.{◌≡◌, ◌++◌, ◌∷◌, [], IfNone, IfSome, OnOk};
 ghost use Rattle.line_model.specs.basics.Bounds.{IsPiece};
 ghost use Rattle.restart_epochs.specs.OpenRows.{OpenRows, rows_of, HasMore};
 ghost use Rattle.channel_run.specs.Live.{channel_so_far};

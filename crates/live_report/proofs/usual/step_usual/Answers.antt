@@ -1,4 +1,4 @@
-use Rattle.std.proofs.Common.{◌∙◌, ap, subst, sym, Some}
+use Rattle.std.proofs.Common.{◌∙◌, ap, subst, sym}
 use Rattle.std.specs.Option.{option_map}
 use Rattle.line_model.specs.basics.Bounds.{IsPiece}
 use Rattle.restart_epochs.specs.OpenLanes.{HasTaken}

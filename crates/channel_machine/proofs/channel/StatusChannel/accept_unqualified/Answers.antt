@@ -1,5 +1,5 @@
-use Rattle.std.proofs.Common.{◌≡◌, false, refl, sym, ◌∙◌, ap, subst, List, [], ◌∷◌, Ok, None, length}
-use Rattle.std.specs.Prelude.{◌&&◌, map, drop, Some}
+use Rattle.std.proofs.Common.{◌≡◌, false, refl, sym, ap, subst, List, [], ◌∷◌, Ok, None, length}
+use Rattle.std.specs.Prelude.{map, drop, Some}
 use Rattle.line_model.specs.packets.Classes.{data_header, header_length}
 use Rattle.line_model.specs.declared.event.Event.{Event}
 use Rattle.line_model.specs.declared.event.What.TheVariants as what

@@ -1,4 +1,4 @@
-use Rattle.std.proofs.Common.{◌≡◌, ◌∙◌, [], ap, sym, subst, true, false}
+use Rattle.std.proofs.Common.{◌∙◌, [], ap, sym, subst}
 use Rattle.std.specs.Prelude.{IfOk, IfSome, map}
 use Rattle.std.specs.Result.{result_err}
 use Rattle.line_model.specs.channels.Channels.{is_permanent}

@@ -1,4 +1,4 @@
-use Rattle.std.proofs.Common.{◌≡◌, ◌∙◌, [], ap, subst, sym}
+use Rattle.std.proofs.Common.{◌∙◌, [], ap, subst, sym}
 use Rattle.std.specs.Prelude.{IfSome, map}
 use Rattle.line_model.specs.packets.Classes.{packet_of}
 use Rattle.line_model.specs.basics.Records.{Row, Item}

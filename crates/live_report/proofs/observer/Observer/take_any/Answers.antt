@@ -8,7 +8,6 @@ use Rattle.restart_epochs.specs.Cutting.{given_of}
 use Rattle.restart_epochs.specs.Walks.{IsAdvanced}
 use Rattle.restart_epochs.proofs.Listings.{listing}
 use Rattle.live_report.specs.LastRows.{IsLastRow, KnowsLast}
-use Rattle.live_report.specs.Observing.{AreRows}
 use Rattle.live_report.specs.Turns.{MayTurn, StandsAt}
 use Rattle.live_report.proofs.FindingLemmas.{finds_after}
 use Rattle.live_report.proofs.LastLemmas.{last_known}
