@@ -10,4 +10,6 @@ mod channels;
 #[cfg(test)]
 mod checks;
 #[cfg(test)]
+mod sequences;
+#[cfg(test)]
 mod windows;
