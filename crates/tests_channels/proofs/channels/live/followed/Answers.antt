@@ -28,7 +28,7 @@ told_of-requires g c =
     record {
       stands = (
         record p { items = c.loop-item.yielded ++ c.in-Some.item ∷ [] },
-        subst (λ t. StandsFor g.C.Channel.interface_of g.C.Channel.number_of g.C.Channel.stands_for c.take-finding.new.self (record p { items = c.loop-item.yielded ++ t ∷ [] })) c.with_octets-item.ensures
+        subst (λ t. StandsFor g.C.Channel.interface_of g.C.Channel.number_of g.C.Channel.stands_for c.take.new.self (record p { items = c.loop-item.yielded ++ t ∷ [] })) c.with_octets-item.ensures
             (c.in_ok-finding.ensures.stands (record p { items = c.loop-item.yielded }) c.loop-item.invariant.stands (subst (λ t. IsPiece p.interface p.channel (c.loop-item.yielded ++ t ∷ [])) (sym c.with_octets-item.ensures) room)),
       );
     }
@@ -39,7 +39,7 @@ loop-item-preserved g c =
     let whole : IsPiece p.interface p.channel p.items = subst (λ q. IsPiece q.interface q.channel q.items) c.piece.view_is c.piece.invariant in
     let room = next_item p.interface p.channel p.items c.loop-item.yielded _ c.next.new.self c.in-Some.item _ whole c.loop-item.invariant.left c.in-Some.ensures.steps refl in
     record {
-      stands = subst (λ t. StandsFor g.C.Channel.interface_of g.C.Channel.number_of g.C.Channel.stands_for c.take-finding.new.self (record p { items = c.loop-item.yielded ++ t ∷ [] })) c.with_octets-item.ensures
+      stands = subst (λ t. StandsFor g.C.Channel.interface_of g.C.Channel.number_of g.C.Channel.stands_for c.take.new.self (record p { items = c.loop-item.yielded ++ t ∷ [] })) c.with_octets-item.ensures
           (c.in_ok-finding.ensures.stands (record p { items = c.loop-item.yielded }) c.loop-item.invariant.stands (subst (λ t. IsPiece p.interface p.channel (c.loop-item.yielded ++ t ∷ [])) (sym c.with_octets-item.ensures) room));
       left = c.loop-item.invariant.left ∙ ap (λ l. c.loop-item.yielded ++ l) c.in-Some.ensures.steps ∙ sym (append_assoc c.loop-item.yielded (c.in-Some.item ∷ []) c.next.new.self);
     }
