@@ -1,9 +1,10 @@
 #!/usr/bin/env python3
 """manual_page.py [--check]: writes docs/x25scan.1, docs/x25trace.1 and docs/x25page.1.
 
-That of x25scan is made of the words of crates/command_line and the table of crates/explanations, those of
-x25trace and x25page of their help. With --check it writes nothing, and says where a page is another one, where the help has other exit statuses
-than the table, and where the version names another logic than `rt version`. The last line is 'N passed, M failed'.
+It makes the page of x25scan from the words of crates/command_line and the table of crates/explanations, and those of
+x25trace and x25page from their help. With --check it writes nothing. It says where a page differs, where the help has other
+exit statuses than the table, and where the version names another logic than `rt version`. The last line is 'N passed, M
+failed'.
 """
 import re
 import subprocess

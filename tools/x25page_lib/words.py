@@ -10,20 +10,20 @@ from .told import Why
 REASONS = ", ".join(why.value for why in (*TraceWhy, *Why))
 NAMES_OF_PAGES = """\
 Without -o the page is NAME.html in the current folder, for a file NAME or NAME.pcap, and nothing else is written. It is
-one file: a browser shows it from the disk, and it asks no network for anything. A page that stands there is written
-anew; another file of that name is not."""
+one file: a browser shows it from the disk, and it asks no network for anything. It replaces a page of that name, but no
+other file."""
 EPILOG = f"""
 examples:
   x25page day.pcap                      writes day.html, of XOT, LAPB or X.25 in a pcap, pcapng or snoop file
   x25page --win 2 --size 128 day.pcap   the same under a header with these numbers
-  x25page -o friday.html day.trace      of a trace, under another name
+  x25page -o friday.html day.trace      a page of a trace, under another name
   x25page day.pcap0 day.pcap1           the files of a rotated capture, in their order
 
 {NAMES_OF_PAGES}
 
 exit status:
   0   the page is written, and no packet may be missing
-  1   the page is written, but the capture is damaged or packets are missing: standard error and the page tell which
+  1   the page is written, but the capture is damaged or packets are missing: standard error and the page say which
   2   there is no page: the reason has a name ({REASONS})
   3   reading or writing failed
   64  the command line was refused
@@ -43,12 +43,12 @@ def parser():
     )
     words.add_argument("captures", metavar="CAPTURE", nargs="+",
                        help="a trace; or a capture, or files of a rotated one in their order; - for standard input")
-    words.add_argument("-o", dest="page", metavar="OUT", help="the file of the page, else NAME.html")
+    words.add_argument("-o", dest="page", metavar="OUT", help="the file of the page, by default NAME.html")
     words.add_argument("--scanner", metavar="PROGRAM",
-                       help="the x25scan that is asked, else bin/x25scan beside this program")
+                       help="the x25scan to run, by default bin/x25scan next to this program")
     reading_words(words.add_argument_group("reading of a capture"))
     side_words(words.add_argument_group("sides of a capture"))
-    header_words(words.add_argument_group("header of a capture, else estimated from what was seen"))
+    header_words(words.add_argument_group("header of a capture, by default estimated from what was seen"))
     return words
 
 

@@ -29,7 +29,7 @@ examples:
   x25trace xot.pcapng > xot.trace && x25scan < xot.trace
   x25trace --dte 192.0.2.7 --win 2 --size 128 xot.pcap | x25scan
   x25trace --as 147=lapb line.pcap      a user link type that holds LAPB
-  x25trace --as x25 debug.txt           a hex dump of packets, its lines before each one saying I or O
+  x25trace --as x25 debug.txt           a hex dump of packets, with a line I or O before each
   tcpdump -U -w - | x25trace --mod 8 --win 2 --size 128 --pvc 0 --svc 64 - | x25scan --follow
   x25trace day.pcap0 day.pcap1          the files of a rotated capture, in their order
 
@@ -37,7 +37,7 @@ kinds of --as: {', '.join(KINDS)}
 
 exit status:
   0   the trace is written, and no packet may be missing
-  1   the trace is written, but the capture is damaged or packets are missing: standard error tells which
+  1   the trace is written, but the capture is damaged or packets are missing: standard error says which
   2   there is no trace: the reason has a name ({', '.join(why.value for why in Why)})
   3   reading or writing failed
   64  the command line was refused
@@ -103,39 +103,39 @@ def parser():
     words.add_argument("captures", metavar="CAPTURE", nargs="+",
                        help="the file, or files of a rotated capture in their order; - for standard input")
     words.add_argument("--times", action="store_true",
-                       help="a comment '#@ SECONDS' before each row: the time of its frame, since 1970 (UTC)")
+                       help="write a comment '#@ SECONDS' before each row: the time of its frame, since 1970 (UTC)")
     words.add_argument("--comments", metavar="OUT",
-                       help="instead of the trace write the capture again, to this pcapng file, with what x25scan "
-                       "finds as comments of its frames")
+                       help="write this pcapng file in place of the trace: the capture, with what x25scan finds as "
+                       "comments of its frames")
     words.add_argument("--scanner", metavar="PROGRAM",
-                       help="the x25scan of --comments, else bin/x25scan beside this program")
+                       help="the x25scan that --comments runs, by default bin/x25scan next to this program")
     reading_words(words.add_argument_group("reading"))
     side_words(words.add_argument_group("sides"))
-    header_words(words.add_argument_group("header, else estimated from what was seen"))
+    header_words(words.add_argument_group("header, by default estimated from what was seen"))
     return words
 
 
 def reading_words(group):
     group.add_argument("--as", dest="kinds", metavar="[LINKTYPE=]KIND", type=kind, action="append", default=[],
-                       help="what frames of a link type hold, or those of a hex dump and of all unknown link types")
-    group.add_argument("--only", choices=[one.value for one in Carrier], help="leave out what other carriers carry")
+                       help="what the frames of a link type hold, or those of a hex dump and of all unknown link types")
+    group.add_argument("--only", choices=[one.value for one in Carrier], help="read only what this carrier carries")
     group.add_argument("--interface", metavar="N", type=number(0, 65_535), action="append", default=[],
-                       help="only this interface of a pcapng file, from 0; may be repeated")
+                       help="read only this interface of a pcapng file, from 0; may be repeated")
     group.add_argument("--port", metavar="N", type=number(1, 65_535), action="append", default=[],
                        help=f"a TCP port of XOT, instead of {XOT_PORT}; may be repeated")
     group.add_argument("--lapb-modulo", dest="link_modulus", type=int, choices=(8, 128),
-                       help="how LAPB counts its frames; else SABM and SABME tell, and 8 before them")
+                       help="how LAPB counts its frames; by default as SABM and SABME say, and modulo 8 before them")
 
 
 def side_words(group):
     group.add_argument("--dte", metavar="ADDRESS", type=address,
-                       help="the host of XOT that is the DTE, else the one that opens each connection")
+                       help="the XOT host that is the DTE, by default the one that opens each connection")
     group.add_argument("--side", choices=[one.value for one in SideBy], default=SideBy.ADDRESS.value,
-                       help="what tells the side of a LAPB frame (address)")
+                       help="what decides the side of a LAPB frame, by default its address")
     group.add_argument("--sender", metavar="N=dte|dce", type=sender, action="append", default=[],
-                       help="who sends the packets that an interface recorded; may be repeated")
+                       help="the side that sends the packets recorded by an interface; may be repeated")
     group.add_argument("--swap", action="store_true",
-                       help="the DTE and the DCE the other way round: the recording host is the DCE")
+                       help="exchange the sides: the recording host is the DCE")
 
 
 def header_words(group):
