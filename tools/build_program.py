@@ -77,7 +77,7 @@ def chains(below):
 
 
 def form(name):
-    """The file of a built library that tells when its build began."""
+    """The file of a built library that says when its build began."""
     return LIBRARIES / f"{name}.rlib" / "format"
 
 
@@ -181,7 +181,7 @@ class Build:
         return min(MOST_JOBS, max(idle // len(ready), 1), 1 + max(free - MEMORY, 0) // MORE_MEMORY) if idle else 0
 
     def work(self, name, jobs):
-        """Proves one library, and tells that it is done."""
+        """Proves one library, and reports that it is done."""
         is_proved, said = prove(name, jobs)
         with self.turn:
             del self.running[name]

@@ -39,7 +39,7 @@ class Process:
 
     @property
     def key(self):
-        """What tells a process from others, and from what it was before it began to run another program."""
+        """What distinguishes a process from others, and from what it was before it began to run another program."""
         return self.number, self.started, tuple(self.words)
 
 

@@ -1,4 +1,4 @@
-"""What makes a header doubtful: errors of both sides, those the DCE went on after, and those that it alone tells of."""
+"""What makes a header doubtful: errors of both sides, those the DCE went on after, and those that only the DCE shows."""
 import json
 from dataclasses import dataclass
 
@@ -145,7 +145,7 @@ def of_debts(header, debts):
 
 
 def of_unseen(header, debts):
-    """Sentences on errors that the DCE alone tells of."""
+    """Sentences on errors that only the DCE shows."""
     for code, (first, many) in debts.unseen.items():
         words = words_of(header, HIDDEN[code])
         yield HIDDEN[code], (

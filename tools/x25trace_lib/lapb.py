@@ -6,7 +6,7 @@ What the recorder knows of one direction, on the circle of the sequence numbers:
     .....|#################|.......
            repeats           held: either the receiver refuses them, or frames before them were not recorded
 
-An N(R) of the other side beyond next tells that the receiver took frames that were not recorded.
+An N(R) of the other side beyond next shows that the receiver took frames that were not recorded.
 """
 import enum
 from dataclasses import dataclass
@@ -38,7 +38,7 @@ NAMES = {kind.value: kind.name for kind in Unnumbered}
 
 
 class SideBy(enum.Enum):
-    """What tells the side of a LAPB frame first."""
+    """What decides the side of a LAPB frame first."""
 
     ADDRESS = "address"
     DIRECTION = "direction"

@@ -99,7 +99,7 @@ class Pcap:
             self.damage(start, f"the file ends inside of a record's header, {len(header)} octets are left out")
 
     def seek(self, what):
-        """Goes to the next place where records may begin again, and tells how far it was."""
+        """Goes to the next place where records may begin again, and reports how far it was."""
         start = self.source.offset
         while True:
             window = self.source.peek(WINDOW)

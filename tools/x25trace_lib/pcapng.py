@@ -120,7 +120,7 @@ class Pcapng:
             self.damage(start, f"the file ends inside of a block's head, {len(head)} octets are left out")
 
     def seek(self, start, what):
-        """Goes to the next place where a block stands whole, and tells how far it was."""
+        """Goes to the next place with a whole block, and reports how far it was."""
         while True:
             window = self.source.peek(WINDOW)
             at = next((at for at in range(4, len(window) - SMALLEST + 1, 4) if self.stands(window, at)), None)

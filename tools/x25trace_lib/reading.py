@@ -141,7 +141,7 @@ class Reading:
         return (Packet(frame.number, side, octets[at:], None, frame.time),)
 
     def side(self, frame):
-        """The host that recorded is the DTE; or the interface tells who sends on it."""
+        """The host that recorded is the DTE; or the interface says which side sends on it."""
         if frame.interface in self.choices.senders:
             return self.choices.senders[frame.interface]
         side = {Direction.SENT: Side.T, Direction.RECEIVED: Side.N}.get(frame.direction)

@@ -23,8 +23,8 @@ ENDS = SYN | FIN | RST
 SEGMENT_COST = 512
 MOST_OF_ONE = 1 << 20
 MOST_OF_ALL = 1 << 26
-# How many segments wait for octets that were acknowledged, and for those of which nothing tells, where only one
-# direction was recorded.
+# How many segments wait for octets that were acknowledged, and, where only one direction was recorded, for octets of
+# which nothing is known.
 PATIENCE = 8
 PATIENCE_ONE_WAY = 64
 # An acknowledgement further ahead than this is a damage.

@@ -93,7 +93,7 @@ def nobody(_words):
 
 
 class Ledger:
-    """Counts what is left out and tells what is wrong: the trace keeps all of it, standard error the first few."""
+    """Counts what is left out and says what is wrong: the trace keeps all of it, standard error the first few."""
 
     # Messages of one topic on standard error: a capture that is read as the wrong kind has one for each frame.
     MOST_SAID = 5
@@ -122,7 +122,7 @@ class Ledger:
             self.say("more messages like the last one are not shown; a trace has them as comments")
 
     def damaged(self, reason, words, many=1):
-        """Counts a damage and tells it."""
+        """Counts a damage and reports it."""
         self.counts[reason] += many
         self.tell(reason, words)
 
