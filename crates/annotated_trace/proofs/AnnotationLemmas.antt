@@ -8,7 +8,7 @@ use Rattle.line_model.specs.declared.fault.Fault.{Fault}
 use Rattle.line_model.specs.declared.fault.Fault.TheVariants.{Trace}
 use Rattle.line_model.specs.declared.finding.Finding.{Finding}
 use Rattle.line_model.specs.declared.totals.Summary.{Summary}
-use Rattle.trace_text.specs.Watched.{found_in}
+use Rattle.trace_text.specs.ObserverAnswers.{found_in}
 use Rattle.annotated_trace.specs.Annotation.{Annotated, AreComments, AreMarked, IsAnnotatedLine, IsAnnotation, IsAnnotationOf, IsMarked, IsMarkedWhere, IsUnmarked, all_lines, bare_lines, with_comments}
 use Rattle.annotated_trace.specs.Annotators.{HasFirstOf, IsAnnotated}
 use Rattle.annotated_trace.specs.Marking.{HasRightComments, HaveMarksOf, IsToldRightly}

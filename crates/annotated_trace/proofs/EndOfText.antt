@@ -21,7 +21,7 @@ use Rattle.line_model.proofs.LineLemmas.{size_kind-zero}
 use Rattle.annotated_trace.specs.Printed.{HasTaken, StopsClosing}
 use Rattle.annotated_trace.specs.Printers.{HasFirstPrintOf, HasPrinted, IsCloseRefusal, IsEndRefusal, IsFirstOfClosing, IsFirstOfLines, IsFull, IsPrinted}
 use Rattle.trace_text.specs.StandsFor.{IsFaultOf}
-use Rattle.trace_text.specs.Watched.{IsReportOf}
+use Rattle.trace_text.specs.ObserverAnswers.{IsReportOf}
 use Rattle.trace_text.proofs.EndLemmas.{one_line, one_kind, fault-last, head-sound, rows-all}
 use Rattle.annotated_trace.proofs.PrintLemmas.{some_same}
 use Rattle.line_model.proofs.DeviceLemmas.{with_more-append}

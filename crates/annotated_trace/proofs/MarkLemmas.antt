@@ -5,7 +5,7 @@ use Rattle.line_model.specs.observer.Report.{report_of}
 use Rattle.line_model.specs.text.Text.{Line, fault, head, head_of, lines_of, rows, rows_in}
 use Rattle.line_model.specs.declared.finding.Finding.{Finding}
 use Rattle.line_model.specs.declared.interface.Interface.{Interface}
-use Rattle.trace_text.specs.Watched.{found_in}
+use Rattle.trace_text.specs.ObserverAnswers.{found_in}
 use Rattle.annotated_trace.specs.Annotation.{Annotated, AreMarked, AreMarksOf, all_lines, bare_lines, is_mark, marks_in}
 use Rattle.annotated_trace.specs.declared.rows.Rows.TheVariants.{All}
 use Rattle.annotated_trace.specs.Laws.{MarksLaw}

@@ -16,13 +16,13 @@ use Rattle.annotated_trace.proofs.PrintLemmas.{before_begun, before_line, first_
 use Rattle.line_model.proofs.DeviceLemmas.{with_more-append}
 
 -- some first bytes of a chunk were fed, and what is printed grew with them
-pub record Passed {A W P : Type 0} (S : W → P → List ℕ → Type 0) (F : List Line → List ℕ → Type 0) (a0 a : TracePrinter A W P) (taken0 taken : Option (List ℕ)) (chunk rest : List ℕ) : Type 0 where
+pub record Passed {A O P : Type 0} (S : O → P → List ℕ → Type 0) (F : List Line → List ℕ → Type 0) (a0 a : TracePrinter A O P) (taken0 taken : Option (List ℕ)) (chunk rest : List ℕ) : Type 0 where
   pub fed : List ℕ
   pub whole : chunk ≡ fed ++ rest
   pub stands : (x : List ℕ) → WasFed S a0 x → WasFed S a (x ++ fed)
   pub printed : (x : List ℕ) (before : Option (List ℕ)) → WasFed S a0 x → HasPrinted F before taken0 a0.held.items (ended_lines x) → HasPrinted F before taken a.held.items (ended_lines (x ++ fed))
 
-pub nothing_passed : {A W P : Type 0} → (S : W → P → List ℕ → Type 0) (F : List Line → List ℕ → Type 0) (a : TracePrinter A W P) (taken : Option (List ℕ)) (chunk : List ℕ) → Passed S F a a taken taken chunk chunk
+pub nothing_passed : {A O P : Type 0} → (S : O → P → List ℕ → Type 0) (F : List Line → List ℕ → Type 0) (a : TracePrinter A O P) (taken : Option (List ℕ)) (chunk : List ℕ) → Passed S F a a taken taken chunk chunk
 nothing_passed S F a taken chunk = record {
   fed = [];
   whole = refl;
@@ -50,10 +50,10 @@ printed_line F before taken taken2 held held1 held2 x y sent step t put h = reco
   lines = subst (F (ended_lines y)) (ap (λ xs. h.sent ++ xs) (sym put) ∙ sym (append_assoc h.sent sent held2)) (step h.sent h.lines);
 }
 
-same_read : {A W P : Type 0} → (S : W → P → List ℕ → Type 0) (a1 a2 : TracePrinter A W P) (x : List ℕ) → a2.trace ≡ a1.trace → a2.printer ≡ a1.printer → S a1.trace a1.printer x → S a2.trace a2.printer x
+same_read : {A O P : Type 0} → (S : O → P → List ℕ → Type 0) (a1 a2 : TracePrinter A O P) (x : List ℕ) → a2.trace ≡ a1.trace → a2.printer ≡ a1.printer → S a1.trace a1.printer x → S a2.trace a2.printer x
 same_read S a1 a2 x t d h = subst (λ w. S w a2.printer x) (sym t) (subst (λ y. S a1.trace y x) (sym d) h)
 
-pub line_passed : {A W P : Type 0} → (S : W → P → List ℕ → Type 0) (F : List Line → List ℕ → Type 0) (a0 a a1 a2 : TracePrinter A W P) (taken0 taken taken2 : Option (List ℕ)) (chunk rest front back end sent : List ℕ) → Passed S F a0 a taken0 taken chunk rest → rest ≡ front ++ 10 ∷ back
+pub line_passed : {A O P : Type 0} → (S : O → P → List ℕ → Type 0) (F : List Line → List ℕ → Type 0) (a0 a a1 a2 : TracePrinter A O P) (taken0 taken taken2 : Option (List ℕ)) (chunk rest front back end sent : List ℕ) → Passed S F a0 a taken0 taken chunk rest → rest ≡ front ++ 10 ∷ back
     → end ≡ front ++ 10 ∷ [] → IsOneLine front → ((x front : List ℕ) → WasFed S a x → end ≡ front ++ 10 ∷ [] → IsOneLine front → WasFed S a1 (x ++ end))
     → ((x front sent : List ℕ) → WasFed S a x → end ≡ front ++ 10 ∷ [] → IsOneLine front → F (ended_lines x) (sent ++ a.held.items) → F (ended_lines (x ++ end)) (sent ++ a1.held.items))
     → a2.trace ≡ a1.trace → a2.printer ≡ a1.printer → a2.begun.items ≡ a1.begun.items → taken2 ≡ with_more taken sent → sent ++ a2.held.items ≡ a1.held.items → Passed S F a0 a2 taken0 taken2 chunk back
@@ -73,14 +73,14 @@ line_passed S F a0 a a1 a2 taken0 taken taken2 chunk rest front back end sent p 
 chunk_behind : (x fed end back chunk : List ℕ) → chunk ≡ (fed ++ end) ++ back → x ++ chunk ≡ ((x ++ fed) ++ end) ++ back
 chunk_behind x fed end back chunk w = ap (λ c. x ++ c) w ∙ sym (append_assoc x (fed ++ end) back) ∙ ap (λ c. c ++ back) (sym (append_assoc x fed end))
 
-pub line_refusal : {A W P : Type 0} → (S : W → P → List ℕ → Type 0) (F : List Line → List ℕ → Type 0) (a0 a : TracePrinter A W P) (taken0 taken : Option (List ℕ)) (chunk rest front back end x : List ℕ) (f : Fault) → (p : Passed S F a0 a taken0 taken chunk rest) → rest ≡ front ++ 10 ∷ back
+pub line_refusal : {A O P : Type 0} → (S : O → P → List ℕ → Type 0) (F : List Line → List ℕ → Type 0) (a0 a : TracePrinter A O P) (taken0 taken : Option (List ℕ)) (chunk rest front back end x : List ℕ) (f : Fault) → (p : Passed S F a0 a taken0 taken chunk rest) → rest ≡ front ++ 10 ∷ back
     → end ≡ front ++ 10 ∷ [] → IsFaultOf (early ((x ++ p.fed) ++ end)) f → IsRefusalOf (early (x ++ chunk)) f
 line_refusal S F a0 a taken0 taken chunk rest front back end x Memory p e k h = tt
 line_refusal S F a0 a taken0 taken chunk rest front back end x (Trace line kind) p e k h =
     ap early (chunk_behind x p.fed end back chunk (behind_line p.fed front back rest end chunk p.whole e k)) ∙ early-append ((x ++ p.fed) ++ end) back (line, kind) h
 line_refusal S F a0 a taken0 taken chunk rest front back end x _ p e k h = absurd h
 
-pub rest_refusal : {A W P : Type 0} → (S : W → P → List ℕ → Type 0) (F : List Line → List ℕ → Type 0) (a0 a : TracePrinter A W P) (taken0 taken : Option (List ℕ)) (chunk rest x : List ℕ) (f : Fault) → (p : Passed S F a0 a taken0 taken chunk rest) → IsFaultOf (early ((x ++ p.fed) ++ rest)) f → IsRefusalOf (early (x ++ chunk)) f
+pub rest_refusal : {A O P : Type 0} → (S : O → P → List ℕ → Type 0) (F : List Line → List ℕ → Type 0) (a0 a : TracePrinter A O P) (taken0 taken : Option (List ℕ)) (chunk rest x : List ℕ) (f : Fault) → (p : Passed S F a0 a taken0 taken chunk rest) → IsFaultOf (early ((x ++ p.fed) ++ rest)) f → IsRefusalOf (early (x ++ chunk)) f
 rest_refusal S F a0 a taken0 taken chunk rest x Memory p h = tt
 rest_refusal S F a0 a taken0 taken chunk rest x (Trace line kind) p h = ap early (ap (λ c. x ++ c) p.whole ∙ sym (append_assoc x p.fed rest)) ∙ h
 rest_refusal S F a0 a taken0 taken chunk rest x _ p h = absurd h
@@ -88,7 +88,7 @@ rest_refusal S F a0 a taken0 taken chunk rest x _ p h = absurd h
 other_held : (F : List Line → List ℕ → Type 0) (before taken : Option (List ℕ)) (held other : List ℕ) (ls : List (List ℕ)) → other ≡ held → HasPrinted F before taken held ls → HasPrinted F before taken other ls
 other_held F before taken held other ls e h = subst (λ k. HasPrinted F before taken k ls) (sym e) h
 
-pub line_stopped : {A W P : Type 0} → (S : W → P → List ℕ → Type 0) (F : List Line → List ℕ → Type 0) (a0 a : TracePrinter A W P) (taken0 taken before : Option (List ℕ)) (chunk rest front back end x held : List ℕ) (f : Fault) → (p : Passed S F a0 a taken0 taken chunk rest) → rest ≡ front ++ 10 ∷ back
+pub line_stopped : {A O P : Type 0} → (S : O → P → List ℕ → Type 0) (F : List Line → List ℕ → Type 0) (a0 a : TracePrinter A O P) (taken0 taken before : Option (List ℕ)) (chunk rest front back end x held : List ℕ) (f : Fault) → (p : Passed S F a0 a taken0 taken chunk rest) → rest ≡ front ++ 10 ∷ back
     → end ≡ front ++ 10 ∷ [] → IsOneLine front → WasFed S a0 x → early (x ++ p.fed) ≡ None → HasPrinted F before taken0 a0.held.items (ended_lines x) → IsFaultOf (early ((x ++ p.fed) ++ end)) f → (f ≢ Memory → held ≡ a.held.items)
     → IsStoppedAt F before taken held (ended_lines (x ++ chunk)) f
 line_stopped S F a0 a taken0 taken before chunk rest front back end x held Memory p e k one s sound h fault same =
@@ -100,13 +100,13 @@ line_stopped S F a0 a taken0 taken before chunk rest front back end x held (Trac
     (subst (λ ls. HasPrinted F before taken a.held.items ls) (sym lines) (p.printed x before s h))
 line_stopped S F a0 a taken0 taken before chunk rest front back end x held _ p e k one s sound h fault same = absurd fault
 
-pub rest_printed : {A W P : Type 0} → (S : W → P → List ℕ → Type 0) (F : List Line → List ℕ → Type 0) (a0 a : TracePrinter A W P) (taken0 taken before : Option (List ℕ)) (chunk rest x held : List ℕ) → (p : Passed S F a0 a taken0 taken chunk rest) → IsOneLine rest → WasFed S a0 x
+pub rest_printed : {A O P : Type 0} → (S : O → P → List ℕ → Type 0) (F : List Line → List ℕ → Type 0) (a0 a : TracePrinter A O P) (taken0 taken before : Option (List ℕ)) (chunk rest x held : List ℕ) → (p : Passed S F a0 a taken0 taken chunk rest) → IsOneLine rest → WasFed S a0 x
     → HasPrinted F before taken0 a0.held.items (ended_lines x) → held ≡ a.held.items → HasPrinted F before taken held (ended_lines (x ++ chunk))
 rest_printed S F a0 a taken0 taken before chunk rest x held p one s h same =
     let lines : ended_lines (x ++ chunk) ≡ ended_lines (x ++ p.fed) = ap (λ c. ended_lines (x ++ c)) p.whole ∙ ap ended_lines (sym (append_assoc x p.fed rest)) ∙ ended-more (x ++ p.fed) rest one in
     other_held F before taken a.held.items held (ended_lines (x ++ chunk)) same (subst (λ ls. HasPrinted F before taken a.held.items ls) (sym lines) (p.printed x before s h))
 
-pub rest_stopped : {A W P : Type 0} → (S : W → P → List ℕ → Type 0) (F : List Line → List ℕ → Type 0) (a0 a : TracePrinter A W P) (taken0 taken before : Option (List ℕ)) (chunk rest x held : List ℕ) (f : Fault) → (p : Passed S F a0 a taken0 taken chunk rest) → IsOneLine rest → WasFed S a0 x
+pub rest_stopped : {A O P : Type 0} → (S : O → P → List ℕ → Type 0) (F : List Line → List ℕ → Type 0) (a0 a : TracePrinter A O P) (taken0 taken before : Option (List ℕ)) (chunk rest x held : List ℕ) (f : Fault) → (p : Passed S F a0 a taken0 taken chunk rest) → IsOneLine rest → WasFed S a0 x
     → early (x ++ p.fed) ≡ None → HasPrinted F before taken0 a0.held.items (ended_lines x) → held ≡ a.held.items → IsFaultOf (early ((x ++ p.fed) ++ rest)) f → IsStoppedAt F before taken held (ended_lines (x ++ chunk)) f
 rest_stopped S F a0 a taken0 taken before chunk rest x held Memory p one s sound h same fault =
     subst (λ y. HasFirstPrint F before taken (ended_lines y)) (sym (ap (λ c. x ++ c) p.whole ∙ sym (append_assoc x p.fed rest))) (first_of F before taken a.held.items (x ++ p.fed) rest (p.printed x before s h))
@@ -160,7 +160,7 @@ line_part F before taken taken2 held front left ls (Trace line kind) e h split t
 line_part F before taken taken2 held front left ls _ e h split t = absurd (let bad : false ≡ true = e in cc)
 
 -- what was held is much, and the sink failed
-pub much_stopped : {A W P : Type 0} → (S : W → P → List ℕ → Type 0) (F : List Line → List ℕ → Type 0) (a0 a1 : TracePrinter A W P) (taken0 taken taken2 before : Option (List ℕ)) (chunk back x held front left : List ℕ) (f : Fault) → (q : Passed S F a0 a1 taken0 taken chunk back) → WasFed S a0 x
+pub much_stopped : {A O P : Type 0} → (S : O → P → List ℕ → Type 0) (F : List Line → List ℕ → Type 0) (a0 a1 : TracePrinter A O P) (taken0 taken taken2 before : Option (List ℕ)) (chunk back x held front left : List ℕ) (f : Fault) → (q : Passed S F a0 a1 taken0 taken chunk back) → WasFed S a0 x
     → HasPrinted F before taken0 a0.held.items (ended_lines x) → a1.held.items ≡ front ++ left → taken2 ≡ with_more taken front → f ≡ Write → IsStoppedAt F before taken2 held (ended_lines (x ++ chunk)) f
 much_stopped S F a0 a1 taken0 taken taken2 before chunk back x held front left f q s h split t w =
     let part = sent_part F before taken taken2 a1.held.items front left (ended_lines (x ++ q.fed)) (q.printed x before s h) split t in

@@ -17,16 +17,16 @@ use Rattle.annotated_trace.proofs.PassedLemmas.{all_first}
 none_taken : (F : List Line → List ℕ → Type 0) (taken : Option (List ℕ)) → F [] [] → HasPrinted F taken taken [] (ended_lines [])
 none_taken F taken nothing = record { sent = []; taken_is = sym (with_more-nil taken); lines = nothing }
 
-pub nothing_written : {A W P : Type 0} (S : W → P → List ℕ → Type 0) (size : W → ℕ) (F : List Line → List ℕ → Type 0) (taken : Option (List ℕ)) (n : ℕ) (t : TracePrinter A W P) → F [] [] → WasFed S t [] → t.held.items ≡ [] → size t.trace ≡ 0 → HasWritten S size F taken taken n n [] t
+pub nothing_written : {A O P : Type 0} (S : O → P → List ℕ → Type 0) (size : O → ℕ) (F : List Line → List ℕ → Type 0) (taken : Option (List ℕ)) (n : ℕ) (t : TracePrinter A O P) → F [] [] → WasFed S t [] → t.held.items ≡ [] → size t.trace ≡ 0 → HasWritten S size F taken taken n n [] t
 nothing_written S size F taken n t nothing s h none = record { fed = s; printed = none_taken F taken nothing; none_held = h; rising = omega arith; sound = early-nothing; sized = none }
 
 -- what the printer's clauses are asked with
-pub held_of : {A W P : Type 0} (S : W → P → List ℕ → Type 0) (size : W → ℕ) (F : List Line → List ℕ → Type 0) (before taken : Option (List ℕ)) (x y : ℕ) (text : List ℕ) (t : TracePrinter A W P) → HasWritten S size F before taken x y text t → HasPrinted F before taken t.held.items (ended_lines text)
+pub held_of : {A O P : Type 0} (S : O → P → List ℕ → Type 0) (size : O → ℕ) (F : List Line → List ℕ → Type 0) (before taken : Option (List ℕ)) (x y : ℕ) (text : List ℕ) (t : TracePrinter A O P) → HasWritten S size F before taken x y text t → HasPrinted F before taken t.held.items (ended_lines text)
 held_of S size F before taken x y text t w = subst (λ h. HasPrinted F before taken h (ended_lines text)) (sym w.none_held) w.printed
 
 -- ---- one more chunk
 
-pub more_written : {A W P T : Type 0} (S : W → P → List ℕ → Type 0) (size : W → ℕ) (F : List Line → List ℕ → Type 0) (r : Result T Fault) (before taken next : Option (List ℕ)) (x y z : ℕ) (text bytes : List ℕ) (a b : TracePrinter A W P) → HasWritten S size F before taken x y text a → OnOk r (WasFed S b (text ++ bytes))
+pub more_written : {A O P T : Type 0} (S : O → P → List ℕ → Type 0) (size : O → ℕ) (F : List Line → List ℕ → Type 0) (r : Result T Fault) (before taken next : Option (List ℕ)) (x y z : ℕ) (text bytes : List ℕ) (a b : TracePrinter A O P) → HasWritten S size F before taken x y text a → OnOk r (WasFed S b (text ++ bytes))
     → OnOk r (HasPrinted F before next [] (ended_lines (text ++ bytes))) → OnOk r (b.held.items ≡ []) → y ≤ z → (WasFed S b (text ++ bytes) → early (text ++ bytes) ≡ None) → (WasFed S b (text ++ bytes) → size b.trace ≡ length (text ++ bytes)) → OnOk r (HasWritten S size F before next x z (text ++ bytes) b)
 more_written S size F (Err e) before taken next x y z text bytes a b w s h none rises sound sized = tt
 more_written S size F (Ok u) before taken next x y z text bytes a b w s h none rises sound sized = record {
@@ -38,7 +38,7 @@ more_written S size F (Ok u) before taken next x y z text bytes a b w s h none r
   sized = sized s;
 }
 
-pub chunk_refused : {A W P T : Type 0} (S : W → P → List ℕ → Type 0) (size : W → ℕ) (F : List Line → List ℕ → Type 0) (r : Result T Fault) (before taken next : Option (List ℕ)) (x y z : ℕ) (text last : List ℕ) (a : TracePrinter A W P) → HasWritten S size F before taken x y text a → y ≤ z
+pub chunk_refused : {A O P T : Type 0} (S : O → P → List ℕ → Type 0) (size : O → ℕ) (F : List Line → List ℕ → Type 0) (r : Result T Fault) (before taken next : Option (List ℕ)) (x y z : ℕ) (text last : List ℕ) (a : TracePrinter A O P) → HasWritten S size F before taken x y text a → y ≤ z
     → IfErr r (IsRefusalOf (early (text ++ last))) → IfErr r (λ f. HasFirstPrint F before next (ended_lines (text ++ last))) → (z ≡ y → IfErr r (HasPrintBefore F before next (ended_lines (text ++ last)))) → IfErr r IsPrinterFault → (r ≡ Err Write → y < z) → IfErr r (IsRefusedAfter F before next x z text last)
 chunk_refused S size F (Ok u) before taken next x y z text last a w rises refusal first all kinds failed = tt
 chunk_refused S size F (Err f) before taken next x y z text last a w rises refusal first all kinds failed = record {
@@ -65,13 +65,13 @@ read_refusal given bytes Write sound few h = decided_before given bytes sound fe
 read_refusal given bytes _ sound few h = absurd h
 
 -- what stops a printer: the source failed, or it refused what the source gave last
-abbrev pub IsPrinterStop : {A W P : Type 0} (S : W → P → List ℕ → Type 0) (size : W → ℕ) (F : List Line → List ℕ → Type 0) (before taken : Option (List ℕ)) (x z : ℕ) (t : TracePrinter A W P) (fed last : List ℕ) → Fault → Type 0
+abbrev pub IsPrinterStop : {A O P : Type 0} (S : O → P → List ℕ → Type 0) (size : O → ℕ) (F : List Line → List ℕ → Type 0) (before taken : Option (List ℕ)) (x z : ℕ) (t : TracePrinter A O P) (fed last : List ℕ) → Fault → Type 0
 IsPrinterStop S size F before taken x z t fed last f = HasFailed (λ text. HasWritten S size F before taken x z text t) fed last f ⊎ IsRefusedAfter F before taken x z fed last f
 
 stop_failed : (F : List Line → List ℕ → Type 0) (given : List ℕ) (before taken : Option (List ℕ)) (well : Type 0) → early given ≡ None → HasPrinted F before taken [] (ended_lines given) → StopsReading F given before taken well Read
 stop_failed F given before taken well sound h = record { refusal = sound; first = all_first F before taken [] (ended_lines given) h; at_line = λ w. tt }
 
-stop_is : {A W P : Type 0} (S : W → P → List ℕ → Type 0) (size : W → ℕ) (F : List Line → List ℕ → Type 0) (before taken : Option (List ℕ)) (x z : ℕ) (t : TracePrinter A W P) (fed last : List ℕ) (f : Fault) → early fed ≡ None → length last ≤ 2 ^ 16 → IsPrinterStop S size F before taken x z t fed last f
+stop_is : {A O P : Type 0} (S : O → P → List ℕ → Type 0) (size : O → ℕ) (F : List Line → List ℕ → Type 0) (before taken : Option (List ℕ)) (x z : ℕ) (t : TracePrinter A O P) (fed last : List ℕ) (f : Fault) → early fed ≡ None → length last ≤ 2 ^ 16 → IsPrinterStop S size F before taken x z t fed last f
     → StopsReading F (fed ++ last) before taken (z ≡ x) f
 stop_is S size F before taken x z t fed last f sound few (inl why) =
     subst (StopsReading F (fed ++ last) before taken (z ≡ x)) (sym why.failure)
@@ -79,10 +79,10 @@ stop_is S size F before taken x z t fed last f sound few (inl why) =
 stop_is S size F before taken x z t fed last f sound few (inr why) = record { refusal = read_refusal fed last f sound few why.refusal; first = why.first; at_line = why.at_line }
 
 -- by what a reader of the source says
-abbrev pub IsWrittenUpTo : {A W P : Type 0} (S : W → P → List ℕ → Type 0) (size : W → ℕ) (F : List Line → List ℕ → Type 0) (left after asked before taken : Option (List ℕ)) (x z : ℕ) (t : TracePrinter A W P) → Fault → Type 0
+abbrev pub IsWrittenUpTo : {A O P : Type 0} (S : O → P → List ℕ → Type 0) (size : O → ℕ) (F : List Line → List ℕ → Type 0) (left after asked before taken : Option (List ℕ)) (x z : ℕ) (t : TracePrinter A O P) → Fault → Type 0
 IsWrittenUpTo S size F left after asked before taken x z t f = IsFedUpTo left after asked (λ text. HasWritten S size F before taken x z text t) (IsRefusedAfter F before taken x z) f
 
-pub reading_stops : {A W P : Type 0} (S : W → P → List ℕ → Type 0) (size : W → ℕ) (F : List Line → List ℕ → Type 0) (has_first : List ℕ → Option (List ℕ) → Option (List ℕ) → Type 0) (left after asked before taken : Option (List ℕ)) (x z : ℕ) (t : TracePrinter A W P) (f : Fault)
+pub reading_stops : {A O P : Type 0} (S : O → P → List ℕ → Type 0) (size : O → ℕ) (F : List Line → List ℕ → Type 0) (has_first : List ℕ → Option (List ℕ) → Option (List ℕ) → Type 0) (left after asked before taken : Option (List ℕ)) (x z : ℕ) (t : TracePrinter A O P) (f : Fault)
     → IsWrittenUpTo S size F left after asked before taken x z t f → StopsPrinting F has_first left after asked before taken (z ≡ x) f
 reading_stops S size F has_first left after asked before taken x z t f u = record {
   given = u.fed ++ u.last;
@@ -97,11 +97,11 @@ printing_fault (Trace line kind) h = tt
 printing_fault Write h = tt
 printing_fault _ h = absurd h
 
-pub stop_kinds : {A W P : Type 0} (S : W → P → List ℕ → Type 0) (size : W → ℕ) (F : List Line → List ℕ → Type 0) (before taken : Option (List ℕ)) (x z : ℕ) (t : TracePrinter A W P) (fed last : List ℕ) (f : Fault) → IsPrinterStop S size F before taken x z t fed last f → IsPrintingFault f
+pub stop_kinds : {A O P : Type 0} (S : O → P → List ℕ → Type 0) (size : O → ℕ) (F : List Line → List ℕ → Type 0) (before taken : Option (List ℕ)) (x z : ℕ) (t : TracePrinter A O P) (fed last : List ℕ) (f : Fault) → IsPrinterStop S size F before taken x z t fed last f → IsPrintingFault f
 stop_kinds S size F before taken x z t fed last f (inl why) = subst IsPrintingFault (sym why.failure) tt
 stop_kinds S size F before taken x z t fed last f (inr why) = printing_fault f why.kinds
 
-pub stop_write : {A W P : Type 0} (S : W → P → List ℕ → Type 0) (size : W → ℕ) (F : List Line → List ℕ → Type 0) (before taken : Option (List ℕ)) (x z : ℕ) (t : TracePrinter A W P) (fed last : List ℕ) (f : Fault) → IsPrinterStop S size F before taken x z t fed last f → f ≡ Write → x < z
+pub stop_write : {A O P : Type 0} (S : O → P → List ℕ → Type 0) (size : O → ℕ) (F : List Line → List ℕ → Type 0) (before taken : Option (List ℕ)) (x z : ℕ) (t : TracePrinter A O P) (fed last : List ℕ) (f : Fault) → IsPrinterStop S size F before taken x z t fed last f → f ≡ Write → x < z
 stop_write S size F before taken x z t fed last f (inl why) w = absurd (let same : Read ≡ Write = sym why.failure ∙ w in cc)
 stop_write S size F before taken x z t fed last f (inr why) w = why.failed w
 

@@ -5,8 +5,8 @@ use Rattle.line_model.specs.observer.Report.{finding_line}
 use Rattle.line_model.specs.text.Text.{Line, is_comment, is_lf, line_limit, lines_of}
 use Rattle.line_model.specs.traces.Traces.{text}
 use Rattle.line_model.specs.declared.finding.Finding.{Finding}
-use Rattle.trace_text.specs.Watched.{found_in}
-use Rattle.annotated_trace.specs.Rows.{is_told_line}
+use Rattle.trace_text.specs.ObserverAnswers.{found_in}
+use Rattle.annotated_trace.specs.Rows.{is_chosen_line}
 use Rattle.annotated_trace.specs.declared.rows.Rows.{Rows}
 use Rattle.annotated_trace.specs.declared.rows.Rows.TheVariants.{All, Chosen}
 
@@ -82,7 +82,7 @@ IsMarkedWhere false before a = a.comments ≡ []
 -- so it is with every line where all rows are told of; else with exactly the lines of those that are chosen
 abbrev pub IsMarked : Rows → (before : List Line) → Annotated → Type 0
 IsMarked All before a = HasItsMarks before a
-IsMarked (Chosen channel call) before a = IsMarkedWhere (is_told_line (Chosen channel call) before a.line) before a
+IsMarked (Chosen channel call) before a = IsMarkedWhere (is_chosen_line (Chosen channel call) before a.line) before a
 
 -- of lines that stand behind others
 abbrev pub AreMarked : Rows → (before : List Line) → List Annotated → Type 0

@@ -8,16 +8,16 @@ use Rattle.line_model.specs.declared.totals.Summary.{Summary}
 use Rattle.annotated_trace.specs.Annotation.{IsAnnotation, IsAnnotationOf}
 use Rattle.annotated_trace.specs.Printers.{HasFirstPrint, HasPrintBefore, HasPrinted, IsPrinterFault}
 use Rattle.annotated_trace.specs.declared.rows.Rows.{Rows}
-use Rattle.annotated_trace.specs.declared.describer.Describer.{Ghosts as Teller}
-use Rattle.trace_text.specs.declared.watcher.Watcher.{Ghosts as Reader}
+use Rattle.annotated_trace.specs.declared.describer.Describer.{Ghosts as Describing}
+use Rattle.trace_text.specs.declared.trace_observer.TraceObserver.{Ghosts as TraceObserver}
 use Rattle.annotated_trace.specs.declared.annotator.Annotator.{Annotator}
 
--- a trace was fed this text, and a describer that tells of these rows has described its lines
-abbrev pub HasRead : {A W D : Type 0} → Reader W A → Teller D A W → W → D → Rows → (text : List ℕ) → Type 0
+-- a trace was fed this text, and a describer that describes these rows has described its lines
+abbrev pub HasRead : {A O D : Type 0} → TraceObserver O A → Describing D A O → O → D → Rows → (text : List ℕ) → Type 0
 HasRead reader teller w d choice text = reader.stands_for w text × teller.described d (ended_lines text) × (teller.rows d ≡ choice)
 
 -- it was fed this text, and refused none of it
-pub record StandsFor {A W D : Type 0} (stands_for : W → D → Rows → List ℕ → Type 0) (a : Annotator A W D) (text : List ℕ) : Type 0 where
+pub record StandsFor {A O D : Type 0} (stands_for : O → D → Rows → List ℕ → Type 0) (a : Annotator A O D) (text : List ℕ) : Type 0 where
   pub trace : stands_for a.printing.trace a.printing.printer.describer a.choice text
   pub begun : a.printing.begun.items ≡ begun_line text
 

@@ -7,7 +7,7 @@ use Rattle.line_model.specs.declared.finding.Code.{Code}
 use Rattle.line_model.specs.declared.finding.Code.TheVariants.{Number, Pad}
 use Rattle.line_model.specs.declared.finding.Finding.{Finding}
 use Rattle.annotated_trace.specs.Annotation.{AreComments, AreMarksOf, IsComment, IsMarkOf, explained, marks_in}
-use Rattle.annotated_trace.specs.Rows.{is_told_line}
+use Rattle.annotated_trace.specs.Rows.{is_chosen_line}
 use Rattle.annotated_trace.specs.declared.rows.Rows.{Rows}
 use Rattle.annotated_trace.specs.declared.rows.Rows.TheVariants.{All, Chosen}
 
@@ -55,7 +55,7 @@ pub record HasCommentsOf (choice : Rows) (told : Bool) (findings : List Finding)
 -- what a describer says of the line after others: where rows are chosen, whether it is told of
 abbrev pub IsToldRightly : Rows → (before : List Line) → Line → (told : Bool) → Type 0
 IsToldRightly All before l told = Unit {0}
-IsToldRightly (Chosen channel call) before l told = told ≡ is_told_line (Chosen channel call) before l
+IsToldRightly (Chosen channel call) before l told = told ≡ is_chosen_line (Chosen channel call) before l
 
 -- the comments behind the line after others, which is told of or not, were appended to bytes
 abbrev pub HasRightComments : (choice : Rows) (before : List Line) → Line → List Finding → (bytes bytes_after : List ℕ) → Type 0

@@ -9,36 +9,36 @@ use Rattle.line_model.specs.declared.fault.Fault.TheVariants.{Memory, Trace, Wri
 use Rattle.line_model.specs.declared.fault.Kind.{Kind}
 use Rattle.line_model.specs.declared.fault.Kind.TheVariants.{TextLarge}
 use Rattle.line_model.specs.declared.totals.Summary.{Summary}
-use Rattle.trace_text.specs.Watched.{IsReportOf}
+use Rattle.trace_text.specs.ObserverAnswers.{IsReportOf}
 use Rattle.annotated_trace.specs.Printed.{IsPrintOf}
 use Rattle.annotated_trace.specs.declared.rows.Rows.{Rows}
 use Rattle.annotated_trace.specs.declared.printer.Printer.{Ghosts as Printing}
-use Rattle.trace_text.specs.declared.watcher.Watcher.{Ghosts as Reader}
+use Rattle.trace_text.specs.declared.trace_observer.TraceObserver.{Ghosts as TraceObserver}
 use Rattle.annotated_trace.specs.declared.printing.TracePrinter.{TracePrinter}
 
 -- a trace was fed this text, and a printer of these rows has printed its lines
-abbrev pub HasFollowed : {A W P : Type 0} → Reader W A → Printing P A W → Rows → W → P → (text : List ℕ) → Type 0
+abbrev pub HasFollowed : {A O P : Type 0} → TraceObserver O A → Printing P A O → Rows → O → P → (text : List ℕ) → Type 0
 HasFollowed reader printing choice w p text = reader.stands_for w text × printing.printed p (ended_lines text) × (printing.rows p ≡ choice)
 
 -- it was fed this text, and refused none of it
-pub record WasFed {A W P : Type 0} (followed : W → P → List ℕ → Type 0) (t : TracePrinter A W P) (text : List ℕ) : Type 0 where
+pub record WasFed {A O P : Type 0} (followed : O → P → List ℕ → Type 0) (t : TracePrinter A O P) (text : List ℕ) : Type 0 where
   pub trace : followed t.trace t.printer text
   pub begun : t.begun.items ≡ begun_line text
 
 -- it was fed some text, and refused none of it
-abbrev pub IsFed : {A W P : Type 0} → Reader W A → Printing P A W → TracePrinter A W P → Type 0
+abbrev pub IsFed : {A O P : Type 0} → TraceObserver O A → Printing P A O → TracePrinter A O P → Type 0
 IsFed reader printing t = (choice : Rows) × (text : List ℕ) × WasFed (HasFollowed reader printing choice) t text
 
 -- of any rows that were asked for, and any text that it was fed
-abbrev pub OfFed : {A W P : Type 0} → Reader W A → Printing P A W → TracePrinter A W P → (Rows → List ℕ → Type 0) → Type 0
+abbrev pub OfFed : {A O P : Type 0} → TraceObserver O A → Printing P A O → TracePrinter A O P → (Rows → List ℕ → Type 0) → Type 0
 OfFed reader printing t Fact = (choice : Rows) (text : List ℕ) → WasFed (HasFollowed reader printing choice) t text → Fact choice text
 
 -- of any text that it was fed: it was fed that text with the chunk
-abbrev pub IsFedOn : {A W P T E : Type 0} → Reader W A → Printing P A W → (before : TracePrinter A W P) → (chunk : List ℕ) → (after : TracePrinter A W P) → Result T E → Type 0
+abbrev pub IsFedOn : {A O P T E : Type 0} → TraceObserver O A → Printing P A O → (before : TracePrinter A O P) → (chunk : List ℕ) → (after : TracePrinter A O P) → Result T E → Type 0
 IsFedOn reader printing before chunk after result = OfFed reader printing before (λ choice text. OnOk result (WasFed (HasFollowed reader printing choice) after (text ++ chunk)))
 
 -- the bytes are the print of some lines, of these rows
-abbrev pub PrintOf : {A W P : Type 0} → Printing P A W → Rows → List Line → List ℕ → Type 0
+abbrev pub PrintOf : {A O P : Type 0} → Printing P A O → Rows → List Line → List ℕ → Type 0
 PrintOf printing choice = IsPrintOf (printing.form choice) []
 
 -- a sink that had `before` took, with what is held, the print of some lines
@@ -48,7 +48,7 @@ pub record HasPrinted (is_print : List Line → List ℕ → Type 0) (before tak
   pub lines : is_print ls (sent ++ held)
 
 -- of any text so, and any sink that took, with what is held, the print of the lines that ended
-abbrev pub OfPrinted : {A W P : Type 0} → Reader W A → Printing P A W → TracePrinter A W P → (taken : Option (List ℕ)) → (Rows → List ℕ → Option (List ℕ) → Type 0) → Type 0
+abbrev pub OfPrinted : {A O P : Type 0} → TraceObserver O A → Printing P A O → TracePrinter A O P → (taken : Option (List ℕ)) → (Rows → List ℕ → Option (List ℕ) → Type 0) → Type 0
 OfPrinted reader printing t taken Fact = (choice : Rows) (text : List ℕ) (before : Option (List ℕ)) → WasFed (HasFollowed reader printing choice) t text → HasPrinted (PrintOf printing choice) before taken t.held.items (ended_lines text) → Fact choice text before
 
 -- it took a first part of the print of the first ones of some lines

@@ -19,7 +19,7 @@ IsPrintingFault _ = ⊥
 
 -- a printer of a trace was fed a text, and the sink has the print of the lines that ended; it failed `old` times before, and `now` times by
 -- then
-pub record HasWritten {A W P : Type 0} (followed : W → P → List ℕ → Type 0) (size : W → ℕ) (is_print : List Line → List ℕ → Type 0) (before taken : Option (List ℕ)) (old now : ℕ) (text : List ℕ) (t : TracePrinter A W P) : Type 0 where
+pub record HasWritten {A O P : Type 0} (followed : O → P → List ℕ → Type 0) (size : O → ℕ) (is_print : List Line → List ℕ → Type 0) (before taken : Option (List ℕ)) (old now : ℕ) (text : List ℕ) (t : TracePrinter A O P) : Type 0 where
   pub fed : WasFed followed t text
   pub printed : HasPrinted is_print before taken [] (ended_lines text)
   pub none_held : t.held.items ≡ []

@@ -1,4 +1,4 @@
--- Which rows of a trace are told of.
+-- Which rows of a trace are described.
 use Rattle.std.specs.Prelude.{ℕ, Bool, true, false, ◌==◌, ◌&&◌, ◌||◌, not, is_none, List, [], ◌∷◌, ◌++◌, Option, None, Some, if◌then◌else◌}
 use Rattle.std.specs.List.{enumerate_from, list_any}
 use Rattle.line_model.specs.basics.Records.{CallRecord, Row}
@@ -47,25 +47,25 @@ abbrev pub asked_call : Rows → ℕ
 asked_call (Chosen channel (Some n)) = n
 asked_call _ = 0
 
--- whether a row is told of: all are, or those of a logical channel and of a call, where they are named
-abbrev pub tells : Rows → Packet → (of_call : Bool) → Bool
-tells All packet of_call = true
-tells (Chosen channel None) packet of_call = names_asked channel packet
-tells (Chosen channel (Some n)) packet of_call = names_asked channel packet && of_call
+-- whether a row is described: all are, or those of a logical channel and of a call, where they are named
+abbrev pub chooses : Rows → Packet → (of_call : Bool) → Bool
+chooses All packet of_call = true
+chooses (Chosen channel None) packet of_call = names_asked channel packet
+chooses (Chosen channel (Some n)) packet of_call = names_asked channel packet && of_call
 
--- whether a row, after others, is told of
-abbrev pub is_told : Rows → Interface → (before : List Row) → Row → Bool
-is_told rows i before r = tells rows (packet_of i r.octets) (is_of_call i before r (asked_call rows))
+-- whether a row, after others, is described
+abbrev pub is_chosen : Rows → Interface → (before : List Row) → Row → Bool
+is_chosen rows i before r = chooses rows (packet_of i r.octets) (is_of_call i before r (asked_call rows))
 
 -- the row that a line writes after others, if it writes one
 abbrev pub row_written : (before : List Line) → Line → Option Row
 row_written before l = if has_header before && not (is_comment l) then row_of l else None
 
--- whether that row is told of
-abbrev pub is_told_if : Rows → Option Interface → (before : List Row) → Option Row → Bool
-is_told_if rows (Some i) before (Some r) = is_told rows i before r
-is_told_if rows _ before _ = false
+-- whether that row is described
+abbrev pub is_chosen_if : Rows → Option Interface → (before : List Row) → Option Row → Bool
+is_chosen_if rows (Some i) before (Some r) = is_chosen rows i before r
+is_chosen_if rows _ before _ = false
 
--- whether the line after others writes a row that is told of
-abbrev pub is_told_line : Rows → (before : List Line) → Line → Bool
-is_told_line rows before l = is_told_if rows (head_of before) (rows_in before) (row_written before l)
+-- whether the line after others writes a row that is described
+abbrev pub is_chosen_line : Rows → (before : List Line) → Line → Bool
+is_chosen_line rows before l = is_chosen_if rows (head_of before) (rows_in before) (row_written before l)

@@ -10,19 +10,19 @@ use line_model::device::{Sink, Source};
 use line_model::fault::Fault;
 use line_model::totals::Summary;
 use std::alloc::Allocator;
-use trace_text::watcher::Watcher;
+use trace_text::trace_observer::TraceObserver;
 
 /// Writes a trace again that a source gives, each line with its comments as soon as its LF was read, and answers the last
 /// line of its report as numbers. It refuses by the first faulty line as soon as it is known, and has written the lines
 /// before it; where a device fails; for want of memory; and as `Annotator::end`.
-pub fn annotate<A: Allocator + Copy, W: Watcher<A>, D: Describer<A, W>, S: Source, K: Sink>(
+pub fn annotate<A: Allocator + Copy, O: TraceObserver<A>, D: Describer<A, O>, S: Source, K: Sink>(
     alloc: A,
-    trace: W,
+    trace: O,
     describer: D,
     source: &mut S,
     sink: &mut K,
 ) -> Result<Summary, Fault>
-    requires fresh { W.stands_for trace [] }
+    requires fresh { O.stands_for trace [] }
     // The source gave a text without a fault, and the sink took an annotation of it, of exactly the rows that the
     // describer chooses.
     ensures annotated { IfOk result (Annotates (D.rows describer) (S.left source.old)

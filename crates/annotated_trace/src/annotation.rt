@@ -2,7 +2,7 @@
 
 ghost use Rattle.annotated_trace.specs.Annotation.{IsAnnotatedLine, IsUnmarked};
 
-use crate::commenting::{Scratch, append_comments};
+use crate::commenting::{CommentRoom, append_comments};
 use crate::describer::Describer;
 use crate::page::ClosingPage;
 use crate::printer::Printer;
@@ -11,13 +11,13 @@ use line_model::fault::Fault;
 use line_model::lending::LentSink;
 use line_model::report::Report;
 use std::alloc::{AllocError, Allocator};
-use trace_text::watcher::Watcher;
+use trace_text::trace_observer::TraceObserver;
 
 /// Prints each line as it was, with comments after it, and comments after the last line.
 #[derive(Drop)]
 pub struct Annotation<A: Allocator, D: Drop> {
     describer: D,
-    scratch: Scratch<A>,
+    room: CommentRoom<A>,
 }
 
 impl<A: Allocator + Copy, D: Drop> Annotation<A, D> {
@@ -29,12 +29,13 @@ impl<A: Allocator + Copy, D: Drop> Annotation<A, D> {
     {
         Annotation {
             describer,
-            scratch: Scratch::new(alloc),
+            room: CommentRoom::new(alloc),
         }
     }
 }
 
-impl<A: Allocator + Copy, W: Watcher<A>, D: Describer<A, W>> Printer<A, W> for Annotation<A, D> {
+impl<A: Allocator + Copy, O: TraceObserver<A>, D: Describer<A, O>> Printer<A, O>
+    for Annotation<A, D> {
     ghost printed = { λ annotation. D.described annotation.describer };
 
     ghost rows = { λ annotation. D.rows annotation.describer };
@@ -51,10 +52,10 @@ impl<A: Allocator + Copy, W: Watcher<A>, D: Describer<A, W>> Printer<A, W> for A
         self.describer.begin()
     }
 
-    fn print(&mut self, trace: &W, line: &[u8], out: &mut Vec<u8, A>) -> Result<(), AllocError> {
+    fn print(&mut self, trace: &O, line: &[u8], out: &mut Vec<u8, A>) -> Result<(), AllocError> {
         out.extend_from_slice(line)?;
         let choice = self.describer.rows();
-        append_comments(trace, choice, &mut self.describer, &mut self.scratch, out)
+        append_comments(trace, choice, &mut self.describer, &mut self.room, out)
     }
 
     fn close<S: LentSink>(&mut self, report: &Report<A>, sink: S) -> (S, Result<(), Fault>) {

@@ -13,10 +13,10 @@ use line_model::report::Report;
 use line_model::totals::Summary;
 use std::alloc::Allocator;
 use std::marker::Brand;
-use trace_text::watcher::Watcher;
+use trace_text::trace_observer::TraceObserver;
 
 /// As `write_closing`, to the sink of an origin.
-fn write_to<'a, A: Allocator, W: Watcher<A>, P: Printer<A, W>, K: Sink, B: Origin>(
+fn write_to<'a, A: Allocator, O: TraceObserver<A>, P: Printer<A, O>, K: Sink, B: Origin>(
     report: &Report<A>,
     printer: &mut P,
     sink: &'a mut K,
@@ -36,7 +36,7 @@ fn write_to<'a, A: Allocator, W: Watcher<A>, P: Printer<A, W>, K: Sink, B: Origi
 }
 
 /// Gives a sink what comes after the last line of a text. Where the sink fails it took a first part of it.
-fn write_closing<A: Allocator, W: Watcher<A>, P: Printer<A, W>, K: Sink>(
+fn write_closing<A: Allocator, O: TraceObserver<A>, P: Printer<A, O>, K: Sink>(
     report: &Report<A>,
     printer: &mut P,
     sink: &mut K,
@@ -48,14 +48,14 @@ fn write_closing<A: Allocator, W: Watcher<A>, P: Printer<A, W>, K: Sink>(
     ensures cause { OnErr result (K.failures sink.old < K.failures sink.new) }
     ensures write { IfErr result (λ fault. fault ≡ Fault.Write) }
 {
-    let (sink, answer) = write_to::<A, W, P, K, Brand>(report, printer, sink);
+    let (sink, answer) = write_to::<A, O, P, K, Brand>(report, printer, sink);
     take_back(sink);
     answer
 }
 
 /// Gives a sink what is held, and what comes after the last line of a text; returns the last line of the report as
 /// numbers. Where the sink fails it took a first part of them.
-pub fn send_closing<A: Allocator, W: Watcher<A>, P: Printer<A, W>, K: Sink>(
+pub fn send_closing<A: Allocator, O: TraceObserver<A>, P: Printer<A, O>, K: Sink>(
     report: &Report<A>,
     printer: &mut P,
     held: &mut Vec<u8, A>,

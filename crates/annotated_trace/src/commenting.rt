@@ -1,4 +1,4 @@
-//! The comments behind a line.
+//! The comments after a line.
 
 ghost use Rattle.std.specs.Prelude.{◌≡◌, ℕ, ◌++◌, ◌∷◌, [], List, OnOk};
 ghost use Rattle.line_model.specs.text.Text.{Line, ended_lines};
@@ -9,19 +9,19 @@ use crate::marks::append_mark;
 use crate::notes::{Notes, Words};
 use crate::rows::Rows;
 use std::alloc::{AllocError, Allocator};
-use trace_text::watcher::Watcher;
+use trace_text::trace_observer::TraceObserver;
 
 /// Room for the words of comments, which is used again.
 #[derive(Drop)]
-pub struct Scratch<A: Allocator> {
+pub struct CommentRoom<A: Allocator> {
     notes: Notes<A>,
     words: Words<A>,
 }
 
-impl<A: Allocator + Copy> Scratch<A> {
+impl<A: Allocator + Copy> CommentRoom<A> {
     /// Room in which nothing was said. It takes no memory.
     pub fn new(alloc: A) -> Self {
-        Scratch {
+        CommentRoom {
             notes: Notes::new(alloc),
             words: Words::new(alloc),
         }
@@ -29,13 +29,13 @@ impl<A: Allocator + Copy> Scratch<A> {
 }
 
 /// Appends the marks of what the last line found.
-fn append_marks<A: Allocator + Copy, W: Watcher<A>, D: Describer<A, W>>(
-    trace: &W,
+fn append_marks<A: Allocator + Copy, O: TraceObserver<A>, D: Describer<A, O>>(
+    trace: &O,
     describer: &mut D,
     words: &mut Words<A>,
     out: &mut Vec<u8, A>,
 ) -> Result<(), AllocError>
-    ensures marks { OnOk result (HasMarksOf (W.last_found trace.now) out.old.items out.new.items) }
+    ensures marks { OnOk result (HasMarksOf (O.last_found trace.now) out.old.items out.new.items) }
     ensures described { (lines : List Line) → D.described describer.old lines
         → D.described describer.new lines }
     ensures rows { D.rows describer.new ≡ D.rows describer.old }
@@ -49,33 +49,33 @@ fn append_marks<A: Allocator + Copy, W: Watcher<A>, D: Describer<A, W>>(
     Ok(())
 }
 
-/// Appends the comments behind the last line.
-pub fn append_comments<A: Allocator + Copy, W: Watcher<A>, D: Describer<A, W>>(
-    trace: &W,
+/// Appends the comments after the last line.
+pub fn append_comments<A: Allocator + Copy, O: TraceObserver<A>, D: Describer<A, O>>(
+    trace: &O,
     choice: Rows,
     describer: &mut D,
-    scratch: &mut Scratch<A>,
+    room: &mut CommentRoom<A>,
     out: &mut Vec<u8, A>,
 ) -> Result<(), AllocError>
     ensures comments { (before : List Line) (line : Line) (text : List ℕ)
         → D.described describer.old before → D.rows describer.old ≡ choice
-        → W.stands_for trace.now text → ended_lines text ≡ before ++ line ∷ []
+        → O.stands_for trace.now text → ended_lines text ≡ before ++ line ∷ []
         → OnOk result (HasRightComments choice before line
-        (W.last_found trace.now) out.old.items out.new.items) }
+        (O.last_found trace.now) out.old.items out.new.items) }
     ensures described { (before : List Line) (line : Line) (text : List ℕ)
-        → D.described describer.old before → W.stands_for trace.now text
+        → D.described describer.old before → O.stands_for trace.now text
         → ended_lines text ≡ before ++ line ∷ []
         → OnOk result (D.described describer.new (before ++ line ∷ [])) }
     ensures rows { D.rows describer.new ≡ D.rows describer.old }
 {
-    scratch.notes.clear();
-    let told = describer.describe(trace, &mut scratch.notes)?;
+    room.notes.clear();
+    let told = describer.describe(trace, &mut room.notes)?;
     match (told, choice) {
         (true, _) => {
-            scratch.notes.append_to(out)?;
-            append_marks(trace, describer, &mut scratch.words, out)
+            room.notes.append_to(out)?;
+            append_marks(trace, describer, &mut room.words, out)
         }
-        (false, Rows::All) => append_marks(trace, describer, &mut scratch.words, out),
+        (false, Rows::All) => append_marks(trace, describer, &mut room.words, out),
         (false, Rows::Chosen { .. }) => Ok(()),
     }
 }

@@ -7,11 +7,11 @@ use line_model::finding::Finding;
 use line_model::lending::LentSink;
 use line_model::report::Report;
 use std::alloc::{AllocError, Allocator};
-use trace_text::watcher::Watcher;
+use trace_text::trace_observer::TraceObserver;
 
 /// Finds the words of an annotated trace, and knows which rows are told of. What it says is free: `Notes`, `Words` and
-/// `ClosingPage` keep the form. `W` is the trace that it reads of, as `Live<A, C>`.
-pub trait Describer<A: Allocator, W: Watcher<A>>: Drop {
+/// `ClosingPage` keep the form. `O` is the trace that it reads of, as `Live<A, C>`.
+pub trait Describer<A: Allocator, O: TraceObserver<A>>: Drop {
     ghost use Rattle.std.specs.Prelude.{◌≡◌, ℕ, ◌++◌, ◌∷◌, [], List, IfOk, OnOk};
     ghost use Rattle.line_model.specs.text.Text.{Line, ended_lines};
     ghost use Rattle.annotated_trace.specs.Marking.{IsToldRightly};
@@ -34,13 +34,13 @@ pub trait Describer<A: Allocator, W: Watcher<A>>: Drop {
 
     /// Says what a line did, which the trace has just taken, and whether it writes a row that is told of: where it does
     /// not, what was said is left out.
-    fn describe(&mut self, trace: &W, notes: &mut Notes<A>) -> Result<bool, AllocError>
+    fn describe(&mut self, trace: &O, notes: &mut Notes<A>) -> Result<bool, AllocError>
         ensures told { (before : List Line) (line : Line) (text : List ℕ)
-            → described self.old before → W.stands_for trace.now text
+            → described self.old before → O.stands_for trace.now text
             → ended_lines text ≡ before ++ line ∷ []
             → IfOk result (IsToldRightly (rows self.old) before line) }
         ensures described { (before : List Line) (line : Line) (text : List ℕ)
-            → described self.old before → W.stands_for trace.now text
+            → described self.old before → O.stands_for trace.now text
             → ended_lines text ≡ before ++ line ∷ []
             → OnOk result (described self.new (before ++ line ∷ [])) }
         ensures rows { rows self.new ≡ rows self.old };
@@ -49,7 +49,7 @@ pub trait Describer<A: Allocator, W: Watcher<A>>: Drop {
     /// mark.
     fn explain(
         &mut self,
-        trace: &W,
+        trace: &O,
         finding: &Finding,
         words: &mut Words<A>,
     ) -> Result<(), AllocError>

@@ -21,7 +21,7 @@ fn append_number<A: Allocator>(number: u32, out: &mut Vec<u8, A>) -> Result<(), 
     out.extend_from_slice(buffer.format(number).as_bytes())
 }
 
-/// Appends a code as the report tells it.
+/// Appends a code as the report writes it.
 fn append_code<A: Allocator>(code: Code, out: &mut Vec<u8, A>) -> Result<(), AllocError>
     ensures ok { OnOk result (out.new.items ≡ out.old.items ++ code_word code) }
     ensures fits { IsCode code }
@@ -32,7 +32,7 @@ fn append_code<A: Allocator>(code: Code, out: &mut Vec<u8, A>) -> Result<(), All
     }
 }
 
-/// Appends a finding as the report tells it.
+/// Appends a finding as the report writes it.
 fn append_finding<A: Allocator>(finding: &Finding, out: &mut Vec<u8, A>) -> Result<(), AllocError>
     ensures ok { OnOk result (out.new.items ≡ out.old.items ++ finding_words finding.now) }
     ensures packet { OnOk result (finding.now.packet < 2 ^ 32) }

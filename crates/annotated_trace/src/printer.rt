@@ -5,14 +5,14 @@ use line_model::fault::Fault;
 use line_model::lending::LentSink;
 use line_model::report::Report;
 use std::alloc::{AllocError, Allocator};
-use trace_text::watcher::Watcher;
+use trace_text::trace_observer::TraceObserver;
 
-/// Prints the lines of a trace, and what comes after the last one. `W` is the trace that it reads of, as `Live<A, C>`.
-pub trait Printer<A: Allocator, W: Watcher<A>>: Drop {
+/// Prints the lines of a trace, and what comes after the last one. `O` is the trace that it reads of, as `Live<A, C>`.
+pub trait Printer<A: Allocator, O: TraceObserver<A>>: Drop {
     ghost use Rattle.std.specs.Prelude.{◌≡◌, ◌<◌, ℕ, ◌++◌, ◌∷◌, [], List, IfErr, OnErr, OnOk};
     ghost use Rattle.line_model.specs.basics.Records.{Report as AnyReport};
     ghost use Rattle.line_model.specs.text.Text.{Line, ended_lines};
-    ghost use Rattle.trace_text.specs.Watched.{found_in};
+    ghost use Rattle.trace_text.specs.ObserverAnswers.{found_in};
     ghost use Rattle.annotated_trace.specs.Printed.{HasAppended, HasTaken, HasTakenFirst};
     ghost use Rattle.annotated_trace.specs.declared.rows.Rows.{Rows as AnyRows};
 
@@ -38,17 +38,17 @@ pub trait Printer<A: Allocator, W: Watcher<A>>: Drop {
         ensures rows { rows self.new ≡ rows self.old };
 
     /// Appends what the last line becomes, which the trace has just taken. `line` is its bytes with the LF.
-    fn print(&mut self, trace: &W, line: &[u8], out: &mut Vec<u8, A>) -> Result<(), AllocError>
+    fn print(&mut self, trace: &O, line: &[u8], out: &mut Vec<u8, A>) -> Result<(), AllocError>
         ensures form { (before : List Line) (l : Line) (text : List ℕ)
-            → printed self.old before → W.stands_for trace.now text
+            → printed self.old before → O.stands_for trace.now text
             → ended_lines text ≡ before ++ l ∷ []
-            → found_in (before ++ l ∷ []) ≡ found_in before ++ W.last_found trace.now
+            → found_in (before ++ l ∷ []) ≡ found_in before ++ O.last_found trace.now
             → line.now ≡ l ++ 10 ∷ [] → OnOk result
             (HasAppended (form (rows self.old) before l) out.old.items out.new.items) }
         ensures printed { (before : List Line) (l : Line) (text : List ℕ)
-            → printed self.old before → W.stands_for trace.now text
+            → printed self.old before → O.stands_for trace.now text
             → ended_lines text ≡ before ++ l ∷ []
-            → found_in (before ++ l ∷ []) ≡ found_in before ++ W.last_found trace.now
+            → found_in (before ++ l ∷ []) ≡ found_in before ++ O.last_found trace.now
             → line.now ≡ l ++ 10 ∷ [] → OnOk result (printed self.new (before ++ l ∷ [])) }
         ensures rows { rows self.new ≡ rows self.old };
 

@@ -4,7 +4,7 @@ ghost use Rattle.std.specs.Prelude.{◌≡◌, ◌≢◌, ℕ, ◌+◌, ◌<◌,
 ghost use Rattle.line_model.specs.text.Text.{Line, begun_line, early, ended_lines};
 ghost use Rattle.line_model.specs.declared.fault.Fault.TheVariants.{Memory};
 ghost use Rattle.trace_text.specs.StandsFor.{IsFaultOf, IsTextFault};
-ghost use Rattle.trace_text.specs.Watched.{found_in};
+ghost use Rattle.trace_text.specs.ObserverAnswers.{found_in};
 ghost use Rattle.annotated_trace.specs.Annotation.{IsOneLine};
 ghost use Rattle.annotated_trace.specs.Printed.{HasAppended, IsPrintOf};
 ghost use Rattle.annotated_trace.specs.Printers.{HasFirstPrint, HasFirstPrintOf, HasFollowed, HasPrintBefore, HasPrinted, IsCloseRefusal, IsEndRefusal, IsFed, IsFedOn, IsPrinted, IsPrinterFault, IsRefusalOf, IsStoppedAt, OfFed, OfPrinted, PrintOf, WasFed, is_line};
@@ -20,7 +20,7 @@ use line_model::totals::Summary;
 use std::alloc::{AllocError, Allocator};
 use trace_text::consumer::{Consumer, read_to_end};
 use trace_text::cuts::split_at_byte;
-use trace_text::watcher::Watcher;
+use trace_text::trace_observer::TraceObserver;
 
 /// Whether a fault is that of a line.
 fn is_line(fault: Fault) -> bool
@@ -41,8 +41,8 @@ fn is_line(fault: Fault) -> bool
 ///
 /// After a refusal it is of no further use.
 #[derive(Drop)]
-pub struct TracePrinter<A: Allocator, W: Drop, P: Drop> {
-    trace: W,
+pub struct TracePrinter<A: Allocator, O: Drop, P: Drop> {
+    trace: O,
     printer: P,
     /// What stands after the last LF.
     begun: Vec<u8, A>,
@@ -50,11 +50,11 @@ pub struct TracePrinter<A: Allocator, W: Drop, P: Drop> {
     held: Vec<u8, A>,
 }
 
-impl<A: Allocator + Copy, W: Watcher<A>, P: Printer<A, W>> TracePrinter<A, W, P> {
+impl<A: Allocator + Copy, O: TraceObserver<A>, P: Printer<A, O>> TracePrinter<A, O, P> {
     /// A trace of which nothing was fed. It takes no memory.
-    pub fn new(alloc: A, trace: W, mut printer: P) -> Self
-        requires fresh { W.stands_for trace [] }
-        ensures fed { WasFed (HasFollowed W.Watcher P.Printer (P.rows printer)) result [] }
+    pub fn new(alloc: A, trace: O, mut printer: P) -> Self
+        requires fresh { O.stands_for trace [] }
+        ensures fed { WasFed (HasFollowed O.TraceObserver P.Printer (P.rows printer)) result [] }
         ensures held { result.held.items ≡ [] }
     {
         printer.begin();
@@ -69,16 +69,16 @@ impl<A: Allocator + Copy, W: Watcher<A>, P: Printer<A, W>> TracePrinter<A, W, P>
     /// Holds what a line becomes that the trace has just taken, by its end with the LF.
     fn print_line(&mut self, end: &[u8]) -> Result<(), AllocError>
         ensures form { (before : List Line) (l : Line) (text : List ℕ)
-            → P.printed self.old.printer before → W.stands_for self.old.trace text
+            → P.printed self.old.printer before → O.stands_for self.old.trace text
             → ended_lines text ≡ before ++ l ∷ []
-            → found_in (before ++ l ∷ []) ≡ found_in before ++ W.last_found self.old.trace
+            → found_in (before ++ l ∷ []) ≡ found_in before ++ O.last_found self.old.trace
             → self.old.begun.items ++ end.now ≡ l ++ 10 ∷ [] → OnOk result
             (HasAppended (P.form (P.rows self.old.printer) before l)
             self.old.held.items self.new.held.items) }
         ensures printed { (before : List Line) (l : Line) (text : List ℕ)
-            → P.printed self.old.printer before → W.stands_for self.old.trace text
+            → P.printed self.old.printer before → O.stands_for self.old.trace text
             → ended_lines text ≡ before ++ l ∷ []
-            → found_in (before ++ l ∷ []) ≡ found_in before ++ W.last_found self.old.trace
+            → found_in (before ++ l ∷ []) ≡ found_in before ++ O.last_found self.old.trace
             → self.old.begun.items ++ end.now ≡ l ++ 10 ∷ []
             → OnOk result (P.printed self.new.printer (before ++ l ∷ [])) }
         ensures rows { P.rows self.new.printer ≡ P.rows self.old.printer }
@@ -97,18 +97,18 @@ impl<A: Allocator + Copy, W: Watcher<A>, P: Printer<A, W>> TracePrinter<A, W, P>
 
     /// Takes the end of a line with its LF, and holds what the line becomes.
     fn take_line(&mut self, end: &[u8]) -> Result<(), Fault>
-        requires { IsFed W.Watcher P.Printer self.old }
+        requires { IsFed O.TraceObserver P.Printer self.old }
         ensures fed { (choice : AnyRows) (text front : List ℕ)
-            → WasFed (HasFollowed W.Watcher P.Printer choice) self.old text
+            → WasFed (HasFollowed O.TraceObserver P.Printer choice) self.old text
             → end.now ≡ front ++ 10 ∷ [] → IsOneLine front
-            → OnOk result (WasFed (HasFollowed W.Watcher P.Printer choice) self.new
+            → OnOk result (WasFed (HasFollowed O.TraceObserver P.Printer choice) self.new
             (text ++ end.now)) }
         ensures held { (choice : AnyRows) (text front sent : List ℕ) → WasFed
-            (HasFollowed W.Watcher P.Printer choice) self.old text → end.now ≡ front ++ 10 ∷ []
+            (HasFollowed O.TraceObserver P.Printer choice) self.old text → end.now ≡ front ++ 10 ∷ []
             → IsOneLine front → PrintOf P.Printer choice (ended_lines text)
             (sent ++ self.old.held.items) → OnOk result (PrintOf P.Printer choice
             (ended_lines (text ++ end.now)) (sent ++ self.new.held.items)) }
-        ensures refused { OfFed W.Watcher P.Printer self.old (λ choice text.
+        ensures refused { OfFed O.TraceObserver P.Printer self.old (λ choice text.
             IfErr result (IsFaultOf (early (text ++ end.now)))) }
         ensures not_held { IfErr result (λ fault. fault ≢ Memory
             → self.new.held.items ≡ self.old.held.items) }
@@ -121,12 +121,12 @@ impl<A: Allocator + Copy, W: Watcher<A>, P: Printer<A, W>> TracePrinter<A, W, P>
 
     /// Takes bytes without an LF.
     fn begin(&mut self, more: &[u8]) -> Result<(), Fault>
-        requires { IsFed W.Watcher P.Printer self.old }
+        requires { IsFed O.TraceObserver P.Printer self.old }
         ensures fed { (choice : AnyRows) (text : List ℕ)
-            → WasFed (HasFollowed W.Watcher P.Printer choice) self.old text
-            → IsOneLine more.now → OnOk result (WasFed (HasFollowed W.Watcher P.Printer choice)
+            → WasFed (HasFollowed O.TraceObserver P.Printer choice) self.old text
+            → IsOneLine more.now → OnOk result (WasFed (HasFollowed O.TraceObserver P.Printer choice)
             self.new (text ++ more.now)) }
-        ensures refused { OfFed W.Watcher P.Printer self.old (λ choice text.
+        ensures refused { OfFed O.TraceObserver P.Printer self.old (λ choice text.
             IfErr result (IsFaultOf (early (text ++ more.now)))) }
         ensures held { self.new.held.items ≡ self.old.held.items }
         ensures kinds { IfErr result IsTextFault }
@@ -138,15 +138,15 @@ impl<A: Allocator + Copy, W: Watcher<A>, P: Printer<A, W>> TracePrinter<A, W, P>
 
     /// Takes a chunk, and holds what its lines become, of which the sink is given what is much.
     fn take_lines<K: Sink>(&mut self, chunk: &[u8], sink: &mut K) -> Result<(), Fault>
-        requires { IsFed W.Watcher P.Printer self.old }
-        ensures fed { IsFedOn W.Watcher P.Printer self.old chunk.now self.new result }
-        ensures printed { OfPrinted W.Watcher P.Printer self.old (K.taken sink.old)
+        requires { IsFed O.TraceObserver P.Printer self.old }
+        ensures fed { IsFedOn O.TraceObserver P.Printer self.old chunk.now self.new result }
+        ensures printed { OfPrinted O.TraceObserver P.Printer self.old (K.taken sink.old)
             (λ choice text before.
             OnOk result (HasPrinted (PrintOf P.Printer choice) before (K.taken sink.new)
             self.new.held.items (ended_lines (text ++ chunk.now)))) }
-        ensures refused { OfFed W.Watcher P.Printer self.old (λ choice text.
+        ensures refused { OfFed O.TraceObserver P.Printer self.old (λ choice text.
             IfErr result (IsRefusalOf (early (text ++ chunk.now)))) }
-        ensures stopped { OfPrinted W.Watcher P.Printer self.old (K.taken sink.old)
+        ensures stopped { OfPrinted O.TraceObserver P.Printer self.old (K.taken sink.old)
             (λ choice text before.
             IfErr result (IsStoppedAt (PrintOf P.Printer choice) before (K.taken sink.new)
             self.new.held.items (ended_lines (text ++ chunk.now)))) }
@@ -168,23 +168,23 @@ impl<A: Allocator + Copy, W: Watcher<A>, P: Printer<A, W>> TracePrinter<A, W, P>
     /// the first line that is faulty however the text goes on, and has written what the lines before it become; where the
     /// sink fails; and for want of memory.
     pub fn feed<K: Sink>(&mut self, chunk: &[u8], sink: &mut K) -> Result<(), Fault>
-        requires fed { IsFed W.Watcher P.Printer self.old }
+        requires fed { IsFed O.TraceObserver P.Printer self.old }
         // Of any text that it was fed: it was fed that text with the chunk.
-        ensures fed { IsFedOn W.Watcher P.Printer self.old chunk.now self.new result }
+        ensures fed { IsFedOn O.TraceObserver P.Printer self.old chunk.now self.new result }
         // A sink that has the print of the lines that ended has that of the text with the chunk, and nothing is held.
-        ensures printed { OfPrinted W.Watcher P.Printer self.old (K.taken sink.old)
+        ensures printed { OfPrinted O.TraceObserver P.Printer self.old (K.taken sink.old)
             (λ choice text before.
             OnOk result (HasPrinted (PrintOf P.Printer choice) before (K.taken sink.new) []
             (ended_lines (text ++ chunk.now)))) }
         ensures none_held { OnOk result (self.new.held.items ≡ []) }
-        ensures refused { OfFed W.Watcher P.Printer self.old (λ choice text.
+        ensures refused { OfFed O.TraceObserver P.Printer self.old (λ choice text.
             IfErr result (IsRefusalOf (early (text ++ chunk.now)))) }
         // At a refusal it has a first part, at a faulty line the print of all lines before it, if it did not fail.
-        ensures taken { OfPrinted W.Watcher P.Printer self.old (K.taken sink.old)
+        ensures taken { OfPrinted O.TraceObserver P.Printer self.old (K.taken sink.old)
             (λ choice text before.
             IfErr result (λ fault. HasFirstPrint (PrintOf P.Printer choice) before
             (K.taken sink.new) (ended_lines (text ++ chunk.now)))) }
-        ensures at_line { OfPrinted W.Watcher P.Printer self.old (K.taken sink.old)
+        ensures at_line { OfPrinted O.TraceObserver P.Printer self.old (K.taken sink.old)
             (λ choice text before.
             K.failures sink.new ≡ K.failures sink.old → IfErr result (HasPrintBefore
             (PrintOf P.Printer choice) before (K.taken sink.new)
@@ -211,16 +211,16 @@ impl<A: Allocator + Copy, W: Watcher<A>, P: Printer<A, W>> TracePrinter<A, W, P>
     /// Writes what comes after a text that an LF ended.
     fn close<K: Sink>(self, sink: &mut K) -> Result<Summary, Fault>
         requires { (choice : AnyRows) × (text : List ℕ)
-            × WasFed (HasFollowed W.Watcher P.Printer choice) self text × (begun_line text ≡ []) }
+            × WasFed (HasFollowed O.TraceObserver P.Printer choice) self text × (begun_line text ≡ []) }
         ensures printed { (choice : AnyRows) (text : List ℕ) (before : Option (List ℕ)) → WasFed
-            (HasFollowed W.Watcher P.Printer choice) self text → begun_line text ≡ [] → HasPrinted
+            (HasFollowed O.TraceObserver P.Printer choice) self text → begun_line text ≡ [] → HasPrinted
             (PrintOf P.Printer choice) before (K.taken sink.old) self.held.items (ended_lines text)
             → IfOk result (IsPrinted (PrintOf P.Printer choice) (P.closing choice) text before
             (K.taken sink.new)) }
-        ensures refused { OfFed W.Watcher P.Printer self (λ choice text.
+        ensures refused { OfFed O.TraceObserver P.Printer self (λ choice text.
             IfErr result (IsCloseRefusal text)) }
         ensures taken { (choice : AnyRows) (text : List ℕ) (before : Option (List ℕ)) → WasFed
-            (HasFollowed W.Watcher P.Printer choice) self text → begun_line text ≡ [] → HasPrinted
+            (HasFollowed O.TraceObserver P.Printer choice) self text → begun_line text ≡ [] → HasPrinted
             (PrintOf P.Printer choice) before (K.taken sink.old) self.held.items (ended_lines text)
             → result ≡ Err Fault.Write → HasFirstPrintOf (PrintOf P.Printer choice)
             (P.closing choice) text before (K.taken sink.new) }
@@ -243,15 +243,15 @@ impl<A: Allocator + Copy, W: Watcher<A>, P: Printer<A, W>> TracePrinter<A, W, P>
     /// returns the last line of the report as numbers. It refuses by the first faulty line; for want of memory; where the
     /// sink fails; and where a text is so large that the LF would stand after the first 2^30 bytes.
     pub fn end<K: Sink>(mut self, sink: &mut K) -> Result<Summary, Fault>
-        requires fed { IsFed W.Watcher P.Printer self }
+        requires fed { IsFed O.TraceObserver P.Printer self }
         // A sink that has the print of the lines that ended has that of the text, and what comes after it.
-        ensures printed { OfPrinted W.Watcher P.Printer self (K.taken sink.old)
+        ensures printed { OfPrinted O.TraceObserver P.Printer self (K.taken sink.old)
             (λ choice text before.
             IfOk result (IsPrinted (PrintOf P.Printer choice) (P.closing choice) text before
             (K.taken sink.new))) }
-        ensures refused { OfFed W.Watcher P.Printer self (λ choice text.
+        ensures refused { OfFed O.TraceObserver P.Printer self (λ choice text.
             IfErr result (IsEndRefusal text)) }
-        ensures taken { OfPrinted W.Watcher P.Printer self (K.taken sink.old) (λ choice text before.
+        ensures taken { OfPrinted O.TraceObserver P.Printer self (K.taken sink.old) (λ choice text before.
             result ≡ Err Fault.Write → HasFirstPrintOf (PrintOf P.Printer choice) (P.closing choice)
             text before (K.taken sink.new)) }
         ensures not_written { IfErr result (λ fault. fault ≢ Fault.Write → sink.new ≡ sink.old) }
@@ -267,10 +267,10 @@ impl<A: Allocator + Copy, W: Watcher<A>, P: Printer<A, W>> TracePrinter<A, W, P>
     }
 }
 
-impl<A: Allocator + Copy, W: Watcher<A>, P: Printer<A, W>, K: Sink> Consumer<K>
-    for TracePrinter<A, W, P> {
+impl<A: Allocator + Copy, O: TraceObserver<A>, P: Printer<A, O>, K: Sink> Consumer<K>
+    for TracePrinter<A, O, P> {
     ghost was_fed = { λ first start now sink text. HasWritten
-        (HasFollowed W.Watcher P.Printer (P.rows first.printer)) W.size
+        (HasFollowed O.TraceObserver P.Printer (P.rows first.printer)) O.size
         (IsPrintOf (P.form (P.rows first.printer)) []) (K.taken start) (K.taken sink)
         (K.failures start) (K.failures sink) text now };
 
@@ -280,7 +280,7 @@ impl<A: Allocator + Copy, W: Watcher<A>, P: Printer<A, W>, K: Sink> Consumer<K>
 
     ghost expects = { λ text. Unit {0} };
 
-    ghost size = { λ now. W.size now.trace };
+    ghost size = { λ now. O.size now.trace };
 
     fn feed(&mut self, chunk: &[u8], sink: &mut K) -> Result<(), Fault> {
         TracePrinter::feed(self, chunk, sink)
@@ -294,14 +294,14 @@ impl<A: Allocator + Copy, W: Watcher<A>, P: Printer<A, W>, K: Sink> Consumer<K>
 /// Prints a trace that a source gives, each line as soon as its LF was read, and what comes after the last line; returns
 /// the last line of its report as numbers. It refuses by the first faulty line as soon as it is known, and has written
 /// what the lines before it become; where a device fails; for want of memory; and as `TracePrinter::end`.
-pub fn print_trace<A: Allocator + Copy, W: Watcher<A>, P: Printer<A, W>, S: Source, K: Sink>(
+pub fn print_trace<A: Allocator + Copy, O: TraceObserver<A>, P: Printer<A, O>, S: Source, K: Sink>(
     alloc: A,
-    trace: W,
+    trace: O,
     printer: P,
     source: &mut S,
     sink: &mut K,
 ) -> Result<Summary, Fault>
-    requires fresh { W.stands_for trace [] }
+    requires fresh { O.stands_for trace [] }
     // The source gave a text without a fault, and the sink took the print of its lines and what comes after them.
     ensures printed { IfOk result (HasPassed (IsPrinted (IsPrintOf (P.form (P.rows printer)) [])
         (P.closing (P.rows printer))) (S.left source.old) (S.left source.new)

@@ -1,11 +1,11 @@
-//! Which rows of a trace are told of.
+//! Which rows of a trace are described.
 
 ghost use Rattle.std.specs.Prelude.{◌≡◌};
-ghost use Rattle.annotated_trace.specs.Rows.{asked_call, names_asked, tells};
+ghost use Rattle.annotated_trace.specs.Rows.{asked_call, chooses, names_asked};
 
 use line_model::packet::Packet;
 
-/// Which rows are told of.
+/// Which rows are described.
 #[derive(Clone, Copy)]
 pub enum Rows {
     /// All.
@@ -31,9 +31,9 @@ impl Rows {
         }
     }
 
-    /// Whether a row is told of, by its packet and by whether it is one of the rows of the call that is named.
-    pub fn tells(self, packet: &Packet, of_call: bool) -> bool
-        ensures { result ≡ tells self packet.now of_call }
+    /// Whether a row is described, by its packet and by whether it is one of the rows of the call that is named.
+    pub fn chooses(self, packet: &Packet, of_call: bool) -> bool
+        ensures { result ≡ chooses self packet.now of_call }
     {
         match self {
             Rows::All => true,

@@ -62,8 +62,8 @@ abbrev pub with_scanning : App → App
 with_scanning app = with_rule (with_rule (with_rule app workers_rule) (flag_rule (codes "alone"))) (flag_rule (codes "follow"))
 
 -- with those that say what is written, and of which rows
-abbrev pub with_telling : App → App
-with_telling app =
+abbrev pub with_writing : App → App
+with_writing app =
     with_rule (with_rule (with_rule (with_rule (with_rule (with_rule app (flag_rule (codes "json"))) (flag_rule (codes "annotate"))) (flag_rule (codes "rows"))) channel_rule) call_rule)
     (flag_rule (codes "try-headers"))
 
@@ -72,7 +72,7 @@ abbrev pub with_asking : App → App
 with_asking app = with_rule (with_rule (with_rule (with_rule app (flag_rule (codes "progress"))) (flag_rule (codes "notes"))) explain_rule) trace_rule
 
 abbrev pub command : App
-command = with_asking (with_telling (with_scanning versioned))
+command = with_asking (with_writing (with_scanning versioned))
 
 -- the kinds of error that the words have by the rules of `clap`, `--help` and `--version` among them
 abbrev pub words_fault : List Text → Kinds

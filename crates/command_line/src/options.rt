@@ -2,7 +2,7 @@
 
 ghost use Rattle.std.specs.Prelude.{◌≡◌, ◌≤◌, IfOk, MatchOption, codes, false, is_some, map, option_map, true};
 ghost use Rattle.clap.specs.Words.{FailsBy, app_of, first_value, found_of, rule_of};
-ghost use Rattle.command_line.specs.Options.{AreAskedRows, AskFor, HasNumber, HasWorkers, alone, annotates, as_json, asked_word, asked_workers, asks_notes, call_rule, channel_rule, command, explain_rule, flag_rule, follows, has_comments, is_given, named_by, named_trace, prints_rows, shows_progress, trace_rule, tries_headers, versioned, with_asking, with_scanning, with_telling, words_fault, workers_rule};
+ghost use Rattle.command_line.specs.Options.{AreAskedRows, AskFor, HasNumber, HasWorkers, alone, annotates, as_json, asked_word, asked_workers, asks_notes, call_rule, channel_rule, command, explain_rule, flag_rule, follows, has_comments, is_given, named_by, named_trace, prints_rows, shows_progress, trace_rule, tries_headers, versioned, with_asking, with_scanning, with_writing, words_fault, workers_rule};
 
 use crate::help::{ABOUT, AFTER_HELP, VERSION};
 use annotated_trace::rows::Rows;
@@ -51,7 +51,7 @@ pub struct Options<'a> {
     pub rows: bool,
     /// What the rows count under each header is asked for in place of the report.
     pub try_headers: bool,
-    /// It is asked for that the errors are told how far the reading is, also where they are no terminal.
+    /// It is asked for that progress is shown, also where the errors are no terminal.
     pub progress: bool,
     /// A note is asked for of the data that was not counted, also where the errors are no terminal.
     pub notes: bool,
@@ -101,7 +101,7 @@ fn explain<'a>(alloc: Global) -> Arg<'a>
         .default_missing_value("")
 }
 
-/// The option that says of which logical channel rows are told.
+/// The option that says of which logical channel rows are written.
 fn channel<'a>(alloc: Global) -> Arg<'a>
     ensures rule { rule_of result ≡ channel_rule }
     ensures local { result.global ≡ false }
@@ -114,7 +114,7 @@ fn channel<'a>(alloc: Global) -> Arg<'a>
         .value_parser(value_parser!(u16).range(1..=4095))
 }
 
-/// The option that says of which call rows are told.
+/// The option that says of which call rows are written.
 fn call<'a>(alloc: Global) -> Arg<'a>
     ensures rule { rule_of result ≡ call_rule }
     ensures local { result.global ≡ false }
@@ -140,7 +140,7 @@ fn trace<'a>(alloc: Global) -> Arg<'a>
 
 /// Adds the options that say how the trace is scanned.
 fn with_scanning<'a>(alloc: Global, command: Command<'a>) -> Result<Command<'a>, AllocError>
-    ensures { IfOk result (λ told. app_of told ≡ with_scanning (app_of command.entry)) }
+    ensures { IfOk result (λ after. app_of after ≡ with_scanning (app_of command.entry)) }
 {
     command
         .arg(workers(alloc))?
@@ -153,8 +153,8 @@ fn with_scanning<'a>(alloc: Global, command: Command<'a>) -> Result<Command<'a>,
 }
 
 /// Adds the options that say what is written, and of which rows.
-fn with_telling<'a>(alloc: Global, command: Command<'a>) -> Result<Command<'a>, AllocError>
-    ensures { IfOk result (λ told. app_of told ≡ with_telling (app_of command.entry)) }
+fn with_writing<'a>(alloc: Global, command: Command<'a>) -> Result<Command<'a>, AllocError>
+    ensures { IfOk result (λ after. app_of after ≡ with_writing (app_of command.entry)) }
 {
     command
         .arg(flag(
@@ -183,7 +183,7 @@ fn with_telling<'a>(alloc: Global, command: Command<'a>) -> Result<Command<'a>, 
 
 /// Adds the options that ask for more, and the name of the trace.
 fn with_asking<'a>(alloc: Global, command: Command<'a>) -> Result<Command<'a>, AllocError>
-    ensures { IfOk result (λ told. app_of told ≡ with_asking (app_of command.entry)) }
+    ensures { IfOk result (λ after. app_of after ≡ with_asking (app_of command.entry)) }
 {
     command
         .arg(flag(
@@ -212,11 +212,11 @@ fn plain<'a>(alloc: Global) -> Command<'a>
 
 /// The command as its reader is told it.
 fn command<'a>(alloc: Global) -> Result<Command<'a>, AllocError>
-    ensures { IfOk result (λ told. app_of told ≡ command) }
+    ensures { IfOk result (λ after. app_of after ≡ command) }
 {
     let scanning = with_scanning(alloc, plain(alloc))?;
-    let telling = with_telling(alloc, scanning)?;
-    with_asking(alloc, telling)
+    let writing = with_writing(alloc, scanning)?;
+    with_asking(alloc, writing)
 }
 
 /// Whether a flag was given.

@@ -31,7 +31,7 @@ use std::thread::Threads;
 use std::time::Clock;
 use streams::input::Input;
 use streams::output::Output;
-use streams::progress::Telling;
+use streams::progress::ShowProgress;
 use trace_scan::following::follow;
 use trace_scan::gate::OpenGate;
 use trace_scan::scan::scan_alone;
@@ -160,15 +160,15 @@ fn run_with<S: Input, K: Output, E: Sink, R: Threads + Wait + Clock + Sync>(
     }
 }
 
-/// When the errors are told how far the reading is: always where it is asked for, and not by itself where the trace is
+/// When it is shown how far the reading is: always where it is asked for, and not by itself where the trace is
 /// followed, whose reader waits for more.
-pub(crate) fn telling(options: &Options<'_>) -> Telling {
+pub(crate) fn progress_choice(options: &Options<'_>) -> ShowProgress {
     if options.progress {
-        Telling::Always
+        ShowProgress::Always
     } else if options.follow {
-        Telling::Never
+        ShowProgress::Never
     } else {
-        Telling::OnTerminal
+        ShowProgress::OnTerminal
     }
 }
 
@@ -197,7 +197,7 @@ pub(crate) fn scan<S: Input, K: Output, E: Sink, R: Threads + Wait + Clock + Syn
     ensures range { result < 4 }
     ensures asked { S.calls source.new ≤ S.calls source.old + (2 ^ 30 + 1) }
 {
-    source.tell_progress(telling(&options));
+    source.show_progress(progress_choice(&options));
     let notes = has_note(&options, source);
     if options.follow {
         run_follow(alloc, notes, source, sink, errors)

@@ -50,10 +50,10 @@ fn print_reason<E: Sink>(
 
 /// Prints what is wrong with a faulty line of the trace.
 fn print_advice<S: Input, E: Sink>(alloc: Global, source: &S, errors: &mut E, kind: Kind) {
-    let Ok(heard) = source.heard(alloc) else {
+    let Ok(last) = source.last_text(alloc) else {
         return;
     };
-    if let Ok(sentence) = advice(alloc, kind, heard.text.as_slice(), heard.is_whole) {
+    if let Ok(sentence) = advice(alloc, kind, last.text.as_slice(), last.is_whole) {
         print_more(alloc, errors, source.name(), &sentence);
     }
 }

@@ -5,7 +5,7 @@ ghost use Rattle.command_line.specs.Program.{IsUnread, trace_of};
 ghost use Rattle.command_line.specs.Trying.{IsTryAnswer, TriesOf, cannot_try};
 
 use crate::options::Options;
-use crate::program::{USAGE, telling};
+use crate::program::{USAGE, progress_choice};
 use crate::refusing::{refuse_scan, refuse_trace};
 use line_model::device::Sink;
 use line_model::write_buffer::write_all;
@@ -38,7 +38,7 @@ fn run_try<S: Input, K: Output, E: Sink>(
     ensures range { result < 4 }
     ensures asked { S.calls source.new ≤ S.calls source.old + (2 ^ 30 + 1) }
 {
-    source.tell_progress(telling(&options));
+    source.show_progress(progress_choice(&options));
     match try_headers(alloc, source, sink) {
         Ok(findings) => tried_status(findings),
         Err(fault) => refuse_scan(alloc, source, sink, errors, fault),

@@ -14,7 +14,7 @@ use Rattle.line_model.specs.packets.Classes.{packet_of}
 use Rattle.line_model.specs.text.RowLine.{row_of}
 use Rattle.line_model.specs.text.Text.{Line, content_of, has_header, head_in, head_of, is_comment, is_some_line, rows_in}
 use Rattle.line_model.proofs.LineLemmas.{content-line, head-comment, head-later, no_content, rows_in-comment, rows_in-first}
-use Rattle.annotated_trace.specs.Rows.{is_told, is_told_if, row_written}
+use Rattle.annotated_trace.specs.Rows.{is_chosen, is_chosen_if, row_written}
 use Rattle.annotated_trace.specs.Marking.{IsToldRightly}
 use Rattle.annotated_trace.specs.declared.rows.Rows.{Rows}
 use Rattle.annotated_trace.specs.declared.rows.Rows.TheVariants.{All, Chosen as Some_rows}
@@ -98,18 +98,18 @@ one_written rows (Some r) h = (r, refl)
 pub told_none : (rows : Rows) (i : Option Interface) (before : List Row) (o : Option Row) → o ≡ None → None ≡ told_where rows i before o
 told_none rows i before o e = ap (told_where rows i before) (sym e)
 
-pub told_some : (rows : Rows) (head : Option Interface) (i : Interface) (before : List Row) (o : Option Row) (r : Row) (told : Bool) → head ≡ Some i → o ≡ Some r → told ≡ is_told rows i before r → Some told ≡ told_where rows head before o
+pub told_some : (rows : Rows) (head : Option Interface) (i : Interface) (before : List Row) (o : Option Row) (r : Row) (told : Bool) → head ≡ Some i → o ≡ Some r → told ≡ is_chosen rows i before r → Some told ≡ told_where rows head before o
 told_some rows head i before o r told h e is = ap (λ b. Some b) is ∙ sym (λ t. told_where rows (h t) before (e t))
 
 -- what is said where nothing is told of
-pub not_told : (rows : Rows) (head : Option Interface) (before : List Row) (o : Option Row) → None ≡ told_where rows head before o → false ≡ is_told_if rows head before o
+pub not_told : (rows : Rows) (head : Option Interface) (before : List Row) (o : Option Row) → None ≡ told_where rows head before o → false ≡ is_chosen_if rows head before o
 not_told rows None before None h = refl
 not_told rows (Some i) before None h = refl
-not_told rows head before (Some r) h = absurd (let bad : None ≡ Some (is_told_if rows head before (Some r)) = h in cc)
+not_told rows head before (Some r) h = absurd (let bad : None ≡ Some (is_chosen_if rows head before (Some r)) = h in cc)
 
-pub told_as : (rows : Rows) (head : Option Interface) (before : List Row) (o : Option Row) (told : Bool) → Some told ≡ told_where rows head before o → told ≡ is_told_if rows head before o
+pub told_as : (rows : Rows) (head : Option Interface) (before : List Row) (o : Option Row) (told : Bool) → Some told ≡ told_where rows head before o → told ≡ is_chosen_if rows head before o
 told_as rows head before None told h = absurd (let bad : Some told ≡ None = h in cc)
-told_as rows head before (Some r) told h = same told (is_told_if rows head before (Some r)) h
+told_as rows head before (Some r) told h = same told (is_chosen_if rows head before (Some r)) h
   where
     same : (a b : Bool) → Some a ≡ Some b → a ≡ b
     same a b e = cc

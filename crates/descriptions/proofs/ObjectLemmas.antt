@@ -21,7 +21,7 @@ use Rattle.live_report.specs.declared.last_row.Known.TheVariants as known
 use Rattle.live_report.specs.declared.last_row.LastRow.{LastRow}
 use Rattle.annotated_trace.specs.Annotation.{IsOneLine}
 use Rattle.annotated_trace.specs.Printed.{HasAppended}
-use Rattle.annotated_trace.specs.Rows.{is_told, is_told_if}
+use Rattle.annotated_trace.specs.Rows.{is_chosen, is_chosen_if}
 use Rattle.annotated_trace.specs.Wording.{plain}
 use Rattle.annotated_trace.specs.declared.rows.Rows.{Rows}
 use Rattle.annotated_trace.proofs.WordingLemmas.{plain_one}
@@ -88,7 +88,7 @@ same_told a b e = cc
 pub nothing_put : (rows : Rows) (head : Option Interface) (earlier : List Row) (o : Option Row) (out : List ℕ) → None ≡ told_where rows head earlier o → HasAppended (IsObjectOf rows head earlier o) out out
 nothing_put rows None earlier None out e = record { bytes = []; appended = sym (append-nil out); formed = refl }
 nothing_put rows (Some i) earlier None out e = record { bytes = []; appended = sym (append-nil out); formed = refl }
-nothing_put rows head earlier (Some r) out e = absurd (let bad : None ≡ Some (is_told_if rows head earlier (Some r)) = e in cc)
+nothing_put rows head earlier (Some r) out e = absurd (let bad : None ≡ Some (is_chosen_if rows head earlier (Some r)) = e in cc)
 
 pub row_put : {T E : Type 0} (result : Result T E) (rows : Rows) (head : Option Interface) (earlier : List Row) (o : Option Row) (told : Bool) (out after : List ℕ) → Some told ≡ told_where rows head earlier o
     → (told ≡ false → after ≡ out) → ((i : Interface) (r : Row) → head ≡ Some i → o ≡ Some r → OnOk result (HasAppended (IsObjectWhere told i earlier r) out after))
@@ -98,7 +98,7 @@ row_put (Err x) rows head earlier (Some r) told out after e untold object = tt
 row_put (Ok x) rows None earlier (Some r) told out after e untold object =
     record { bytes = []; appended = untold (same_told told false e) ∙ sym (append-nil out); formed = refl }
 row_put (Ok x) rows (Some i) earlier (Some r) told out after e untold object =
-    subst (λ b. HasAppended (IsObjectWhere b i earlier r) out after) (same_told told (is_told rows i earlier r) e) (object i r refl refl)
+    subst (λ b. HasAppended (IsObjectWhere b i earlier r) out after) (same_told told (is_chosen rows i earlier r) e) (object i r refl refl)
 
 -- ---- a row that was taken
 

@@ -3,7 +3,7 @@ use Rattle.std.specs.Prelude.{◌≡◌, ℕ, Bool, List, Option, None, Some, If
 use Rattle.line_model.specs.declared.interface.Interface.{Interface}
 use Rattle.line_model.specs.basics.Records.{Row}
 use Rattle.line_model.specs.text.Text.{Line, head_of, rows_in}
-use Rattle.annotated_trace.specs.Rows.{asked_call, is_told_if, row_written}
+use Rattle.annotated_trace.specs.Rows.{asked_call, is_chosen_if, row_written}
 use Rattle.annotated_trace.specs.declared.rows.Rows.{Rows}
 use Rattle.descriptions.specs.CallRows.{Follows}
 use Rattle.descriptions.specs.declared.chosen.Chosen.{Chosen}
@@ -17,7 +17,7 @@ pub record HasChosen (ls : List Line) (c : Chosen) : Type 0 where
 -- whether a row is told of, where there is one
 abbrev pub told_where : Rows → Option Interface → (before : List Row) → Option Row → Option Bool
 told_where rows i before None = None
-told_where rows i before (Some r) = Some (is_told_if rows i before (Some r))
+told_where rows i before (Some r) = Some (is_chosen_if rows i before (Some r))
 
 -- whether the row of the line after others is told of, where it writes one
 abbrev pub told_of_line : Chosen → (before : List Line) → Line → Option Bool

@@ -23,7 +23,7 @@ use Rattle.restart_epochs.specs.Cutting.{observer}
 use Rattle.live_report.specs.declared.last_row.Known.{Known}
 use Rattle.live_report.specs.declared.last_row.Known.TheVariants as known
 use Rattle.annotated_trace.specs.Annotation.{IsOneLine}
-use Rattle.annotated_trace.specs.Rows.{is_told, row_written}
+use Rattle.annotated_trace.specs.Rows.{is_chosen, row_written}
 use Rattle.annotated_trace.specs.declared.rows.Rows.{Rows}
 
 -- all words, one after the other
@@ -100,7 +100,7 @@ IsObjectWhere false i earlier r bytes = bytes ≡ []
 
 -- of a row, if there is one
 abbrev pub IsObjectOf : Rows → Option Interface → (earlier : List Row) → Option Row → List ℕ → Type 0
-IsObjectOf rows (Some i) earlier (Some r) bytes = IsObjectWhere (is_told rows i earlier r) i earlier r bytes
+IsObjectOf rows (Some i) earlier (Some r) bytes = IsObjectWhere (is_chosen rows i earlier r) i earlier r bytes
 IsObjectOf rows _ earlier _ bytes = bytes ≡ []
 
 -- what a line after others becomes: the object of its row, where it writes one of these rows

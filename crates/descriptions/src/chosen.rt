@@ -7,7 +7,7 @@ ghost use Rattle.line_model.specs.text.Text.{Line, ended_lines};
 ghost use Rattle.live_report.specs.LastRows.{IsLastRow};
 ghost use Rattle.live_report.specs.Lives.{WasFed};
 ghost use Rattle.live_report.specs.Observing.{HasWalked};
-ghost use Rattle.annotated_trace.specs.Rows.{asked_call, is_of_call, is_told};
+ghost use Rattle.annotated_trace.specs.Rows.{asked_call, is_of_call, is_chosen};
 ghost use Rattle.descriptions.specs.CallRows.{Follows};
 ghost use Rattle.descriptions.specs.Choosing.{HasChosen, told_of_line};
 
@@ -75,7 +75,7 @@ impl Chosen {
             → Follows i before self.old.call
             → self.old.call.number ≡ asked_call self.old.rows
             → HasWalked C.Channel i (before ++ r ∷ []) observer.now
-            → result ≡ is_told self.old.rows i before r }
+            → result ≡ is_chosen self.old.rows i before r }
         ensures follows { (i : Interface) (before : List Row) (r : Row)
             → Follows i before self.old.call
             → HasWalked C.Channel i (before ++ r ∷ []) observer.now
@@ -88,7 +88,7 @@ impl Chosen {
             return false;
         };
         let of_call = judge_call(&mut self.call, observer, last);
-        self.rows.tells(&last.packet, of_call)
+        self.rows.chooses(&last.packet, of_call)
     }
 
     /// Judges the last line of a trace, the next one: whether it writes a row that is told of; none where it writes no

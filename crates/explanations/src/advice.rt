@@ -1,4 +1,4 @@
-//! What is wrong with a faulty line of a trace, in words, by the line itself where that tells more than its kind.
+//! What is wrong with a faulty line of a trace, in words, by the line itself where that says more than its kind.
 
 mod files;
 mod header;
@@ -6,22 +6,22 @@ mod line;
 mod quoted;
 mod ranges;
 mod rows;
-mod told;
+mod sentence;
 
 use crate::advice::files::file_advice;
 use crate::advice::header::headers_advice;
 use crate::advice::rows::rows_advice;
-use crate::advice::told::tell;
+use crate::advice::sentence::fixed_sentence;
 use crate::explanation::{Explanation, Topic};
 use crate::table::{all, explain};
 use line_model::fault::Kind;
 use std::alloc::{AllocError, Global};
 
-/// What is told of a text that is too large.
+/// What is said of a text that is too large.
 const TOO_LARGE: &str =
     "The text has more than 2^30 bytes: cut it after a restart confirmation, and begin each part with the header (/usr/share/doc/x25scan/GUIDE.md has the command).";
 
-/// What the lines themselves tell, if they do.
+/// What is wrong by the lines themselves, if they show it.
 fn lines_advice(
     alloc: Global,
     kind: Kind,
@@ -29,12 +29,15 @@ fn lines_advice(
     whole: bool,
 ) -> Result<Option<String>, AllocError> {
     match kind {
-        Kind::HeaderMissing if whole && text.is_empty() => tell(alloc, "The text is empty."),
+        Kind::HeaderMissing if whole && text.is_empty() => fixed_sentence(
+            alloc,
+            "The text is empty.",
+        ),
         Kind::HeaderForm | Kind::HeaderRange => headers_advice(alloc, text, whole),
         Kind::LineForm | Kind::Number | Kind::Side | Kind::Hex => {
             rows_advice(alloc, kind, text, whole)
         }
-        Kind::TextLarge => tell(alloc, TOO_LARGE),
+        Kind::TextLarge => fixed_sentence(alloc, TOO_LARGE),
         _ => Ok(None),
     }
 }
@@ -49,17 +52,17 @@ fn meaning(alloc: Global, kind: Kind) -> Result<String, AllocError> {
     }
 }
 
-/// What is wrong with a trace that was refused by a rule, in a sentence: by the lines themselves where they tell more,
+/// What is wrong with a trace that was refused by a rule, in a sentence: by the lines themselves where they say more,
 /// else the meaning of the rule. The lines are the last that were read, with the faulty one and none after it that is
 /// judged; they begin with the text where `whole` is true, else in the midst of a line.
 pub fn advice(alloc: Global, kind: Kind, text: &[u8], whole: bool) -> Result<String, AllocError> {
     if whole {
-        if let Some(told) = file_advice(text) {
-            return String::from_str(alloc, told);
+        if let Some(sentence) = file_advice(text) {
+            return String::from_str(alloc, sentence);
         }
     }
     match lines_advice(alloc, kind, text, whole)? {
-        Some(told) => Ok(told),
+        Some(sentence) => Ok(sentence),
         None => meaning(alloc, kind),
     }
 }

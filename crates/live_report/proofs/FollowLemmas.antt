@@ -19,7 +19,7 @@ use Rattle.trace_text.proofs.FeedLemmas.{size-sound}
 use Rattle.live_report.specs.Follows.{HasFindings, HasFindingsAtLine, HasFirst, IsRefusalOf}
 use Rattle.live_report.specs.Found.{HasFound, IsFoundBy, IsFoundUpTo, found, found_text}
 use Rattle.live_report.specs.Reports.{IsReportFault}
-use Rattle.trace_text.specs.Watched.{IsReportOf}
+use Rattle.trace_text.specs.ObserverAnswers.{IsReportOf}
 use Rattle.line_model.proofs.TextLemmas.{early_rows-nothing}
 use Rattle.live_report.proofs.FoundLemmas.{nothing_found}
 use Rattle.live_report.proofs.LawLemmas.{found_in_report, lines_more}

@@ -6,12 +6,12 @@ pub mod UncountedLemmas
 pub mod StandLemmas
 pub mod UsualLemmas
 pub mod TakeLemmas
-pub mod TellingLemmas
+pub mod ReportingLemmas
 pub mod WholeLemmas
 pub mod FoundLemmas
-pub mod WatchLemmas
+pub mod ChunkLemmas
 pub mod LiveLemmas
 pub mod ReportLemmas
-pub mod WatchedLemmas
+pub mod TraceObserverLemmas
 pub mod LawLemmas
 pub mod FollowLemmas

@@ -16,7 +16,7 @@ use Rattle.trace_text.proofs.RefusalLemmas.{head_stands}
 use Rattle.trace_text.proofs.RowsOfText.{text_numbers, text_octets, text_rises}
 use Rattle.live_report.specs.Observing.{AreRows}
 use Rattle.live_report.specs.Reports.{IsRefusal, IsReported, IsTaken}
-use Rattle.trace_text.specs.Watched.{IsReportOf}
+use Rattle.trace_text.specs.ObserverAnswers.{IsReportOf}
 use Rattle.line_model.proofs.DeviceLemmas.{front_of}
 
 -- a report of the rows of a text is the text's

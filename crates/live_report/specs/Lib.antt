@@ -1,6 +1,6 @@
 pub mod Lanes
 pub mod Turns
-pub mod Telling
+pub mod AddedPieces
 pub mod LastRows
 pub mod KeptRows
 pub mod Uncounted

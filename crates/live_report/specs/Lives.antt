@@ -12,7 +12,7 @@ use Rattle.live_report.specs.declared.live.Live.{Live}
 use Rattle.live_report.specs.Observing.{StandsFor as IsObserverOf}
 
 -- a reader was fed a text, and an observer of its interface took the rows of the lines that an LF ended
-pub record IsWatching {A C : Type 0} (interface_of : C → Interface) (number_of : C → ℕ) (stands_for : C → Channel → Type 0)
+pub record IsObserving {A C : Type 0} (interface_of : C → Interface) (number_of : C → ℕ) (stands_for : C → Channel → Type 0)
     (i : Interface) (text : List ℕ) (reader : Progress) (o : Observer A C) : Type 0 where
   pub reads : IsReaderOf reader text
   pub header : reader.interface ≡ Some i
@@ -35,16 +35,16 @@ pub record IsFed {A C : Type 0} (interface_of : C → Interface) (number_of : C 
   pub kinds : IfSome live.refused IsTextFault
 
 -- by the members of a machine of one channel: a reader was fed a text, and an observer of its interface took its rows
-abbrev pub Watches : {A C : Type 0} → Machine C A → Interface → List ℕ → Progress → Observer A C → Type 0
-Watches m i text reader o = IsWatching m.interface_of m.number_of m.stands_for i text reader o
+abbrev pub Observes : {A C : Type 0} → Machine C A → Interface → List ℕ → Progress → Observer A C → Type 0
+Observes m i text reader o = IsObserving m.interface_of m.number_of m.stands_for i text reader o
 
 -- the same of some interface and text
-abbrev pub IsWatcher : {A C : Type 0} → Machine C A → Progress → Observer A C → Type 0
-IsWatcher m reader o = (i : Interface) × (text : List ℕ) × Watches m i text reader o
+abbrev pub ObservesSome : {A C : Type 0} → Machine C A → Progress → Observer A C → Type 0
+ObservesSome m reader o = (i : Interface) × (text : List ℕ) × Observes m i text reader o
 
 -- of any interface and text
-abbrev pub OfWatched : {A C : Type 0} → Machine C A → Progress → Observer A C → (Interface → List ℕ → Type 0) → Type 0
-OfWatched m reader o Fact = (i : Interface) (text : List ℕ) → Watches m i text reader o → Fact i text
+abbrev pub OfObserved : {A C : Type 0} → Machine C A → Progress → Observer A C → (Interface → List ℕ → Type 0) → Type 0
+OfObserved m reader o Fact = (i : Interface) (text : List ℕ) → Observes m i text reader o → Fact i text
 
 -- it was fed this text, and refused none of it
 abbrev pub WasFed : {A C : Type 0} → Machine C A → List ℕ → Live A C → Type 0

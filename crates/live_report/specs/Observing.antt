@@ -86,17 +86,17 @@ abbrev pub FindsNothing : {A C : Type 0} → Machine C A → Observer A C → Ro
 FindsNothing m o row = (i : Interface) (rows : List Row) → HasWalked m i rows o → (report_of i (rows ++ row ∷ [])).findings ≡ (report_of i rows).findings
 
 -- of any rows that it has walked: the finding on this one comes behind all that was found before
-abbrev pub TellsFinding : {A C E : Type 0} → Machine C A → Observer A C → Row → Result (Option Finding) E → Type 0
-TellsFinding m o row result =
+abbrev pub ReturnsFinding : {A C E : Type 0} → Machine C A → Observer A C → Row → Result (Option Finding) E → Type 0
+ReturnsFinding m o row result =
     (i : Interface) (rows : List Row) → HasWalked m i rows o → IfOk result (λ found. (report_of i (rows ++ row ∷ [])).findings ≡ (report_of i rows).findings ++ option_to_list found)
 
 -- of any rows that it has walked: their report
-abbrev pub TellsReport : {A C E : Type 0} → Machine C A → Observer A C → Result Report E → Type 0
-TellsReport m o result = (i : Interface) (rows : List Row) → HasWalked m i rows o → IfOk result (λ report. report ≡ report_of i rows)
+abbrev pub ReturnsReport : {A C E : Type 0} → Machine C A → Observer A C → Result Report E → Type 0
+ReturnsReport m o result = (i : Interface) (rows : List Row) → HasWalked m i rows o → IfOk result (λ report. report ≡ report_of i rows)
 
 -- of any rows that it has walked: the report of them and these
-abbrev pub TellsReportWith : {A C E : Type 0} → Machine C A → Observer A C → (more : List Row) → Result Report E → Type 0
-TellsReportWith m o more result =
+abbrev pub ReturnsReportWith : {A C E : Type 0} → Machine C A → Observer A C → (more : List Row) → Result Report E → Type 0
+ReturnsReportWith m o more result =
     (i : Interface) (rows : List Row) → HasWalked m i rows o → AreRows (rows ++ more) → IfOk result (λ report. report ≡ report_of i (rows ++ more))
 
 -- of any rows that it has walked: what was not counted of them and these

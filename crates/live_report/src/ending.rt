@@ -2,7 +2,7 @@
 
 ghost use Rattle.std.specs.Prelude.{◌≡◌, ◌<◌, ◌+◌, ◌^◌, IfErr, length};
 ghost use Rattle.line_model.specs.declared.fault.Fault.TheVariants.{Memory};
-ghost use Rattle.live_report.specs.Telling.{EmptiesLanes, MayTell, TellsPieces};
+ghost use Rattle.live_report.specs.AddedPieces.{EmptiesLanes, MayAddPieces, AddsPieces};
 
 use channel_run::live::LiveChannel;
 use channel_run::run::Channel;
@@ -19,9 +19,9 @@ pub fn end_channels<A: Allocator + Copy, C: Channel<A>>(
     lanes: &mut ChannelTable<LiveChannel<A, C>, A>,
     out: &mut Parts<A>,
 ) -> Result<(), Fault>
-    requires room { MayTell C.Channel lanes.old out.old }
+    requires room { MayAddPieces C.Channel lanes.old out.old }
     requires pieces { out.old.pieces + length lanes.old.channels < 2 ^ 32 }
-    ensures values { TellsPieces C.Channel end lanes.old out.old out.new result }
+    ensures values { AddsPieces C.Channel end lanes.old out.old out.new result }
     ensures emptied { EmptiesLanes C.Channel lanes.old lanes.new result }
     ensures memory { IfErr result (λ fault. fault ≡ Memory) }
 {

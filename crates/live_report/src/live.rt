@@ -11,11 +11,11 @@ ghost use Rattle.live_report.specs.Found.{IsFoundBy, found};
 ghost use Rattle.live_report.specs.Lives.{IsFed, IsFedOn, OfFed, RefusesEarly, WasFed};
 ghost use Rattle.live_report.specs.Reports.{IsMissing, IsRefusal, IsReportFault, IsReported, IsTaken};
 ghost use Rattle.live_report.specs.Uncounted.{trace_uncounted};
-ghost use Rattle.trace_text.specs.Watched.{IsReportOf};
+ghost use Rattle.trace_text.specs.ObserverAnswers.{IsReportOf};
 
 use crate::observer::Observer;
+use crate::observing::{finish_observing, observe_chunk};
 use crate::uncounted::Uncounted;
-use crate::watching::{finish, watch};
 use channel_run::run::Channel;
 use line_model::device::Sink;
 use line_model::fault::Fault;
@@ -106,7 +106,7 @@ impl<A: Allocator + Copy, C: Channel<A>> Live<A, C> {
         ensures kinds { IfErr result IsTextFault }
     {
         if let Some(observer) = &mut self.observer {
-            return watch(
+            return observe_chunk(
                 chunk,
                 &mut self.lines,
                 &mut self.row,
@@ -142,7 +142,7 @@ impl<A: Allocator + Copy, C: Channel<A>> Live<A, C> {
         let mut observer = Observer::new(*self.row.octets.allocator(), &interface);
         let first = observer.take(&self.row)?;
         append_finding(&mut self.found, first)?;
-        watch(
+        observe_chunk(
             rest,
             &mut self.lines,
             &mut self.row,
@@ -183,7 +183,7 @@ impl<A: Allocator + Copy, C: Channel<A>> Live<A, C> {
     }
 
     /// The report of the text up to its last LF.
-    fn told(&self) -> Result<Report<A>, Fault>
+    fn report_so_far(&self) -> Result<Report<A>, Fault>
         requires fed { IsFed C.interface_of C.number_of C.stands_for self.now }
         ensures told { OfFed C.Channel self.now (λ text.
             IfOk result (IsReportOf (ended_part text))) }
@@ -226,7 +226,7 @@ impl<A: Allocator + Copy, C: Channel<A>> Live<A, C> {
         ensures again { (fault : Fault) → self.now.refused ≡ Some fault
             → (result ≡ Err fault) × (sink.new ≡ sink.old) }
     {
-        let report = self.told()?;
+        let report = self.report_so_far()?;
         write_report(&report, sink)?;
         Ok(report.summary)
     }
@@ -254,8 +254,8 @@ impl<A: Allocator + Copy, C: Channel<A>> Live<A, C> {
         let TextEnd { interface, has_row } = lines.end_row(&mut row)?;
         let alloc = *row.octets.allocator();
         match observer {
-            Some(observer) => finish(observer, has_row, &row, uncounted),
-            None => finish(
+            Some(observer) => finish_observing(observer, has_row, &row, uncounted),
+            None => finish_observing(
                 Observer::<A, C>::new(alloc, &interface),
                 has_row,
                 &row,

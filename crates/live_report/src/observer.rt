@@ -18,12 +18,12 @@ ghost use Rattle.live_report.specs.LastRows.{IsLastRow};
 ghost use Rattle.live_report.specs.Uncounted.{uncounted_of};
 ghost use Rattle.live_report.specs.declared.last_row.Known.TheVariants.{Restart};
 ghost use Rattle.live_report.specs.Turns.{FindsBy, HasEvents, KnowsBy, MayTurn, OfOpen, StandsAt};
-ghost use Rattle.live_report.specs.Observing.{open_piece, FindsNothing, HasWalked, IsHolding, IsObserver, MayWalk, TellsFinding, TellsReport, WalksOn, WalksOnFrom, WalksStill};
+ghost use Rattle.live_report.specs.Observing.{open_piece, FindsNothing, HasWalked, IsHolding, IsObserver, MayWalk, ReturnsFinding, ReturnsReport, WalksOn, WalksOnFrom, WalksStill};
 
 use crate::ending::end_channels;
 use crate::lanes::step_channel;
 use crate::last_row::{Kept, KeptRow, LastRow};
-use crate::telling::tell_channels;
+use crate::reporting::report_channels;
 use crate::uncounted::Uncounted;
 use crate::usual::{put_usual, step_usual};
 use channel_run::live::LiveChannel;
@@ -215,7 +215,7 @@ impl<A: Allocator + Copy, C: Channel<A>> Observer<A, C> {
         // Of any rows that it took: it stands for them and this one.
         ensures stands { WalksOn C.Channel self.old row.now self.new result }
         // What was found comes behind all that was found before.
-        ensures finding { TellsFinding C.Channel self.old row.now result }
+        ensures finding { ReturnsFinding C.Channel self.old row.now result }
         ensures memory { IfErr result (λ fault. fault ≡ Memory) }
     {
         let packet = decode(&self.walk.interface, row.octets.as_slice());
@@ -270,7 +270,7 @@ impl<A: Allocator + Copy, C: Channel<A>> Observer<A, C> {
         requires room { MayWalk C.Channel self.old (item.now.row ∷ []) }
         requires packet { item.now.packet ≡ packet_of self.old.walk.interface item.now.row.octets }
         ensures stands { WalksOn C.Channel self.old item.now.row self.new result }
-        ensures finding { TellsFinding C.Channel self.old item.now.row result }
+        ensures finding { ReturnsFinding C.Channel self.old item.now.row result }
         ensures memory { IfErr result (λ fault. fault ≡ Memory) }
     {
         let step = self.walk.step(item)?;
@@ -291,12 +291,12 @@ impl<A: Allocator + Copy, C: Channel<A>> Observer<A, C> {
     /// what was read. It refuses for want of memory alone.
     pub fn report(&self) -> Result<Report<A>, Fault>
         requires room { IsObserver C.Channel self.now }
-        ensures report { TellsReport C.Channel self.now result }
+        ensures report { ReturnsReport C.Channel self.now result }
         ensures memory { IfErr result (λ fault. fault ≡ Memory) }
     {
         let alloc = *self.walk.findings.allocator();
         let mut parts = self.ended.copy()?;
-        tell_channels(alloc, &self.lanes, &mut parts)?;
+        report_channels(alloc, &self.lanes, &mut parts)?;
         let findings = Vec::from_slice(alloc, self.walk.findings.as_slice())?;
         parts.finish(findings, self.walk.packets)
     }
@@ -304,7 +304,7 @@ impl<A: Allocator + Copy, C: Channel<A>> Observer<A, C> {
     /// The report of the rows that were taken. It refuses for want of memory alone.
     pub fn end(self) -> Result<Report<A>, Fault>
         requires room { IsObserver C.Channel self }
-        ensures report { TellsReport C.Channel self result }
+        ensures report { ReturnsReport C.Channel self result }
         ensures memory { IfErr result (λ fault. fault ≡ Memory) }
     {
         let Observer {

@@ -5,7 +5,7 @@ ghost use Rattle.line_model.specs.packets.Classes.{packet_of};
 ghost use Rattle.restart_epochs.specs.Cutting.{IsUnchanged};
 
 use crate::channel_table::ChannelTable;
-use crate::ended_epoch::append_pieces;
+use crate::ended_epoch::{EndedEpoch, append_pieces};
 use crate::open_pieces::OpenPieces;
 use crate::showing::copy_pieces;
 use crate::walk::EpochWalk;
@@ -167,14 +167,12 @@ impl<A: Allocator + Copy> Cutter<A> {
         } = self;
         let mut pieces = Vec::new(*walk.findings.allocator());
         pieces.reserve(left.rows.len())?;
-        append_pieces(
-            &walk.interface,
-            walk.epoch,
-            None,
-            left.given,
-            &mut left.rows,
-            &mut pieces,
-        );
+        let epoch = EndedEpoch {
+            interface: walk.interface,
+            number: walk.epoch,
+            end: None,
+        };
+        append_pieces(epoch, left.given, &mut left.rows, &mut pieces);
         Ok(Cut {
             pieces,
             interface_findings: walk.findings,

@@ -13,21 +13,28 @@ use line_model::items::Items;
 use line_model::piece::Piece;
 use std::alloc::Allocator;
 
-/// Appends the pieces of the open epoch, by their channels, with ids from `first` on. The list has room for them.
+/// An epoch that has ended, of which its pieces are.
+#[derive(Clone, Copy)]
+pub struct EndedEpoch {
+    pub interface: Interface,
+    pub number: u32,
+    /// The number of the row that ended it; none at the end of the trace.
+    pub end: Option<u32>,
+}
+
+/// Appends the pieces of an epoch, by their channels, with ids from `first` on. The list has room for them.
 pub fn append_pieces<A: Allocator + Copy>(
-    interface: &Interface,
-    epoch: u32,
-    end: Option<u32>,
+    epoch: EndedEpoch,
     first: u32,
     epoch_rows: &mut ChannelTable<Items<A>, A>,
     out: &mut Vec<Piece<A>, A>,
 )
     requires room { vec_len out.old + length epoch_rows.old.channels ≤ vec_capacity out.old }
     requires ids { first + length epoch_rows.old.channels < 2 ^ 32 }
-    requires pieces { (k : ℕ) → IsPiece interface.now k (rows_of epoch_rows.old k) }
+    requires pieces { (k : ℕ) → IsPiece epoch.interface k (rows_of epoch_rows.old k) }
     ensures given { out.new.items
         ≡ out.old.items
-        ++ pieces_out interface.now epoch end (rows_of epoch_rows.old) first epoch_rows.old.channels }
+        ++ pieces_out epoch.interface epoch.number epoch.end (rows_of epoch_rows.old) first epoch_rows.old.channels }
     ensures channels { epoch_rows.new.channels ≡ [] }
     ensures emptied { IsEmptied epoch_rows.old epoch_rows.new }
 {
@@ -36,11 +43,11 @@ pub fn append_pieces<A: Allocator + Copy>(
     while let Some((channel, items)) = take_first(alloc, epoch_rows) {
         let piece = Piece {
             id,
-            interface: *interface,
-            epoch,
+            interface: epoch.interface,
+            epoch: epoch.number,
             channel,
             items,
-            end,
+            end: epoch.end,
         };
         out.push_reserved(piece);
         id += 1;

@@ -6,7 +6,7 @@ ghost use Rattle.restart_epochs.specs.OpenRows.{rows_of, IsSame};
 ghost use Rattle.restart_epochs.specs.Cutting.{ended_by, given_after, HasTurned};
 
 use crate::channel_table::ChannelTable;
-use crate::ended_epoch::append_pieces;
+use crate::ended_epoch::{EndedEpoch, append_pieces};
 use crate::kept_rows::keep_row;
 use crate::walk::{EpochWalk, Turn};
 use line_model::items::{ItemRef, Items};
@@ -48,14 +48,12 @@ impl<A: Allocator + Copy> OpenPieces<A> {
             Turn::Ends => {
                 let pieces = self.rows.len();
                 out.reserve(pieces)?;
-                append_pieces(
-                    &walk.interface,
-                    walk.epoch,
-                    Some(item.number),
-                    self.given,
-                    &mut self.rows,
-                    out,
-                );
+                let epoch = EndedEpoch {
+                    interface: walk.interface,
+                    number: walk.epoch,
+                    end: Some(item.number),
+                };
+                append_pieces(epoch, self.given, &mut self.rows, out);
                 self.given += pieces as u32;
                 Ok(())
             }

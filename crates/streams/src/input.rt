@@ -4,7 +4,7 @@ ghost use Rattle.std.specs.Prelude.{◌≡◌, ◌⊎◌, ℕ, List, Option, Non
 ghost use Rattle.streams.specs.OpenFaults.{IsByItsReason};
 
 use crate::first_bytes::FirstBytes;
-use crate::progress::Telling;
+use crate::progress::ShowProgress;
 use line_model::device::Source;
 use std::alloc::{AllocError, Global};
 use std::io;
@@ -38,7 +38,7 @@ pub struct OpenRefusal {
 
 /// The last bytes that a source gave, at least 65,536, or all where it gave fewer.
 #[derive(Drop)]
-pub struct Heard {
+pub struct LastText {
     pub text: Vec<u8>,
     /// Whether they are all that it gave.
     pub is_whole: bool,
@@ -73,10 +73,10 @@ pub trait Input: Source {
     fn begun(&self) -> &FirstBytes;
 
     /// The last bytes that it gave.
-    fn heard(&self, alloc: Global) -> Result<Heard, AllocError>;
+    fn last_text(&self, alloc: Global) -> Result<LastText, AllocError>;
 
-    /// Chooses when it tells how far the reading is.
-    fn tell_progress(&mut self, telling: Telling)
+    /// Chooses when it shows how far the reading is.
+    fn show_progress(&mut self, when: ShowProgress)
         ensures left { Self.left self.new ≡ Self.left self.old }
         ensures name { name_of self.new ≡ name_of self.old }
         ensures calls { Self.calls self.new ≡ Self.calls self.old }

@@ -5,10 +5,10 @@ ghost use Rattle.streams.specs.LastBytes.{last_read};
 ghost use Rattle.streams.specs.OpenFaults.{IsByItsReason};
 
 use crate::first_bytes::FirstBytes;
-use crate::input::{Heard, Input, OpenFault, OpenRefusal};
+use crate::input::{Input, LastText, OpenFault, OpenRefusal};
 use crate::last_bytes::LastBytes;
 use crate::output::Output;
-use crate::progress::{Progress, Telling};
+use crate::progress::{Progress, ShowProgress};
 use line_model::device::{Sink, Source};
 use line_model::history::Count;
 use std::alloc::{AllocError, Global};
@@ -25,13 +25,13 @@ pub struct FileInput<'a, R: Files + Clock, I: Read + Drop, W: Write + Drop> {
     alloc: Global,
     system: &'a R,
     standard: I,
-    // That standard input is a terminal is still to be told.
+    // That standard input is a terminal is still to be printed.
     is_terminal: bool,
     file: Option<R::File>,
     // The name of the file; none where memory for it was refused.
     name: Option<String>,
     begun: FirstBytes,
-    heard: LastBytes,
+    last_bytes: LastBytes,
     progress: Progress<W>,
     // What the system said of the last read that failed.
     failure: Option<io::Error>,
@@ -40,8 +40,8 @@ pub struct FileInput<'a, R: Files + Clock, I: Read + Drop, W: Write + Drop> {
 }
 
 impl<'a, R: Files + Clock, I: Read + Drop, W: Write + Drop> FileInput<'a, R, I, W> {
-    /// Standard input, the system that has the files and the clock, and the progress that is told. Where standard input
-    /// is a terminal that is told once, before it is read.
+    /// Standard input, the system that has the files and the clock, and the progress that is shown. Where standard input
+    /// is a terminal, that is printed once, before it is read.
     pub fn new(
         alloc: Global,
         system: &'a R,
@@ -60,7 +60,7 @@ impl<'a, R: Files + Clock, I: Read + Drop, W: Write + Drop> FileInput<'a, R, I, 
             file: None,
             name: None,
             begun: FirstBytes::new(alloc),
-            heard: LastBytes::new(),
+            last_bytes: LastBytes::new(),
             progress,
             failure: None,
             calls: Count::new(),
@@ -68,38 +68,38 @@ impl<'a, R: Files + Clock, I: Read + Drop, W: Write + Drop> FileInput<'a, R, I, 
         }
     }
 
-    /// Reads from standard input, which is told once where it is a terminal.
+    /// Reads from standard input. Where it is a terminal, that is printed once.
     fn read_standard(&mut self) -> io::Result<()>
-        ensures few { length (last_read self.new.heard) ≤ 2 ^ 16 }
+        ensures few { length (last_read self.new.last_bytes) ≤ 2 ^ 16 }
         ensures calls { self.new.calls ≡ self.old.calls }
         ensures failures { self.new.failures ≡ self.old.failures }
     {
         if self.is_terminal {
             self.is_terminal = false;
-            self.progress.tell_terminal();
+            self.progress.print_terminal();
         }
-        self.heard.read(&mut self.standard)
+        self.last_bytes.read(&mut self.standard)
     }
 
     /// Reads from the file that was opened, else from standard input.
     fn read_some(&mut self) -> io::Result<()>
-        ensures few { length (last_read self.new.heard) ≤ 2 ^ 16 }
+        ensures few { length (last_read self.new.last_bytes) ≤ 2 ^ 16 }
         ensures calls { self.new.calls ≡ self.old.calls }
         ensures failures { self.new.failures ≡ self.old.failures }
     {
         match &mut self.file {
-            Some(file) => self.heard.read(file),
+            Some(file) => self.last_bytes.read(file),
             None => self.read_standard(),
         }
     }
 
-    /// Keeps the first bytes, and tells how far the reading is.
-    fn note_latest(&mut self)
-        ensures heard { self.new.heard ≡ self.old.heard }
+    /// Passes the latest bytes on: the first ones are kept, and progress is shown.
+    fn pass_on_latest(&mut self)
+        ensures last_bytes { self.new.last_bytes ≡ self.old.last_bytes }
         ensures calls { self.new.calls ≡ self.old.calls }
         ensures failures { self.new.failures ≡ self.old.failures }
     {
-        let latest = self.heard.latest();
+        let latest = self.last_bytes.latest();
         self.begun.keep(latest);
         self.progress.read(self.system, latest);
     }
@@ -113,7 +113,7 @@ impl<R: Files + Clock, I: Read + Drop, W: Write + Drop> Source for FileInput<'_,
 
     ghost before = { λ s. None };
 
-    ghost last_given = { λ s. last_read s.heard };
+    ghost last_given = { λ s. last_read s.last_bytes };
 
     ghost calls = { λ s. s.calls };
 
@@ -123,7 +123,7 @@ impl<R: Files + Clock, I: Read + Drop, W: Write + Drop> Source for FileInput<'_,
         self.calls.add_one();
         match self.read_some() {
             Ok(()) => {
-                self.note_latest();
+                self.pass_on_latest();
                 Ok(())
             }
             Err(error) => {
@@ -135,7 +135,7 @@ impl<R: Files + Clock, I: Read + Drop, W: Write + Drop> Source for FileInput<'_,
     }
 
     fn latest(&self) -> &[u8] {
-        self.heard.latest()
+        self.last_bytes.latest()
     }
 }
 
@@ -161,7 +161,7 @@ fn open_file<R: Files>(files: &R, name: &str) -> Result<R::File, OpenRefusal>
 {
     let file = fs::open(files, name).map_err(open_refusal)?;
     match file.metadata() {
-        Ok(told) if told.is_dir() => {
+        Ok(metadata) if metadata.is_dir() => {
             Err(open_refusal(io::Error::from_raw_os_error(IS_A_DIRECTORY)))
         }
         _ => Ok(file),
@@ -197,15 +197,15 @@ impl<R: Files + Clock, I: Read + Drop, W: Write + Drop> Input for FileInput<'_, 
         &self.begun
     }
 
-    fn heard(&self, alloc: Global) -> Result<Heard, AllocError> {
-        Ok(Heard {
-            text: self.heard.text(alloc)?,
-            is_whole: self.heard.is_whole(),
+    fn last_text(&self, alloc: Global) -> Result<LastText, AllocError> {
+        Ok(LastText {
+            text: self.last_bytes.text(alloc)?,
+            is_whole: self.last_bytes.is_whole(),
         })
     }
 
-    fn tell_progress(&mut self, telling: Telling) {
-        self.progress.choose(telling);
+    fn show_progress(&mut self, when: ShowProgress) {
+        self.progress.choose(when);
     }
 
     fn shows_terminal(&self) -> bool {

@@ -1,11 +1,11 @@
-//! How far the reading of a trace is, told once a second, and that a terminal is read.
+//! How far the reading of a trace is, shown once a second, and that a terminal is read.
 
 use std::io::Write;
 use std::time::{Clock, Duration, Instant};
 
-/// When it is told how far the reading is (profile).
+/// When it is shown how far the reading is (profile).
 #[derive(Clone, Copy, PartialEq, Eq)]
-pub enum Telling {
+pub enum ShowProgress {
     /// Not at all.
     Never,
     /// Each second, where a terminal shows it.
@@ -14,14 +14,15 @@ pub enum Telling {
     Always,
 }
 
-/// What was read so far, and the writer that is told of it, a line each time.
+/// What was read so far, and the writer to which it is printed, a line each time.
 #[derive(Drop)]
 pub struct Progress<W: Write + Drop> {
     errors: W,
     is_terminal: bool,
-    telling: Telling,
+    when: ShowProgress,
     began: Option<Instant>,
-    told: u64,
+    /// The second in which it was shown last.
+    shown: u64,
     bytes: u64,
     lines: u64,
 }
@@ -38,14 +39,14 @@ fn rate(count: u64, time: Duration) -> u64 {
 }
 
 impl<W: Write + Drop> Progress<W> {
-    /// Nothing was read yet, and nothing is told until it is told when.
+    /// Nothing was read yet, and nothing is shown until `choose` says when.
     pub fn new(errors: W, is_terminal: bool) -> Self {
         Progress {
             errors,
             is_terminal,
-            telling: Telling::Never,
+            when: ShowProgress::Never,
             began: None,
-            told: 0,
+            shown: 0,
             bytes: 0,
             lines: 0,
         }
@@ -56,16 +57,16 @@ impl<W: Write + Drop> Progress<W> {
         self.is_terminal
     }
 
-    /// Chooses when it is told.
-    pub fn choose(&mut self, telling: Telling) {
-        self.telling = telling;
+    /// Chooses when it is shown.
+    pub fn choose(&mut self, when: ShowProgress) {
+        self.when = when;
     }
 
-    fn is_told(&self) -> bool {
-        match self.telling {
-            Telling::Never => false,
-            Telling::OnTerminal => self.is_terminal,
-            Telling::Always => true,
+    fn is_shown(&self) -> bool {
+        match self.when {
+            ShowProgress::Never => false,
+            ShowProgress::OnTerminal => self.is_terminal,
+            ShowProgress::Always => true,
         }
     }
 
@@ -80,7 +81,7 @@ impl<W: Write + Drop> Progress<W> {
         }
     }
 
-    fn tell(&mut self, time: Duration) {
+    fn print(&mut self, time: Duration) {
         let bytes = self.bytes;
         let lines = self.lines;
         let rate = rate(lines, time);
@@ -90,8 +91,8 @@ impl<W: Write + Drop> Progress<W> {
         );
     }
 
-    /// Tells that the trace is read from a terminal.
-    pub fn tell_terminal(&mut self) {
+    /// Prints that the trace is read from a terminal.
+    pub fn print_terminal(&mut self) {
         let _ = writeln!(
             self.errors,
             "x25scan: reads the trace from the terminal, until Ctrl-D at the beginning of a line (--help tells more)"
@@ -100,7 +101,7 @@ impl<W: Write + Drop> Progress<W> {
 
     /// Bytes were read; none at the end.
     pub fn read(&mut self, clock: &impl Clock, bytes: &[u8]) {
-        if !self.is_told() {
+        if !self.is_shown() {
             return;
         }
         let time = self.time(clock);
@@ -108,10 +109,10 @@ impl<W: Write + Drop> Progress<W> {
             .bytes
             .saturating_add(u64::try_from(bytes.len()).unwrap_or(u64::MAX));
         self.lines = self.lines.saturating_add(line_feeds(bytes));
-        let is_end = bytes.is_empty() && self.telling == Telling::Always;
-        if time.as_secs() > self.told || is_end {
-            self.told = time.as_secs();
-            self.tell(time);
+        let is_end = bytes.is_empty() && self.when == ShowProgress::Always;
+        if time.as_secs() > self.shown || is_end {
+            self.shown = time.as_secs();
+            self.print(time);
         }
     }
 }

@@ -20,7 +20,7 @@ use live_report::uncounted::Uncounted;
 use std::alloc::{AllocError, Allocator, Global};
 use std::process::Abort;
 use tests_devices::{CutSink, CutSource, Cuts};
-use trace_text::watcher::Watcher;
+use trace_text::trace_observer::TraceObserver;
 
 /// Numbers lines, and says so of each from one of them on.
 #[derive(Drop)]
@@ -29,7 +29,7 @@ struct Numbered {
     first: u64,
 }
 
-impl<A: Allocator + Copy, W: Watcher<A>> Describer<A, W> for Numbered {
+impl<A: Allocator + Copy, O: TraceObserver<A>> Describer<A, O> for Numbered {
     ghost described = { λ d lines. ⊤ };
 
     ghost rows = { λ d. All };
@@ -40,7 +40,7 @@ impl<A: Allocator + Copy, W: Watcher<A>> Describer<A, W> for Numbered {
 
     fn begin(&mut self) {}
 
-    fn describe(&mut self, _trace: &W, notes: &mut Notes<A>) -> Result<bool, AllocError> {
+    fn describe(&mut self, _trace: &O, notes: &mut Notes<A>) -> Result<bool, AllocError> {
         self.lines = self.lines.wrapping_add(1);
         notes.say("line\n")?;
         notes.number(self.lines)?;
@@ -49,7 +49,7 @@ impl<A: Allocator + Copy, W: Watcher<A>> Describer<A, W> for Numbered {
 
     fn explain(
         &mut self,
-        _trace: &W,
+        _trace: &O,
         finding: &Finding,
         words: &mut Words<A>,
     ) -> Result<(), AllocError> {

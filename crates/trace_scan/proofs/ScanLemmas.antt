@@ -10,7 +10,7 @@ use Rattle.line_model.specs.declared.totals.Summary.{Summary}
 use Rattle.line_model.specs.declared.fault.Fault.{Fault}
 use Rattle.line_model.specs.declared.fault.Fault.TheVariants.{Memory, Trace, Read, Write}
 use Rattle.live_report.specs.Reports.{IsRefusal as IsReportRefusal, IsReportFault, IsReported, IsTaken}
-use Rattle.trace_text.specs.Watched.{IsReportOf}
+use Rattle.trace_text.specs.ObserverAnswers.{IsReportOf}
 use Rattle.trace_text.specs.Sources.{HasFailed, IsFedAll, IsFedUpTo, IsRefusedBy}
 use Rattle.trace_text.specs.StandsFor.{IsFaultOf, IsTextFault}
 use Rattle.trace_text.proofs.DecidedLemmas.{all_sound}

@@ -38,13 +38,13 @@ abbrev pub rows_with_format : ℕ → List Row → ℕ
 rows_with_format format rs = length (filter (λ r. bits 6 5 (octet 1 r.octets) == format) rs)
 
 -- whether the rows tell modulo 8: more of them have it than 128, or as many, and the header has it
-abbrev pub tells_8 : (own of_8 of_128 : ℕ) → Bool
-tells_8 own of_8 of_128 = if nat_lt of_128 of_8 then true else if nat_lt of_8 of_128 then false else own == 8
+abbrev pub is_modulo_8 : (own of_8 of_128 : ℕ) → Bool
+is_modulo_8 own of_8 of_128 = if nat_lt of_128 of_8 then true else if nat_lt of_8 of_128 then false else own == 8
 
 -- the modulus that the rows tell
-abbrev pub modulus_told : Interface → List Row → ℕ
-modulus_told i rs = if tells_8 i.modulus (rows_with_format 1 rs) (rows_with_format 2 rs) then 8 else 128
+abbrev pub modulus_of_rows : Interface → List Row → ℕ
+modulus_of_rows i rs = if is_modulo_8 i.modulus (rows_with_format 1 rs) (rows_with_format 2 rs) then 8 else 128
 
 -- the headers that are tried on some rows
 abbrev pub headers_tried : Interface → List Row → List Interface
-headers_tried i rs = headers_of i (modulus_told i rs)
+headers_tried i rs = headers_of i (modulus_of_rows i rs)

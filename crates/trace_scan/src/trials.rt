@@ -5,7 +5,7 @@ ghost use Rattle.line_model.specs.basics.Octets.{bits, octet};
 ghost use Rattle.line_model.specs.basics.Records as records;
 ghost use Rattle.line_model.specs.declared.fault.Fault.TheVariants.{Memory};
 ghost use Rattle.line_model.specs.declared.interface.Interface.{Interface as AnyInterface};
-ghost use Rattle.trace_scan.specs.Headers.{headers_of, headers_tried, headers_with, tells_8, with_numbers};
+ghost use Rattle.trace_scan.specs.Headers.{headers_of, headers_tried, headers_with, is_modulo_8, with_numbers};
 ghost use Rattle.trace_scan.specs.TextCuts.{IsTrace};
 ghost use Rattle.trace_scan.specs.Trials.{AreTrials, IsTrying, MayWalkAll, MayTry};
 
@@ -138,8 +138,8 @@ impl Formats {
     }
 
     /// Whether the rows have modulo 8; by the header's modulus where as many have either.
-    fn tell_8(&self, own: u8) -> bool
-        ensures { result ≡ tells_8 own self.now.of_8 self.now.of_128 }
+    fn is_modulo_8(&self, own: u8) -> bool
+        ensures { result ≡ is_modulo_8 own self.now.of_8 self.now.of_128 }
     {
         if self.of_128 < self.of_8 {
             return true;
@@ -198,7 +198,7 @@ impl<A: Allocator + Copy, C: Channel<A>> Trials<A, C> {
         ensures { (i : AnyInterface) (rows : List records.Row) → IsTrying C.Channel i rows self
             → AreTrials C.Channel rows (headers_tried i rows) result.items }
     {
-        if self.formats.tell_8(self.own) {
+        if self.formats.is_modulo_8(self.own) {
             self.of_8
         } else {
             self.of_128

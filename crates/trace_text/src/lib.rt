@@ -10,6 +10,6 @@ pub mod lines;
 mod number;
 mod reading;
 mod row_line;
+pub mod trace_observer;
 mod usual_row;
-pub mod watcher;
 mod words;

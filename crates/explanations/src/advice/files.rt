@@ -3,7 +3,7 @@
 /// What a file is that begins with some bytes, and what to do with it.
 struct Form {
     magic: &'static [u8],
-    told: &'static str,
+    sentence: &'static str,
 }
 
 const CAPTURE: &str =
@@ -26,103 +26,103 @@ const UTF16: &str = "The text is UTF-16: iconv -f UTF-16 -t ASCII FILE | x25scan
 const FORMS: [Form; 25] = [
     Form {
         magic: b"\xef\xbb\xbf",
-        told: "The text begins with a byte order mark: tail -c +4 FILE | x25scan reads it.",
+        sentence: "The text begins with a byte order mark: tail -c +4 FILE | x25scan reads it.",
     },
     Form {
         magic: b"\xff\xfe",
-        told: UTF16,
+        sentence: UTF16,
     },
     Form {
         magic: b"\xfe\xff",
-        told: UTF16,
+        sentence: UTF16,
     },
     Form {
         magic: b"\x1f\x8b",
-        told: "This is a gzip file: gzip -dc FILE | x25scan reads what is in it.",
+        sentence: "This is a gzip file: gzip -dc FILE | x25scan reads what is in it.",
     },
     Form {
         magic: b"\x28\xb5\x2f\xfd",
-        told: "This is a zstd file: zstd -dc FILE | x25scan reads what is in it.",
+        sentence: "This is a zstd file: zstd -dc FILE | x25scan reads what is in it.",
     },
     Form {
         magic: b"\xfd7zXZ\x00",
-        told: "This is an xz file: xz -dc FILE | x25scan reads what is in it.",
+        sentence: "This is an xz file: xz -dc FILE | x25scan reads what is in it.",
     },
     Form {
         magic: b"BZh",
-        told: "This is a bzip2 file: bzip2 -dc FILE | x25scan reads what is in it.",
+        sentence: "This is a bzip2 file: bzip2 -dc FILE | x25scan reads what is in it.",
     },
     Form {
         magic: b"\x04\x22\x4d\x18",
-        told: "This is an lz4 file: lz4 -dc FILE | x25scan reads what is in it.",
+        sentence: "This is an lz4 file: lz4 -dc FILE | x25scan reads what is in it.",
     },
     Form {
         magic: b"PK\x03\x04",
-        told: "This is a zip file: unzip -p FILE | x25scan reads what is in it.",
+        sentence: "This is a zip file: unzip -p FILE | x25scan reads what is in it.",
     },
     Form {
         magic: b"\xd4\xc3\xb2\xa1",
-        told: CAPTURE,
+        sentence: CAPTURE,
     },
     Form {
         magic: b"\xa1\xb2\xc3\xd4",
-        told: CAPTURE,
+        sentence: CAPTURE,
     },
     Form {
         magic: b"\x4d\x3c\xb2\xa1",
-        told: CAPTURE,
+        sentence: CAPTURE,
     },
     Form {
         magic: b"\xa1\xb2\x3c\x4d",
-        told: CAPTURE,
+        sentence: CAPTURE,
     },
     Form {
         magic: b"\xa1\xb2\xcd\x34",
-        told: CAPTURE,
+        sentence: CAPTURE,
     },
     Form {
         magic: b"\x34\xcd\xb2\xa1",
-        told: CAPTURE,
+        sentence: CAPTURE,
     },
     Form {
         magic: b"\x0a\x0d\x0d\x0a",
-        told: CAPTURE,
+        sentence: CAPTURE,
     },
     Form {
         magic: b"snoop\x00\x00\x00",
-        told: CAPTURE,
+        sentence: CAPTURE,
     },
     Form {
         magic: b"TRSNIFF data",
-        told: SNIFFER,
+        sentence: SNIFFER,
     },
     Form {
         magic: b"XCP\x00",
-        told: NETXRAY,
+        sentence: NETXRAY,
     },
     Form {
         magic: b"RTSS",
-        told: NETWORK_MONITOR,
+        sentence: NETWORK_MONITOR,
     },
     Form {
         magic: b"GMBU",
-        told: NETWORK_MONITOR,
+        sentence: NETWORK_MONITOR,
     },
     Form {
         magic: b"\x1c\x00\x01\xac",
-        told: IXIA,
+        sentence: IXIA,
     },
     Form {
         magic: b"\xac\x01\x00\x1c",
-        told: IXIA,
+        sentence: IXIA,
     },
     Form {
         magic: b"\x1c\x00\x01\xab",
-        told: IXIA,
+        sentence: IXIA,
     },
     Form {
         magic: b"\xab\x01\x00\x1c",
-        told: IXIA,
+        sentence: IXIA,
     },
 ];
 
@@ -132,7 +132,7 @@ const FORMS: [Form; 25] = [
 pub fn file_advice(text: &[u8]) -> Option<&'static str> {
     for form in FORMS.as_slice() {
         if text.starts_with(form.magic) {
-            return Some(form.told);
+            return Some(form.sentence);
         }
     }
     None

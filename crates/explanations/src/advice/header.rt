@@ -3,7 +3,7 @@
 use crate::advice::line::{number_in, space_advice};
 use crate::advice::quoted::quoted;
 use crate::advice::ranges::{Numbers, range_advice};
-use crate::advice::told::{tell, tell_word, told};
+use crate::advice::sentence::{fixed_sentence, quoting_sentence, some_sentence};
 use std::alloc::{AllocError, Global};
 
 /// A header of the first form, as an example.
@@ -39,7 +39,7 @@ fn name_advice(
     name: &str,
 ) -> Result<Option<String>, AllocError> {
     match word {
-        None => told(format!(in alloc; "The header ends where {name} belongs.")),
+        None => some_sentence(format!(in alloc; "The header ends where {name} belongs.")),
         Some(word) if word == name.as_bytes() => Ok(None),
         Some(word) => other_name_advice(alloc, word, name),
     }
@@ -49,7 +49,7 @@ fn name_advice(
 fn other_name_advice(alloc: Global, word: &[u8], name: &str) -> Result<Option<String>, AllocError> {
     let is_same = word.eq_ignore_ascii_case(name.as_bytes());
     let word = quoted(alloc, word)?;
-    told(if is_same {
+    some_sentence(if is_same {
         format!(in alloc; "The header's words are in capitals: {word} is written {name}.")
     } else {
         format!(in alloc; "In the header stands {word} where {name} belongs.")
@@ -71,9 +71,9 @@ fn number_after(
     }
 }
 
-/// No number, and what is told in its place.
-fn refused(told: Result<String, AllocError>) -> Result<Result<u32, String>, AllocError> {
-    Ok(Err(told?))
+/// No number, and the sentence that stands in its place.
+fn refused(sentence: Result<String, AllocError>) -> Result<Result<u32, String>, AllocError> {
+    Ok(Err(sentence?))
 }
 
 /// What is wrong with a word after a name that is no number.
@@ -84,19 +84,19 @@ fn no_number_advice(alloc: Global, word: &[u8], name: &str) -> Result<String, Al
     )
 }
 
-/// Takes a name and its number off the words, or tells what is wrong there.
+/// Takes a name and its number off the words, or returns what is wrong there.
 fn next_number(
     alloc: Global,
     words: &mut WordsLeft<'_>,
     name: &str,
 ) -> Result<Result<u32, String>, AllocError> {
     match name_advice(alloc, words.next(), name)? {
-        Some(told) => Ok(Err(told)),
+        Some(sentence) => Ok(Err(sentence)),
         None => number_after(alloc, words.next(), name),
     }
 }
 
-/// Takes the names and their numbers off the words, or tells what is wrong with the first that is wrong.
+/// Takes the names and their numbers off the words, or returns what is wrong with the first that is wrong.
 fn next_numbers(
     alloc: Global,
     words: &mut WordsLeft<'_>,
@@ -106,7 +106,7 @@ fn next_numbers(
     for name in names {
         match next_number(alloc, words, name)? {
             Ok(number) => numbers.put(name, number),
-            Err(told) => return Ok(Err(told)),
+            Err(sentence) => return Ok(Err(sentence)),
         }
     }
     Ok(Ok(numbers))
@@ -121,7 +121,7 @@ fn end_advice(
     match words.next() {
         None => Ok(None),
         Some(word) if may_join => join_advice(alloc, word, words),
-        Some(word) => tell_word(alloc, "", word, " stands after the header's last number."),
+        Some(word) => quoting_sentence(alloc, "", word, " stands after the header's last number."),
     }
 }
 
@@ -133,7 +133,7 @@ fn join_advice(
 ) -> Result<Option<String>, AllocError> {
     match name_advice(alloc, Some(word), "JOIN") {
         Ok(None) => end_advice_after(alloc, words),
-        told => told,
+        advice => advice,
     }
 }
 
@@ -144,7 +144,7 @@ fn end_advice_after(
 ) -> Result<Option<String>, AllocError> {
     match words.next() {
         None => Ok(None),
-        Some(word) => tell_word(alloc, "", word, " stands after the header's JOIN."),
+        Some(word) => quoting_sentence(alloc, "", word, " stands after the header's JOIN."),
     }
 }
 
@@ -156,10 +156,10 @@ fn numbers_advice(
     may_join: bool,
 ) -> Result<Option<String>, AllocError> {
     match next_numbers(alloc, words, names)? {
-        Err(told) => Ok(Some(told)),
+        Err(sentence) => Ok(Some(sentence)),
         Ok(numbers) => match end_advice(alloc, words, may_join) {
             Ok(None) => range_advice(alloc, &numbers, may_join),
-            told => told,
+            advice => advice,
         },
     }
 }
@@ -169,7 +169,7 @@ fn words_advice(alloc: Global, line: &[u8]) -> Result<Option<String>, AllocError
     let mut words = WordsLeft { line: Some(line) };
     match name_advice(alloc, words.next(), "X25") {
         Ok(None) => form_advice(alloc, &mut words),
-        told => told,
+        advice => advice,
     }
 }
 
@@ -178,7 +178,7 @@ fn form_advice(alloc: Global, words: &mut WordsLeft<'_>) -> Result<Option<String
     match words.next() {
         Some([b'1']) => numbers_advice(alloc, words, FIRST_FORM.as_slice(), false),
         Some([b'2']) => numbers_advice(alloc, words, SECOND_FORM.as_slice(), true),
-        _ => tell(alloc, "After X25 comes the form of the header: 1 or 2."),
+        _ => fixed_sentence(alloc, "After X25 comes the form of the header: 1 or 2."),
     }
 }
 
@@ -186,14 +186,14 @@ fn form_advice(alloc: Global, words: &mut WordsLeft<'_>) -> Result<Option<String
 fn header_advice(alloc: Global, line: &[u8]) -> Result<Option<String>, AllocError> {
     match space_advice(alloc, line) {
         Ok(None) => first_line_advice(alloc, line),
-        told => told,
+        advice => advice,
     }
 }
 
 /// What is wrong with a header whose words are parted, if something is.
 fn first_line_advice(alloc: Global, line: &[u8]) -> Result<Option<String>, AllocError> {
     match line.first() {
-        Some(byte) if byte.is_ascii_digit() => told(format!(in alloc;
+        Some(byte) if byte.is_ascii_digit() => some_sentence(format!(in alloc;
             "A row stands before the header, which comes first, as {HEADER}."
         )),
         _ => words_advice(alloc, line),

@@ -1,6 +1,6 @@
 //! A line, its words and the spaces between them.
 
-use crate::advice::told::{tell, told};
+use crate::advice::sentence::{fixed_sentence, some_sentence};
 use memchr::{memchr, memmem};
 use std::alloc::{AllocError, Global};
 
@@ -14,38 +14,38 @@ pub fn ends_in_return(line: &[u8]) -> bool {
     line.ends_with(b"\r")
 }
 
-/// What is told of a line that ends in a carriage return.
+/// What is said of a line that ends in a carriage return.
 pub const RETURN: &str =
     "The line ends in a carriage return, and a line feed alone ends a line: tr -d '\\r' < FILE | x25scan reads the text.";
 
-/// What is told of an empty line.
+/// What is said of an empty line.
 const EMPTY: &str =
     "The line is empty: sed '/^$/d' FILE | x25scan reads the text without empty lines.";
 
-/// What is told of an empty line that no other follows.
+/// What is said of an empty line that no other follows.
 const LAST_EMPTY: &str =
     "The last line that was read is empty: sed '/^$/d' FILE | x25scan reads the text without empty lines.";
 
-/// What is told of an empty line; these bytes were read after it.
+/// What is said of an empty line; these bytes were read after it.
 pub fn empty_advice(alloc: Global, after: &[u8]) -> Result<Option<String>, AllocError> {
     if after.iter().all(|byte| *byte == b'\n') {
-        tell(alloc, LAST_EMPTY)
+        fixed_sentence(alloc, LAST_EMPTY)
     } else {
-        tell(alloc, EMPTY)
+        fixed_sentence(alloc, EMPTY)
     }
 }
 
 /// What is wrong with the bytes between the words of a line, if it is that.
 pub fn space_advice(alloc: Global, line: &[u8]) -> Result<Option<String>, AllocError> {
     if line.is_empty() {
-        return tell(alloc, EMPTY);
+        return fixed_sentence(alloc, EMPTY);
     }
     if ends_in_return(line) {
-        return tell(alloc, RETURN);
+        return fixed_sentence(alloc, RETURN);
     }
     if let Some(place) = memchr(b'\t', line) {
         let column = column(place);
-        return told(format!(in alloc;
+        return some_sentence(format!(in alloc;
             "There is a tab at column {column}: single spaces part the words."
         ));
     }
@@ -55,16 +55,16 @@ pub fn space_advice(alloc: Global, line: &[u8]) -> Result<Option<String>, AllocE
 /// What is wrong with the spaces of a line, if it is that.
 fn parting_advice(alloc: Global, line: &[u8]) -> Result<Option<String>, AllocError> {
     if line.starts_with(b" ") {
-        return tell(alloc, "The line begins with a space.");
+        return fixed_sentence(alloc, "The line begins with a space.");
     }
     if let Some(place) = memmem::find(line, b"  ") {
         let column = column(place);
-        return told(format!(in alloc;
+        return some_sentence(format!(in alloc;
             "There are two spaces at column {column}: single spaces part the words."
         ));
     }
     if line.ends_with(b" ") {
-        return tell(alloc, "The line ends in a space.");
+        return fixed_sentence(alloc, "The line ends in a space.");
     }
     Ok(None)
 }

@@ -1,6 +1,6 @@
 //! Which number of a header is out of its range.
 
-use crate::advice::told::told;
+use crate::advice::sentence::some_sentence;
 use std::alloc::{AllocError, Global};
 
 /// The greatest number of a logical channel.
@@ -60,7 +60,7 @@ fn bounds_advice(
     if least <= number && number <= most {
         return Ok(None);
     }
-    told(if least == most {
+    some_sentence(if least == most {
         format!(in alloc; "The header's {name} is {number}: {most} belongs there.")
     } else {
         format!(in alloc; "The header's {name} is {number}: {least} to {most} belongs there.")
@@ -71,11 +71,13 @@ fn bounds_advice(
 fn defaults_advice(alloc: Global, numbers: &Numbers) -> Result<Option<String>, AllocError> {
     let modulus = numbers.modulus;
     if modulus != 8 && modulus != 128 {
-        return told(format!(in alloc; "The header's MOD is {modulus}: 8 or 128 belongs there."));
+        return some_sentence(format!(in alloc;
+            "The header's MOD is {modulus}: 8 or 128 belongs there."
+        ));
     }
     let size = numbers.size;
     if !size.is_power_of_two() || size < 16 || size > 4096 {
-        return told(format!(in alloc;
+        return some_sentence(format!(in alloc;
             "The header's SIZE is {size}: a power of two from 16 to 4096 belongs there."
         ));
     }
@@ -86,7 +88,7 @@ fn defaults_advice(alloc: Global, numbers: &Numbers) -> Result<Option<String>, A
 fn first_form_advice(alloc: Global, numbers: &Numbers) -> Result<Option<String>, AllocError> {
     match bounds_advice(alloc, "SVC", numbers.svc, 1, CHANNELS) {
         Ok(None) => bounds_advice(alloc, "PVC", numbers.pvc, 0, numbers.svc),
-        told => told,
+        advice => advice,
     }
 }
 
@@ -95,9 +97,9 @@ fn second_form_advice(alloc: Global, numbers: &Numbers) -> Result<Option<String>
     match bounds_advice(alloc, "OUT", numbers.outgoing, 1, CHANNELS) {
         Ok(None) => match bounds_advice(alloc, "TWO", numbers.two_way, 0, numbers.outgoing) {
             Ok(None) => incoming_advice(alloc, numbers),
-            told => told,
+            advice => advice,
         },
-        told => told,
+        advice => advice,
     }
 }
 
@@ -105,7 +107,7 @@ fn second_form_advice(alloc: Global, numbers: &Numbers) -> Result<Option<String>
 fn incoming_advice(alloc: Global, numbers: &Numbers) -> Result<Option<String>, AllocError> {
     match bounds_advice(alloc, "IN", numbers.incoming, 0, numbers.two_way) {
         Ok(None) => bounds_advice(alloc, "PVC", numbers.pvc, 0, numbers.incoming),
-        told => told,
+        advice => advice,
     }
 }
 
@@ -118,6 +120,6 @@ pub fn range_advice(
     match defaults_advice(alloc, numbers) {
         Ok(None) if is_second => second_form_advice(alloc, numbers),
         Ok(None) => first_form_advice(alloc, numbers),
-        told => told,
+        advice => advice,
     }
 }

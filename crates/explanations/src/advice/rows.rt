@@ -2,7 +2,7 @@
 
 use crate::advice::line::{RETURN, empty_advice, ends_in_return, number_in, space_advice};
 use crate::advice::quoted::quoted;
-use crate::advice::told::{tell, tell_word, told};
+use crate::advice::sentence::{fixed_sentence, quoting_sentence, some_sentence};
 use line_model::fault::Kind;
 use std::alloc::{AllocError, Global};
 
@@ -32,7 +32,7 @@ fn row_words(line: &[u8]) -> Option<RowWords<'_>> {
     }
 }
 
-/// What is told of a header among the rows.
+/// What is said of a header among the rows.
 const SECOND_HEADER: &str =
     "A second header stands here, as in joined traces. Where the row numbers go on, awk '!/^X25 / || !n++' FILE.. | x25scan reads them as one trace.";
 
@@ -47,19 +47,19 @@ fn form_advice(alloc: Global, line: &[u8], after: &[u8]) -> Result<Option<String
         return empty_advice(alloc, after);
     }
     if is_like_header(line) {
-        return tell(alloc, SECOND_HEADER);
+        return fixed_sentence(alloc, SECOND_HEADER);
     }
     match space_advice(alloc, line) {
         Ok(None) => word_count_advice(alloc, line),
-        told => told,
+        advice => advice,
     }
 }
 
-/// What is told of a row by how many words it has.
+/// What is said of a row by how many words it has.
 fn word_count_advice(alloc: Global, line: &[u8]) -> Result<Option<String>, AllocError> {
     let count = line.split(|byte| *byte == b' ').count();
     let words = if count == 1 { "word" } else { "words" };
-    told(format!(in alloc;
+    some_sentence(format!(in alloc;
         "The line has {count} {words}, and a row has three: its number, its side and its octets."
     ))
 }
@@ -71,13 +71,13 @@ fn number_advice(
     before: Option<u32>,
 ) -> Result<Option<String>, AllocError> {
     match number_in(word) {
-        None => tell_word(
+        None => quoting_sentence(
             alloc,
             "The row's number is ",
             word,
             ": 1 to 999999999 without a leading zero belongs there.",
         ),
-        Some(0) => tell(alloc, "The row's number is 0: rows are numbered from 1."),
+        Some(0) => fixed_sentence(alloc, "The row's number is 0: rows are numbered from 1."),
         Some(number) => rise_advice(alloc, number, before),
     }
 }
@@ -89,7 +89,7 @@ fn rise_advice(
     before: Option<u32>,
 ) -> Result<Option<String>, AllocError> {
     match before {
-        Some(before) if number <= before => told(format!(in alloc;
+        Some(before) if number <= before => some_sentence(format!(in alloc;
             "The row's number is {number}, and that of the row before is {before}: numbers rise."
         )),
         _ => Ok(None),
@@ -99,9 +99,9 @@ fn rise_advice(
 fn side_advice(alloc: Global, word: &[u8]) -> Result<Option<String>, AllocError> {
     match word {
         [b'T'] | [b'N'] => Ok(None),
-        [b't'] => tell(alloc, "The side t is written T."),
-        [b'n'] => tell(alloc, "The side n is written N."),
-        _ => tell_word(
+        [b't'] => fixed_sentence(alloc, "The side t is written T."),
+        [b'n'] => fixed_sentence(alloc, "The side n is written N."),
+        _ => quoting_sentence(
             alloc,
             "The side is ",
             word,
@@ -116,7 +116,7 @@ fn octets_advice(alloc: Global, word: &[u8], front: usize) -> Result<Option<Stri
         return Ok(None);
     }
     if ends_in_return(word) {
-        return tell(alloc, RETURN);
+        return fixed_sentence(alloc, RETURN);
     }
     match word.iter().position(|byte| !byte.is_ascii_hexdigit()) {
         Some(place) => digit_advice(alloc, word, place, front),
@@ -124,7 +124,7 @@ fn octets_advice(alloc: Global, word: &[u8], front: usize) -> Result<Option<Stri
     }
 }
 
-/// What is told of a place among the octets that holds no hex digit.
+/// What is said of a place among the octets that holds no hex digit.
 fn digit_advice(
     alloc: Global,
     word: &[u8],
@@ -134,20 +134,20 @@ fn digit_advice(
     let column = front.saturating_add(place).saturating_add(1);
     let byte = word.get(place..place.saturating_add(1)).unwrap_or(b"");
     let byte = quoted(alloc, byte)?;
-    told(format!(in alloc; "At column {column} stands {byte}, which is no hex digit."))
+    some_sentence(format!(in alloc; "At column {column} stands {byte}, which is no hex digit."))
 }
 
 /// What is wrong with the number of hex digits, if it is wrong.
 fn count_advice(alloc: Global, count: usize, front: usize) -> Result<Option<String>, AllocError> {
     let octets = count / 2;
     if octets > OCTET_LIMIT {
-        return told(format!(in alloc;
+        return some_sentence(format!(in alloc;
             "The row has {octets} octets, and {OCTET_LIMIT} are the most."
         ));
     }
     if count % 2 == 1 {
         let column = front.saturating_add(count);
-        return told(format!(in alloc;
+        return some_sentence(format!(in alloc;
             "The octets have {count} hex digits, an odd number: the last one, at column {column}, stands alone."
         ));
     }
@@ -260,13 +260,13 @@ pub fn rows_advice(
             };
             match row_advice(alloc, kind, place) {
                 Ok(None) => before = row_number(line),
-                told => return told,
+                advice => return advice,
             }
         }
         end = end.saturating_add(1);
     }
     if seen.may_have_header && kind == Kind::LineForm {
-        return tell(alloc, SECOND_HEADER);
+        return fixed_sentence(alloc, SECOND_HEADER);
     }
     Ok(None)
 }

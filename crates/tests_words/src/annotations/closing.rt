@@ -17,7 +17,7 @@ use std::process::Abort;
 use std::test::Fail;
 use tests_devices::Cuts;
 use tests_devices::scarce::Scarce;
-use trace_text::watcher::Watcher;
+use trace_text::trace_observer::TraceObserver;
 
 /// A row, and a last line without an LF.
 const LINES: &str = "X25 1 MOD 8 WIN 2 SIZE 128 PVC 0 SVC 4\n1 T 10010B0000";
@@ -42,7 +42,7 @@ struct Wordy {
     times: usize,
 }
 
-impl<A: Allocator + Copy, W: Watcher<A>> Describer<A, W> for Wordy {
+impl<A: Allocator + Copy, O: TraceObserver<A>> Describer<A, O> for Wordy {
     ghost described = { λ d lines. ⊤ };
 
     ghost rows = { λ d. All };
@@ -53,13 +53,13 @@ impl<A: Allocator + Copy, W: Watcher<A>> Describer<A, W> for Wordy {
 
     fn begin(&mut self) {}
 
-    fn describe(&mut self, _trace: &W, _notes: &mut Notes<A>) -> Result<bool, AllocError> {
+    fn describe(&mut self, _trace: &O, _notes: &mut Notes<A>) -> Result<bool, AllocError> {
         Ok(false)
     }
 
     fn explain(
         &mut self,
-        _trace: &W,
+        _trace: &O,
         _finding: &Finding,
         _words: &mut Words<A>,
     ) -> Result<(), AllocError> {

@@ -9,9 +9,9 @@ use std::sync::Wait;
 use std::thread::Threads;
 use std::time::Clock;
 use streams::first_bytes::FirstBytes;
-use streams::input::{Heard, Input, OpenFault, OpenRefusal};
+use streams::input::{Input, LastText, OpenFault, OpenRefusal};
 use streams::output::Output;
-use streams::progress::Telling;
+use streams::progress::ShowProgress;
 use tests_devices::{CutSink, CutSource, Cuts};
 
 /// The status of a run, and what was written.
@@ -94,17 +94,17 @@ impl Input for CutInput<'_> {
         &self.begun
     }
 
-    fn heard(&self, alloc: Global) -> Result<Heard, AllocError> {
+    fn last_text(&self, alloc: Global) -> Result<LastText, AllocError> {
         let given = self.text.len().saturating_sub(self.source.rest.len());
         let mut text = Vec::new(alloc);
         text.extend_from_slice(&self.text[..given])?;
-        Ok(Heard {
+        Ok(LastText {
             text,
             is_whole: true,
         })
     }
 
-    fn tell_progress(&mut self, _telling: Telling) {}
+    fn show_progress(&mut self, _when: ShowProgress) {}
 
     fn shows_terminal(&self) -> bool {
         false

@@ -11,8 +11,8 @@ read_to_end-requires-clause-nothing g c =
     let printing = c.new-printing.result in
     let fed = c.new-printing.ensures.fed in
     let choice = g.P.Printer.rows printing.printer in
-    nothing_written (HasFollowed g.W.Watcher g.P.Printer choice) g.W.Watcher.size (IsPrintOf (g.P.Printer.form choice) []) (g.K.Sink.taken c.args.sink.now) (g.K.Sink.failures c.args.sink.now) printing refl (record { trace = (fed.trace.0, fed.trace.1, refl); begun = fed.begun })
-    c.new-printing.ensures.held (g.met.W.Watcher.sized printing.trace [] fed.trace.0)
+    nothing_written (HasFollowed g.O.TraceObserver g.P.Printer choice) g.O.TraceObserver.size (IsPrintOf (g.P.Printer.form choice) []) (g.K.Sink.taken c.args.sink.now) (g.K.Sink.failures c.args.sink.now) printing refl (record { trace = (fed.trace.0, fed.trace.1, refl); begun = fed.begun })
+    c.new-printing.ensures.held (g.met.O.TraceObserver.sized printing.trace [] fed.trace.0)
 
 pub read_to_end-requires-clause-expected : goal.read_to_end-requires-clause-expected
 read_to_end-requires-clause-expected g c text begins = tt
@@ -31,7 +31,7 @@ returns-in_err-read_to_end-clause-stopped g c =
     passed_on c.from_residual.result fault
     (StopsPrinting (IsPrintOf (g.P.Printer.form (g.P.Printer.rows c.args.printer)) []) (HasFirstPrintOf (IsPrintOf (g.P.Printer.form (g.P.Printer.rows c.args.printer)) []) (g.P.Printer.closing (g.P.Printer.rows c.args.printer))) left after asked before taken well) c.from_residual.ensures.1
     (subst (λ k. StopsPrinting (IsPrintOf (g.P.Printer.form k) []) (HasFirstPrintOf (IsPrintOf (g.P.Printer.form k) []) (g.P.Printer.closing k)) left after asked before taken well fault) c.new-printing.ensures.fed.trace.2
-    (reading_stops (HasFollowed g.W.Watcher g.P.Printer choice) g.W.Watcher.size F (HasFirstPrintOf F (g.P.Printer.closing choice)) left after asked before taken (g.K.Sink.failures c.args.sink.now) (g.K.Sink.failures c.read_to_end.new.out) c.read_to_end.new.consumer fault c.in_err-read_to_end.ensures.stopped))
+    (reading_stops (HasFollowed g.O.TraceObserver g.P.Printer choice) g.O.TraceObserver.size F (HasFirstPrintOf F (g.P.Printer.closing choice)) left after asked before taken (g.K.Sink.failures c.args.sink.now) (g.K.Sink.failures c.read_to_end.new.out) c.read_to_end.new.consumer fault c.in_err-read_to_end.ensures.stopped))
 
 pub returns-clause-printed : goal.returns-clause-printed
 returns-clause-printed g c =
@@ -39,7 +39,7 @@ returns-clause-printed g c =
     let before = g.K.Sink.taken c.args.sink.now in
     let choice = g.P.Printer.rows c.new-printing.result.printer in
     let F = IsPrintOf (g.P.Printer.form choice) [] in
-    let held = held_of (HasFollowed g.W.Watcher g.P.Printer choice) g.W.Watcher.size F before (g.K.Sink.taken c.read_to_end.new.out) _ _ w.text c.read_to_end.new.consumer w.fed in
+    let held = held_of (HasFollowed g.O.TraceObserver g.P.Printer choice) g.O.TraceObserver.size F before (g.K.Sink.taken c.read_to_end.new.out) _ _ w.text c.read_to_end.new.consumer w.fed in
     subst
     (λ k.
     IfOk c.end.result (HasPassed (IsPrinted (IsPrintOf (g.P.Printer.form k) []) (g.P.Printer.closing k)) (g.S.Source.left c.args.source.now) (g.S.Source.left c.read_to_end.new.source) (g.S.Source.before c.read_to_end.new.source) before (g.K.Sink.taken c.end.new.sink)))
@@ -53,7 +53,7 @@ returns-clause-stopped g c =
     let before = g.K.Sink.taken c.args.sink.now in
     let choice = g.P.Printer.rows c.new-printing.result.printer in
     let F = IsPrintOf (g.P.Printer.form choice) [] in
-    let held = held_of (HasFollowed g.W.Watcher g.P.Printer choice) g.W.Watcher.size F before (g.K.Sink.taken c.read_to_end.new.out) _ _ w.text c.read_to_end.new.consumer w.fed in
+    let held = held_of (HasFollowed g.O.TraceObserver g.P.Printer choice) g.O.TraceObserver.size F before (g.K.Sink.taken c.read_to_end.new.out) _ _ w.text c.read_to_end.new.consumer w.fed in
     subst
     (λ k.
     IfErr c.end.result (StopsPrinting (IsPrintOf (g.P.Printer.form k) []) (HasFirstPrintOf (IsPrintOf (g.P.Printer.form k) []) (g.P.Printer.closing k)) (g.S.Source.left c.args.source.now) (g.S.Source.left c.read_to_end.new.source) (g.S.Source.before c.read_to_end.new.source) before

@@ -2,10 +2,10 @@ use Rattle.std.proofs.Common.{◌∙◌}
 use Rattle.command_line.proofs.program.scan.Goals as goal
 
 pub returns-then-options-clause-followed : goal.returns-then-options-clause-followed
-returns-then-options-clause-followed g c asked text told = c.run_follow.ensures.status text (c.tell_progress.ensures.left ∙ told)
+returns-then-options-clause-followed g c asked text told = c.run_follow.ensures.status text (c.show_progress.ensures.left ∙ told)
 
 pub returns-then-notes-clause-status : goal.returns-then-notes-clause-status
-returns-then-notes-clause-status g c unasked text told = c.run_alone.ensures.status text (c.tell_progress.ensures.left ∙ told)
+returns-then-notes-clause-status g c unasked text told = c.run_alone.ensures.status text (c.show_progress.ensures.left ∙ told)
 
 pub returns-else-notes-clause-status : goal.returns-else-notes-clause-status
-returns-else-notes-clause-status g c unasked text told = c.run_with.ensures.status text (c.tell_progress.ensures.left ∙ told)
+returns-else-notes-clause-status g c unasked text told = c.run_with.ensures.status text (c.show_progress.ensures.left ∙ told)

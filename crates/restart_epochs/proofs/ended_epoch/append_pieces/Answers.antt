@@ -8,13 +8,13 @@ pub loop-channel-init : goal.loop-channel-init
 loop-channel-init g c = record {
   room = c.requires.room;
   ids = c.requires.ids;
-  given = giving_none c.args.interface.now c.args.epoch c.args.end c.args.first c.args.epoch_rows.now c.args.out.now.items;
+  given = giving_none c.args.epoch.interface c.args.epoch.number c.args.epoch.end c.args.first c.args.epoch_rows.now c.args.out.now.items;
 }
 
 pub invariant_of-piece : goal.invariant_of-piece
 invariant_of-piece g c =
     let taken : IsTakenOut c.in-Some.channel c.in-Some.items c.loop-channel.epoch_rows c.take_first.new.rows = c.in-Some.ensures in
-    subst (IsPiece c.args.interface.now c.in-Some.channel) (sym (first_rows _ _ _ _ _ _ _ _ _ _ c.in-Some.channel c.in-Some.items c.loop-channel.invariant.given taken)) (c.requires.pieces c.in-Some.channel)
+    subst (IsPiece c.args.epoch.interface c.in-Some.channel) (sym (first_rows _ _ _ _ _ _ _ _ _ _ c.in-Some.channel c.in-Some.items c.loop-channel.invariant.given taken)) (c.requires.pieces c.in-Some.channel)
 
 pub loop-channel-preserved : goal.loop-channel-preserved
 loop-channel-preserved g c =
@@ -25,6 +25,6 @@ loop-channel-preserved g c =
     record {
       room = omega (arith, one, room, c.push_reserved.ensures.len, c.push_reserved.ensures.capacity);
       ids = omega (arith, one, ids);
-      given = subst (Giving c.args.interface.now c.args.epoch c.args.end c.args.first c.args.epoch_rows.now c.args.out.now.items (c.loop-channel.id + 1) c.take_first.new.rows) (sym c.push_reserved.ensures.items)
-          (giving_more c.args.interface.now c.args.epoch c.args.end c.args.first c.args.epoch_rows.now c.args.out.now.items c.loop-channel.id c.loop-channel.epoch_rows c.take_first.new.rows c.loop-channel.out.items c.in-Some.channel c.in-Some.items c.loop-channel.invariant.given taken);
+      given = subst (Giving c.args.epoch.interface c.args.epoch.number c.args.epoch.end c.args.first c.args.epoch_rows.now c.args.out.now.items (c.loop-channel.id + 1) c.take_first.new.rows) (sym c.push_reserved.ensures.items)
+          (giving_more c.args.epoch.interface c.args.epoch.number c.args.epoch.end c.args.first c.args.epoch_rows.now c.args.out.now.items c.loop-channel.id c.loop-channel.epoch_rows c.take_first.new.rows c.loop-channel.out.items c.in-Some.channel c.in-Some.items c.loop-channel.invariant.given taken);
     }

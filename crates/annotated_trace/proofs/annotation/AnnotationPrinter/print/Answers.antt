@@ -7,7 +7,7 @@ use Rattle.annotated_trace.proofs.annotation.AnnotationPrinter.print.Goals as go
 pub returns-clause-form : goal.returns-clause-form
 returns-clause-form g c before l text d s lines came e =
     let choice = g.D.Describer.rows c.args.self.now.describer in
-    let found = g.W.Watcher.last_found c.args.trace.now in
+    let found = g.O.TraceObserver.last_found c.args.trace.now in
     let mid = c.extend_from_slice.new.self.items in
     let after = c.append_comments.new.out.items in
     on_ok c.append_comments.result _ _ (c.append_comments.ensures.comments before l text d (sym c.rows-choice.ensures) s lines)

@@ -21,28 +21,28 @@ returns-clause-printed g c choice text before s h =
     let some = some_bytes c.args.self.begun.len (length (begun_line text)) (sym c.is_empty.ensures ∙ c.if-is_empty.false) (c.args.self.begun.ok.0 ∙ ap (λ (b : List ℕ). length b) s.begun) in
     let next = c.in_ok-take_line.ensures.fed choice text [] s refl refl in
     let held : HasPrinted (IsPrintOf (g.P.Printer.form choice) []) before (g.K.Sink.taken c.args.sink.now) c.take_line.new.self.held.items (ended_lines (text ++ 10 ∷ [])) = record { sent = h.sent; taken_is = h.taken_is; lines = c.in_ok-take_line.ensures.held choice text [] h.sent s refl refl h.lines } in
-    ended_printed (IsPrintOf (g.P.Printer.form choice) []) (g.P.Printer.closing choice) text before (g.K.Sink.taken c.close-2.new.sink) c.close-2.result some (g.met.W.Watcher.sound c.args.self.trace text s.trace.0)
-    (g.met.W.Watcher.sound c.take_line.new.self.trace (text ++ 10 ∷ []) next.trace.0) (c.close-2.ensures.printed choice (text ++ 10 ∷ []) before next (begun-lf text) held)
+    ended_printed (IsPrintOf (g.P.Printer.form choice) []) (g.P.Printer.closing choice) text before (g.K.Sink.taken c.close-2.new.sink) c.close-2.result some (g.met.O.TraceObserver.sound c.args.self.trace text s.trace.0)
+    (g.met.O.TraceObserver.sound c.take_line.new.self.trace (text ++ 10 ∷ []) next.trace.0) (c.close-2.ensures.printed choice (text ++ 10 ∷ []) before next (begun-lf text) held)
 
 pub returns-clause-refused : goal.returns-clause-refused
 returns-clause-refused g c choice text s =
     let some = some_bytes c.args.self.begun.len (length (begun_line text)) (sym c.is_empty.ensures ∙ c.if-is_empty.false) (c.args.self.begun.ok.0 ∙ ap (λ (b : List ℕ). length b) s.begun) in
     let next = c.in_ok-take_line.ensures.fed choice text [] s refl refl in
-    ended_refused text c.close-2.result some (g.met.W.Watcher.sound c.args.self.trace text s.trace.0) (g.met.W.Watcher.sound c.take_line.new.self.trace (text ++ 10 ∷ []) next.trace.0) (c.close-2.ensures.refused choice (text ++ 10 ∷ []) next)
+    ended_refused text c.close-2.result some (g.met.O.TraceObserver.sound c.args.self.trace text s.trace.0) (g.met.O.TraceObserver.sound c.take_line.new.self.trace (text ++ 10 ∷ []) next.trace.0) (c.close-2.ensures.refused choice (text ++ 10 ∷ []) next)
 
 pub returns-clause-taken : goal.returns-clause-taken
 returns-clause-taken g c choice text before s h w =
     let some = some_bytes c.args.self.begun.len (length (begun_line text)) (sym c.is_empty.ensures ∙ c.if-is_empty.false) (c.args.self.begun.ok.0 ∙ ap (λ (b : List ℕ). length b) s.begun) in
     let next = c.in_ok-take_line.ensures.fed choice text [] s refl refl in
     let held : HasPrinted (IsPrintOf (g.P.Printer.form choice) []) before (g.K.Sink.taken c.args.sink.now) c.take_line.new.self.held.items (ended_lines (text ++ 10 ∷ [])) = record { sent = h.sent; taken_is = h.taken_is; lines = c.in_ok-take_line.ensures.held choice text [] h.sent s refl refl h.lines } in
-    same_first (IsPrintOf (g.P.Printer.form choice) []) (g.P.Printer.closing choice) text before (g.K.Sink.taken c.close-2.new.sink) some (same_fault text some (g.met.W.Watcher.sound c.args.self.trace text s.trace.0) (g.met.W.Watcher.sound c.take_line.new.self.trace (text ++ 10 ∷ []) next.trace.0))
+    same_first (IsPrintOf (g.P.Printer.form choice) []) (g.P.Printer.closing choice) text before (g.K.Sink.taken c.close-2.new.sink) some (same_fault text some (g.met.O.TraceObserver.sound c.args.self.trace text s.trace.0) (g.met.O.TraceObserver.sound c.take_line.new.self.trace (text ++ 10 ∷ []) next.trace.0))
     (c.close-2.ensures.taken choice (text ++ 10 ∷ []) before next (begun-lf text) held w)
 
 pub returns-in_err-take_line-clause-refused : goal.returns-in_err-take_line-clause-refused
 returns-in_err-take_line-clause-refused g c choice text s =
     let some = some_bytes c.args.self.begun.len (length (begun_line text)) (sym c.is_empty.ensures ∙ c.if-is_empty.false) (c.args.self.begun.ok.0 ∙ ap (λ (b : List ℕ). length b) s.begun) in
     passed_on c.from_residual.result c.in_err-take_line.field-0.0 _ c.from_residual.ensures.1
-    (lf_refused text c.in_err-take_line.field-0.0 some (g.met.W.Watcher.sound c.args.self.trace text s.trace.0) (c.in_err-take_line.ensures.refused choice text s))
+    (lf_refused text c.in_err-take_line.field-0.0 some (g.met.O.TraceObserver.sound c.args.self.trace text s.trace.0) (c.in_err-take_line.ensures.refused choice text s))
 
 pub close-requires : goal.close-requires
 close-requires g c =

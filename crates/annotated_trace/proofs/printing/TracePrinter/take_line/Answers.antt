@@ -1,6 +1,6 @@
 use Rattle.std.proofs.Common.{◌∙◌, ◌++◌, ap, subst, sym}
 use Rattle.line_model.specs.text.Text.{begun_line, ended_lines}
-use Rattle.trace_text.specs.Watched.{found_in}
+use Rattle.trace_text.specs.ObserverAnswers.{found_in}
 use Rattle.annotated_trace.specs.Printed.{HasAppended}
 use Rattle.annotated_trace.proofs.PrintLemmas.{ended_by, line_printed, none_begun, whole_line}
 use Rattle.annotated_trace.proofs.printing.TracePrinter.take_line.Goals as goal
@@ -14,7 +14,7 @@ returns-clause-fed g c choice text front s k one =
     let found = sym (ap found_in lines) ∙ c.in_ok-feed.ensures.found text s.trace.0 in
     record {
       trace = (
-        subst (λ w. g.W.Watcher.stands_for w (text ++ end)) (sym c.print_line.ensures.trace) read,
+        subst (λ w. g.O.TraceObserver.stands_for w (text ++ end)) (sym c.print_line.ensures.trace) read,
         subst (g.P.Printer.printed c.print_line.new.self.printer) (sym lines) (c.in_ok-print_line.ensures.printed (ended_lines text) l (text ++ end) s.trace.1 read lines found (whole_line text front end c.args.self.now.begun.items k s.begun)),
         c.print_line.ensures.rows ∙ s.trace.2,
       );

@@ -20,7 +20,7 @@ returns-in_err-take_line-clause-refused g c choice text s =
     let rest = c.loop-front.rest.now in
     let end = line_end front c.in-Some.back.now rest c.in-Some.ensures.0 in
     passed_on c.from_residual.result c.in_err-take_line.field-0.0 _ c.from_residual.ensures.1
-    (line_refusal (HasFollowed g.W.Watcher g.P.Printer choice) (IsPrintOf (g.P.Printer.form choice) []) c.args.self.now c.loop-front.self (g.K.Sink.taken c.args.sink.now) (g.K.Sink.taken c.loop-front.sink) c.args.chunk.now rest front c.in-Some.back.now (take (length front + 1) rest) text c.in_err-take_line.field-0.0 p c.in-Some.ensures.0 end
+    (line_refusal (HasFollowed g.O.TraceObserver g.P.Printer choice) (IsPrintOf (g.P.Printer.form choice) []) c.args.self.now c.loop-front.self (g.K.Sink.taken c.args.sink.now) (g.K.Sink.taken c.loop-front.sink) c.args.chunk.now rest front c.in-Some.back.now (take (length front + 1) rest) text c.in_err-take_line.field-0.0 p c.in-Some.ensures.0 end
     (c.in_err-take_line.ensures.refused choice (text ++ p.fed) (p.stands text s)))
 
 pub returns-in_err-take_line-clause-stopped : goal.returns-in_err-take_line-clause-stopped
@@ -31,8 +31,8 @@ returns-in_err-take_line-clause-stopped g c choice text before s h =
     let end = line_end front c.in-Some.back.now rest c.in-Some.ensures.0 in
     let stands = p.stands text s in
     passed_on c.from_residual.result c.in_err-take_line.field-0.0 _ c.from_residual.ensures.1
-    (line_stopped (HasFollowed g.W.Watcher g.P.Printer choice) (IsPrintOf (g.P.Printer.form choice) []) c.args.self.now c.loop-front.self (g.K.Sink.taken c.args.sink.now) (g.K.Sink.taken c.loop-front.sink) before c.args.chunk.now rest front c.in-Some.back.now (take (length front + 1) rest) text c.take_line.new.self.held.items
-    c.in_err-take_line.field-0.0 p c.in-Some.ensures.0 end c.in-Some.ensures.1 s (g.met.W.Watcher.sound c.loop-front.self.trace (text ++ p.fed) stands.trace.0) h (c.in_err-take_line.ensures.refused choice (text ++ p.fed) stands) c.in_err-take_line.ensures.not_held)
+    (line_stopped (HasFollowed g.O.TraceObserver g.P.Printer choice) (IsPrintOf (g.P.Printer.form choice) []) c.args.self.now c.loop-front.self (g.K.Sink.taken c.args.sink.now) (g.K.Sink.taken c.loop-front.sink) before c.args.chunk.now rest front c.in-Some.back.now (take (length front + 1) rest) text c.take_line.new.self.held.items
+    c.in_err-take_line.field-0.0 p c.in-Some.ensures.0 end c.in-Some.ensures.1 s (g.met.O.TraceObserver.sound c.loop-front.self.trace (text ++ p.fed) stands.trace.0) h (c.in_err-take_line.ensures.refused choice (text ++ p.fed) stands) c.in_err-take_line.ensures.not_held)
 
 pub loop-front-preserved : goal.loop-front-preserved
 loop-front-preserved g c =
@@ -41,7 +41,7 @@ loop-front-preserved g c =
     let end = line_end front c.in-Some.back.now rest c.in-Some.ensures.0 in
     let put = c.in_ok-send_much.ensures.ok in
     record {
-      passed = λ choice. line_passed (HasFollowed g.W.Watcher g.P.Printer choice) (IsPrintOf (g.P.Printer.form choice) []) c.args.self.now c.loop-front.self c.take_line.new.self (record c.take_line.new.self { held = c.send_much.new.held }) (g.K.Sink.taken c.args.sink.now) (g.K.Sink.taken c.loop-front.sink)
+      passed = λ choice. line_passed (HasFollowed g.O.TraceObserver g.P.Printer choice) (IsPrintOf (g.P.Printer.form choice) []) c.args.self.now c.loop-front.self c.take_line.new.self (record c.take_line.new.self { held = c.send_much.new.held }) (g.K.Sink.taken c.args.sink.now) (g.K.Sink.taken c.loop-front.sink)
           (g.K.Sink.taken c.send_much.new.sink) c.args.chunk.now rest front c.in-Some.back.now (take (length front + 1) rest) put.0 (c.loop-front.invariant.passed choice) c.in-Some.ensures.0 end c.in-Some.ensures.1 (c.in_ok-take_line.ensures.fed choice) (c.in_ok-take_line.ensures.held choice) refl refl refl
           put.1 put.2;
       rising = omega (arith, c.loop-front.invariant.rising, c.in_ok-send_much.ensures.rising);
@@ -54,16 +54,16 @@ returns-in_err-send_much-clause-stopped g c choice text before s h =
     let rest = c.loop-front.rest.now in
     let end = line_end front c.in-Some.back.now rest c.in-Some.ensures.0 in
     let taken = g.K.Sink.taken c.loop-front.sink in
-    let q = line_passed (HasFollowed g.W.Watcher g.P.Printer choice) (IsPrintOf (g.P.Printer.form choice) []) c.args.self.now c.loop-front.self c.take_line.new.self c.take_line.new.self (g.K.Sink.taken c.args.sink.now) taken taken c.args.chunk.now rest front c.in-Some.back.now (take (length front + 1) rest) [] p c.in-Some.ensures.0
+    let q = line_passed (HasFollowed g.O.TraceObserver g.P.Printer choice) (IsPrintOf (g.P.Printer.form choice) []) c.args.self.now c.loop-front.self c.take_line.new.self c.take_line.new.self (g.K.Sink.taken c.args.sink.now) taken taken c.args.chunk.now rest front c.in-Some.back.now (take (length front + 1) rest) [] p c.in-Some.ensures.0
     end c.in-Some.ensures.1 (c.in_ok-take_line.ensures.fed choice) (c.in_ok-take_line.ensures.held choice) refl refl refl (sym (with_more-nil taken)) refl in
     let part = c.in_err-send_much.ensures.part in
     passed_on c.from_residual-in_err-send_much.result c.in_err-send_much.field-0.0 _ c.from_residual-in_err-send_much.ensures.1
-    (much_stopped (HasFollowed g.W.Watcher g.P.Printer choice) (IsPrintOf (g.P.Printer.form choice) []) c.args.self.now c.take_line.new.self (g.K.Sink.taken c.args.sink.now) taken (g.K.Sink.taken c.send_much.new.sink) before c.args.chunk.now c.in-Some.back.now text c.send_much.new.held.items part.0 part.1
+    (much_stopped (HasFollowed g.O.TraceObserver g.P.Printer choice) (IsPrintOf (g.P.Printer.form choice) []) c.args.self.now c.take_line.new.self (g.K.Sink.taken c.args.sink.now) taken (g.K.Sink.taken c.send_much.new.sink) before c.args.chunk.now c.in-Some.back.now text c.send_much.new.held.items part.0 part.1
     c.in_err-send_much.field-0.0 q s h part.2 part.3 c.in_err-send_much.ensures.write)
 
 pub returns-clause-printed : goal.returns-clause-printed
 returns-clause-printed g c choice text before s h =
-    always c.begin.result _ (rest_printed (HasFollowed g.W.Watcher g.P.Printer choice) (IsPrintOf (g.P.Printer.form choice) []) c.args.self.now c.loop-front.self (g.K.Sink.taken c.args.sink.now) (g.K.Sink.taken c.loop-front.sink) before c.args.chunk.now c.loop-front.rest.now text c.begin.new.self.held.items
+    always c.begin.result _ (rest_printed (HasFollowed g.O.TraceObserver g.P.Printer choice) (IsPrintOf (g.P.Printer.form choice) []) c.args.self.now c.loop-front.self (g.K.Sink.taken c.args.sink.now) (g.K.Sink.taken c.loop-front.sink) before c.args.chunk.now c.loop-front.rest.now text c.begin.new.self.held.items
     (c.loop-front.invariant.passed choice) c.in_default.ensures s h c.begin.ensures.held)
 
 pub returns-clause-stopped : goal.returns-clause-stopped
@@ -71,8 +71,8 @@ returns-clause-stopped g c choice text before s h =
     let p = c.loop-front.invariant.passed choice in
     let stands = p.stands text s in
     on_err c.begin.result _ _ (c.begin.ensures.refused choice (text ++ p.fed) stands) (λ f fault.
-    rest_stopped (HasFollowed g.W.Watcher g.P.Printer choice) (IsPrintOf (g.P.Printer.form choice) []) c.args.self.now c.loop-front.self (g.K.Sink.taken c.args.sink.now) (g.K.Sink.taken c.loop-front.sink) before c.args.chunk.now c.loop-front.rest.now text c.begin.new.self.held.items f p c.in_default.ensures s
-    (g.met.W.Watcher.sound c.loop-front.self.trace (text ++ p.fed) stands.trace.0) h c.begin.ensures.held fault)
+    rest_stopped (HasFollowed g.O.TraceObserver g.P.Printer choice) (IsPrintOf (g.P.Printer.form choice) []) c.args.self.now c.loop-front.self (g.K.Sink.taken c.args.sink.now) (g.K.Sink.taken c.loop-front.sink) before c.args.chunk.now c.loop-front.rest.now text c.begin.new.self.held.items f p c.in_default.ensures s
+    (g.met.O.TraceObserver.sound c.loop-front.self.trace (text ++ p.fed) stands.trace.0) h c.begin.ensures.held fault)
 
 pub returns-in_err-take_line-clause-fed : goal.returns-in_err-take_line-clause-fed
 returns-in_err-take_line-clause-fed g c choice text s = IfOk-from_err _ _ c.from_residual.ensures.0
@@ -108,7 +108,7 @@ pub returns-clause-rising : goal.returns-clause-rising
 returns-clause-rising g c = c.loop-front.invariant.rising
 
 pub loop-front-init : goal.loop-front-init
-loop-front-init g c = record { passed = λ choice. nothing_passed (HasFollowed g.W.Watcher g.P.Printer choice) (IsPrintOf (g.P.Printer.form choice) []) c.args.self.now (g.K.Sink.taken c.args.sink.now) c.args.chunk.now; rising = omega arith }
+loop-front-init g c = record { passed = λ choice. nothing_passed (HasFollowed g.O.TraceObserver g.P.Printer choice) (IsPrintOf (g.P.Printer.form choice) []) c.args.self.now (g.K.Sink.taken c.args.sink.now) c.args.chunk.now; rising = omega arith }
 
 pub loop-front-smaller : goal.loop-front-smaller
 loop-front-smaller g c = omega (arith, ap (λ (l : List ℕ). length l) c.in-Some.ensures.0, length-append c.in-Some.front.now (10 ∷ c.in-Some.back.now))
@@ -127,13 +127,13 @@ pub returns-clause-fed : goal.returns-clause-fed
 returns-clause-fed g c choice text s =
     let p = c.loop-front.invariant.passed choice in
     on_ok c.begin.result _ _ (c.begin.ensures.fed choice (text ++ p.fed) (p.stands text s) c.in_default.ensures)
-    (λ h. subst (WasFed (HasFollowed g.W.Watcher g.P.Printer choice) c.begin.new.self) (append_assoc text p.fed c.loop-front.rest.now ∙ ap (λ xs. text ++ xs) (sym p.whole)) h)
+    (λ h. subst (WasFed (HasFollowed g.O.TraceObserver g.P.Printer choice) c.begin.new.self) (append_assoc text p.fed c.loop-front.rest.now ∙ ap (λ xs. text ++ xs) (sym p.whole)) h)
 
 pub returns-clause-refused : goal.returns-clause-refused
 returns-clause-refused g c choice text s =
     let p = c.loop-front.invariant.passed choice in
     on_err c.begin.result _ _ (c.begin.ensures.refused choice (text ++ p.fed) (p.stands text s))
-    (λ f fault. rest_refusal (HasFollowed g.W.Watcher g.P.Printer choice) (IsPrintOf (g.P.Printer.form choice) []) c.args.self.now c.loop-front.self (g.K.Sink.taken c.args.sink.now) (g.K.Sink.taken c.loop-front.sink) c.args.chunk.now c.loop-front.rest.now text f p fault)
+    (λ f fault. rest_refusal (HasFollowed g.O.TraceObserver g.P.Printer choice) (IsPrintOf (g.P.Printer.form choice) []) c.args.self.now c.loop-front.self (g.K.Sink.taken c.args.sink.now) (g.K.Sink.taken c.loop-front.sink) c.args.chunk.now c.loop-front.rest.now text f p fault)
 
 pub returns-clause-kinds : goal.returns-clause-kinds
 returns-clause-kinds g c = on_err c.begin.result _ _ c.begin.ensures.kinds text_kind

@@ -8,7 +8,7 @@ use Rattle.annotated_trace.proofs.printing.TracePrinter.take_lines.Given as goal
 -- the lines that were passed
 abbrev pub invariant-loop-front : goal.invariant-loop-front
 invariant-loop-front g l = record {
-  passed : (choice : Rows) → Passed (HasFollowed g.W.Watcher g.P.Printer choice) (IsPrintOf (g.P.Printer.form choice) []) l.fn.self l.self (g.K.Sink.taken l.fn.sink) (g.K.Sink.taken l.sink) l.fn.chunk l.rest;
+  passed : (choice : Rows) → Passed (HasFollowed g.O.TraceObserver g.P.Printer choice) (IsPrintOf (g.P.Printer.form choice) []) l.fn.self l.self (g.K.Sink.taken l.fn.sink) (g.K.Sink.taken l.sink) l.fn.chunk l.rest;
   rising : g.K.Sink.failures l.fn.sink ≤ g.K.Sink.failures l.sink;
 }
 

@@ -12,20 +12,20 @@ returns-clause-fed g c first start text was =
     let before = g.K.Sink.taken start in
     let next = c.feed.new.self in
     let choice = g.P.Printer.rows first.printer in
-    let S = HasFollowed g.W.Watcher g.P.Printer choice in
+    let S = HasFollowed g.O.TraceObserver g.P.Printer choice in
     let F = IsPrintOf (g.P.Printer.form choice) [] in
-    let held = held_of S g.W.Watcher.size F before (g.K.Sink.taken c.args.sink.now) _ _ text c.args.self.now was in
-    more_written S g.W.Watcher.size F c.feed.result before (g.K.Sink.taken c.args.sink.now) (g.K.Sink.taken c.feed.new.sink) (g.K.Sink.failures start) (g.K.Sink.failures c.args.sink.now) (g.K.Sink.failures c.feed.new.sink) text c.args.chunk.now c.args.self.now next was (c.feed.ensures.fed choice text was.fed)
-    (c.feed.ensures.printed choice text before was.fed held) c.feed.ensures.none_held c.feed.ensures.rising (λ s. g.met.W.Watcher.sound next.trace (text ++ c.args.chunk.now) s.trace.0) (λ s. g.met.W.Watcher.sized next.trace (text ++ c.args.chunk.now) s.trace.0)
+    let held = held_of S g.O.TraceObserver.size F before (g.K.Sink.taken c.args.sink.now) _ _ text c.args.self.now was in
+    more_written S g.O.TraceObserver.size F c.feed.result before (g.K.Sink.taken c.args.sink.now) (g.K.Sink.taken c.feed.new.sink) (g.K.Sink.failures start) (g.K.Sink.failures c.args.sink.now) (g.K.Sink.failures c.feed.new.sink) text c.args.chunk.now c.args.self.now next was (c.feed.ensures.fed choice text was.fed)
+    (c.feed.ensures.printed choice text before was.fed held) c.feed.ensures.none_held c.feed.ensures.rising (λ s. g.met.O.TraceObserver.sound next.trace (text ++ c.args.chunk.now) s.trace.0) (λ s. g.met.O.TraceObserver.sized next.trace (text ++ c.args.chunk.now) s.trace.0)
 
 pub returns-clause-refused : goal.returns-clause-refused
 returns-clause-refused g c first start text was =
     let before = g.K.Sink.taken start in
     let choice = g.P.Printer.rows first.printer in
-    let S = HasFollowed g.W.Watcher g.P.Printer choice in
+    let S = HasFollowed g.O.TraceObserver g.P.Printer choice in
     let F = IsPrintOf (g.P.Printer.form choice) [] in
-    let held = held_of S g.W.Watcher.size F before (g.K.Sink.taken c.args.sink.now) _ _ text c.args.self.now was in
-    chunk_refused S g.W.Watcher.size F c.feed.result before (g.K.Sink.taken c.args.sink.now) (g.K.Sink.taken c.feed.new.sink) (g.K.Sink.failures start) (g.K.Sink.failures c.args.sink.now) (g.K.Sink.failures c.feed.new.sink) text c.args.chunk.now c.args.self.now was c.feed.ensures.rising
+    let held = held_of S g.O.TraceObserver.size F before (g.K.Sink.taken c.args.sink.now) _ _ text c.args.self.now was in
+    chunk_refused S g.O.TraceObserver.size F c.feed.result before (g.K.Sink.taken c.args.sink.now) (g.K.Sink.taken c.feed.new.sink) (g.K.Sink.failures start) (g.K.Sink.failures c.args.sink.now) (g.K.Sink.failures c.feed.new.sink) text c.args.chunk.now c.args.self.now was c.feed.ensures.rising
     (c.feed.ensures.refused choice text was.fed) (c.feed.ensures.taken choice text before was.fed held) (c.feed.ensures.at_line choice text before was.fed held) c.feed.ensures.kinds c.feed.ensures.write_failed
 
 pub returns-clause-kinds : goal.returns-clause-kinds

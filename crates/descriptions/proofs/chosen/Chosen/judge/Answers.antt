@@ -1,7 +1,7 @@
 use Rattle.std.proofs.Common.{◌∙◌, ap, subst}
 use Rattle.std.specs.Prelude.{MatchOption}
 use Rattle.live_report.specs.LastRows.{IsLastRow}
-use Rattle.annotated_trace.specs.Rows.{is_of_call, tells}
+use Rattle.annotated_trace.specs.Rows.{chooses, is_of_call}
 use Rattle.descriptions.proofs.ChoiceLemmas.{some_one}
 use Rattle.descriptions.proofs.chosen.Chosen.judge.Goals as goal
 
@@ -14,7 +14,7 @@ returns-in_default-clause-follows g c i before r f walked = absurd (some_one c.l
 pub returns-clause-told : goal.returns-clause-told
 returns-clause-told g c i before r f number walked =
     let last = subst (λ o. MatchOption o ⊥ (λ l. IsLastRow i before r l c.args.observer.now.events.items)) c.in-Some.is (c.last_row.ensures i before r walked) in
-    c.tells.ensures ∙ (λ t. tells c.args.self.now.rows (last.packet t) ((c.judge_call-of_call.ensures.told i before r f walked last ∙ ap (is_of_call i before r) number) t))
+    c.chooses.ensures ∙ (λ t. chooses c.args.self.now.rows (last.packet t) ((c.judge_call-of_call.ensures.told i before r f walked last ∙ ap (is_of_call i before r) number) t))
 
 pub returns-clause-follows : goal.returns-clause-follows
 returns-clause-follows g c i before r f walked =

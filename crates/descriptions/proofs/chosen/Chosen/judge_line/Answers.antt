@@ -2,7 +2,7 @@ use Rattle.std.proofs.Common.{◌≡◌, ◌≢◌, ◌∙◌, ◌++◌, ◌∷�
 use Rattle.std.specs.Option.{option_to_list}
 use Rattle.line_model.specs.text.Text.{early_rows, head_of, rows_in}
 use Rattle.trace_text.proofs.FeedLemmas.{rows-sound}
-use Rattle.live_report.proofs.LiveLemmas.{nothing_seen, watching_of}
+use Rattle.live_report.proofs.LiveLemmas.{nothing_seen, observing_of}
 use Rattle.annotated_trace.specs.Rows.{asked_call, row_written}
 use Rattle.descriptions.specs.CallRows.{Follows}
 use Rattle.live_report.specs.Observing.{StandsFor}
@@ -23,21 +23,21 @@ returns-in_default-clause-chosen g c before line text h s lines =
 
 pub returns-then-packets-self-clause-told : goal.returns-then-packets-self-clause-told
 returns-then-packets-self-clause-told g c before line text h s lines =
-    let w = watching_of g.C.Channel.interface_of g.C.Channel.number_of g.C.Channel.stands_for c.args.trace.now text c.in-Some.observer.now s (sym c.observer.ensures ∙ ap (option_map (λ o. o.now)) c.in-Some.is) in
+    let w = observing_of g.C.Channel.interface_of g.C.Channel.number_of g.C.Channel.stands_for c.args.trace.now text c.in-Some.observer.now s (sym c.observer.ensures ∙ ap (option_map (λ o. o.now)) c.in-Some.is) in
     let rows = rows-sound text s.reads.sound ∙ ap rows_in lines ∙ rows_written before line in
     let count = ap (λ l. length l) (sym rows) ∙ sym (c.packets.ensures.walked w.0 (early_rows text) w.1.observes) ∙ c.if-packets-self.true ∙ h.packets in
     told_none c.args.self.now.rows (head_of before) (rows_in before) (row_written before line) (none_written (rows_in before) (row_written before line) count)
 
 pub returns-then-packets-self-clause-chosen : goal.returns-then-packets-self-clause-chosen
 returns-then-packets-self-clause-chosen g c before line text h s lines =
-    let w = watching_of g.C.Channel.interface_of g.C.Channel.number_of g.C.Channel.stands_for c.args.trace.now text c.in-Some.observer.now s (sym c.observer.ensures ∙ ap (option_map (λ o. o.now)) c.in-Some.is) in
+    let w = observing_of g.C.Channel.interface_of g.C.Channel.number_of g.C.Channel.stands_for c.args.trace.now text c.in-Some.observer.now s (sym c.observer.ensures ∙ ap (option_map (λ o. o.now)) c.in-Some.is) in
     let rows = rows-sound text s.reads.sound ∙ ap rows_in lines ∙ rows_written before line in
     let count = ap (λ l. length l) (sym rows) ∙ sym (c.packets.ensures.walked w.0 (early_rows text) w.1.observes) ∙ c.if-packets-self.true ∙ h.packets in
     chosen_same before line c.args.self.now h (none_written (rows_in before) (row_written before line) count)
 
 pub returns-clause-told : goal.returns-clause-told
 returns-clause-told g c before line text h s lines =
-    let w = watching_of g.C.Channel.interface_of g.C.Channel.number_of g.C.Channel.stands_for c.args.trace.now text c.in-Some.observer.now s (sym c.observer.ensures ∙ ap (option_map (λ o. o.now)) c.in-Some.is) in
+    let w = observing_of g.C.Channel.interface_of g.C.Channel.number_of g.C.Channel.stands_for c.args.trace.now text c.in-Some.observer.now s (sym c.observer.ensures ∙ ap (option_map (λ o. o.now)) c.in-Some.is) in
     let rows = rows-sound text s.reads.sound ∙ ap rows_in lines ∙ rows_written before line in
     let other : length (rows_in before ++ option_to_list (row_written before line)) ≢ length (rows_in before) = λ same. c.if-packets-self.false (c.packets.ensures.walked w.0 (early_rows text) w.1.observes ∙ ap (λ l. length l) rows ∙ same ∙ sym h.packets) in
     let one = one_written (rows_in before) (row_written before line) other in
@@ -49,7 +49,7 @@ returns-clause-told g c before line text h s lines =
 
 pub returns-clause-chosen : goal.returns-clause-chosen
 returns-clause-chosen g c before line text h s lines =
-    let w = watching_of g.C.Channel.interface_of g.C.Channel.number_of g.C.Channel.stands_for c.args.trace.now text c.in-Some.observer.now s (sym c.observer.ensures ∙ ap (option_map (λ o. o.now)) c.in-Some.is) in
+    let w = observing_of g.C.Channel.interface_of g.C.Channel.number_of g.C.Channel.stands_for c.args.trace.now text c.in-Some.observer.now s (sym c.observer.ensures ∙ ap (option_map (λ o. o.now)) c.in-Some.is) in
     let rows = rows-sound text s.reads.sound ∙ ap rows_in lines ∙ rows_written before line in
     let other : length (rows_in before ++ option_to_list (row_written before line)) ≢ length (rows_in before) = λ same. c.if-packets-self.false (c.packets.ensures.walked w.0 (early_rows text) w.1.observes ∙ ap (λ l. length l) rows ∙ same ∙ sym h.packets) in
     let one = one_written (rows_in before) (row_written before line) other in

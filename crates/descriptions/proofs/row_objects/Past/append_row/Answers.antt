@@ -5,7 +5,7 @@ use Rattle.line_model.specs.basics.Records.{Row}
 use Rattle.line_model.specs.declared.interface.Interface.{Interface}
 use Rattle.line_model.specs.text.Text.{early_rows, head_of, rows_in}
 use Rattle.trace_text.proofs.FeedLemmas.{rows-sound}
-use Rattle.live_report.proofs.LiveLemmas.{nothing_seen, watching_of}
+use Rattle.live_report.proofs.LiveLemmas.{nothing_seen, observing_of}
 use Rattle.live_report.specs.Observing.{StandsFor}
 use Rattle.annotated_trace.specs.Printed.{HasAppended}
 use Rattle.annotated_trace.specs.Rows.{row_written}
@@ -22,13 +22,13 @@ returns-in_default-clause-object g c i before line r text s lines head row =
 
 pub returns-in_default-last_row-clause-object : goal.returns-in_default-last_row-clause-object
 returns-in_default-last_row-clause-object g c i before line r text s lines head row =
-    let w = watching_of g.C.Channel.interface_of g.C.Channel.number_of g.C.Channel.stands_for c.args.trace.now text c.in-Some.observer.now s (sym c.observer.ensures ∙ ap (option_map (λ o. o.now)) c.in-Some.is) in
+    let w = observing_of g.C.Channel.interface_of g.C.Channel.number_of g.C.Channel.stands_for c.args.trace.now text c.in-Some.observer.now s (sym c.observer.ensures ∙ ap (option_map (λ o. o.now)) c.in-Some.is) in
     let rows = rows-sound text s.reads.sound ∙ ap rows_in lines ∙ rows_written before line ∙ ap (λ o. rows_in before ++ option_to_list o) row in
     absurd (some_one c.last_row.result _ (c.last_row.ensures w.0 (rows_in before) r (subst (λ rs. StandsFor g.C.Channel.interface_of g.C.Channel.number_of g.C.Channel.stands_for w.0 rs c.in-Some.observer.now) rows w.1.observes)) c.in_default-last_row.not-Some)
 
 pub returns-clause-object : goal.returns-clause-object
 returns-clause-object g c i before line r text s lines head row =
-    let w = watching_of g.C.Channel.interface_of g.C.Channel.number_of g.C.Channel.stands_for c.args.trace.now text c.in-Some.observer.now s (sym c.observer.ensures ∙ ap (option_map (λ o. o.now)) c.in-Some.is) in
+    let w = observing_of g.C.Channel.interface_of g.C.Channel.number_of g.C.Channel.stands_for c.args.trace.now text c.in-Some.observer.now s (sym c.observer.ensures ∙ ap (option_map (λ o. o.now)) c.in-Some.is) in
     let rows = rows-sound text s.reads.sound ∙ ap rows_in lines ∙ rows_written before line ∙ ap (λ o. rows_in before ++ option_to_list o) row in
     let walked = subst (λ rs. StandsFor g.C.Channel.interface_of g.C.Channel.number_of g.C.Channel.stands_for w.0 rs c.in-Some.observer.now) rows w.1.observes in
     let same : w.0 ≡ i = same_interface (head_of before) w.0 i (sym (headed_row before line r row) ∙ ap head_of (sym lines) ∙ sym s.reads.interface ∙ w.1.header) head in

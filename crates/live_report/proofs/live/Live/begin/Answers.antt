@@ -8,9 +8,9 @@ use Rattle.std.proofs.lemmas.Result.{IfOk-from_err, err_from_is_err_and}
 use Rattle.trace_text.proofs.SourceLemmas.{passed_on}
 use Rattle.trace_text.specs.StandsFor.{IsFaultOf, IsTextFault, ReadsChunk, TakesRow}
 use Rattle.live_report.specs.Found.{HasFound, IsFoundBy, IsFoundUpTo, found, found_at}
-use Rattle.live_report.specs.Lives.{IsWatching}
+use Rattle.live_report.specs.Lives.{IsObserving}
 use Rattle.live_report.proofs.FoundLemmas.{at_most_one, found_next, found_unheaded, found_up_to}
-use Rattle.live_report.proofs.LiveLemmas.{chunk_text, first_found, first_rows, first_watched, found_headed, found_no_more, found_no_row, nothing_seen, stands_watching}
+use Rattle.live_report.proofs.LiveLemmas.{chunk_text, first_found, first_rows, first_observed, found_headed, found_no_more, found_no_row, nothing_seen, stands_observing}
 use Rattle.live_report.proofs.live.Live.begin.Goals as goal
 
 pub returns-in_err-rest-clause-found : goal.returns-in_err-rest-clause-found
@@ -56,34 +56,34 @@ take-requires g c =
     let row : TakesRow c.args.self.now.lines c.next_row.new.self c.args.chunk.now c.in-Some.rest.now c.next_row.new.row = rw c.in-Some.is at c.in_ok-rest.ensures.ok in
     record { room = (c.in-Some-interface.interface, [], c.new-observer.ensures, first_rows c.args.self.now.lines c.next_row.new.self room.0 c.args.chunk.now c.in-Some.rest.now c.next_row.new.row room.1.reads none row) }
 
-pub watch-requires : goal.watch-requires
-watch-requires g c =
+pub observe_chunk-requires : goal.observe_chunk-requires
+observe_chunk-requires g c =
     let room = c.requires.fed in
     let none = nothing_seen g.C.Channel.interface_of g.C.Channel.number_of g.C.Channel.stands_for c.args.self.now room.0 room.1 c.requires.bare in
     let row : TakesRow c.args.self.now.lines c.next_row.new.self c.args.chunk.now c.in-Some.rest.now c.next_row.new.row = rw c.in-Some.is at c.in_ok-rest.ensures.ok in
-    let watched = first_watched g.C.Channel.interface_of g.C.Channel.number_of g.C.Channel.stands_for c.in-Some-interface.interface room.0 c.args.chunk.now c.in-Some.rest.now c.next_row.new.row c.args.self.now.lines c.next_row.new.self c.take.new.self room.1.reads none row (c.in-Some-interface.ensures.kept ∙ ap (λ v. v.lines.interface) c.self.view_is)
+    let observed = first_observed g.C.Channel.interface_of g.C.Channel.number_of g.C.Channel.stands_for c.in-Some-interface.interface room.0 c.args.chunk.now c.in-Some.rest.now c.next_row.new.row c.args.self.now.lines c.next_row.new.self c.take.new.self room.1.reads none row (c.in-Some-interface.ensures.kept ∙ ap (λ v. v.lines.interface) c.self.view_is)
     (c.in_ok-first.ensures.stands c.in-Some-interface.interface [] c.new-observer.ensures (first_rows c.args.self.now.lines c.next_row.new.self room.0 c.args.chunk.now c.in-Some.rest.now c.next_row.new.row room.1.reads none row)) in
-    (c.in-Some-interface.interface, room.0 ++ row.taken, watched)
+    (c.in-Some-interface.interface, room.0 ++ row.taken, observed)
 
 pub returns-clause-stands : goal.returns-clause-stands
 returns-clause-stands g c text s =
     let none = nothing_seen g.C.Channel.interface_of g.C.Channel.number_of g.C.Channel.stands_for c.args.self.now text s c.requires.bare in
     let row : TakesRow c.args.self.now.lines c.next_row.new.self c.args.chunk.now c.in-Some.rest.now c.next_row.new.row = rw c.in-Some.is at c.in_ok-rest.ensures.ok in
-    let watched = first_watched g.C.Channel.interface_of g.C.Channel.number_of g.C.Channel.stands_for c.in-Some-interface.interface text c.args.chunk.now c.in-Some.rest.now c.next_row.new.row c.args.self.now.lines c.next_row.new.self c.take.new.self s.reads none row (c.in-Some-interface.ensures.kept ∙ ap (λ v. v.lines.interface) c.self.view_is)
+    let observed = first_observed g.C.Channel.interface_of g.C.Channel.number_of g.C.Channel.stands_for c.in-Some-interface.interface text c.args.chunk.now c.in-Some.rest.now c.next_row.new.row c.args.self.now.lines c.next_row.new.self c.take.new.self s.reads none row (c.in-Some-interface.ensures.kept ∙ ap (λ v. v.lines.interface) c.self.view_is)
     (c.in_ok-first.ensures.stands c.in-Some-interface.interface [] c.new-observer.ensures (first_rows c.args.self.now.lines c.next_row.new.self text c.args.chunk.now c.in-Some.rest.now c.next_row.new.row s.reads none row)) in
-    stands_watching g.C.Channel.interface_of g.C.Channel.number_of g.C.Channel.stands_for c.in-Some-interface.interface _ (text ++ c.args.chunk.now) c.watch.new.observer
-    (subst (λ x. IsWatching g.C.Channel.interface_of g.C.Channel.number_of g.C.Channel.stands_for c.in-Some-interface.interface x c.watch.new.lines c.watch.new.observer) (chunk_text c.args.self.now.lines c.next_row.new.self text c.args.chunk.now c.in-Some.rest.now c.next_row.new.row row)
-    (c.in_ok-watch.ensures.watches c.in-Some-interface.interface (text ++ row.taken) watched)) refl s.running
+    stands_observing g.C.Channel.interface_of g.C.Channel.number_of g.C.Channel.stands_for c.in-Some-interface.interface _ (text ++ c.args.chunk.now) c.observe_chunk.new.observer
+    (subst (λ x. IsObserving g.C.Channel.interface_of g.C.Channel.number_of g.C.Channel.stands_for c.in-Some-interface.interface x c.observe_chunk.new.lines c.observe_chunk.new.observer) (chunk_text c.args.self.now.lines c.next_row.new.self text c.args.chunk.now c.in-Some.rest.now c.next_row.new.row row)
+    (c.in_ok-observe_chunk.ensures.observes c.in-Some-interface.interface (text ++ row.taken) observed)) refl s.running
 
-pub returns-in_err-watch-clause-refused : goal.returns-in_err-watch-clause-refused
-returns-in_err-watch-clause-refused g c text s =
+pub returns-in_err-observe_chunk-clause-refused : goal.returns-in_err-observe_chunk-clause-refused
+returns-in_err-observe_chunk-clause-refused g c text s =
     let none = nothing_seen g.C.Channel.interface_of g.C.Channel.number_of g.C.Channel.stands_for c.args.self.now text s c.requires.bare in
     let row : TakesRow c.args.self.now.lines c.next_row.new.self c.args.chunk.now c.in-Some.rest.now c.next_row.new.row = rw c.in-Some.is at c.in_ok-rest.ensures.ok in
-    let watched = first_watched g.C.Channel.interface_of g.C.Channel.number_of g.C.Channel.stands_for c.in-Some-interface.interface text c.args.chunk.now c.in-Some.rest.now c.next_row.new.row c.args.self.now.lines c.next_row.new.self c.take.new.self s.reads none row (c.in-Some-interface.ensures.kept ∙ ap (λ v. v.lines.interface) c.self.view_is)
+    let observed = first_observed g.C.Channel.interface_of g.C.Channel.number_of g.C.Channel.stands_for c.in-Some-interface.interface text c.args.chunk.now c.in-Some.rest.now c.next_row.new.row c.args.self.now.lines c.next_row.new.self c.take.new.self s.reads none row (c.in-Some-interface.ensures.kept ∙ ap (λ v. v.lines.interface) c.self.view_is)
     (c.in_ok-first.ensures.stands c.in-Some-interface.interface [] c.new-observer.ensures (first_rows c.args.self.now.lines c.next_row.new.self text c.args.chunk.now c.in-Some.rest.now c.next_row.new.row s.reads none row)) in
-    passed_on c.from_residual-in_err-watch.result c.in_err-watch.field-0.0 _ c.from_residual-in_err-watch.ensures.1
-    (subst (λ x. IsFaultOf (early x) c.in_err-watch.field-0.0) (chunk_text c.args.self.now.lines c.next_row.new.self text c.args.chunk.now c.in-Some.rest.now c.next_row.new.row row)
-    (c.in_err-watch.ensures.refused c.in-Some-interface.interface (text ++ row.taken) watched))
+    passed_on c.from_residual-in_err-observe_chunk.result c.in_err-observe_chunk.field-0.0 _ c.from_residual-in_err-observe_chunk.ensures.1
+    (subst (λ x. IsFaultOf (early x) c.in_err-observe_chunk.field-0.0) (chunk_text c.args.self.now.lines c.next_row.new.self text c.args.chunk.now c.in-Some.rest.now c.next_row.new.row row)
+    (c.in_err-observe_chunk.ensures.refused c.in-Some-interface.interface (text ++ row.taken) observed))
 
 pub returns-clause-found : goal.returns-clause-found
 returns-clause-found g c text s =
@@ -92,47 +92,47 @@ returns-clause-found g c text s =
     let i = c.in-Some-interface.interface in
     let given = text ++ row.taken in
     let sound = first_rows c.args.self.now.lines c.next_row.new.self text c.args.chunk.now c.in-Some.rest.now c.next_row.new.row s.reads none row in
-    let watched = first_watched g.C.Channel.interface_of g.C.Channel.number_of g.C.Channel.stands_for i text c.args.chunk.now c.in-Some.rest.now c.next_row.new.row c.args.self.now.lines c.next_row.new.self c.take.new.self s.reads none row (c.in-Some-interface.ensures.kept ∙ ap (λ v. v.lines.interface) c.self.view_is)
+    let observed = first_observed g.C.Channel.interface_of g.C.Channel.number_of g.C.Channel.stands_for i text c.args.chunk.now c.in-Some.rest.now c.next_row.new.row c.args.self.now.lines c.next_row.new.self c.take.new.self s.reads none row (c.in-Some-interface.ensures.kept ∙ ap (λ v. v.lines.interface) c.self.view_is)
     (c.in_ok-first.ensures.stands i [] c.new-observer.ensures sound) in
-    let headed = found_headed c.next_row.new.self given c.in-Some.rest.now i watched.reads watched.header in
+    let headed = found_headed c.next_row.new.self given c.in-Some.rest.now i observed.reads observed.header in
     let all = chunk_text c.args.self.now.lines c.next_row.new.self text c.args.chunk.now c.in-Some.rest.now c.next_row.new.row row in
     let first = first_found i text c.args.chunk.now c.in-Some.rest.now c.next_row.new.row c.args.self.now.lines c.next_row.new.self c.args.self.now.found.items c.append_finding.new.findings.items (option_to_list c.in_ok-first.first) s.reads none row
     c.in_ok-append_finding.ensures.ok (c.in_ok-first.ensures.finding i [] c.new-observer.ensures) in
-    let then = c.in_ok-watch.ensures.found i given watched in
-    subst (λ x. HasFound c.args.self.now.found.items c.watch.new.found.items (found text) (found x)) all
-    (subst (λ m. HasFound c.args.self.now.found.items c.watch.new.found.items (found text) m) (sym headed.1)
-    (found_next c.args.self.now.found.items c.append_finding.new.findings.items c.watch.new.found.items (found text) (found_at i given) (found_at i (given ++ c.in-Some.rest.now)) first then))
+    let then = c.in_ok-observe_chunk.ensures.found i given observed in
+    subst (λ x. HasFound c.args.self.now.found.items c.observe_chunk.new.found.items (found text) (found x)) all
+    (subst (λ m. HasFound c.args.self.now.found.items c.observe_chunk.new.found.items (found text) m) (sym headed.1)
+    (found_next c.args.self.now.found.items c.append_finding.new.findings.items c.observe_chunk.new.found.items (found text) (found_at i given) (found_at i (given ++ c.in-Some.rest.now)) first then))
 
-pub returns-in_err-watch-clause-found : goal.returns-in_err-watch-clause-found
-returns-in_err-watch-clause-found g c text s =
+pub returns-in_err-observe_chunk-clause-found : goal.returns-in_err-observe_chunk-clause-found
+returns-in_err-observe_chunk-clause-found g c text s =
     let none = nothing_seen g.C.Channel.interface_of g.C.Channel.number_of g.C.Channel.stands_for c.args.self.now text s c.requires.bare in
     let row : TakesRow c.args.self.now.lines c.next_row.new.self c.args.chunk.now c.in-Some.rest.now c.next_row.new.row = rw c.in-Some.is at c.in_ok-rest.ensures.ok in
     let i = c.in-Some-interface.interface in
     let given = text ++ row.taken in
     let sound = first_rows c.args.self.now.lines c.next_row.new.self text c.args.chunk.now c.in-Some.rest.now c.next_row.new.row s.reads none row in
-    let watched = first_watched g.C.Channel.interface_of g.C.Channel.number_of g.C.Channel.stands_for i text c.args.chunk.now c.in-Some.rest.now c.next_row.new.row c.args.self.now.lines c.next_row.new.self c.take.new.self s.reads none row (c.in-Some-interface.ensures.kept ∙ ap (λ v. v.lines.interface) c.self.view_is)
+    let observed = first_observed g.C.Channel.interface_of g.C.Channel.number_of g.C.Channel.stands_for i text c.args.chunk.now c.in-Some.rest.now c.next_row.new.row c.args.self.now.lines c.next_row.new.self c.take.new.self s.reads none row (c.in-Some-interface.ensures.kept ∙ ap (λ v. v.lines.interface) c.self.view_is)
     (c.in_ok-first.ensures.stands i [] c.new-observer.ensures sound) in
-    let headed = found_headed c.next_row.new.self given c.in-Some.rest.now i watched.reads watched.header in
+    let headed = found_headed c.next_row.new.self given c.in-Some.rest.now i observed.reads observed.header in
     let all = chunk_text c.args.self.now.lines c.next_row.new.self text c.args.chunk.now c.in-Some.rest.now c.next_row.new.row row in
     let first = first_found i text c.args.chunk.now c.in-Some.rest.now c.next_row.new.row c.args.self.now.lines c.next_row.new.self c.args.self.now.found.items c.append_finding.new.findings.items (option_to_list c.in_ok-first.first) s.reads none row
     c.in_ok-append_finding.ensures.ok (c.in_ok-first.ensures.finding i [] c.new-observer.ensures) in
-    let then = c.in_err-watch.ensures.found i given watched in
-    let p = err_from_is_err_and c.from_residual-in_err-watch.result c.from_residual-in_err-watch.ensures.1 in
-    subst (λ r. IsFoundBy r c.args.self.now.found.items c.watch.new.found.items (found text) (found (text ++ c.args.chunk.now))) (sym (p.1 ∙ ap (λ f. Err f) p.2))
-    (subst (λ x. IsFoundUpTo c.in_err-watch.field-0.0 c.args.self.now.found.items c.watch.new.found.items (found text) (found x)) all
-    (subst (λ m. IsFoundUpTo c.in_err-watch.field-0.0 c.args.self.now.found.items c.watch.new.found.items (found text) m) (sym headed.1)
-    (found_up_to c.in_err-watch.field-0.0 c.args.self.now.found.items c.append_finding.new.findings.items c.watch.new.found.items (found text) (found_at i given) (found_at i (given ++ c.in-Some.rest.now)) first then)))
+    let then = c.in_err-observe_chunk.ensures.found i given observed in
+    let p = err_from_is_err_and c.from_residual-in_err-observe_chunk.result c.from_residual-in_err-observe_chunk.ensures.1 in
+    subst (λ r. IsFoundBy r c.args.self.now.found.items c.observe_chunk.new.found.items (found text) (found (text ++ c.args.chunk.now))) (sym (p.1 ∙ ap (λ f. Err f) p.2))
+    (subst (λ x. IsFoundUpTo c.in_err-observe_chunk.field-0.0 c.args.self.now.found.items c.observe_chunk.new.found.items (found text) (found x)) all
+    (subst (λ m. IsFoundUpTo c.in_err-observe_chunk.field-0.0 c.args.self.now.found.items c.observe_chunk.new.found.items (found text) m) (sym headed.1)
+    (found_up_to c.in_err-observe_chunk.field-0.0 c.args.self.now.found.items c.append_finding.new.findings.items c.observe_chunk.new.found.items (found text) (found_at i given) (found_at i (given ++ c.in-Some.rest.now)) first then)))
 
 pub returns-clause-few : goal.returns-clause-few
 returns-clause-few g c =
     let shorter : length c.in-Some.rest.now < length c.args.chunk.now = rw c.in-Some.is at c.in_ok-rest.ensures.shorter in
-    let few = c.watch.ensures.few in
+    let few = c.observe_chunk.ensures.few in
     omega (arith, few, shorter, ap (λ (xs : List Finding). length xs) c.in_ok-append_finding.ensures.ok, length-append c.args.self.now.found.items (option_to_list c.in_ok-first.first), at_most_one c.in_ok-first.first)
 
-pub returns-in_err-watch-clause-few : goal.returns-in_err-watch-clause-few
-returns-in_err-watch-clause-few g c =
+pub returns-in_err-observe_chunk-clause-few : goal.returns-in_err-observe_chunk-clause-few
+returns-in_err-observe_chunk-clause-few g c =
     let shorter : length c.in-Some.rest.now < length c.args.chunk.now = rw c.in-Some.is at c.in_ok-rest.ensures.shorter in
-    let few = c.watch.ensures.few in
+    let few = c.observe_chunk.ensures.few in
     omega (arith, few, shorter, ap (λ (xs : List Finding). length xs) c.in_ok-append_finding.ensures.ok, length-append c.args.self.now.found.items (option_to_list c.in_ok-first.first), at_most_one c.in_ok-first.first)
 
 pub returns-in_err-rest-clause-stands : goal.returns-in_err-rest-clause-stands
@@ -183,11 +183,11 @@ returns-in_err-append_finding-clause-kinds g c =
 pub returns-in_err-append_finding-clause-few : goal.returns-in_err-append_finding-clause-few
 returns-in_err-append_finding-clause-few g c = omega (arith, ap (λ (xs : List Finding). length xs) c.in_err-append_finding.ensures.refused)
 
-pub returns-in_err-watch-clause-stands : goal.returns-in_err-watch-clause-stands
-returns-in_err-watch-clause-stands g c text s = IfOk-from_err _ _ c.from_residual-in_err-watch.ensures.0
+pub returns-in_err-observe_chunk-clause-stands : goal.returns-in_err-observe_chunk-clause-stands
+returns-in_err-observe_chunk-clause-stands g c text s = IfOk-from_err _ _ c.from_residual-in_err-observe_chunk.ensures.0
 
-pub returns-in_err-watch-clause-size : goal.returns-in_err-watch-clause-size
-returns-in_err-watch-clause-size g c = IfOk-from_err _ _ c.from_residual-in_err-watch.ensures.0
+pub returns-in_err-observe_chunk-clause-size : goal.returns-in_err-observe_chunk-clause-size
+returns-in_err-observe_chunk-clause-size g c = IfOk-from_err _ _ c.from_residual-in_err-observe_chunk.ensures.0
 
-pub returns-in_err-watch-clause-limit : goal.returns-in_err-watch-clause-limit
-returns-in_err-watch-clause-limit g c = IfOk-from_err _ _ c.from_residual-in_err-watch.ensures.0
+pub returns-in_err-observe_chunk-clause-limit : goal.returns-in_err-observe_chunk-clause-limit
+returns-in_err-observe_chunk-clause-limit g c = IfOk-from_err _ _ c.from_residual-in_err-observe_chunk.ensures.0

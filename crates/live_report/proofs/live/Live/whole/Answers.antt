@@ -2,21 +2,21 @@ use Rattle.std.proofs.Common.{◌∙◌, ◌++◌, [], ap, subst}
 use Rattle.line_model.specs.text.Text.{early_rows, fault}
 use Rattle.trace_text.specs.StandsFor.{IsFaultOf, last_row}
 use Rattle.live_report.specs.Observing.{AreRows}
-use Rattle.live_report.proofs.LiveLemmas.{nothing_seen, watching_of}
+use Rattle.live_report.proofs.LiveLemmas.{nothing_seen, observing_of}
 use Rattle.live_report.proofs.ReportLemmas.{memory_only, told_at, whole_header, whole_trace}
 use Rattle.live_report.proofs.UncountedLemmas.{of_the_text}
 use Rattle.live_report.proofs.live.Live.whole.Goals as goal
 
-pub finish-requires : goal.finish-requires
-finish-requires g c =
+pub finish_observing-requires : goal.finish_observing-requires
+finish_observing-requires g c =
     let room = c.requires.fed.fed c.in_default.is in
-    let seen = watching_of g.C.Channel.interface_of g.C.Channel.number_of g.C.Channel.stands_for c.args.self room.0 c.in-Some-observer.observer room.1 c.in-Some-observer.is in
+    let seen = observing_of g.C.Channel.interface_of g.C.Channel.number_of g.C.Channel.stands_for c.args.self room.0 c.in-Some-observer.observer room.1 c.in-Some-observer.is in
     let all = c.in_ok-interface.ensures.row room.0 room.1.reads in
     let sound = subst AreRows all (whole_trace room.0 (c.in_ok-interface.ensures.ok room.0 room.1.reads).0) in
     record { room = (seen.0, early_rows room.0, seen.1.observes, sound) }
 
-pub finish-requires-in-None : goal.finish-requires-in-None
-finish-requires-in-None g c =
+pub finish_observing-requires-in-None : goal.finish_observing-requires-in-None
+finish_observing-requires-in-None g c =
     let room = c.requires.fed.fed c.in_default.is in
     let none = nothing_seen g.C.Channel.interface_of g.C.Channel.number_of g.C.Channel.stands_for c.args.self room.0 room.1 c.in-None.is in
     let all = c.in_ok-interface.ensures.row room.0 room.1.reads in
@@ -25,33 +25,33 @@ finish-requires-in-None g c =
 
 pub returns-in-Some-observer-clause-told : goal.returns-in-Some-observer-clause-told
 returns-in-Some-observer-clause-told g c text s =
-    let seen = watching_of g.C.Channel.interface_of g.C.Channel.number_of g.C.Channel.stands_for c.args.self text c.in-Some-observer.observer s c.in-Some-observer.is in
+    let seen = observing_of g.C.Channel.interface_of g.C.Channel.number_of g.C.Channel.stands_for c.args.self text c.in-Some-observer.observer s c.in-Some-observer.is in
     let all = c.in_ok-interface.ensures.row text s.reads in
     let sound = subst AreRows all (whole_trace text (c.in_ok-interface.ensures.ok text s.reads).0) in
-    told_at text seen.0 _ c.finish.result (c.finish.ensures.report seen.0 (early_rows text) seen.1.observes sound) (c.in_ok-interface.ensures.ok text s.reads).0
+    told_at text seen.0 _ c.finish_observing.result (c.finish_observing.ensures.report seen.0 (early_rows text) seen.1.observes sound) (c.in_ok-interface.ensures.ok text s.reads).0
     (whole_header c.args.self.lines text seen.0 s.reads seen.1.header) all
 
 pub returns-in-Some-observer-clause-refused : goal.returns-in-Some-observer-clause-refused
-returns-in-Some-observer-clause-refused g c text s = memory_only (IsFaultOf (fault text)) c.finish.result c.finish.ensures.memory tt
+returns-in-Some-observer-clause-refused g c text s = memory_only (IsFaultOf (fault text)) c.finish_observing.result c.finish_observing.ensures.memory tt
 
 pub returns-clause-told : goal.returns-clause-told
 returns-clause-told g c text s =
     let none = nothing_seen g.C.Channel.interface_of g.C.Channel.number_of g.C.Channel.stands_for c.args.self text s c.in-None.is in
     let all = c.in_ok-interface.ensures.row text s.reads in
     let sound = subst AreRows all (whole_trace text (c.in_ok-interface.ensures.ok text s.reads).0) in
-    told_at text c.in_ok-interface.field-0.interface _ c.finish-in-None.result
-    (c.finish-in-None.ensures.report c.in_ok-interface.field-0.interface [] c.new.ensures (subst (λ rows. AreRows (rows ++ last_row c.in_ok-interface.field-0.has_row c.end_row.new.row)) none sound))
+    told_at text c.in_ok-interface.field-0.interface _ c.finish_observing-in-None.result
+    (c.finish_observing-in-None.ensures.report c.in_ok-interface.field-0.interface [] c.new.ensures (subst (λ rows. AreRows (rows ++ last_row c.in_ok-interface.field-0.has_row c.end_row.new.row)) none sound))
     (c.in_ok-interface.ensures.ok text s.reads).0 (c.in_ok-interface.ensures.ok text s.reads).1 (all ∙ ap (λ rows. rows ++ last_row c.in_ok-interface.field-0.has_row c.end_row.new.row) none)
 
 pub returns-clause-refused : goal.returns-clause-refused
-returns-clause-refused g c text s = memory_only (IsFaultOf (fault text)) c.finish-in-None.result c.finish-in-None.ensures.memory tt
+returns-clause-refused g c text s = memory_only (IsFaultOf (fault text)) c.finish_observing-in-None.result c.finish_observing-in-None.ensures.memory tt
 
 pub returns-in-Some-observer-clause-uncounted : goal.returns-in-Some-observer-clause-uncounted
 returns-in-Some-observer-clause-uncounted g c text s =
-    let seen = watching_of g.C.Channel.interface_of g.C.Channel.number_of g.C.Channel.stands_for c.args.self text c.in-Some-observer.observer s c.in-Some-observer.is in
+    let seen = observing_of g.C.Channel.interface_of g.C.Channel.number_of g.C.Channel.stands_for c.args.self text c.in-Some-observer.observer s c.in-Some-observer.is in
     let all = c.in_ok-interface.ensures.row text s.reads in
     let sound = subst AreRows all (whole_trace text (c.in_ok-interface.ensures.ok text s.reads).0) in
-    of_the_text c.finish.result text seen.0 _ _ (c.finish.ensures.uncounted seen.0 (early_rows text) seen.1.observes sound)
+    of_the_text c.finish_observing.result text seen.0 _ _ (c.finish_observing.ensures.uncounted seen.0 (early_rows text) seen.1.observes sound)
     (whole_header c.args.self.lines text seen.0 s.reads seen.1.header) all
 
 pub returns-clause-uncounted : goal.returns-clause-uncounted
@@ -59,6 +59,6 @@ returns-clause-uncounted g c text s =
     let none = nothing_seen g.C.Channel.interface_of g.C.Channel.number_of g.C.Channel.stands_for c.args.self text s c.in-None.is in
     let all = c.in_ok-interface.ensures.row text s.reads in
     let sound = subst AreRows all (whole_trace text (c.in_ok-interface.ensures.ok text s.reads).0) in
-    of_the_text c.finish-in-None.result text c.in_ok-interface.field-0.interface _ _
-    (c.finish-in-None.ensures.uncounted c.in_ok-interface.field-0.interface [] c.new.ensures (subst (λ rows. AreRows (rows ++ last_row c.in_ok-interface.field-0.has_row c.end_row.new.row)) none sound))
+    of_the_text c.finish_observing-in-None.result text c.in_ok-interface.field-0.interface _ _
+    (c.finish_observing-in-None.ensures.uncounted c.in_ok-interface.field-0.interface [] c.new.ensures (subst (λ rows. AreRows (rows ++ last_row c.in_ok-interface.field-0.has_row c.end_row.new.row)) none sound))
     (c.in_ok-interface.ensures.ok text s.reads).1 (all ∙ ap (λ rows. rows ++ last_row c.in_ok-interface.field-0.has_row c.end_row.new.row) none)

@@ -6,8 +6,8 @@ use Rattle.restart_epochs.proofs.Listings.{listing}
 use Rattle.live_report.proofs.WholeLemmas.{of_walk}
 use Rattle.live_report.proofs.observer.Observer.report.Goals as goal
 
-pub tell_channels-requires-clause-room : goal.tell_channels-requires-clause-room
-tell_channels-requires-clause-room g c =
+pub report_channels-requires-clause-room : goal.report_channels-requires-clause-room
+report_channels-requires-clause-room g c =
     let room = c.requires.room in
     let s = room.2 in
     (s.cutting.interface, s.cutting.epoch, s.cutting.open_rows, map value (given_of room.0 room.1), s.holds.lanes, listing room.0 room.1 s.cutting s.cut, c.in_ok-parts.ensures.same ∙ s.holds.ended)
@@ -15,11 +15,11 @@ tell_channels-requires-clause-room g c =
 pub returns-clause-report : goal.returns-clause-report
 returns-clause-report g c i rs s =
     c.finish.ensures.report i rs _
-    (c.in_ok-tell_channels.ensures.values s.cutting.interface s.cutting.epoch s.cutting.open_rows (map value (given_of i rs)) s.holds.lanes (listing i rs s.cutting s.cut) (c.in_ok-parts.ensures.same ∙ s.holds.ended))
+    (c.in_ok-report_channels.ensures.values s.cutting.interface s.cutting.epoch s.cutting.open_rows (map value (given_of i rs)) s.holds.lanes (listing i rs s.cutting s.cut) (c.in_ok-parts.ensures.same ∙ s.holds.ended))
     (of_walk g.C.Channel.interface_of g.C.Channel.number_of g.C.Channel.stands_for i rs c.args.self.now s c.in_ok-findings.findings.items c.args.self.now.walk.packets (c.in_ok-findings.ensures.items ∙ c.as_slice.ensures.value) refl)
 
-pub tell_channels-requires-clause-pieces : goal.tell_channels-requires-clause-pieces
-tell_channels-requires-clause-pieces g c =
+pub report_channels-requires-clause-pieces : goal.report_channels-requires-clause-pieces
+report_channels-requires-clause-pieces g c =
     let s = c.requires.room.2 in
     let pieces = ap (λ e. e.pieces) (c.in_ok-parts.ensures.same ∙ s.holds.ended) ∙ length-values (given_of c.requires.room.0 c.requires.room.1) ∙ sym s.cut.given in
     let channels = ap (λ l. length l) s.holds.lanes.channels in

@@ -1,0 +1,105 @@
+-- A chunk that is read row by row, and an observer that takes the rows.
+use Rattle.std.proofs.Common.{◌≡◌, ◌∙◌, sym, ap, subst, refl, ℕ, List, [], ◌∷◌, ◌++◌, Some, None, append-nil, append_assoc}
+use Rattle.line_model.specs.declared.fault.Fault.{Fault}
+use Rattle.line_model.specs.declared.fault.Fault.TheVariants.{Memory}
+use Rattle.line_model.specs.declared.finding.Finding.{Finding}
+use Rattle.line_model.specs.observer.Report.{report_of}
+use Rattle.line_model.specs.declared.interface.Interface.{Interface}
+use Rattle.line_model.specs.channels.Channels.{Channel}
+use Rattle.line_model.specs.basics.Records.{Row}
+use Rattle.line_model.specs.text.Text.{early, early_head, early_rows}
+use Rattle.trace_text.specs.Progress.{Progress}
+use Rattle.trace_text.specs.StandsFor.{AreKnown, StandsFor as IsReaderOf, TakesRow, ReadsChunk}
+use Rattle.trace_text.proofs.Grows.{early_head_stays}
+use Rattle.trace_text.proofs.RefusalLemmas.{head_stands, known-here}
+use Rattle.trace_text.proofs.RowsOfText.{early_numbers, early_octets, early_rises}
+use Rattle.live_report.specs.declared.observer.Observer.{Observer}
+use Rattle.live_report.specs.Observing.{AreRows, StandsFor as IsObserverOf}
+use Rattle.live_report.specs.Found.{HasFound, IsFoundUpTo, found_at}
+use Rattle.live_report.specs.Lives.{IsObserving}
+use Rattle.live_report.proofs.FoundLemmas.{found_next, found_none, found_refused}
+
+-- the rows of a text that has no fault so far
+pub early_trace : (text : List ℕ) → early text ≡ None → AreRows (early_rows text)
+early_trace text sound = record { rising = early_rises text sound; numbers = early_numbers text sound; octets = early_octets text sound }
+
+-- what is known of the header stays
+pub header_stays : (reader after : Progress) (text more : List ℕ) (i : Interface) → IsReaderOf reader text → reader.interface ≡ Some i → after.interface ≡ early_head (text ++ more) → after.interface ≡ Some i
+header_stays reader after text more i s h kept = kept ∙ early_head_stays text more i s.sound (sym (head_stands reader text s) ∙ h)
+
+-- some of a chunk was read, the observer took its rows, and what they found was appended
+pub record Course {A C : Type 0} (I : C → Interface) (N : C → ℕ) (S : C → Channel → Type 0) (i : Interface) (text chunk : List ℕ) (reader : Progress) (o : Observer A C) (rest : List ℕ) (out out_after : List Finding) : Type 0 where
+  pub read : List ℕ
+  pub whole : chunk ≡ read ++ rest
+  pub observing : IsObserving I N S i (text ++ read) reader o
+  pub found : HasFound out out_after (found_at i text) (found_at i (text ++ read))
+
+pub course_begun : {A C : Type 0} → (I : C → Interface) (N : C → ℕ) (S : C → Channel → Type 0) (i : Interface) (text chunk : List ℕ) (reader : Progress) (o : Observer A C) (out : List Finding) → IsObserving I N S i text reader o → Course I N S i text chunk reader o chunk out out
+course_begun I N S i text chunk reader o out w = record {
+  read = [];
+  whole = refl;
+  observing = subst (λ x. IsObserving I N S i x reader o) (sym (append-nil text)) w;
+  found = subst (λ x. HasFound out out (found_at i text) (found_at i x)) (sym (append-nil text)) (found_none out (found_at i text));
+}
+
+-- the row that was taken may come next
+pub next_rows : (reader after : Progress) (text chunk rest : List ℕ) (row : Row) → IsReaderOf reader text → TakesRow reader after chunk rest row → AreRows (early_rows text ++ row ∷ [])
+next_rows reader after text chunk rest row s t = subst AreRows (t.rows text s) (early_trace (text ++ t.taken) (t.stands text s).sound)
+
+pub observed_row : {A C : Type 0} → (I : C → Interface) (N : C → ℕ) (S : C → Channel → Type 0) (i : Interface) (text chunk rest : List ℕ) (row : Row) (reader after : Progress) (o : Observer A C)
+    → IsReaderOf reader text → (t : TakesRow reader after chunk rest row) → after.interface ≡ Some i → IsObserverOf I N S i (early_rows text ++ row ∷ []) o → IsObserving I N S i (text ++ t.taken) after o
+observed_row I N S i text chunk rest row reader after o s t h took = record {
+  reads = t.stands text s;
+  header = h;
+  observes = subst (λ rows. IsObserverOf I N S i rows o) (sym (t.rows text s)) took;
+}
+
+pub course_row : {A C : Type 0} → (I : C → Interface) (N : C → ℕ) (S : C → Channel → Type 0) (i : Interface) (text chunk rest left : List ℕ) (row : Row) (reader after : Progress) (o next : Observer A C) (out out_now out_after more : List Finding)
+    → (c : Course I N S i text chunk reader o rest out out_now) → TakesRow reader after rest left row → after.interface ≡ early_head ((text ++ c.read) ++ rest) → IsObserverOf I N S i (early_rows (text ++ c.read) ++ row ∷ []) next
+    → out_after ≡ out_now ++ more → (report_of i (early_rows (text ++ c.read) ++ row ∷ [])).findings ≡ found_at i (text ++ c.read) ++ more → Course I N S i text chunk after next left out out_after
+course_row I N S i text chunk rest left row reader after o next out out_now out_after more c t kept took has finds =
+    let w = c.observing in
+    let here : found_at i ((text ++ c.read) ++ t.taken) ≡ found_at i (text ++ c.read) ++ more = ap (λ rows. (report_of i rows).findings) (t.rows (text ++ c.read) w.reads) ∙ finds in
+    record {
+      read = c.read ++ t.taken;
+      whole = c.whole ∙ ap (λ x. c.read ++ x) t.whole ∙ sym (append_assoc c.read t.taken left);
+      observing = subst (λ x. IsObserving I N S i x after next) (append_assoc text c.read t.taken)
+          (observed_row I N S i (text ++ c.read) rest left row reader after next w.reads t (header_stays reader after (text ++ c.read) rest i w.reads w.header kept) took);
+      found = subst (λ x. HasFound out out_after (found_at i text) (found_at i x)) (append_assoc text c.read t.taken)
+          (found_next out out_now out_after (found_at i text) (found_at i (text ++ c.read)) (found_at i ((text ++ c.read) ++ t.taken)) c.found (record { more = more; out_has = has; known_has = here }));
+    }
+
+-- the whole text with the chunk
+pub course_text : {A C : Type 0} → (I : C → Interface) (N : C → ℕ) (S : C → Channel → Type 0) (i : Interface) (text chunk rest : List ℕ) (reader : Progress) (o : Observer A C) (out out_after : List Finding) (c : Course I N S i text chunk reader o rest out out_after) → (text ++ c.read) ++ rest ≡ text ++ chunk
+course_text I N S i text chunk rest reader o out out_after c = append_assoc text c.read rest ∙ ap (λ x. text ++ x) (sym c.whole)
+
+pub course_end : {A C : Type 0} → (I : C → Interface) (N : C → ℕ) (S : C → Channel → Type 0) (i : Interface) (text chunk rest : List ℕ) (reader after : Progress) (o : Observer A C) (out out_after : List Finding)
+    → (c : Course I N S i text chunk reader o rest out out_after) → ReadsChunk reader after rest → after.interface ≡ early_head ((text ++ c.read) ++ rest) → IsObserving I N S i (text ++ chunk) after o
+course_end I N S i text chunk rest reader after o out out_after c t kept =
+    let w = c.observing in
+    let all = course_text I N S i text chunk rest reader o out out_after c in
+    record {
+      reads = subst (IsReaderOf after) all (t.stands (text ++ c.read) w.reads);
+      header = header_stays reader after (text ++ c.read) rest i w.reads w.header kept;
+      observes = subst (λ x. IsObserverOf I N S i (early_rows x) o) all (subst (λ rows. IsObserverOf I N S i rows o) (sym (t.rows (text ++ c.read) w.reads)) w.observes);
+    }
+
+-- the rest of the chunk has no further row
+pub course_found : {A C : Type 0} → (I : C → Interface) (N : C → ℕ) (S : C → Channel → Type 0) (i : Interface) (text chunk rest : List ℕ) (reader after : Progress) (o : Observer A C) (out out_after : List Finding)
+    → (c : Course I N S i text chunk reader o rest out out_after) → ReadsChunk reader after rest → HasFound out out_after (found_at i text) (found_at i (text ++ chunk))
+course_found I N S i text chunk rest reader after o out out_after c t =
+    subst (λ x. HasFound out out_after (found_at i text) (found_at i x)) (course_text I N S i text chunk rest reader o out out_after c)
+    (subst (λ x. HasFound out out_after (found_at i text) x) (ap (λ rows. (report_of i rows).findings) (sym (t.rows (text ++ c.read) c.observing.reads))) c.found)
+
+-- the rest of the chunk is refused
+pub course_refused : {A C : Type 0} → (I : C → Interface) (N : C → ℕ) (S : C → Channel → Type 0) (i : Interface) (text chunk rest : List ℕ) (reader : Progress) (o : Observer A C) (out out_after : List Finding) (f : Fault)
+    → (c : Course I N S i text chunk reader o rest out out_after) → AreKnown (early_rows (text ++ c.read)) (early_rows ((text ++ c.read) ++ rest)) f → IsFoundUpTo f out out_after (found_at i text) (found_at i (text ++ chunk))
+course_refused I N S i text chunk rest reader o out out_after f c k =
+    subst (λ x. IsFoundUpTo f out out_after (found_at i text) (found_at i x)) (course_text I N S i text chunk rest reader o out out_after c)
+    (found_refused f i (text ++ c.read) ((text ++ c.read) ++ rest) out out_after (found_at i text) c.found k)
+
+-- memory ran out
+pub course_stopped : {A C : Type 0} → (I : C → Interface) (N : C → ℕ) (S : C → Channel → Type 0) (i : Interface) (text chunk rest : List ℕ) (reader : Progress) (o : Observer A C) (out out_after : List Finding)
+    → (c : Course I N S i text chunk reader o rest out out_after) → IsFoundUpTo Memory out out_after (found_at i text) (found_at i (text ++ chunk))
+course_stopped I N S i text chunk rest reader o out out_after c =
+    course_refused I N S i text chunk rest reader o out out_after Memory c (known-here reader (text ++ c.read) rest Memory c.observing.reads tt tt)

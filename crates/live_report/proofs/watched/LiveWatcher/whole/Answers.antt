@@ -1,4 +1,0 @@
-use Rattle.live_report.proofs.watched.LiveWatcher.whole.Goals as goal
-
-pub returns-clause-told : goal.returns-clause-told
-returns-clause-told g c text s = c.whole.ensures.told text s

@@ -1,0 +1,39 @@
+//! A live trace as any observer of a trace.
+
+ghost use Rattle.std.specs.Prelude.{◌≡◌, ℕ, List};
+ghost use Rattle.trace_text.specs.Progress.{bytes_fed};
+ghost use Rattle.live_report.specs.Lives.{StandsFor};
+ghost use Rattle.trace_text.specs.FedBytes.{fed_length};
+
+use crate::live::Live;
+use crate::uncounted::Uncounted;
+use channel_run::run::Channel;
+use line_model::fault::Fault;
+use line_model::finding::Finding;
+use line_model::report::Report;
+use std::alloc::Allocator;
+use trace_text::trace_observer::TraceObserver;
+
+impl<A: Allocator + Copy, C: Channel<A>> TraceObserver<A> for Live<A, C> {
+    ghost stands_for = { λ live text. StandsFor C.interface_of C.number_of C.stands_for live text };
+
+    ghost last_found = { λ live. live.found.items };
+
+    ghost size = { λ live. bytes_fed live.lines };
+
+    fn feed(&mut self, chunk: &[u8]) -> Result<(), Fault> {
+        Live::feed(self, chunk)
+    }
+
+    fn found(&self) -> &[Finding] {
+        Live::found(self)
+    }
+
+    fn whole(self) -> Result<Report<A>, Fault> {
+        Live::whole(self, &mut Uncounted::none())
+    }
+
+    ghost sound = { λ live text stands. stands.reads.sound };
+
+    ghost sized = { λ live text stands. fed_length live.lines text stands.reads };
+}
