@@ -100,11 +100,12 @@ WRONG = b"/:@G`g\0\x1f\x80\xbf\xff"
 
 
 def wrong_digits():
-    """Rows with a byte that is no hex digit, at each place of 32 digits and beyond, each such byte at several places."""
-    for place in range(40):
-        for byte in (WRONG[place % len(WRONG)], WRONG[(place + 5) % len(WRONG)]):
+    """Rows with each byte that is no hex digit at each place of the digits that are read at once, and beyond."""
+    for place in range(33):
+        for byte in WRONG:
             digits = DIGITS[:place] + bytes([byte]) + DIGITS[place + 1:]
             yield Text(HEADER + b"1 T " + DIGITS + b"\n2 N " + digits + b"\n" + BEHIND, 3, HEX, None)
+
 
 # Whole texts whose header is missing or faulty.
 HEADERS = [

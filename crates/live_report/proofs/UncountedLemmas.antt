@@ -10,16 +10,17 @@ use Rattle.line_model.specs.channels.Channels.{Channel}
 use Rattle.line_model.specs.channels.RestartMachine.{LineState}
 use Rattle.line_model.specs.observer.Machine.{Observer, after, routed, walk}
 use Rattle.line_model.specs.observer.Observer.{start, x25}
-use Rattle.line_model.specs.packets.Classes.{header_length}
+use Rattle.line_model.specs.packets.Classes.{header_length, packet_of}
 use Rattle.line_model.specs.text.Text.{head, rows}
-use Rattle.channel_run.specs.Run.{row_events}
+use Rattle.channel_run.specs.Run.{row_events, usual_events}
+use Rattle.channel_run.specs.declared.run.Usual.{Usual}
+use Rattle.channel_run.specs.declared.run.Usual.TheVariants.{Data}
 use Rattle.channel_run.specs.Views.{IsViewOf}
 use Rattle.channel_run.specs.declared.run.View.{View}
 use Rattle.restart_epochs.specs.Cutting.{observer}
 use Rattle.live_report.specs.LastRows.{IsKnown, IsLastRow}
 use Rattle.live_report.specs.Observing.{AreRows, StandsFor}
-use Rattle.live_report.specs.Uncounted.{AreFew, LeftOut, amount_of, amounts_of, grown, is_data, is_same, left_out, left_out_at, left_out_by, none_left_out, reason_at, reason_by, reason_on, trace_uncounted, uncounted_of, user_octets, with_one}
-use Rattle.live_report.specs.declared.last_row.Known.{Known}
+use Rattle.live_report.specs.Uncounted.{AreFew, LeftOut, amount_of, amounts_of, counts_data, grown, has_finding, is_data, is_same, left_out, left_out_at, left_out_by, none_left_out, reason_at, reason_by, reason_of_state, reason_on, trace_uncounted, uncounted_of, user_octets, with_one}
 use Rattle.live_report.specs.declared.last_row.Known.TheVariants as known
 use Rattle.live_report.specs.declared.last_row.LastRow.{LastRow}
 use Rattle.live_report.specs.declared.observer.Observer.{Observer as Running}
@@ -60,6 +61,26 @@ pub on_channel : (i : Interface) (earlier : List Row) (r : Row) (last : LastRow)
     → ((j : Interface) (c : Channel) → IsViewOf j c view → answer ≡ reason_on c events) → answer ≡ reason_at i (observer i earlier) r
 on_channel i earlier r last events view answer l data_is before by =
     by_known i (observer i earlier) r events last.channel view answer (subst (IsKnown i last.channel (observer i earlier)) before l.before) l.came by ∙ of_data i earlier r last events l data_is
+
+-- where its data was counted
+pub counted_on : (i : Interface) (earlier : List Row) (r : Row) (last : LastRow) (events : List Event) (k : ℕ) → IsLastRow i earlier r last events → last.channel ≡ Some k → counts_data events ≡ true → None ≡ reason_at i (observer i earlier) r
+counted_on i earlier r last events k l here counted = at (is_data (packet_of i r.octets))
+  where
+    o : Observer LineState Channel
+    o = observer i earlier
+
+    none : None ≡ reason_by i (routed (x25 i) o.line r) o r
+    none =
+        ap (λ b. cond b None (cond (has_finding events) (Some Finding) (Some (reason_of_state (o.states k).state (o.states k).owed)))) (sym counted)
+        ∙ ap (reason_on (o.states k)) (l.came k here)
+        ∙ ap (λ taker. reason_by i taker o r) (sym here ∙ l.channel)
+
+    at : (b : Bool) → None ≡ cond b (reason_by i (routed (x25 i) o.line r) o r) None
+    at true = none
+    at false = refl
+
+pub data_is_counted : (epoch k : ℕ) (r : Row) (usual : Usual) (n : ℕ) (events : List Event) → usual ≡ Data n → events ≡ usual_events epoch k r usual → counts_data events ≡ true
+data_is_counted epoch k r usual n events is_data came = ap counts_data (came ∙ ap (usual_events epoch k r) is_data)
 
 -- ---- rows one by one
 

@@ -1,5 +1,5 @@
 -- The data that was not counted, and why.
-use Rattle.std.specs.Prelude.{ℕ, ◌+◌, ◌-◌, ◌<◌, ◌^◌, Bool, true, false, List, [], ◌∷◌, ◌++◌, Option, Some, None, drop, filter, length, min, sum_by, if◌then◌else◌}
+use Rattle.std.specs.Prelude.{◌≡◌, ℕ, ◌+◌, ◌-◌, ◌<◌, ◌^◌, Bool, true, false, List, [], ◌∷◌, ◌++◌, Option, Some, None, drop, filter, length, min, sum_by, if◌then◌else◌}
 use Rattle.std.specs.List.{list_any}
 use Rattle.line_model.specs.declared.interface.Interface.{Interface}
 use Rattle.line_model.specs.declared.event.Event.{Event}
@@ -19,7 +19,8 @@ use Rattle.line_model.specs.observer.Observer.{start, x25}
 use Rattle.line_model.specs.observer.Report.{is_finding}
 use Rattle.line_model.specs.packets.Classes.{header_length, packet_of}
 use Rattle.line_model.specs.text.Text.{head, rows}
-use Rattle.channel_run.specs.Run.{row_events}
+use Rattle.channel_run.specs.Run.{row_events, usual_events}
+use Rattle.channel_run.specs.declared.run.Usual.{Usual}
 use Rattle.live_report.specs.declared.uncounted.Amount.{Amount}
 use Rattle.live_report.specs.declared.uncounted.Reason.{Reason}
 use Rattle.live_report.specs.declared.uncounted.Reason.TheVariants.{Finding, Owed, NotInTransfer, Discarded, Unknown, Restart}
@@ -65,6 +66,10 @@ reason_by i (Some k) o r = reason_on (o.states k) (row_events i o.epoch k (o.sta
 -- why the data of a row was not counted, by what was known before it; none where it has no data, or where it was counted
 abbrev pub reason_at : Interface → Observer LineState Channel → Row → Option Reason
 reason_at i o r = if is_data (packet_of i r.octets) then reason_by i (routed (x25 i) o.line r) o r else None
+
+-- a channel took a row, and these are its events, as most rows have them
+abbrev pub IsUsualRow : Usual → (taker : Option ℕ) → List Event → Type 0
+IsUsualRow usual taker es = (epoch k : ℕ) × (r : Row) × (taker ≡ Some k) × (es ≡ usual_events epoch k r usual)
 
 -- how many octets of user data a data packet has
 abbrev pub user_octets : Interface → List ℕ → ℕ

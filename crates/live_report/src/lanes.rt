@@ -9,7 +9,7 @@ ghost use Rattle.channel_run.specs.Run.{row_events};
 ghost use Rattle.live_report.specs.Lanes.{FindsOn, IsOut, LanesStandFor};
 ghost use Rattle.live_report.specs.Turns.{walked_piece, OfLanes, SeesOn};
 
-use crate::last_row::{Kept, KeptRow};
+use crate::last_row::{Judge, KeptRow};
 use channel_run::live::LiveChannel;
 use channel_run::run::Channel;
 use line_model::event::Event;
@@ -85,9 +85,11 @@ pub fn step_channel<A: Allocator + Copy, C: Channel<A>>(
         number: item.number,
         side: item.side,
         packet: item.packet,
-        channel: Some(channel),
-        before: Kept::Channel(before),
-        after: Kept::Channel(after),
+        judge: Judge::Channel {
+            channel,
+            before,
+            after,
+        },
         finding,
     })
 }

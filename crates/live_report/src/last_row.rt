@@ -1,7 +1,7 @@
 //! The row that an observer took last.
 
 ghost use Rattle.std.specs.Prelude.{◌≡◌};
-ghost use Rattle.live_report.specs.KeptRows.{known_by};
+ghost use Rattle.live_report.specs.KeptRows.{known_after, known_before, taker};
 
 use channel_run::run::View;
 use channel_run::status_word::view_in;
@@ -39,21 +39,49 @@ pub struct LastRow {
     pub finding: Option<Finding>,
 }
 
-/// What the machine that judged a row knew at one moment, as it is kept of each row: a channel's by its word, which costs
-/// less to copy than what it says.
+/// The machine that judged a row, and what it knew before and after it, as they are kept of each row: a channel's by its
+/// words, which cost less to copy than what they say.
 #[derive(Clone, Copy)]
-pub(crate) enum Kept {
-    Restart(RState),
-    Channel(FlowWord),
+pub(crate) enum Judge {
+    Restart {
+        before: RState,
+        after: RState,
+    },
+    Channel {
+        channel: u16,
+        before: FlowWord,
+        after: FlowWord,
+    },
 }
 
-impl Kept {
-    fn known(&self) -> Known
-        ensures { result ≡ known_by self.now }
+impl Judge {
+    /// The logical channel, where one judged the row.
+    fn channel(&self) -> Option<u16>
+        ensures { result ≡ taker self.now }
     {
         match self {
-            Kept::Restart(state) => Known::Restart(*state),
-            Kept::Channel(word) => Known::Channel(view_in(word)),
+            Judge::Restart { .. } => None,
+            Judge::Channel { channel, .. } => Some(*channel),
+        }
+    }
+
+    /// What it knew before the row.
+    fn before(&self) -> Known
+        ensures { result ≡ known_before self.now }
+    {
+        match self {
+            Judge::Restart { before, .. } => Known::Restart(*before),
+            Judge::Channel { before, .. } => Known::Channel(view_in(before)),
+        }
+    }
+
+    /// What it knew after the row.
+    fn after(&self) -> Known
+        ensures { result ≡ known_after self.now }
+    {
+        match self {
+            Judge::Restart { after, .. } => Known::Restart(*after),
+            Judge::Channel { after, .. } => Known::Channel(view_in(after)),
         }
     }
 }
@@ -64,15 +92,13 @@ pub struct KeptRow {
     pub(crate) number: u32,
     pub(crate) side: Side,
     pub(crate) packet: Packet,
-    pub(crate) channel: Option<u16>,
-    pub(crate) before: Kept,
-    pub(crate) after: Kept,
+    pub(crate) judge: Judge,
     pub(crate) finding: Option<Finding>,
 }
 
 impl Model for KeptRow {
     ghost use Rattle.live_report.specs.declared.last_row.LastRow.{LastRow};
-    ghost use Rattle.live_report.specs.KeptRows.{known_by};
+    ghost use Rattle.live_report.specs.KeptRows.{known_after, known_before, taker};
 
     ghost Value = { LastRow };
 
@@ -80,9 +106,9 @@ impl Model for KeptRow {
       number = row.number;
       side = row.side;
       packet = row.packet;
-      channel = row.channel;
-      before = known_by row.before;
-      after = known_by row.after;
+      channel = taker row.judge;
+      before = known_before row.judge;
+      after = known_after row.judge;
       finding = row.finding;
     } };
 }
@@ -96,9 +122,9 @@ impl KeptRow {
             number: self.number,
             side: self.side,
             packet: self.packet,
-            channel: self.channel,
-            before: self.before.known(),
-            after: self.after.known(),
+            channel: self.judge.channel(),
+            before: self.judge.before(),
+            after: self.judge.after(),
             finding: self.finding,
         }
     }

@@ -22,7 +22,7 @@ ghost use Rattle.live_report.specs.Observing.{open_piece, FindsNothing, HasWalke
 
 use crate::ending::end_channels;
 use crate::lanes::step_channel;
-use crate::last_row::{Kept, KeptRow, LastRow};
+use crate::last_row::{Judge, KeptRow, LastRow};
 use crate::reporting::report_channels;
 use crate::uncounted::Uncounted;
 use crate::usual::{put_usual, step_usual};
@@ -74,9 +74,10 @@ fn judged_on_line(item: &ItemRef<'_>, before: RState, step: &Step) -> KeptRow
         number: item.number,
         side: item.side,
         packet: item.packet,
-        channel: None,
-        before: Kept::Restart(before),
-        after: Kept::Restart(step.machine.state()),
+        judge: Judge::Restart {
+            before,
+            after: step.machine.state(),
+        },
         finding: step.finding,
     }
 }
@@ -248,14 +249,17 @@ impl<A: Allocator + Copy, C: Channel<A>> Observer<A, C> {
             number: item.number,
             side: item.side,
             packet: item.packet,
-            channel: Some(channel),
-            before: Kept::Channel(row.before),
-            after: Kept::Channel(row.after),
+            judge: Judge::Channel {
+                channel,
+                before: row.before,
+                after: row.after,
+            },
             finding: None,
         };
-        self.uncounted.take(
+        self.uncounted.take_usual(
             &self.walk.interface,
             item.octets,
+            row.usual,
             &kept,
             self.events.as_slice(),
         );

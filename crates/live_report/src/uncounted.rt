@@ -8,10 +8,10 @@ ghost use Rattle.restart_epochs.specs.Cutting.{observer};
 ghost use Rattle.channel_run.specs.StatusWord.{view_in};
 ghost use Rattle.channel_run.specs.Views.{IsViewOf};
 ghost use Rattle.live_report.specs.LastRows.{IsLastRow};
-ghost use Rattle.live_report.specs.Uncounted.{AreFew, amount_for, counts_data, grown, has_finding, is_data, none_left_out, reason_at, reason_of_state, reason_on, uncounted_of, user_octets, with_one};
+ghost use Rattle.live_report.specs.Uncounted.{AreFew, amount_for, counts_data, grown, has_finding, is_data, IsUsualRow, none_left_out, reason_at, reason_of_state, reason_on, uncounted_of, user_octets, with_one};
 
-use crate::last_row::{Kept, KeptRow, Known, LastRow};
-use channel_run::run::View;
+use crate::last_row::{Judge, KeptRow, Known, LastRow};
+use channel_run::run::{Usual, View};
 use channel_run::status_word::view_in;
 use data_transfer::packed::FlowWord;
 use line_model::event::{Event, What};
@@ -152,9 +152,9 @@ fn reason_kept(last: &KeptRow, events: &[Event]) -> Option<Reason>
     if !is_data(&last.packet) {
         return None;
     }
-    match &last.before {
-        Kept::Restart(_) => Some(Reason::Restart),
-        Kept::Channel(word) => reason_in(word, events),
+    match &last.judge {
+        Judge::Restart { .. } => Some(Reason::Restart),
+        Judge::Channel { before, .. } => reason_in(before, events),
     }
 }
 
@@ -267,6 +267,29 @@ impl Uncounted {
     {
         if let Some(reason) = reason_kept(last, events) {
             self.add(reason, user_octets(interface, octets));
+        }
+    }
+
+    /// The same of a row that is as most are, whose data was counted if it has any.
+    #[inline(always)]
+    pub(crate) fn take_usual(
+        &mut self,
+        interface: &Interface,
+        octets: &[u8],
+        usual: Usual,
+        last: &KeptRow,
+        events: &[Event],
+    )
+        requires usual { IsUsualRow usual last.now.channel events.now }
+        ensures { (i : AnyInterface) (earlier : List Row) (r : Row)
+            → IsLastRow i earlier r last.now events.now
+            → interface.now ≡ i → octets.now ≡ r.octets → AreFew (earlier ++ r ∷ [])
+            → self.old ≡ uncounted_of i earlier
+            → self.new ≡ uncounted_of i (earlier ++ r ∷ []) }
+    {
+        match usual {
+            Usual::Data(_) => {}
+            Usual::Ready => self.take(interface, octets, last, events),
         }
     }
 }

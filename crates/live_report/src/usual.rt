@@ -5,11 +5,11 @@ ghost use Rattle.line_model.specs.basics.Bounds.{IsPiece};
 ghost use Rattle.restart_epochs.specs.OpenRows.{OpenRows, rows_of, HasMore};
 ghost use Rattle.channel_run.specs.Live.{channel_so_far};
 ghost use Rattle.channel_run.specs.Run.{row_events, usual_events};
-ghost use Rattle.live_report.specs.KeptRows.{known_by};
+ghost use Rattle.channel_run.specs.StatusWord.{view_in};
 ghost use Rattle.live_report.specs.Lanes.{LanesStandFor};
 ghost use Rattle.live_report.specs.Turns.{walked_piece, OfLanes, SeesOn};
+ghost use Rattle.live_report.specs.declared.last_row.Known.TheVariants as known;
 
-use crate::last_row::Kept;
 use channel_run::live::LiveChannel;
 use channel_run::run::{Channel, Usual};
 use data_transfer::packed::FlowWord;
@@ -44,11 +44,11 @@ pub(crate) fn step_usual<A: Allocator + Copy, C: Channel<A>>(
     ensures same { OfLanes C.Channel walk.now lanes.old (λ rows.
         IfNone result (LanesStandFor C.Channel walk.now.interface walk.now.epoch rows lanes.new)) }
     ensures before { OfLanes C.Channel walk.now lanes.old (λ rows.
-        IfSome result (λ row. SeesOn walk.now channel rows (known_by (Kept.Channel row.before)))) }
+        IfSome result (λ row. SeesOn walk.now channel rows (known.Channel (view_in row.before)))) }
     ensures after { OfLanes C.Channel walk.now lanes.old (λ rows. (after : OpenRows)
         → HasMore channel item.now rows after
         → IsPiece walk.now.interface channel (rows_of after channel)
-        → IfSome result (λ row. SeesOn walk.now channel after (known_by (Kept.Channel row.after)))) }
+        → IfSome result (λ row. SeesOn walk.now channel after (known.Channel (view_in row.after)))) }
     ensures events { OfLanes C.Channel walk.now lanes.old (λ rows.
         IfSome result (λ row. row_events walk.now.interface walk.now.epoch channel
         (channel_so_far (walked_piece walk.now channel rows)) item.now.row
@@ -72,6 +72,7 @@ pub(crate) fn step_usual<A: Allocator + Copy, C: Channel<A>>(
 }
 
 /// The events of a row that is as most are, in place of those in a list.
+#[inline(always)]
 pub(crate) fn put_usual<A: Allocator>(
     epoch: u32,
     channel: u16,
@@ -81,10 +82,9 @@ pub(crate) fn put_usual<A: Allocator>(
 ) -> Result<(), AllocError>
     ensures { OnOk result (events.new.items ≡ usual_events epoch channel item.now.row usual) }
 {
-    events.clear();
     match usual {
-        Usual::Data(octets) => {
-            events.push(Event {
+        Usual::Data(octets) => put_one(
+            Event {
                 epoch,
                 channel,
                 packet: item.number,
@@ -92,9 +92,26 @@ pub(crate) fn put_usual<A: Allocator>(
                     side: item.side,
                     octets,
                 },
-            })?;
+            },
+            events,
+        ),
+        Usual::Ready => {
+            events.clear();
             Ok(())
         }
-        Usual::Ready => Ok(()),
     }
+}
+
+/// One event, in place of those in a list.
+#[inline(always)]
+fn put_one<A: Allocator>(event: Event, events: &mut Vec<Event, A>) -> Result<(), AllocError>
+    ensures { OnOk result (events.new.items ≡ event ∷ []) }
+{
+    if events.len() == 1 {
+        events[0] = event;
+        return Ok(());
+    }
+    events.clear();
+    events.push(event)?;
+    Ok(())
 }

@@ -12,7 +12,7 @@ use Rattle.report_merge.specs.Parts.{findings_text, rest_text}
 use Rattle.live_report.specs.Found.{found_text}
 use Rattle.live_report.specs.Reports.{IsRefusal, IsReportFault}
 use Rattle.live_report.proofs.FollowLemmas.{taken_first, taken_last, taken_whole, text_report, told_split, told_within}
-use Rattle.live_report.proofs.ReportLemmas.{apart, is_fault, no_fault, refuses, report_sums, same, unwritten}
+use Rattle.live_report.proofs.ReportLemmas.{apart, no_fault, refuses, report_sums, same, unwritten}
 use Rattle.live_report.proofs.follow.Follower.end.Goals as goal
 
 pub split_at-requires : goal.split_at-requires

@@ -10,10 +10,10 @@ use Rattle.report_merge.specs.Gathered.{gathered}
 use Rattle.restart_epochs.specs.Cutting.{given_of}
 use Rattle.restart_epochs.specs.Walks.{IsSameWalk, handing_on}
 use Rattle.restart_epochs.proofs.Listings.{listing}
-use Rattle.live_report.specs.KeptRows.{known_by}
+use Rattle.channel_run.specs.StatusWord.{view_in}
 use Rattle.live_report.specs.LastRows.{IsLastRow, KnowsLast}
 use Rattle.live_report.specs.Turns.{MayTurn, StandsAt, walked_piece}
-use Rattle.live_report.specs.declared.last_row.Kept.TheVariants as kept
+use Rattle.live_report.specs.declared.last_row.Known.TheVariants as known
 use Rattle.live_report.specs.declared.last_row.LastRow.{LastRow}
 use Rattle.live_report.proofs.FindingLemmas.{finds_after}
 use Rattle.live_report.proofs.LastLemmas.{last_known}
@@ -47,6 +47,18 @@ pub count_row-requires : goal.count_row-requires
 count_row-requires g c =
     let s = c.requires.room.2 in
     record { packets = omega (arith, s.holds.packets, s.bounds.rows, s.bounds.last) }
+
+pub take_usual-requires : goal.take_usual-requires
+take_usual-requires g c =
+    record {
+      usual = (
+        c.args.self.now.walk.epoch,
+        c.in-Some.channel,
+        c.args.item.now.row,
+        refl,
+        c.as_slice.ensures.value ∙ c.in_ok-put_usual.ensures,
+      );
+    }
 
 pub returns-in_default-step_usual-clause-taken : goal.returns-in_default-step_usual-clause-taken
 returns-in_default-step_usual-clause-taken g c i rs s =
@@ -94,8 +106,8 @@ returns-clause-taken g c i rs s sound =
       side = c.item.inside.side;
       packet = c.item.inside.packet;
       channel = Some k;
-      before = known_by (kept.Channel c.in-Some-step_usual.row.before);
-      after = known_by (kept.Channel c.in-Some-step_usual.row.after);
+      before = known.Channel (view_in c.in-Some-step_usual.row.before);
+      after = known.Channel (view_in c.in-Some-step_usual.row.after);
       finding = None;
     } in
     let known : KnowsLast i (rs ++ one.row ∷ []) (Some last) events =
@@ -117,5 +129,5 @@ returns-clause-taken g c i rs s sound =
     (s.holds.ended ∙ ap gathered (sym (append-nil (map value (given_of i rs)))))
     (did.stands rows here.0 more turned small))
     known
-    (c.take.ensures i rs one.row (subst (IsLastRow i rs one.row last) (sym c.as_slice.ensures.value) (known rs one.row refl)) (s.holds.interface ∙ s.cut.interface) (ap (λ x. x.row.octets) c.item.view_is)
+    (c.take_usual.ensures i rs one.row (subst (IsLastRow i rs one.row last) (sym c.as_slice.ensures.value) (known rs one.row refl)) (s.holds.interface ∙ s.cut.interface) (ap (λ x. x.row.octets) c.item.view_is)
     (few_with g.C.Channel.interface_of g.C.Channel.number_of g.C.Channel.stands_for i rs one.row o s sound) s.uncounted)
