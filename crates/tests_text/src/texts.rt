@@ -1,5 +1,6 @@
 //! Texts from outside, read in chunks of several sizes.
 
+mod blocks;
 mod refused;
 mod rows;
 

@@ -115,7 +115,7 @@ usual_row last number side line digits octets b n most even h =
     let number_is = rises_is (number_of b.word) last number b.rises in
     rw (words, number_is, b.names, octets_are) refl
 
-lacks-append : (byte : ℕ) (xs ys : List ℕ) → Lacks byte xs → Lacks byte ys → Lacks byte (xs ++ ys)
+pub lacks-append : (byte : ℕ) (xs ys : List ℕ) → Lacks byte xs → Lacks byte ys → Lacks byte (xs ++ ys)
 lacks-append byte [] ys h k = k
 lacks-append byte (x ∷ xs) ys h k = let none = or_parts (x == byte) (list_any (λ b. b == byte) xs) h in rw (none.0, lacks-append byte xs ys none.1 k) refl
 

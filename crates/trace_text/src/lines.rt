@@ -502,3 +502,5 @@ impl<A: Allocator + Clone> Lines<A> {
         Ok(end.interface)
     }
 }
+
+pub mod block;
