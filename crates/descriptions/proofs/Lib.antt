@@ -3,5 +3,6 @@ pub mod CallLemmas
 pub mod FollowLemmas
 pub mod ChoiceLemmas
 pub mod ObjectLemmas
+pub mod LineLemmas
 pub mod FactLemmas
 pub mod SentLemmas

@@ -14,7 +14,7 @@ ghost use Rattle.descriptions.specs.Choosing.{HasChosen, told_of_line};
 use crate::call_rows::CallRows;
 use annotated_trace::rows::Rows;
 use channel_run::run::Channel;
-use live_report::last_row::LastRow;
+use live_report::last_row::KeptRow;
 use live_report::live::Live;
 use live_report::observer::Observer;
 use std::alloc::Allocator;
@@ -23,19 +23,19 @@ use std::alloc::Allocator;
 fn judge_call<A: Allocator + Copy, C: Channel<A>>(
     call: &mut CallRows,
     observer: &Observer<A, C>,
-    last: LastRow,
+    last: &KeptRow,
 ) -> bool
     ensures told { (i : Interface) (before : List Row) (r : Row) → Follows i before call.old
         → HasWalked C.Channel i (before ++ r ∷ []) observer.now
-        → IsLastRow i before r last observer.now.events.items
+        → IsLastRow i before r last.now observer.now.events.items
         → result ≡ is_of_call i before r call.old.number }
     ensures follows { (i : Interface) (before : List Row) (r : Row) → Follows i before call.old
         → HasWalked C.Channel i (before ++ r ∷ []) observer.now
-        → IsLastRow i before r last observer.now.events.items
+        → IsLastRow i before r last.now observer.now.events.items
         → Follows i (before ++ r ∷ []) call.new }
     ensures number { call.new.number ≡ call.old.number }
 {
-    match last.channel {
+    match last.channel() {
         Some(channel) => call.apply_row(observer.epoch(), channel, observer.events()),
         None => false,
     }
@@ -84,11 +84,11 @@ impl Chosen {
         ensures rows { self.new.rows ≡ self.old.rows }
         ensures packets { self.new.packets ≡ self.old.packets }
     {
-        let Some(last) = observer.last_row() else {
+        let Some(last) = observer.kept_row() else {
             return false;
         };
         let of_call = judge_call(&mut self.call, observer, last);
-        self.rows.chooses(&last.packet, of_call)
+        self.rows.chooses(last.packet(), of_call)
     }
 
     /// Judges the last line of a trace, the next one: whether it writes a row that is told of; none where it writes no

@@ -234,6 +234,14 @@ impl<A: Allocator + Copy> Course<A> {
         self.calls.ended.as_slice()
     }
 
+    /// The number of the call that is open on a channel, or 0.
+    pub fn call_on(&self, channel: u16) -> u32 {
+        match self.lanes.get(channel) {
+            Some(lane) => lane.call,
+            None => 0,
+        }
+    }
+
     /// Takes a row that the restart machine judged.
     fn on_interface(&mut self, last: &LastRow) -> Result<(), AllocError> {
         if leaves_ready(last) {
@@ -322,7 +330,8 @@ fn leaves_ready(last: &LastRow) -> bool {
     }
 }
 
-/// The data of a row of a PAD call, where it was counted.
+/// The data of a row of a PAD call, where it was counted and may be of a message, which has Q 1. Data with Q 0 begins and
+/// ends sequences of its own: where it stands inside of a message it is found and not counted.
 fn pad_data<'a>(
     interface: &Interface,
     octets: &'a [u8],
@@ -336,6 +345,9 @@ fn pad_data<'a>(
         return None;
     }
     let header = data_header(&last.packet)?;
+    if !header.qualified {
+        return None;
+    }
     Some(DataField {
         qualified: header.qualified,
         more: header.more,

@@ -1,6 +1,7 @@
 //! The rows of a trace as objects.
 
-ghost use Rattle.std.specs.Prelude.{◌≡◌, ℕ, ◌++◌, ◌∷◌, [], List, OnOk, Some, false};
+ghost use Rattle.std.specs.Prelude.{◌≡◌, ℕ, ◌++◌, ◌∷◌, [], List, IfSome, None, OnOk, Some, false};
+ghost use Rattle.annotated_trace.specs.Annotation.{IsOneLine};
 ghost use Rattle.line_model.specs.basics.Records.{Row};
 ghost use Rattle.line_model.specs.declared.interface.Interface.{Interface};
 ghost use Rattle.line_model.specs.text.Text.{Line, ended_lines, head_of, rows_in};
@@ -16,10 +17,12 @@ use crate::closing_objects::{Rest, write_rest};
 use crate::course::Course;
 use crate::facts::{EndedCall, RowFacts};
 use crate::json::{Growing, Json};
+use crate::line_room::LineRoom;
 use crate::report_objects::write_report_objects;
 use crate::row_head::append_head;
 use crate::row_members::row_members;
 use crate::times::Time;
+use crate::usual_objects::{UsualRow, usual_object};
 use annotated_trace::notes::append_plain;
 use annotated_trace::printer::Printer;
 use annotated_trace::rows::Rows;
@@ -69,6 +72,49 @@ impl<A: Allocator + Copy> Past<A> {
             time: None,
             members: Vec::new(alloc),
         }
+    }
+
+    /// The object of the last row of a trace, where it is told of, is as most are, and has no time. Such a row changes nothing
+    /// that is remembered.
+    fn usual_object<'r, C: Channel<A>>(
+        &self,
+        trace: &Live<A, C>,
+        line: &[u8],
+        is_told: bool,
+        room: &'r mut LineRoom,
+    ) -> Option<&'r [u8]>
+        ensures object { (i : Interface) (before : List Line) (l : Line) (r : Row) (text : List ℕ)
+            → WasFed C.Channel text trace.now → ended_lines text ≡ before ++ l ∷ []
+            → head_of before ≡ Some i → row_written before l ≡ Some r → line.now ≡ l ++ 10 ∷ []
+            → IfSome result (λ object. IsObjectWhere is_told i (rows_in before) r object.now) }
+        ensures untold { is_told ≡ false → result ≡ None }
+    {
+        if !is_told {
+            return None;
+        }
+        let Some(observer) = trace.observer() else {
+            return None;
+        };
+        let Some(last) = observer.kept_row() else {
+            return None;
+        };
+        let Some(row) = last.quiet() else {
+            return None;
+        };
+        let Some(digits) = last_digits(line, trace.row().octets.len()) else {
+            return None;
+        };
+        if self.time.is_some() {
+            return None;
+        }
+        let usual = UsualRow {
+            row,
+            events: observer.events(),
+            epoch: observer.epoch(),
+            call: self.course.call_on(row.channel),
+            digits,
+        };
+        usual_object(room, &usual)
     }
 
     /// Takes the last row of a trace, and appends its object where it is told of.
@@ -126,12 +172,22 @@ fn write_members<A: Allocator>(
     json.out.answer()
 }
 
-/// The hex digits at the end of a row's line that write so many octets, where they come after a space.
-fn last_digits(line: &[u8], octets: usize) -> Option<&[u8]> {
-    let words = match line {
+/// A line without the LF that ends it.
+fn without_lf(line: &[u8]) -> &[u8]
+    ensures { (l : Line) → line.now ≡ l ++ 10 ∷ [] → result.now ≡ l }
+{
+    match line {
         [words @ .., b'\n'] => words,
-        words => words,
-    };
+        _ => line,
+    }
+}
+
+/// The hex digits at the end of a row's line that write so many octets, where they come after a space.
+fn last_digits(line: &[u8], octets: usize) -> Option<&[u8]>
+    ensures { (l : Line) → line.now ≡ l ++ 10 ∷ [] → IsOneLine l
+        → IfSome result (λ digits. IsOneLine digits.now) }
+{
+    let words = without_lf(line);
     let place = words.len().checked_sub(octets.saturating_mul(2))?;
     let (front, digits) = words.split_at_checked(place)?;
     match front {
@@ -146,6 +202,8 @@ pub struct RowObjects<A: Allocator> {
     alloc: A,
     chosen: Chosen,
     past: Past<A>,
+    /// Room for the object of a row that is as most are.
+    room: LineRoom,
 }
 
 impl<A: Allocator + Copy> RowObjects<A> {
@@ -159,6 +217,29 @@ impl<A: Allocator + Copy> RowObjects<A> {
             alloc,
             chosen: Chosen::new(rows),
             past: Past::new(alloc),
+            room: LineRoom::new(),
+        }
+    }
+
+    /// Takes the last row of a trace, and appends its object where it is told of.
+    fn print_row<C: Channel<A>>(
+        &mut self,
+        trace: &Live<A, C>,
+        line: &[u8],
+        told: bool,
+        out: &mut Vec<u8, A>,
+    ) -> Result<(), AllocError>
+        ensures object { (i : Interface) (before : List Line) (l : Line) (r : Row) (text : List ℕ)
+            → WasFed C.Channel text trace.now → ended_lines text ≡ before ++ l ∷ []
+            → head_of before ≡ Some i → row_written before l ≡ Some r → line.now ≡ l ++ 10 ∷ []
+            → OnOk result
+            (HasAppended (IsObjectWhere told i (rows_in before) r) out.old.items out.new.items) }
+        ensures untold { told ≡ false → out.new.items ≡ out.old.items }
+        ensures chosen { self.new.chosen ≡ self.old.chosen }
+    {
+        match self.past.usual_object(trace, line, told, &mut self.room) {
+            Some(object) => out.extend_from_slice(object),
+            None => self.past.append_row(trace, line, told, out),
         }
     }
 }
@@ -191,7 +272,7 @@ impl<A: Allocator + Copy, C: Channel<A>> Printer<A, Live<A, C>> for RowObjects<A
         out: &mut Vec<u8, A>,
     ) -> Result<(), AllocError> {
         match self.chosen.judge_line(trace) {
-            Some(told) => self.past.append_row(trace, line, told, out),
+            Some(told) => self.print_row(trace, line, told, out),
             None => {
                 if let Some(time) = Time::of_comment(line) {
                     self.past.time = Some(time);

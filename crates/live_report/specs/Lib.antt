@@ -3,6 +3,7 @@ pub mod Turns
 pub mod AddedPieces
 pub mod LastRows
 pub mod KeptRows
+pub mod QuietRows
 pub mod Uncounted
 pub mod Observing
 pub mod Reports

@@ -2,13 +2,16 @@
 
 ghost use Rattle.std.specs.Prelude.{◌≡◌};
 ghost use Rattle.live_report.specs.KeptRows.{known_after, known_before, taker};
+ghost use Rattle.live_report.specs.QuietRows.{is_settled, quiet_of};
+ghost use Rattle.channel_run.specs.StatusWord.{view_in};
+ghost use Rattle.live_report.specs.declared.last_row.Known.TheVariants.{Channel as OfChannel};
 
 use channel_run::run::View;
-use channel_run::status_word::view_in;
+use channel_run::status_word::{bit, state_in, view_in};
 use data_transfer::packed::FlowWord;
 use line_model::finding::Finding;
-use line_model::packet::Packet;
-use line_model::state::{RState, Side};
+use line_model::packet::{Packet, PacketKind};
+use line_model::state::{ChannelState, DState, RState, Side};
 use std::marker::Model;
 
 /// What the machine that judged a row knew at one moment.
@@ -54,6 +57,18 @@ pub(crate) enum Judge {
     },
 }
 
+/// The bit of a channel's word that is set where the DCE owes an indication.
+const OWED: u32 = 5;
+
+/// Whether a channel is in d1, and the DCE owes no indication, by its word.
+#[inline(always)]
+fn is_settled(word: &FlowWord) -> bool
+    ensures { result ≡ is_settled (OfChannel (view_in word.now)) }
+{
+    let owner_bits = word.owner_bits();
+    state_in(owner_bits) == ChannelState::Transfer(DState::D1) && !bit(owner_bits, OWED)
+}
+
 impl Judge {
     /// The logical channel, where one judged the row.
     fn channel(&self) -> Option<u16>
@@ -86,6 +101,19 @@ impl Judge {
     }
 }
 
+/// A row that found nothing and left its logical channel in d1, where the DCE owed no indication before and after it.
+#[derive(Clone, Copy)]
+pub struct QuietRow {
+    /// Its number.
+    pub number: u32,
+    /// The side that sent it.
+    pub side: Side,
+    /// The logical channel that its packet names.
+    pub channel: u16,
+    /// What its packet is.
+    pub kind: PacketKind,
+}
+
 /// A row, as it was judged, as it is kept.
 #[derive(Drop)]
 pub struct KeptRow {
@@ -114,6 +142,41 @@ impl Model for KeptRow {
 }
 
 impl KeptRow {
+    /// Its packet.
+    pub fn packet(&self) -> &Packet
+        ensures { result.now ≡ self.now.packet }
+    {
+        &self.packet
+    }
+
+    /// The logical channel that took it; none where the restart machine judged it.
+    pub fn channel(&self) -> Option<u16>
+        ensures { result ≡ self.now.channel }
+    {
+        self.judge.channel()
+    }
+
+    /// The row, if it found nothing and left its logical channel in d1 with no indication owed.
+    pub fn quiet(&self) -> Option<QuietRow>
+        ensures { result ≡ quiet_of self.now }
+    {
+        let Judge::Channel { before, after, .. } = &self.judge else {
+            return None;
+        };
+        if self.finding.is_some() || !is_settled(before) || !is_settled(after) {
+            return None;
+        }
+        match self.packet {
+            Packet::Channel { channel, kind } => Some(QuietRow {
+                number: self.number,
+                side: self.side,
+                channel,
+                kind,
+            }),
+            _ => None,
+        }
+    }
+
     /// The row that is kept.
     pub(crate) fn row(&self) -> LastRow
         ensures { result ≡ self.now }
@@ -122,7 +185,7 @@ impl KeptRow {
             number: self.number,
             side: self.side,
             packet: self.packet,
-            channel: self.judge.channel(),
+            channel: self.channel(),
             before: self.judge.before(),
             after: self.judge.after(),
             finding: self.finding,

@@ -179,6 +179,15 @@ impl<A: Allocator + Copy, C: Channel<A>> Observer<A, C> {
         }
     }
 
+    /// The row that was taken last, as it is kept, which costs no copy; none before the first row.
+    pub fn kept_row(&self) -> Option<&KeptRow>
+        ensures { (i : AnyInterface) (before : List records.Row) (row : records.Row)
+            → HasWalked C.Channel i (before ++ row ∷ []) self.now
+            → MatchOption result ⊥ (λ last. IsLastRow i before row last.now self.now.events.items) }
+    {
+        self.last.as_ref()
+    }
+
     /// The events of the last row that a channel took.
     pub fn events(&self) -> &[Event]
         ensures { result.now ≡ self.now.events.items }

@@ -5,8 +5,8 @@ use Rattle.descriptions.proofs.row_objects.RowObjectsPrinterLive.print.Goals as 
 
 pub returns-in-Some-clause-form : goal.returns-in-Some-clause-form
 returns-in-Some-clause-form g c before line text printed stands lines found is =
-    row_put c.append_row.result c.args.self.now.chosen.rows (head_of before) (rows_in before) (row_written before line) c.in-Some.told c.args.out.now.items c.append_row.new.out.items
-    (c.in-Some.ensures.told before line text printed stands lines) c.append_row.ensures.untold (λ i r head row. c.append_row.ensures.object i before line r text stands lines head row)
+    row_put c.print_row.result c.args.self.now.chosen.rows (head_of before) (rows_in before) (row_written before line) c.in-Some.told c.args.out.now.items c.print_row.new.out.items
+    (c.in-Some.ensures.told before line text printed stands lines) c.print_row.ensures.untold (λ i r head row. c.print_row.ensures.object i before line r text stands lines head row is)
 
 pub returns-in-Some-of_comment-clause-form : goal.returns-in-Some-of_comment-clause-form
 returns-in-Some-of_comment-clause-form g c before line text printed stands lines found is =

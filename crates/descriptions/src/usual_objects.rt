@@ -1,0 +1,191 @@
+//! The objects of the rows that are as most are: data with Q 0 and receive ready in d1, with which nothing is wrong.
+
+ghost use Rattle.std.specs.Prelude.{◌≡◌, ℕ, ◌++◌, List, IfSome, codes};
+ghost use Rattle.std.specs.Bool.{OnTrue};
+ghost use Rattle.line_model.specs.observer.Calls.{all_lengths};
+ghost use Rattle.line_model.specs.observer.Report.{side_word};
+ghost use Rattle.annotated_trace.specs.Annotation.{IsOneLine};
+ghost use Rattle.descriptions.specs.Facts.{IsFateOf};
+ghost use Rattle.descriptions.specs.Lines.{Puts, PutsPlain};
+ghost use Rattle.descriptions.specs.RowObjects.{counted_word};
+ghost use Rattle.descriptions.specs.UsualObjects.{IsUsualObject, amount_word, usual_head};
+
+use crate::facts::{Fate, counted_in};
+use crate::line_room::LineRoom;
+use line_model::event::Event;
+use line_model::packet::{DataHeader, PacketKind};
+use line_model::state::Side;
+use live_report::last_row::QuietRow;
+
+/// A row that found nothing in d1, and what its object says of it.
+#[derive(Clone, Copy)]
+pub struct UsualRow<'a> {
+    /// The row.
+    pub row: QuietRow,
+    /// The events of its channel.
+    pub events: &'a [Event],
+    /// The stretch between restarts that it stands in.
+    pub epoch: u32,
+    /// The call that is open on its channel, or 0.
+    pub call: u32,
+    /// The hex digits of its octets, as its line has them.
+    pub digits: &'a [u8],
+}
+
+/// The members from the call of a data packet to its digits.
+const TO_DATA_DIGITS: &[u8] =
+    b",\"begins\":false,\"up\":false,\"ends\":[],\"not_counted\":null,\"time\":null,\"type\":\"data\",\"hex\":\"";
+
+/// The members from the call of a receive ready to its digits.
+const TO_READY_DIGITS: &[u8] =
+    b",\"begins\":false,\"up\":false,\"ends\":[],\"not_counted\":null,\"time\":null,\"type\":\"rr\",\"hex\":\"";
+
+/// The members of the M bit and the D bit of data with Q 0, up to its octets.
+fn bit_members(header: &DataHeader) -> &'static [u8]
+    ensures { IsOneLine result.now }
+{
+    match (header.more, header.delivery) {
+        (false, false) => b",\"more\":false,\"qualified\":false,\"delivery\":false,\"octets\":",
+        (false, true) => b",\"more\":false,\"qualified\":false,\"delivery\":true,\"octets\":",
+        (true, false) => b",\"more\":true,\"qualified\":false,\"delivery\":false,\"octets\":",
+        (true, true) => b",\"more\":true,\"qualified\":false,\"delivery\":true,\"octets\":",
+    }
+}
+
+/// Puts the members of a data packet after its call.
+fn put_data(line: &mut LineRoom, header: &DataHeader, octets: u32, digits: &[u8])
+    ensures { IsOneLine digits.now → PutsPlain line.old line.new }
+{
+    line.number(u64::from(octets));
+    line.put(bit_members(header));
+    line.number(u64::from(header.receive));
+    line.put(b",\"receive\":");
+    line.number(u64::from(header.send));
+    line.put(b"\",\"send\":");
+    line.put(digits);
+    line.put(TO_DATA_DIGITS);
+}
+
+/// Puts the members of a receive ready after its call.
+fn put_ready(line: &mut LineRoom, receive: u8, digits: &[u8])
+    ensures { IsOneLine digits.now → PutsPlain line.old line.new }
+{
+    line.number(u64::from(receive));
+    line.put(b"\",\"receive\":");
+    line.put(digits);
+    line.put(TO_READY_DIGITS);
+}
+
+/// Puts the members after the call of a row, if it is data with Q 0 that was counted, or a receive ready.
+fn put_packet(line: &mut LineRoom, kind: &PacketKind, fate: Fate, digits: &[u8]) -> bool
+    ensures { OnTrue result (IsOneLine digits.now → PutsPlain line.old line.new) }
+{
+    match (kind, fate) {
+        (PacketKind::Data(Some(header)), Fate::Counted { octets, .. }) if !header.qualified => {
+            put_data(line, header, octets, digits);
+            true
+        }
+        (PacketKind::Rr(Some(receive)), Fate::NoData) => {
+            put_ready(line, *receive, digits);
+            true
+        }
+        _ => false,
+    }
+}
+
+/// Puts the number of a call, or null.
+fn put_call(line: &mut LineRoom, call: u32)
+    ensures { PutsPlain line.old line.new }
+{
+    if call == 0 {
+        line.put(b"null");
+        return;
+    }
+    line.number(u64::from(call));
+}
+
+/// Puts the epoch of a row, and its call.
+fn put_place(line: &mut LineRoom, epoch: u32, call: u32)
+    ensures { PutsPlain line.old line.new }
+{
+    put_call(line, call);
+    line.put(b",\"owed\":false,\"call\":");
+    line.number(u64::from(epoch));
+    line.put(b",\"epoch\":");
+}
+
+/// Puts octets that were counted, and their segments.
+fn put_amount(line: &mut LineRoom, octets: u32, segments: u64)
+    ensures { Puts (amount_word octets segments) line.old line.new }
+{
+    line.put(b"}");
+    line.number(segments);
+    line.put(b",\"segments\":");
+    line.number(u64::from(octets));
+    line.put(b"{\"octets\":");
+}
+
+/// Puts what was counted, or null.
+fn put_counted(line: &mut LineRoom, fate: Fate)
+    ensures { (lengths : List ℕ) → IsFateOf lengths fate
+        → Puts (counted_word lengths) line.old line.new }
+{
+    match fate {
+        Fate::Counted { octets, segments } => put_amount(line, octets, segments),
+        _ => line.put(b"null"),
+    }
+}
+
+/// The side of a row, up to its channel.
+fn side_member(side: Side) -> &'static [u8]
+    ensures { result.now ≡ codes ",\"side\":\"" ++ (side_word side ++ codes "\",\"channel\":") }
+{
+    match side {
+        Side::T => b",\"side\":\"T\",\"channel\":",
+        Side::N => b",\"side\":\"N\",\"channel\":",
+    }
+}
+
+/// Puts the beginning of the object of a row.
+fn put_head(line: &mut LineRoom, row: &QuietRow, fate: Fate)
+    ensures { (lengths : List ℕ) → IsFateOf lengths fate
+        → Puts (usual_head row.now lengths) line.old line.new }
+{
+    line.put(b",\"finding\":null");
+    put_counted(line, fate);
+    line.put(b",\"before\":\"d1\",\"after\":\"d1\",\"counted\":");
+    line.number(u64::from(row.channel));
+    line.put(side_member(row.side));
+    line.number(u64::from(row.number));
+    line.put(b"{\"line\":\"row\",\"packet\":");
+}
+
+/// What became of the data of a row that found nothing and has these events.
+fn usual_fate(events: &[Event]) -> Fate
+    ensures { IsFateOf (all_lengths events.now) result }
+{
+    match counted_in(events) {
+        Some(fate) => fate,
+        None => Fate::NoData,
+    }
+}
+
+/// Writes the object of a row in place of what a room has, if the row is as most are and its object finds room.
+pub fn usual_object<'r>(room: &'r mut LineRoom, usual: &UsualRow<'_>) -> Option<&'r [u8]>
+    ensures { IfSome result (λ object. IsOneLine usual.now.digits.now
+        → IsUsualObject usual.now.row usual.now.events.now object.now) }
+{
+    if usual.events.len() > 1 {
+        return None;
+    }
+    let fate = usual_fate(usual.events);
+    room.clear();
+    room.put(b"}\n");
+    let is_usual = put_packet(room, &usual.row.kind, fate, usual.digits);
+    if !is_usual {
+        return None;
+    }
+    put_place(room, usual.epoch, usual.call);
+    put_head(room, &usual.row, fate);
+    room.line()
+}
