@@ -142,7 +142,7 @@ def annotation_cases():
     told = "The row's number is 1, and that of the row before is 1: numbers rise."
     twice = FOUND + FOUND.splitlines(keepends=True)[-1]
     yield Case("the lines before a faulty one are annotated", ("--annotate",), twice, 2, FOUND + noted, refused(3, 25, told))
-    both = b"error: --json tells a report, and --annotate, --channel and --call write a trace in its place\n"
+    both = b"error: --json writes the report, and --annotate, --channel and --call write a trace instead\n"
     for words in (("--annotate", "--json"), ("--json", "--call", "7")):
         yield Case(f"JSON of a trace {words}", words, FOUND, 64, b"", both)
     neither = b"error: --annotate prints the trace again, and --rows an object for each row: name one of them\n"
@@ -217,7 +217,7 @@ def on_terminal(program, words, pause):
 def terminal(program):
     """The trace is written on a terminal."""
     status, report, told = on_terminal(program, (), 0)
-    waits = b"x25scan: reads the trace from the terminal, until Ctrl-D at the beginning of a line (--help tells more)\n"
+    waits = b"x25scan: reads the trace from the terminal, until Ctrl-D at the beginning of a line (--help says more)\n"
     return [] if (status, report) == (1, FOUND_REPORT) and told.startswith(waits) else [f"a terminal has {(status, report, told)}"]
 
 

@@ -1,10 +1,10 @@
-//! The scan whose report is told as JSON lines.
+//! The scan whose report is printed as JSON lines.
 
 ghost use Rattle.std.specs.Prelude.{◌≡◌, ℕ, ◌<◌, ◌≤◌, ◌+◌, ◌^◌, List, Some};
 ghost use Rattle.command_line.specs.Program.{IsScannedAsJson};
 
 use crate::options::Options;
-use crate::program::{OTHER_FAULT, scan};
+use crate::program::{Host, OTHER_FAULT, scan};
 use crate::refusing::refuse_write;
 use json_lines::sink::JsonSink;
 use line_model::device::Sink;
@@ -19,8 +19,7 @@ use streams::output::Output;
 
 /// As `scan_json`, to the sink of an origin.
 fn scan_to<'a, S: Input, K: Output, E: Sink, R: Threads + Wait + Clock + Sync, B: Origin>(
-    rt: &R,
-    alloc: Global,
+    host: Host<'_, R>,
     options: Options<'_>,
     source: &mut S,
     sink: &'a mut K,
@@ -35,12 +34,13 @@ fn scan_to<'a, S: Input, K: Output, E: Sink, R: Threads + Wait + Clock + Sync, B
     ensures range { result.1 < 4 }
     ensures asked { S.calls source.new ≤ S.calls source.old + (2 ^ 30 + 1) }
 {
+    let alloc = host.alloc;
     let mut json = JsonSink::new(Borrowed::<K, B>::new(sink));
-    let scanned = scan(rt, alloc, options, source, &mut json, errors);
+    let scanned = scan(host, options, source, &mut json, errors);
     let (lent, answer) = json.finish();
     match answer {
         Ok(()) => (lent.give_back(), scanned),
-        // The scan has told that its sink failed.
+        // The scan has printed that its sink failed.
         Err(_) if scanned == OTHER_FAULT => (lent.give_back(), scanned),
         Err(fault) => {
             let status = refuse_write(alloc, &lent, errors, fault);
@@ -49,10 +49,9 @@ fn scan_to<'a, S: Input, K: Output, E: Sink, R: Threads + Wait + Clock + Sync, B
     }
 }
 
-/// Scans the trace as the options ask, tells each line of the report as an object, and answers the exit status.
+/// Scans the trace as the options ask, prints each line of the report as an object, and answers the exit status.
 pub(crate) fn scan_json<S: Input, K: Output, E: Sink, R: Threads + Wait + Clock + Sync>(
-    rt: &R,
-    alloc: Global,
+    host: Host<'_, R>,
     options: Options<'_>,
     source: &mut S,
     sink: &mut K,
@@ -64,7 +63,7 @@ pub(crate) fn scan_json<S: Input, K: Output, E: Sink, R: Threads + Wait + Clock 
     ensures range { result < 4 }
     ensures asked { S.calls source.new ≤ S.calls source.old + (2 ^ 30 + 1) }
 {
-    let (sink, status) = scan_to::<S, K, E, R, Brand>(rt, alloc, options, source, sink, errors);
+    let (sink, status) = scan_to::<S, K, E, R, Brand>(host, options, source, sink, errors);
     take_back(sink);
     status
 }

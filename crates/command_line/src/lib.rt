@@ -1,4 +1,4 @@
-//! The program over its words: which trace and which scan they choose, or which word is explained, what is told of a
+//! The program over its words: which trace and which scan they choose, or which word is explained, what is said of a
 //! fault, and the exit status.
 #![tactic(auto)]
 
@@ -8,6 +8,7 @@ mod explaining;
 mod help;
 mod json;
 mod notes;
+mod opening;
 pub mod options;
 mod pasted;
 mod printing;

@@ -71,7 +71,7 @@ fn workers<'a>(alloc: Global) -> Arg<'a>
     Arg::new(alloc, "workers")
         .long("workers")
         .value_name("N")
-        .help("Scan with this many worker threads, 1 to 64 (4 where it is left out)")
+        .help("Scan with this many worker threads, 1 to 64 (default: 4)")
         .action(ArgAction::Set)
         .value_parser(value_parser!(u8).range(1..=64))
 }
@@ -109,7 +109,7 @@ fn channel<'a>(alloc: Global) -> Arg<'a>
     Arg::new(alloc, "channel")
         .long("channel")
         .value_name("N")
-        .help("As --annotate, or with --rows, only the rows of this logical channel")
+        .help("Annotate only the rows of this logical channel; with --rows, print only those")
         .action(ArgAction::Set)
         .value_parser(value_parser!(u16).range(1..=4095))
 }
@@ -122,7 +122,7 @@ fn call<'a>(alloc: Global) -> Arg<'a>
     Arg::new(alloc, "call")
         .long("call")
         .value_name("N")
-        .help("As --annotate, or with --rows, only the rows of this call of the report")
+        .help("Annotate only the rows of this call of the report; with --rows, print only those")
         .action(ArgAction::Set)
         .value_parser(value_parser!(u32).range(1..=999_999_999))
 }

@@ -6,9 +6,10 @@ ghost use Rattle.command_line.specs.Program.{IsUnread, trace_of};
 
 use crate::annotated_scan::annotate;
 use crate::channels::last_channel;
+use crate::opening::open_trace;
 use crate::options::{Form, Options, Printing};
 use crate::program::{USAGE, summary_status};
-use crate::refusing::{refuse_scan, refuse_trace};
+use crate::refusing::refuse_scan;
 use crate::rows_scan::print_rows;
 use annotated_trace::rows::Rows;
 use line_model::device::{Sink, Source};
@@ -19,6 +20,13 @@ use std::alloc::Global;
 use streams::first_bytes::FirstBytes;
 use streams::input::Input;
 use streams::output::Output;
+
+/// The options, and how they ask for rows in place of the report.
+#[derive(Clone, Copy)]
+pub(crate) struct AskedRows<'a> {
+    pub options: Options<'a>,
+    pub printing: Printing,
+}
 
 /// Prints how many calls the report has, where the rows of a further one were chosen.
 fn print_missing_call<E: Sink>(alloc: Global, errors: &mut E, call: u32, calls: u64) {
@@ -108,47 +116,25 @@ fn run_print<S: Input, K: Output, E: Sink>(
     }
 }
 
-/// Prints the trace of a name, and answers the exit status.
-fn print_named<S: Input, K: Output, E: Sink>(
-    alloc: Global,
-    printing: Printing,
-    name: &str,
-    source: &mut S,
-    sink: &mut K,
-    errors: &mut E,
-) -> u8
-    ensures status { IsUnread source.old source.new sink.old sink.new result
-        ⊎ IsPrintStatus printing (S.named source.old name.now) (S.left source.new) (S.before source.new)
-        (K.taken sink.old) (K.taken sink.new) (K.failures sink.new ≡ K.failures sink.old) result }
-    ensures range { result < 4 }
-    ensures asked { S.calls source.new ≤ S.calls source.old + (2 ^ 30 + 1) }
-{
-    match source.open(name) {
-        Ok(()) => run_print(alloc, printing, source, sink, errors),
-        Err(fault) => refuse_trace(alloc, errors, name, fault),
-    }
-}
-
 /// Prints standard input, or the trace that is named, and answers the exit status.
 fn print_input<S: Input, K: Output, E: Sink>(
     alloc: Global,
-    options: Options<'_>,
-    printing: Printing,
+    asked: AskedRows<'_>,
     source: &mut S,
     sink: &mut K,
     errors: &mut E,
 ) -> u8
-    ensures status { let name = option_map (λ name. name.now) options.entry.trace in
+    ensures status { let name = option_map (λ name. name.now) asked.entry.options.trace in
         let trace = trace_of name (S.left source.old) (S.named source.old) in
         IsUnread source.old source.new sink.old sink.new result
-        ⊎ IsPrintStatus printing trace (S.left source.new) (S.before source.new)
+        ⊎ IsPrintStatus asked.entry.printing trace (S.left source.new) (S.before source.new)
         (K.taken sink.old) (K.taken sink.new) (K.failures sink.new ≡ K.failures sink.old) result }
     ensures range { result < 4 }
     ensures asked { S.calls source.new ≤ S.calls source.old + (2 ^ 30 + 1) }
 {
-    match options.trace {
-        Some(name) => print_named(alloc, printing, name, source, sink, errors),
-        None => run_print(alloc, printing, source, sink, errors),
+    match open_trace(alloc, asked.options.trace, source, errors) {
+        Ok(()) => run_print(alloc, asked.printing, source, sink, errors),
+        Err(status) => status,
     }
 }
 
@@ -158,7 +144,7 @@ fn refuse_form<E: Sink>(errors: &mut E, form: Form) -> u8
 {
     let text: &[u8] = match form {
         Form::Comments =>
-            b"error: --json tells a report, and --annotate, --channel and --call write a trace in its place\n",
+            b"error: --json writes the report, and --annotate, --channel and --call write a trace instead\n",
         Form::Objects =>
             b"error: --annotate prints the trace again, and --rows an object for each row: name one of them\n",
     };
@@ -170,25 +156,25 @@ fn refuse_form<E: Sink>(errors: &mut E, form: Form) -> u8
 /// printed with what else is asked for.
 pub(crate) fn print_trace<S: Input, K: Output, E: Sink>(
     alloc: Global,
-    options: Options<'_>,
-    printing: Printing,
+    asked: AskedRows<'_>,
     source: &mut S,
     sink: &mut K,
     errors: &mut E,
 ) -> u8
-    ensures answer { let name = option_map (λ name. name.now) options.entry.trace in
+    ensures answer { let name = option_map (λ name. name.now) asked.entry.options.trace in
         let trace = trace_of name (S.left source.old) (S.named source.old) in
-        IsPrintAnswer (is_refused printing.form options.entry.json options.entry.comments)
-        printing source.old source.new sink.old sink.new
+        IsPrintAnswer (is_refused asked.entry.printing.form asked.entry.options.json asked.entry.options.comments)
+        asked.entry.printing source.old source.new sink.old sink.new
         trace (S.left source.new) (S.before source.new) (K.taken sink.old) (K.taken sink.new)
         (K.failures sink.new ≡ K.failures sink.old) result }
     ensures unwritten { result ≡ 64 → sink.new ≡ sink.old }
     ensures asked { S.calls source.new ≤ S.calls source.old + (2 ^ 30 + 1) }
 {
+    let AskedRows { options, printing } = asked;
     if is_refused(printing.form, options.json, options.comments) {
         refuse_form(errors, printing.form)
     } else {
-        print_input(alloc, options, printing, source, sink, errors)
+        print_input(alloc, asked, source, sink, errors)
     }
 }
 

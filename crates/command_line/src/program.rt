@@ -13,9 +13,10 @@ ghost use Rattle.command_line.specs.Program.{IsFollowStatus, IsStatus, IsUnread,
 use crate::explaining::explain_word;
 use crate::json::scan_json;
 use crate::notes::{print_note, refuse_notes, refuses_notes};
+use crate::opening::open_trace;
 use crate::options::{Form, Options, Printing, parse};
-use crate::printing::print_trace;
-use crate::refusing::{refuse, refuse_scan, refuse_trace};
+use crate::printing::{AskedRows, print_trace};
+use crate::refusing::{refuse, refuse_scan};
 use crate::trying::try_trace;
 use annotated_trace::rows::Rows;
 use clap::Error;
@@ -82,6 +83,13 @@ pub(crate) fn fault_status(fault: Fault) -> u8
     }
 }
 
+/// What the program runs on: the threads and the clock of the system, and its memory.
+#[derive(Clone, Copy)]
+pub(crate) struct Host<'a, R> {
+    pub rt: &'a R,
+    pub alloc: Global,
+}
+
 /// Scans the trace in one thread, prints a note where one is asked for, and answers the exit status.
 fn run_alone<S: Input, K: Output, E: Sink>(
     alloc: Global,
@@ -132,8 +140,7 @@ fn run_follow<S: Input, K: Output, E: Sink>(
 
 /// Scans the trace with workers, and answers the exit status.
 fn run_with<S: Input, K: Output, E: Sink, R: Threads + Wait + Clock + Sync>(
-    rt: &R,
-    alloc: Global,
+    host: Host<'_, R>,
     workers: u8,
     source: &mut S,
     sink: &mut K,
@@ -146,8 +153,9 @@ fn run_with<S: Input, K: Output, E: Sink, R: Threads + Wait + Clock + Sync>(
     ensures range { result < 4 }
     ensures asked { S.calls source.new ≤ S.calls source.old + (2 ^ 30 + 1) }
 {
+    let alloc = host.alloc;
     match scan_with(
-        rt,
+        host.rt,
         alloc,
         source,
         sink,
@@ -181,8 +189,7 @@ fn has_note<S: Input>(options: &Options<'_>, source: &S) -> bool {
 
 /// Scans the trace as the options ask, in one thread where a note is printed, and answers the exit status.
 pub(crate) fn scan<S: Input, K: Output, E: Sink, R: Threads + Wait + Clock + Sync>(
-    rt: &R,
-    alloc: Global,
+    host: Host<'_, R>,
     options: Options<'_>,
     source: &mut S,
     sink: &mut K,
@@ -200,18 +207,17 @@ pub(crate) fn scan<S: Input, K: Output, E: Sink, R: Threads + Wait + Clock + Syn
     source.show_progress(progress_choice(&options));
     let notes = has_note(&options, source);
     if options.follow {
-        run_follow(alloc, notes, source, sink, errors)
+        run_follow(host.alloc, notes, source, sink, errors)
     } else if options.alone || notes {
-        run_alone(alloc, notes, source, sink, errors)
+        run_alone(host.alloc, notes, source, sink, errors)
     } else {
-        run_with(rt, alloc, options.workers, source, sink, errors)
+        run_with(host, options.workers, source, sink, errors)
     }
 }
 
 /// Scans the trace as the options ask, writes its report in the form that they ask, and answers the exit status.
 fn scan_in_form<S: Input, K: Output, E: Sink, R: Threads + Wait + Clock + Sync>(
-    rt: &R,
-    alloc: Global,
+    host: Host<'_, R>,
     options: Options<'_>,
     source: &mut S,
     sink: &mut K,
@@ -223,39 +229,15 @@ fn scan_in_form<S: Input, K: Output, E: Sink, R: Threads + Wait + Clock + Sync>(
     ensures asked { S.calls source.new ≤ S.calls source.old + (2 ^ 30 + 1) }
 {
     if options.json {
-        scan_json(rt, alloc, options, source, sink, errors)
+        scan_json(host, options, source, sink, errors)
     } else {
-        scan(rt, alloc, options, source, sink, errors)
-    }
-}
-
-/// Scans the trace of a name as the options ask, and answers the exit status.
-fn scan_named<S: Input, K: Output, E: Sink, R: Threads + Wait + Clock + Sync>(
-    rt: &R,
-    alloc: Global,
-    options: Options<'_>,
-    name: &str,
-    source: &mut S,
-    sink: &mut K,
-    errors: &mut E,
-) -> u8
-    ensures told { IsUnread source.old source.new sink.old sink.new result
-        ⊎ TellsOf options.entry.json options.entry.follow (S.named source.old name.now)
-        (S.left source.new) (S.before source.new) (K.taken sink.old) (K.taken sink.new)
-        (K.failures sink.new ≡ K.failures sink.old) result }
-    ensures range { result < 4 }
-    ensures asked { S.calls source.new ≤ S.calls source.old + (2 ^ 30 + 1) }
-{
-    match source.open(name) {
-        Ok(()) => scan_in_form(rt, alloc, options, source, sink, errors),
-        Err(fault) => refuse_trace(alloc, errors, name, fault),
+        scan(host, options, source, sink, errors)
     }
 }
 
 /// Scans standard input, or the trace that is named, as the options ask, and answers the exit status.
 fn scan_trace<S: Input, K: Output, E: Sink, R: Threads + Wait + Clock + Sync>(
-    rt: &R,
-    alloc: Global,
+    host: Host<'_, R>,
     options: Options<'_>,
     source: &mut S,
     sink: &mut K,
@@ -269,9 +251,9 @@ fn scan_trace<S: Input, K: Output, E: Sink, R: Threads + Wait + Clock + Sync>(
     ensures range { result < 4 }
     ensures asked { S.calls source.new ≤ S.calls source.old + (2 ^ 30 + 1) }
 {
-    match options.trace {
-        Some(name) => scan_named(rt, alloc, options, name, source, sink, errors),
-        None => scan_in_form(rt, alloc, options, source, sink, errors),
+    match open_trace(host.alloc, options.trace, source, errors) {
+        Ok(()) => scan_in_form(host, options, source, sink, errors),
+        Err(status) => status,
     }
 }
 
@@ -299,8 +281,7 @@ fn printing(options: &Options<'_>) -> Option<Printing>
 
 /// Explains a word, or scans the trace, as the options ask, and answers the exit status.
 fn run<S: Input, K: Output, E: Sink, R: Threads + Wait + Clock + Sync>(
-    rt: &R,
-    alloc: Global,
+    host: Host<'_, R>,
     options: Options<'_>,
     source: &mut S,
     sink: &mut K,
@@ -341,15 +322,18 @@ fn run<S: Input, K: Output, E: Sink, R: Threads + Wait + Clock + Sync>(
     ensures asked { S.calls source.new ≤ S.calls source.old + (2 ^ 30 + 1) }
 {
     match options.explain {
-        Some(word) => explain_word(alloc, word, sink, errors),
+        Some(word) => explain_word(host.alloc, word, sink, errors),
         None if refuses_notes(&options) => refuse_notes(&options, errors),
         None => {
             if options.try_headers {
-                return try_trace(alloc, options, source, sink, errors);
+                return try_trace(host.alloc, options, source, sink, errors);
             }
             match printing(&options) {
-                Some(printing) => print_trace(alloc, options, printing, source, sink, errors),
-                None => scan_trace(rt, alloc, options, source, sink, errors),
+                Some(printing) => {
+                    let asked = AskedRows { options, printing };
+                    print_trace(host.alloc, asked, source, sink, errors)
+                }
+                None => scan_trace(host, options, source, sink, errors),
             }
         }
     }
@@ -463,7 +447,7 @@ pub fn program<S: Input, K: Output, E: Sink, R: Threads + Wait + Clock + Sync>(
     ensures asked { S.calls source.new ≤ S.calls source.old + (2 ^ 30 + 1) }
 {
     match parse(alloc, words) {
-        Ok(options) => run(rt, alloc, options, source, sink, errors),
+        Ok(options) => run(Host { rt, alloc }, options, source, sink, errors),
         Err(error) => refuse_words(alloc, error, sink, errors),
     }
 }

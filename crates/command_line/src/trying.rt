@@ -4,9 +4,10 @@ ghost use Rattle.std.specs.Prelude.{◌≡◌, ◌<◌, ◌≤◌, ◌+◌, ◌^
 ghost use Rattle.command_line.specs.Program.{IsUnread, trace_of};
 ghost use Rattle.command_line.specs.Trying.{IsTryAnswer, TriesOf, cannot_try};
 
+use crate::opening::open_trace;
 use crate::options::Options;
 use crate::program::{USAGE, progress_choice};
-use crate::refusing::{refuse_scan, refuse_trace};
+use crate::refusing::refuse_scan;
 use line_model::device::Sink;
 use line_model::write_buffer::write_all;
 use std::alloc::Global;
@@ -45,27 +46,6 @@ fn run_try<S: Input, K: Output, E: Sink>(
     }
 }
 
-/// Tries the headers on the trace of a name, and answers the exit status.
-fn try_named<S: Input, K: Output, E: Sink>(
-    alloc: Global,
-    options: Options<'_>,
-    name: &str,
-    source: &mut S,
-    sink: &mut K,
-    errors: &mut E,
-) -> u8
-    ensures status { IsUnread source.old source.new sink.old sink.new result
-        ⊎ TriesOf (S.named source.old name.now) (S.left source.new) (S.before source.new)
-        (K.taken sink.old) (K.taken sink.new) (K.failures sink.new ≡ K.failures sink.old) result }
-    ensures range { result < 4 }
-    ensures asked { S.calls source.new ≤ S.calls source.old + (2 ^ 30 + 1) }
-{
-    match source.open(name) {
-        Ok(()) => run_try(alloc, options, source, sink, errors),
-        Err(fault) => refuse_trace(alloc, errors, name, fault),
-    }
-}
-
 /// Tries the headers on standard input, or on the trace that is named, and answers the exit status.
 fn try_input<S: Input, K: Output, E: Sink>(
     alloc: Global,
@@ -82,9 +62,9 @@ fn try_input<S: Input, K: Output, E: Sink>(
     ensures range { result < 4 }
     ensures asked { S.calls source.new ≤ S.calls source.old + (2 ^ 30 + 1) }
 {
-    match options.trace {
-        Some(name) => try_named(alloc, options, name, source, sink, errors),
-        None => run_try(alloc, options, source, sink, errors),
+    match open_trace(alloc, options.trace, source, errors) {
+        Ok(()) => run_try(alloc, options, source, sink, errors),
+        Err(status) => status,
     }
 }
 

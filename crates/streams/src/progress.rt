@@ -95,7 +95,7 @@ impl<W: Write + Drop> Progress<W> {
     pub fn print_terminal(&mut self) {
         let _ = writeln!(
             self.errors,
-            "x25scan: reads the trace from the terminal, until Ctrl-D at the beginning of a line (--help tells more)"
+            "x25scan: reads the trace from the terminal, until Ctrl-D at the beginning of a line (--help says more)"
         );
     }
 

@@ -58,18 +58,11 @@ fn work_on_trace<
     S: Source,
     G: Gate,
     R: Threads + Wait + Clock + Sync,
->(
-    rt: &R,
-    alloc: A,
-    source: &mut S,
-    workers: usize,
-    capacity: usize,
-    gate: &G,
-) -> Result<ScanParts<A>, Fault>
+>(rt: &R, alloc: A, source: &mut S, crew: Crew<'_, G>) -> Result<ScanParts<A>, Fault>
     requires plan { P.pieces ≡ option_map trace_plan_as_read (S.left source.old) }
-    requires workers { (0 < workers) × (workers ≤ 64) }
-    requires capacity { (0 < capacity) × (capacity ≤ 4096) }
-    ensures parts { IfOk result (AreScanParts P.pieces workers (S.left source.old)
+    requires workers { (0 < crew.workers) × (crew.workers ≤ 64) }
+    requires capacity { (0 < crew.capacity) × (crew.capacity ≤ 4096) }
+    ensures parts { IfOk result (AreScanParts P.pieces crew.entry.workers (S.left source.old)
         (S.left source.new) (S.before source.new)) }
     ensures stopped { IfErr result (IsStopped (S.left source.old) (S.left source.new)
         (S.before source.new)) }
@@ -82,11 +75,6 @@ fn work_on_trace<
         source,
         alloc,
         outcome: None,
-    };
-    let crew = Crew {
-        workers,
-        capacity,
-        gate,
     };
     match work_through::<P, A, G, R, ReadingTask<A, S>>(rt, alloc, crew, reading) {
         Ok(worked) => {
@@ -177,7 +165,12 @@ pub fn scan_with<
     ensures unasked { S.calls source.new ≡ S.calls source.old → source.new ≡ source.old }
     ensures asked { S.calls source.new ≤ S.calls source.old + (2 ^ 30 + 1) }
 {
-    let parts = work_on_trace::<Brand, A, S, G, R>(rt, alloc, source, workers, capacity, gate)?;
+    let crew = Crew {
+        workers,
+        capacity,
+        gate,
+    };
+    let parts = work_on_trace::<Brand, A, S, G, R>(rt, alloc, source, crew)?;
     let ScanParts { read, gathered } = parts;
     let Gathered {
         totals,
