@@ -1,6 +1,7 @@
 //! Texts from outside, read in chunks of several sizes.
 
 mod blocks;
+mod judged;
 mod refused;
 mod rows;
 

@@ -1,16 +1,19 @@
 -- Vectors that are computed lane by lane, and the octets that 32 bytes write.
 use Rattle.std.proofs.Common.{◌≡◌, ◌∙◌, sym, ap, ap₂, refl, subst, ℕ, ◌+◌, ◌*◌, ◌/◌, ◌%◌, ◌^◌, ◌<◌, ◌≤◌, Bool, true, false, cond, List, [], ◌∷◌, map, length, take, get_or, replicate, ltb, arith, w8, get_or-take, length-take-le, inl, inr}
-use Rattle.std.specs.Prelude.{suc, zero, Some}
+use Rattle.std.specs.Prelude.{suc, zero, Some, ◌==◌}
+use Rattle.std.specs.Int.Bits.{bit_or}
+use Rattle.std.proofs.lemmas.Nat.{le_or_l, le_or_r}
+use Rattle.hex.specs.Hex.{is_hex_digit}
 use Rattle.std.specs.List.{range_with_len}
 use Rattle.std.proofs.lemmas.Bool.Decides.{nat_tests}
 use Rattle.std.proofs.lemmas.List.{get_or-map, length-map}
 use Rattle.std.proofs.lemmas.List.FromFn.{get_or-map-range_with_len}
 use Rattle.std.proofs.lemmas.Simd.{Each1-from_get_or, Each1-get_or, get_or_wider, map-map, mask_l-lt, mask_l-mod, tops_compared, zip2-map, zip2_splat_left}
 use lib.Count.{count_trailing_zeros, trailing_le, under}
-use lib.Lanes.{Each1, chunk, digits_l, number_l, zip2, mask_l, sel_l, top}
-use Rattle.trace_text.specs.Digits.{AreDigitValues, AreOctets, IsDigitValue, octet_of}
+use lib.Lanes.{Each1, chunk, fold_l, digits_l, number_l, zip2, mask_l, sel_l, top}
+use Rattle.trace_text.specs.Digits.{AreDigitValues, AreMisses, AreOctets, IsDigitValue, octet_of}
 use Rattle.trace_text.proofs.DigitLemmas.{octets-each, right_octet}
-use Rattle.trace_text.proofs.DigitValueLemmas.{are_values, table_value}
+use Rattle.trace_text.proofs.DigitValueLemmas.{are_misses, are_values, table_miss, table_value}
 
 -- what is computed of v, lane by lane
 pub itself : (v : List ℕ) → v ≡ map (λ x. x) v
@@ -33,31 +36,45 @@ selected h f g v {a} {b} {d} p q r =
     ap (λ (xs : List ℕ). sel_l (map (top 7) xs) b d) p ∙ ap₂ (λ (ys zs : List ℕ). sel_l (map (top 7) (map h v)) ys zs) q r
     ∙ ap (λ (ms : List Bool). sel_l ms (map f v) (map g v)) (map-map (top 7) h v) ∙ chosen (λ x. top 7 (h x)) f g v
 
--- the values of digits, where the function gives those of all bytes
-pub all_values : (f : ℕ → ℕ) (v result : List ℕ) → Each1 (λ d. d < 256) v → result ≡ map f v → are_values 0 (map f (range_with_len 0 256)) ≡ true → AreDigitValues v result
-all_values f v result bytes e all = (
+-- what holds of each byte and what the function gives for it holds lane by lane
+all_lanes : (P : ℕ → ℕ → Type 0) (f : ℕ → ℕ) (v result : List ℕ) → Each1 (λ d. d < 256) v → result ≡ map f v → ((d : ℕ) → d < 256 → P d (get_or (map f (range_with_len 0 256)) d 0)) → (length result ≡ length v) × ((i : ℕ) → i < length v → P (get_or v i 0) (get_or result i 0))
+all_lanes P f v result bytes e all = (
   ap (λ (xs : List ℕ). length xs) e ∙ length-map v f,
   λ i there.
       let byte : get_or v i 0 < 256 = Each1-get_or (λ d. d < 256) v i 0 there bytes in
-      let value = table_value (map f (range_with_len 0 256)) (get_or v i 0) all byte in
       let at : get_or (map f (range_with_len 0 256)) (get_or v i 0) 0 ≡ f (get_or v i 0) = get_or-map-range_with_len f 0 256 (get_or v i 0) (get_or v i 0) 0 byte (omega arith) in
       let lane : get_or result i 0 ≡ f (get_or v i 0) = ap (λ (xs : List ℕ). get_or xs i 0) e ∙ get_or-map f v i 0 0 there in
-      subst (IsDigitValue (get_or v i 0)) (at ∙ sym lane) value,
+      subst (P (get_or v i 0)) (at ∙ sym lane) (all (get_or v i 0) byte),
 )
 
--- whether a lane is above 15
-abbrev pub great : ℕ → Bool
-great x = ltb 15 x
+-- the values of digits, where the function gives those of all bytes
+pub all_values : (f : ℕ → ℕ) (v result : List ℕ) → Each1 (λ d. d < 256) v → result ≡ map f v → are_values 0 (map f (range_with_len 0 256)) ≡ true → AreDigitValues v result
+all_values f v result bytes e all = all_lanes IsDigitValue f v result bytes e (λ d byte. table_value (map f (range_with_len 0 256)) d all byte)
 
-abbrev pub mask_of : List ℕ → ℕ
-mask_of v = mask_l (map (top 7) (zip2 (λ a b. cond (ltb a b) 255 0) (replicate 32 15) v)) % 2 ^ 64
+-- and the misses
+pub all_misses : (f : ℕ → ℕ) (v result : List ℕ) → Each1 (λ d. d < 256) v → result ≡ map f v → are_misses 0 (map f (range_with_len 0 256)) ≡ true → AreMisses v result
+all_misses f v result bytes e all = all_lanes (λ d m. (m == 0) ≡ is_hex_digit d) f v result bytes e (λ d byte. table_miss (map f (range_with_len 0 256)) d all byte)
 
-great_mask : (v : List ℕ) → length v ≡ 32 → mask_of v ≡ mask_l (map great v)
-great_mask v n =
-    ap (λ (ms : List Bool). mask_l ms % 2 ^ 64) (tops_compared w8 ltb (replicate 32 15) v ∙ zip2_splat_left ltb 15 32 v n) ∙ mask_l-mod (map great v) 64 (omega (arith, length-map v great, n))
+-- a reduction by `|` is no less than any lane
+or_above : (a : ℕ) (v : List ℕ) → a ≤ fold_l bit_or a v
+or_above a [] = omega arith
+or_above a (x ∷ xs) = omega (arith, le_or_l a x, or_above (bit_or a x) xs)
 
-pub mask_small : (v : List ℕ) → length v ≡ 32 → mask_of v < 2 ^ 32
-mask_small v n = let size = length-map v great in omega (arith, great_mask v n, subst (λ k. mask_l (map great v) < 2 ^ k) (size ∙ n) (mask_l-lt (map great v)))
+pub or_lane : (a : ℕ) (v : List ℕ) (i : ℕ) → i < length v → get_or v i 0 ≤ fold_l bit_or a v
+or_lane a [] i h = absurd (omega (arith, h))
+or_lane a (x ∷ xs) zero h = omega (arith, le_or_r a x, or_above (bit_or a x) xs)
+or_lane a (x ∷ xs) (suc i) h = or_lane (bit_or a x) xs i (omega (arith, h))
+
+-- whether a lane is above the most that a digit has
+abbrev pub mask_of : ℕ → List ℕ → ℕ
+mask_of most v = mask_l (map (top 7) (zip2 (λ a b. cond (ltb a b) 255 0) (replicate 32 most) v)) % 2 ^ 64
+
+great_mask : (most : ℕ) (v : List ℕ) → length v ≡ 32 → mask_of most v ≡ mask_l (map (ltb most) v)
+great_mask most v n =
+    ap (λ (ms : List Bool). mask_l ms % 2 ^ 64) (tops_compared w8 ltb (replicate 32 most) v ∙ zip2_splat_left ltb most 32 v n) ∙ mask_l-mod (map (ltb most) v) 64 (omega (arith, length-map v (ltb most), n))
+
+pub mask_small : (most : ℕ) (v : List ℕ) → length v ≡ 32 → mask_of most v < 2 ^ 32
+mask_small most v n = let size = length-map v (ltb most) in omega (arith, great_mask most v n, subst (λ k. mask_l (map (ltb most) v) < 2 ^ k) (size ∙ n) (mask_l-lt (map (ltb most) v)))
 
 bit_first : (b : Bool) (n : ℕ) → ((cond b 1 0 + 2 * n) % 2 ≡ cond b 1 0) × ((cond b 1 0 + 2 * n) / 2 ≡ n)
 bit_first true n = omega arith
@@ -75,13 +92,13 @@ below_lowest p (suc k) (x ∷ xs) i h l = let bits = bit_first (p x) (mask_l (ma
     lane false e zero h l later = e
     lane false e (suc i) h l later = later i (omega (arith, h)) (omega (arith, l))
 
-not_great : (x : ℕ) → great x ≡ false → x < 16
-not_great x k = grind (arith, nat_tests)
+not_great : (most x : ℕ) → ltb most x ≡ false → x ≤ most
+not_great most x k = grind (arith, nat_tests)
 
-pub leading_small : (v : List ℕ) → length v ≡ 32 → (i : ℕ) → i < count_trailing_zeros 32 (mask_of v) → get_or v i 0 < 16
-leading_small v n i h =
-    let few = trailing_le 32 (mask_of v) in
-    not_great (get_or v i 0) (below_lowest great 32 v i (subst (λ m. i < count_trailing_zeros 32 m) (great_mask v n) h) (omega (arith, h, few, n)))
+pub leading_small : (most : ℕ) (v : List ℕ) → length v ≡ 32 → (i : ℕ) → i < count_trailing_zeros 32 (mask_of most v) → get_or v i 0 ≤ most
+leading_small most v n i h =
+    let few = trailing_le 32 (mask_of most v) in
+    not_great most (get_or v i 0) (below_lowest (ltb most) 32 v i (subst (λ m. i < count_trailing_zeros 32 m) (great_mask most v n) h) (omega (arith, h, few, n)))
 
 -- the octets that pairs of values make: a pair is a + 256 * b, and its octet is the second byte of that times 4,097
 abbrev pub pair_octets : List ℕ → List ℕ

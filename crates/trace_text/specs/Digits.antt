@@ -1,7 +1,7 @@
 -- Hex digits, and two of them as an octet (profile).
-use Rattle.std.specs.Prelude.{◌≡◌, ◌⊎◌, ◌<◌, ℕ, ◌+◌, ◌*◌, List, [], ◌∷◌, ◌++◌, length, slice_index, Option, Some, None}
+use Rattle.std.specs.Prelude.{◌≡◌, ◌==◌, ◌⊎◌, ◌<◌, ◌≤◌, ℕ, ◌+◌, ◌*◌, List, [], ◌∷◌, ◌++◌, length, slice_index, Option, Some, None}
 use Rattle.std.specs.Option.{option_and_then}
-use Rattle.hex.specs.Hex.{hex_digit_value}
+use Rattle.hex.specs.Hex.{hex_digit_value, is_hex_digit}
 
 -- two half octets as an octet
 abbrev pub octet_in : Option ℕ → Option ℕ → Option ℕ
@@ -25,6 +25,10 @@ IsDigitValue digit value = ((value < 16) × (hex_digit_value digit ≡ Some valu
 abbrev pub AreDigitValues : List ℕ → List ℕ → Type 0
 AreDigitValues bytes values = (length values ≡ length bytes) × ((i : ℕ) → i < length bytes → IsDigitValue (slice_index bytes i) (slice_index values i))
 
+-- 0 stands for each digit, and for no other byte
+abbrev pub AreMisses : List ℕ → List ℕ → Type 0
+AreMisses bytes misses = (length misses ≡ length bytes) × ((i : ℕ) → i < length bytes → (slice_index misses i == 0) ≡ is_hex_digit (slice_index bytes i))
+
 -- a text begins with digits that write these octets, and an LF after them
 pub record BeginsDigits (text octets rest : List ℕ) : Type 0 where
   pub digits : List ℕ
@@ -36,3 +40,10 @@ pub record EndsDigits (before text octets rest : List ℕ) : Type 0 where
   pub last : List ℕ
   pub front : octets ≡ before ++ last
   pub digits : BeginsDigits text last rest
+
+-- a text begins with digits that write as many octets as a row may have, and an LF after them
+pub record BeginsOctets (text rest : List ℕ) : Type 0 where
+  pub octets : List ℕ
+  pub digits : BeginsDigits text octets rest
+  pub some : 0 < length octets
+  pub few : length octets ≤ 4200

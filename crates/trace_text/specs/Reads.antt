@@ -48,3 +48,9 @@ pub record BeginsLine (last : ℕ) (text : List ℕ) (row : Row) (rest : List �
   pub no_comment : is_comment line ≡ false
   pub sound : row_kind last line ≡ None
   pub writes : row_of line ≡ Some row
+
+-- a text begins with a line that writes some row of this number, and its LF
+pub record BeginsNumbered (last : ℕ) (text : List ℕ) (number : ℕ) (rest : List ℕ) : Type 0 where
+  pub row : Row
+  pub line : BeginsLine last text row rest
+  pub number_is : row.number ≡ number

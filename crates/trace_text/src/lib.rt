@@ -6,6 +6,7 @@ mod content;
 pub mod cuts;
 mod digits;
 mod header;
+mod judged_row;
 pub mod lines;
 mod number;
 mod reading;

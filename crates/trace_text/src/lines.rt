@@ -134,6 +134,13 @@ impl<A: Allocator> Lines<A> {
         self.ended
     }
 
+    /// How many bytes it was fed.
+    pub fn bytes(&self) -> u32
+        ensures { result ≡ bytes_fed self.now }
+    {
+        self.start + self.begun.len() as u32
+    }
+
     /// What the text says up to its last LF, if it ended there: its header, or that it has none.
     pub fn ended_header(&self) -> Result<Interface, Fault>
         ensures ok { (text : List ℕ) → StandsFor self.now text
@@ -504,3 +511,4 @@ impl<A: Allocator + Clone> Lines<A> {
 }
 
 pub mod block;
+pub mod judging;

@@ -28,7 +28,7 @@ fn split_number(text: &[u8]) -> Option<(u32, &[u8])>
 }
 
 /// The number and the side at the front of a row after one of the number `last`, and what follows the space after them.
-fn split_front(last: u32, text: &[u8]) -> Option<(u32, Side, &[u8])>
+pub fn split_front(last: u32, text: &[u8]) -> Option<(u32, Side, &[u8])>
     ensures { IfSome result (λ parts. BeginsRow last text.now parts.0 parts.1 parts.2.now) }
 {
     let (number, rest) = split_number(text)?;

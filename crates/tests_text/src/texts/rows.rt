@@ -9,15 +9,15 @@ use std::test::Fail;
 use trace_text::lines::Lines;
 
 /// Digits of both cases, more than two blocks of 32.
-const DIGITS: &[u8] = b"0123456789abcdefABCDEF9876543210fedcbaFEDCBA0123456789abcdefABCDEF9876";
+pub const DIGITS: &[u8] = b"0123456789abcdefABCDEF9876543210fedcbaFEDCBA0123456789abcdefABCDEF9876";
 
 /// Bytes that are no digits, beside the digits and far from them.
-const OTHERS: [u8; 14] = [
+pub const OTHERS: [u8; 14] = [
     0, b'\t', b'\n', b' ', b'/', b':', b'@', b'G', b'`', b'g', 0x7f, 0x80, 0xb0, 0xff,
 ];
 
 /// Numbers of 1 to 10 digits, and words that are no numbers.
-const NUMBERS: [&[u8]; 14] = [
+pub const NUMBERS: [&[u8]; 14] = [
     b"1",
     b"12",
     b"123",
@@ -67,7 +67,7 @@ fn check_line(rt: &impl Abort, alloc: Global, line: &[u8]) {
 }
 
 /// The line of a row of these digits.
-fn line_of(alloc: Global, number: &[u8], digits: &[u8]) -> Result<Vec<u8, Global>, Fail> {
+pub fn line_of(alloc: Global, number: &[u8], digits: &[u8]) -> Result<Vec<u8, Global>, Fail> {
     let mut line = Vec::new(alloc);
     line.extend_from_slice(number)?;
     line.extend_from_slice(b" T ")?;
@@ -77,7 +77,7 @@ fn line_of(alloc: Global, number: &[u8], digits: &[u8]) -> Result<Vec<u8, Global
 }
 
 /// These digits, with another byte at a place.
-fn with_other(alloc: Global, place: usize, other: u8) -> Result<Vec<u8, Global>, Fail> {
+pub fn with_other(alloc: Global, place: usize, other: u8) -> Result<Vec<u8, Global>, Fail> {
     let mut digits = Vec::new(alloc);
     digits.extend_from_slice(&DIGITS[..place.min(DIGITS.len())])?;
     digits.push(other)?;

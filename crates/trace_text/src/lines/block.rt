@@ -1,6 +1,6 @@
 //! A block: whole lines of a text that are read apart from those before them.
 
-ghost use Rattle.std.specs.Prelude.{◌≡◌, ◌==◌, ℕ, ◌++◌, List, Some, false, not, true, IfSome, is_some, length};
+ghost use Rattle.std.specs.Prelude.{◌≡◌, ◌==◌, ℕ, ◌++◌, List, Some, false, true, IfSome, is_some, length};
 ghost use Rattle.line_model.specs.basics.Records as records;
 ghost use Rattle.line_model.specs.declared.interface.Interface.{Interface as AnyInterface};
 ghost use Rattle.line_model.specs.text.Text.{early_rows};
@@ -77,7 +77,7 @@ impl<A: Allocator> Lines<A> {
         follows && span.lines <= span.bytes && span.bytes <= TEXT_LIMIT - self.start
     }
 
-    /// Goes past a block that was read elsewhere, and tells whether it did. It does where no line is begun, the numbers of
+    /// Goes past a block that was read elsewhere, and says whether it did. It does where no line is begun, the numbers of
     /// the rows rise, and the text has room for the block. Else nothing has changed, and the block is to be read here.
     pub fn pass_block(&mut self, span: &BlockSpan) -> bool
         // Of any text that it stands for, and any block with these rows: it stands for the text with the block.

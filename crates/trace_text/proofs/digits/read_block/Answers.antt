@@ -11,7 +11,7 @@ returns-clause-pairs c k =
     let size : length (chunk 0 32 c.args.bytes.now) ≡ 32 = length-chunk 0 32 c.args.bytes.now (omega (arith, c.requires)) in
     block-octets c.args.bytes.now c.digit_values-values.result _ k c.requires (c.digit_values-values.ensures.0 ∙ size)
     (λ i h. subst (λ (b : ℕ). IsDigitValue b (get_or c.digit_values-values.result i 0)) (get_or-chunk 0 32 c.args.bytes.now i 0 h ∙ ap (λ m. get_or c.args.bytes.now m 0) (omega arith)) (c.digit_values-values.ensures.1 i (omega (arith, h, size))))
-    c.others.ensures (trailing_le 32 c.others.result)
+    (λ i h. omega (arith, c.others.ensures i h)) (trailing_le 32 c.others.result)
 
 pub returns-clause-whole : goal.returns-clause-whole
 returns-clause-whole c none =
@@ -20,5 +20,5 @@ returns-clause-whole c none =
     let pairs =
     block-octets c.args.bytes.now c.digit_values-values.result (count_trailing_zeros 32 c.others.result) 16 c.requires (c.digit_values-values.ensures.0 ∙ size)
     (λ i h. subst (λ (b : ℕ). IsDigitValue b (get_or c.digit_values-values.result i 0)) (get_or-chunk 0 32 c.args.bytes.now i 0 h ∙ ap (λ m. get_or c.args.bytes.now m 0) (omega arith)) (c.digit_values-values.ensures.1 i (omega (arith, h, size))))
-    c.others.ensures (trailing_le 32 c.others.result) all in
+    (λ i h. omega (arith, c.others.ensures i h)) (trailing_le 32 c.others.result) all in
     subst (λ bytes. AreOctets bytes (pair_octets c.digit_values-values.result)) (take_all 32 c.args.bytes.now (omega (arith, c.requires))) pairs

@@ -2,7 +2,7 @@ use Rattle.std.proofs.Common.{ap, subst, sym, ℕ, List, Option, ◌++◌}
 use Rattle.std.proofs.lemmas.Result.{err_from_is_err_and}
 use Rattle.std.specs.Borrow.{Bor}
 use Rattle.trace_text.specs.Progress.{Progress}
-use Rattle.trace_text.proofs.ChunkLemmas.{Passed, head-so-far, known-so-far, passed-more, reads-chunk, row-head, takes-row, whole_chunk, whole_chunk_lf}
+use Rattle.trace_text.proofs.ChunkLemmas.{Passed, head-so-far, known-so-far, passed-more, passed-taken, reads-chunk, row-head, takes-row, whole_chunk, whole_chunk_lf}
 use Rattle.trace_text.proofs.FeedLemmas.{begin-refused-all, line-fault, line-headed, line-refused, refused-line}
 use Rattle.trace_text.proofs.RefusalLemmas.{head_stands}
 use Rattle.trace_text.proofs.lines.Lines.find_row.Goals as goal
@@ -48,7 +48,7 @@ returns-in_err-end_line-clause-header g c text s =
     let passed = subst (λ (v : Progress). Passed c.args.self.now v c.args.chunk.now c.loop-after.rest.now) (sym c.in_default.ensures) c.loop-after.invariant in
     let exit = err_from_is_err_and c.from_residual.result c.from_residual.ensures.1 in
     rw (exit.1, exit.2)
-    (head-so-far (Option (Bor (List ℕ))) c.args.self.now c.take_usual.new.self c.args.chunk.now c.loop-after.rest.now c.in_err-end_line.field-0.0 c.end_line.new.self.interface passed text s (refused-line _ _ c.in_err-end_line.field-0.0 c.in_err-end_line.ensures.refused)
+    (head-so-far (Option (Bor (List ℕ))) c.args.self.now c.take_usual.new.self c.args.chunk.now c.loop-after.rest.now c.in_err-end_line.field-0.0 c.end_line.new.self.interface (passed-taken passed) text s (refused-line _ _ c.in_err-end_line.field-0.0 c.in_err-end_line.ensures.refused)
     (line-fault c.take_usual.new.self (text ++ passed.fed) c.loop-after.rest.now c.in-Some-split_at_byte.front.now c.in-Some-split_at_byte.back.now c.in_err-end_line.field-0.0 c.in-Some-split_at_byte.ensures.0 (passed.stands text s) c.in-Some-split_at_byte.ensures.1 c.in_err-end_line.ensures.refused)
     c.in_err-end_line.ensures.kept)
 
@@ -84,7 +84,7 @@ returns-in_err-begin-clause-header g c text s =
     let passed = subst (λ (v : Progress). Passed c.args.self.now v c.args.chunk.now c.loop-after.rest.now) (sym c.in_default.ensures) c.loop-after.invariant in
     let exit = err_from_is_err_and c.from_residual-in_err-begin.result c.from_residual-in_err-begin.ensures.1 in
     rw (exit.1, exit.2)
-    (head-so-far (Option (Bor (List ℕ))) c.args.self.now c.take_usual.new.self c.args.chunk.now c.loop-after.rest.now c.in_err-begin.field-0.0 c.begin.new.self.interface passed text s (refused-line _ _ c.in_err-begin.field-0.0 c.in_err-begin.ensures.refused)
+    (head-so-far (Option (Bor (List ℕ))) c.args.self.now c.take_usual.new.self c.args.chunk.now c.loop-after.rest.now c.in_err-begin.field-0.0 c.begin.new.self.interface (passed-taken passed) text s (refused-line _ _ c.in_err-begin.field-0.0 c.in_err-begin.ensures.refused)
     (begin-refused-all c.take_usual.new.self (text ++ passed.fed) c.loop-after.rest.now c.in_err-begin.field-0.0 (passed.stands text s) c.in_default-split_at_byte.ensures c.in_err-begin.ensures.refused)
     (ap (λ (q : Progress). q.interface) c.in_err-begin.ensures.same))
 
