@@ -1,3 +1,4 @@
 pub mod Moves
 pub mod Noted
+pub mod Bundles
 pub mod Adding

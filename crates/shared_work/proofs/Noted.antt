@@ -13,8 +13,9 @@ use Rattle.line_model.specs.work.Work.{Entry}
 use Rattle.line_model.specs.work.Work.Entry.{job, finish}
 use Rattle.shared_work.specs.declared.queue.rule.Record.{Record}
 use Rattle.shared_work.specs.declared.queue.rule.Notes.{Notes}
-use Rattle.shared_work.specs.queue.Rule.{feeder, worker, nobody, after_split, after_join, IsKept, IsInQueue, IsAccounted, TookEntry}
-use Rattle.shared_work.specs.queue.Known.{notes, records_of, IsFed, IsFedEntry, piece_in, Knows, IsNoted, AreNoted, FedPiece, FedEnd, Took, with_witness, IsConfirmed}
+use Rattle.shared_work.specs.queue.Rule.{feeder, worker, nobody, after_split, after_join, Fed, IsKept, IsInQueue, IsAccounted, TookEntry}
+use Rattle.shared_work.specs.queue.Known.{notes, records_of, IsFed, IsFedEntry, Knows, IsNoted, AreNoted, FedEnd, Took, with_witness, IsConfirmed}
+use Rattle.shared_work.specs.queue.Entries.{pieces_in}
 use Rattle.shared_work.proofs.Moves.{begins, feeds_piece, feeds_end, learns_line, takes, splits, joins, accounts, adds_nobody}
 
 at_record : (views : List Notes) (port : ℕ) (v : Notes) → get_elem? views port ≡ some v → get_elem? (records_of views) port ≡ some v.record_of
@@ -49,7 +50,7 @@ entry_before fed p finish is = is
 All-map : {X : Type 0} (P Q : X → Type 0) (xs : List X) → ((x : X) → P x → Q x) → All P xs → All Q xs
 All-map P Q xs to all k d lt = to _ (all k d lt)
 
-All-none : {X : Type 0} (P : X → Type 0) → All P []
+pub All-none : {X : Type 0} (P : X → Type 0) → All P []
 All-none P k d lt = absurd (omega arith)
 
 off : false ≡ true → ⊥
@@ -84,7 +85,11 @@ noted_begins plan = ([], record { kept = begins plan; queued = All-none _; each 
     one zero v e = subst (Knows []) (some-injective _ _ e) (record { own = λ _. (refl, refl); known = All-none _ })
     one (suc port) v e = absurd (some-ne-none v (sym e))
 
-pub noted_piece : (plan : KnownPlan) (n port : ℕ) (v : Notes) (p : Piece) → v.record_of.feeds ≡ true → v.record_of.ends ≡ 0 → IsPlanned plan v.record_of.fed p → Pushes (AreNoted plan) n port v (job p) (FedPiece v (job p))
+-- the feeder fed a piece
+abbrev pub FedPiece : Notes → Piece → Notes → Type 0
+FedPiece v p w = Fed v.record_of (job p) w.record_of × (w.fed ≡ v.fed ++ p ∷ []) × (w.known ≡ v.known)
+
+pub noted_piece : (plan : KnownPlan) (n port : ℕ) (v : Notes) (p : Piece) → v.record_of.feeds ≡ true → v.record_of.ends ≡ 0 → IsPlanned plan v.record_of.fed p → Pushes (AreNoted plan) n port v (job p) (FedPiece v p)
 noted_piece plan n port v p feeds none is items views room h at =
     let fed = h.0 in
     let k = h.1 in
@@ -109,7 +114,7 @@ noted_piece plan n port v p feeds none is items views room h at =
       (r.2, refl, refl),
     )
 
-pub noted_end : (plan : KnownPlan) (n port : ℕ) (v : Notes) → v.record_of.feeds ≡ true → Pushes (AreNoted plan) n port v finish (FedEnd v finish)
+pub noted_end : (plan : KnownPlan) (n port : ℕ) (v : Notes) → v.record_of.feeds ≡ true → Pushes (AreNoted plan) n port v finish (FedEnd v (finish ∷ []))
 noted_end plan n port v feeds items views room h at =
     let fed = h.0 in
     let k = h.1 in
@@ -127,7 +132,7 @@ noted_end plan n port v feeds items views room h at =
     )
 
 -- what is known with an entry that was taken
-knows_more : (fed known : List Piece) (x : Entry) → All (IsFed fed) known → IsFedEntry fed x → All (IsFed fed) (known ++ piece_in x)
+knows_more : (fed known : List Piece) (x : Entry) → All (IsFed fed) known → IsFedEntry fed x → All (IsFed fed) (known ++ pieces_in (x ∷ []))
 knows_more fed known (job p) all is = All-push (IsFed fed) known p all is
 knows_more fed known finish all is = subst (All (IsFed fed)) (sym (append-nil known)) all
 
@@ -141,7 +146,7 @@ noted_take plan port v works x items views h at =
     let fed = h.0 in
     let k = h.1 in
     let r = takes plan port v.record_of works x items (records_of views) k.kept (at_record views port v at) in
-    let w = notes r.0 v.fed (v.known ++ piece_in x) in (
+    let w = notes r.0 v.fed (v.known ++ pieces_in (x ∷ [])) in (
       w,
       (
         fed,

@@ -1,15 +1,17 @@
-//! Pieces without rows, and what their reports count.
+//! Pieces without rows and with rows of no octets, and what reports of pieces count.
 
-ghost use Rattle.std.specs.Prelude.{◌≡◌, ◌≤◌, IfOk, vec_len};
+ghost use Rattle.std.specs.Prelude.{◌≡◌, ◌+◌, ◌≤◌, All, IfOk, OnOk, length, vec_len};
+ghost use Rattle.line_model.specs.basics.Bounds.{IsItem, all_octets};
 
 use line_model::fault::Fault;
 use line_model::finding::{Code, Finding};
 use line_model::interface::Interface;
-use line_model::items::Items;
+use line_model::items::{ItemRef, Items};
+use line_model::packet::Packet;
 use line_model::piece::Piece;
 use line_model::state::{Side, StateName};
 use line_model::totals::Totals;
-use std::alloc::{Allocator, Global};
+use std::alloc::{AllocError, Allocator, Global};
 
 /// The pieces of three epochs on four channels.
 pub(crate) const PIECES: u32 = 12;
@@ -37,6 +39,51 @@ pub(crate) fn piece(alloc: Global, id: u32) -> Piece
         items: Items::new(alloc),
         end: None,
     }
+}
+
+/// Appends a row without octets. It is no packet, and of channel 0.
+fn add_row(interface: &Interface, items: &mut Items) -> Result<(), AllocError>
+    ensures of_channel { All (IsItem interface.now 0) items.old
+        → OnOk result (All (IsItem interface.now 0) items.new) }
+    ensures octets { OnOk result (all_octets items.new ≡ all_octets items.old) }
+    ensures rows { OnOk result (length items.new ≡ length items.old + 1) }
+{
+    items.push(&ItemRef {
+        number: 1,
+        side: Side::T,
+        octets: &[],
+        packet: Packet::Short,
+    })?;
+    Ok(())
+}
+
+/// So many rows without octets.
+fn rows_of(alloc: Global, interface: &Interface, rows: u16) -> Result<Items, AllocError>
+    ensures of_channel { IfOk result (All (IsItem interface.now 0)) }
+    ensures octets { IfOk result (λ items. all_octets items ≡ 0) }
+    ensures rows { IfOk result (λ items. length items ≡ rows) }
+{
+    let mut items = Items::new(alloc);
+    for _row in 0..rows {
+        add_row(interface, &mut items)?;
+    }
+    Ok(items)
+}
+
+/// A piece of so many rows.
+pub(crate) fn piece_of_rows(alloc: Global, id: u32, rows: u16) -> Result<Piece, AllocError>
+    ensures { IfOk result (λ piece. piece.id ≡ id) }
+{
+    let interface = PLAIN;
+    let items = rows_of(alloc, &interface, rows)?;
+    Ok(Piece {
+        id,
+        interface,
+        epoch: 1,
+        channel: 0,
+        items,
+        end: None,
+    })
 }
 
 /// A data packet of the DTE came while the channel was ready.

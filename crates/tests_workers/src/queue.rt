@@ -5,7 +5,7 @@ ghost use Rattle.line_model.specs.work.Book.{once_below, times};
 ghost use Rattle.shared_work.specs.queue.Rule.{worker};
 
 use crate::pieces::{PIECES, piece};
-use shared_work::queue::{FeederPass, Taken, Work, WorkerPass};
+use shared_work::queue::{Bundle, FeederPass, Taken, Work, WorkerPass};
 use std::alloc::Global;
 use std::marker::Brand;
 use std::sync::{Mutex, Wait};
@@ -30,10 +30,10 @@ fn a_witness_knows_what_each_worker_took(rt: HostRuntime) -> Result<(), Fail> {
 }
 
 #[test]
-fn as_many_pieces_go_back_as_the_queue_holds(rt: HostRuntime) -> Result<(), Fail> {
+fn as_many_bundles_go_back_as_the_queue_holds(rt: HostRuntime) -> Result<(), Fail> {
     let (work, _feeder) = Work::<Brand>::new(rt.alloc(), 2)?;
     for id in 0..3 {
-        work.give_back(&rt, piece(rt.alloc(), id));
+        work.give_back(&rt, Bundle::of(piece(rt.alloc(), id)));
     }
     assert_eq!(rt; work.free_used(&rt), 2);
     assert_eq!(rt; work.free_used(&rt), 0);
@@ -48,13 +48,22 @@ fn count(rt: &impl Wait, taken: &Mutex<[u32; 12]>, id: u32) {
     }
 }
 
+/// Counts the pieces of a bundle that was taken.
+fn count_all(rt: &impl Wait, taken: &Mutex<[u32; 12]>, bundle: &Bundle) {
+    let (front, last) = bundle.parts();
+    for piece in front {
+        count(rt, taken, piece.id);
+    }
+    count(rt, taken, last.id);
+}
+
 /// Takes pieces until its end comes.
 fn drain<R: Wait>(rt: &R, work: &Work<Brand>, mut pass: WorkerPass, taken: &Mutex<[u32; 12]>)
     requires { (pass.queue ≡ work.now.queue) × (pass.record_of ≡ worker [] false 0) }
 {
     for _ in rt.forever() {
         match work.take(rt, &mut pass) {
-            Taken::Got(piece) => count(rt, taken, piece.id),
+            Taken::Got(bundle) => count_all(rt, taken, &bundle),
             Taken::Finish => return,
             Taken::Empty => thread::yield_now(),
         }

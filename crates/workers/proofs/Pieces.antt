@@ -1,36 +1,13 @@
--- The plan's next piece, and those behind it.
-use Rattle.std.proofs.Common.{◌≡◌, ℕ, suc, ◌+◌, zero, List, [], ◌∷◌, ◌++◌, Some, ap, sym, refl, ◌∙◌, subst, arith}
+-- Pieces that a witness knows, and their reports.
+use Rattle.std.proofs.Common.{◌≡◌, ℕ, suc, ◌+◌, zero, List, [], ◌∷◌, ◌++◌, Some, length, ap, sym, refl, ◌∙◌, subst, arith}
 use Rattle.std.specs.Prelude.{All, slice_get}
 use Rattle.line_model.specs.basics.Records.{Piece}
-use Rattle.line_model.specs.work.Book.{KnownPlan, IsPlanned, IsValue}
+use Rattle.line_model.specs.work.Book.{IsValue}
 use Rattle.line_model.specs.basics.Records.{PieceReport}
+use Rattle.line_model.specs.work.Work.{numbers_of}
 use Rattle.line_model.proofs.Posts.{value_is}
 use Rattle.shared_work.specs.queue.Known.{IsFed}
 use Rattle.workers.specs.Vouching.{HasPiece, IsValueOfOne}
-use Rattle.workers.specs.Workers.{ArePlanned}
-
-pub planned-next : (plan : KnownPlan) (n : ℕ) (all rest : List Piece) (p : Piece) → all ≡ p ∷ rest → ArePlanned plan n all → IsPlanned plan n p
-planned-next plan n all rest p e planned =
-    let zero-next : n + 0 ≡ n = omega arith in
-    subst (λ k. IsPlanned plan k p) zero-next (planned 0 p (ap (λ l. slice_get l 0) e))
-
-pub planned-rest : (plan : KnownPlan) (n m : ℕ) (all rest : List Piece) (p : Piece) → all ≡ p ∷ rest → m ≡ n + 1 → ArePlanned plan n all → ArePlanned plan m rest
-planned-rest plan n m all rest p e next planned k q is =
-    let one-more : n + suc k ≡ m + k = omega (arith, next) in
-    subst (λ j. IsPlanned plan j q) one-more (planned (suc k) q (ap (λ l. slice_get l (suc k)) e ∙ is))
-
-append-one : (before rest : List Piece) (p : Piece) → (before ++ p ∷ []) ++ rest ≡ before ++ p ∷ rest
-append-one [] rest p = refl
-append-one (x ∷ xs) rest p = ap (λ l. x ∷ l) (append-one xs rest p)
-
--- the pieces that were fed, and those that are left
-pub pieces-next : (before after all rest : List Piece) (p : Piece) → all ≡ p ∷ rest → after ≡ before ++ p ∷ [] → after ++ rest ≡ before ++ all
-pieces-next before after all rest p e added = ap (λ l. l ++ rest) added ∙ (append-one before rest p ∙ ap (λ l. before ++ l) (sym e))
-
--- a piece that was added stands there
-pub has-last : (before : List Piece) (p : Piece) → HasPiece (before ++ p ∷ []) p
-has-last [] p = (0, refl)
-has-last (x ∷ xs) p = let h = has-last xs p in (suc h.0, h.1)
 
 has-front : (xs ys : List Piece) (p : Piece) → HasPiece xs p → HasPiece (xs ++ ys) p
 has-front xs ys p h = (h.0, at xs h.0 h.1)
@@ -43,6 +20,19 @@ has-front xs ys p h = (h.0, at xs h.0 h.1)
 has-back : (xs ys : List Piece) (p : Piece) → HasPiece ys p → HasPiece (xs ++ ys) p
 has-back [] ys p h = h
 has-back (x ∷ xs) ys p h = let r = has-back xs ys p h in (suc r.0, r.1)
+
+-- pieces that were added stand there
+pub has-added : (before added : List Piece) → All (HasPiece (before ++ added)) added
+has-added before added k d lt = has-back before added _ (has-own added k d lt)
+  where
+    has-own : (ps : List Piece) → All (HasPiece ps) ps
+    has-own [] k d lt = absurd (omega arith)
+    has-own (x ∷ xs) zero d lt = (0, refl)
+    has-own (x ∷ xs) (suc k) d lt = let h = has-own xs k d (omega arith) in (suc h.0, h.1)
+
+pub length-numbers : (ps : List Piece) → length (numbers_of ps) ≡ length ps
+length-numbers [] = refl
+length-numbers (p ∷ ps) = ap suc (length-numbers ps)
 
 -- who knows more pieces vouches for no fewer reports
 pub vouches-front : (xs ys zs : List Piece) (r : PieceReport) → zs ≡ xs ++ ys → IsValueOfOne xs r → IsValueOfOne zs r

@@ -1,10 +1,10 @@
 -- What a worker starts with, and what it hands back.
-use Rattle.std.specs.Prelude.{◌≡◌, ℕ, ◌+◌, List, Some, slice_get, length, true, false, [], MatchOption}
-use Rattle.shared_work.specs.queue.Passes.{QueueId}
+use Rattle.std.specs.Prelude.{◌≡◌, ◌+◌, List, ◌++◌, length, true, false, [], MatchOption}
+use Rattle.shared_work.specs.queue.Passes.{QueueId, PassView}
 use Rattle.shared_work.specs.queue.Rule.{worker}
+pub use Rattle.shared_work.specs.queue.Rule.{ArePlanned}
 use Rattle.shared_work.specs.declared.queue.rule.Record.{Record}
 use Rattle.line_model.specs.basics.Records.{Piece}
-use Rattle.line_model.specs.work.Book.{KnownPlan, IsPlanned}
 use Rattle.line_model.specs.declared.fault.Fault.TheVariants.{Memory}
 use Rattle.line_model.specs.declared.totals.Totals.{Totals}
 use Rattle.workers.specs.declared.worker.WorkerOutcome.{WorkerOutcome}
@@ -29,6 +29,13 @@ pub record HasFed (v w : Record) : Type 0 where
   pub done : w.done ≡ v.done
   pub taken : w.taken ≡ v.taken
 
--- these are the pieces of the plan from this place on
-abbrev pub ArePlanned : KnownPlan → ℕ → List Piece → Type 0
-ArePlanned plan first ps = (k : ℕ) (p : Piece) → slice_get ps k ≡ Some p → IsPlanned plan (first + k) p
+-- these pieces were fed after the earlier ones, and no end
+pub record FeedsAll (v : PassView) (ps : List Piece) (w : PassView) : Type 0 where
+  pub queue : w.queue ≡ v.queue
+  pub kept : HasFed v.record_of w.record_of
+  pub fed : w.record_of.fed ≡ v.record_of.fed + length ps
+  pub pieces : w.pieces ≡ v.pieces ++ ps
+
+-- the first of these pieces were fed, and the others wait
+abbrev pub FeedsFirst : PassView → (ps waiting : List Piece) → PassView → Type 0
+FeedsFirst v ps waiting w = (first : List Piece) × FeedsAll v first w × (first ++ waiting ≡ ps)

@@ -1,13 +1,13 @@
 //! What the reading thread feeds.
 
-ghost use Rattle.std.specs.Prelude.{◌≡◌, ◌+◌, ◌++◌, ◌∷◌, [], vec_len};
+ghost use Rattle.std.specs.Prelude.{◌≡◌, ◌+◌, ◌<◌, ◌++◌, ◌∷◌, [], length, vec_len};
 ghost use Rattle.line_model.specs.work.Book.{IsPlanned};
 ghost use Rattle.shared_work.specs.queue.Rule.{feeder};
-ghost use Rattle.workers.specs.Workers.{ArePlanned, HasFed};
+ghost use Rattle.workers.specs.Workers.{ArePlanned, FeedsAll, FeedsFirst, HasFed};
 
 use crate::waiting::Backoff;
 use line_model::piece::{Piece, Plan};
-use shared_work::queue::{FeederPass, Work};
+use shared_work::queue::{Bundle, FeederPass, Work};
 use std::alloc::Allocator;
 use std::sync::Wait;
 use std::time::Clock;
@@ -41,8 +41,38 @@ pub trait Feed<P: Plan, A: Allocator> {
         ensures gives { feed_gives self pass.new.pieces result };
 }
 
+/// Feeds a bundle, again while the queue is full.
+fn feed_bundle<P: Plan, A: Allocator, R: Wait + Clock>(
+    rt: &R,
+    work: &Work<P, A>,
+    bundle: Bundle<A>,
+    pass: &mut FeederPass<A>,
+)
+    requires queue { pass.old.queue ≡ work.now.queue }
+    requires some { 0 < length bundle }
+    requires next { ArePlanned P.pieces pass.old.record_of.fed bundle }
+    requires open { pass.old.record_of.ends ≡ 0 }
+    ensures queue { pass.new.queue ≡ pass.old.queue }
+    ensures fed { pass.new.record_of ≡ feeder
+        (pass.old.record_of.fed + length bundle) pass.old.record_of.ends pass.old.record_of.pending
+        pass.old.record_of.done pass.old.record_of.taken }
+    ensures pieces { pass.new.pieces ≡ pass.old.pieces ++ bundle }
+{
+    let mut bundle = bundle;
+    let mut backoff = Backoff::new();
+    for _ in rt.forever() {
+        work.free_used(rt);
+        match work.feed_bundle(rt, bundle, pass) {
+            Ok(()) => return,
+            Err(back) => bundle = back,
+        }
+        backoff.wait(rt);
+    }
+    unreachable!()
+}
+
 /// Feeds a piece, again while the queue is full.
-pub fn feed_piece<P: Plan, A: Allocator, R: Wait + Clock>(
+pub fn feed_piece<P: Plan, A: Allocator + Copy, R: Wait + Clock>(
     rt: &R,
     work: &Work<P, A>,
     piece: Piece<A>,
@@ -57,21 +87,91 @@ pub fn feed_piece<P: Plan, A: Allocator, R: Wait + Clock>(
         pass.old.record_of.done pass.old.record_of.taken }
     ensures pieces { pass.new.pieces ≡ pass.old.pieces ++ piece ∷ [] }
 {
-    let mut piece = piece;
-    let mut backoff = Backoff::new();
-    for _ in rt.forever() {
-        work.free_used(rt);
-        match work.feed(rt, piece, pass) {
-            Ok(()) => return,
-            Err(back) => piece = back,
-        }
-        backoff.wait(rt);
-    }
-    unreachable!()
+    feed_bundle(rt, work, Bundle::of(piece), pass);
 }
 
-/// Feeds the plan's next pieces, in order.
-pub fn feed_pieces<P: Plan, A: Allocator, R: Wait + Clock>(
+/// A bundle has no more rows than this, or is one piece.
+const MOST_ROWS: usize = 500;
+
+/// Pieces that are to go through the queue together, and how many rows they have.
+#[derive(Drop)]
+struct Waiting<A: Allocator> {
+    pieces: Vec<Piece<A>, A>,
+    rows: usize,
+}
+
+/// Feeds the pieces that wait.
+fn feed_waiting<P: Plan, A: Allocator + Copy, R: Wait + Clock>(
+    rt: &R,
+    work: &Work<P, A>,
+    waiting: Waiting<A>,
+    pass: &mut FeederPass<A>,
+) -> Waiting<A>
+    requires queue { pass.old.queue ≡ work.now.queue }
+    requires next { ArePlanned P.pieces pass.old.record_of.fed waiting.pieces.items }
+    requires open { pass.old.record_of.ends ≡ 0 }
+    ensures none { result.pieces.items ≡ [] }
+    ensures fed { FeedsAll pass.old waiting.pieces.items pass.new }
+{
+    let none = Waiting {
+        pieces: Vec::new(*waiting.pieces.allocator()),
+        rows: 0,
+    };
+    if waiting.pieces.is_empty() {
+        return none;
+    }
+    feed_bundle(rt, work, Bundle::of_all(waiting.pieces), pass);
+    none
+}
+
+/// Lets one more piece wait. Where memory for that is refused, all of them are fed.
+fn push_waiting<P: Plan, A: Allocator + Copy, R: Wait + Clock>(
+    rt: &R,
+    work: &Work<P, A>,
+    waiting: Waiting<A>,
+    piece: Piece<A>,
+    pass: &mut FeederPass<A>,
+) -> Waiting<A>
+    requires queue { pass.old.queue ≡ work.now.queue }
+    requires next { ArePlanned P.pieces pass.old.record_of.fed (waiting.pieces.items ++ piece ∷ []) }
+    requires open { pass.old.record_of.ends ≡ 0 }
+    ensures fed { FeedsFirst pass.old (waiting.pieces.items ++ piece ∷ []) result.pieces.items pass.new }
+{
+    let mut waiting = waiting;
+    waiting.rows = waiting.rows.saturating_add(piece.items.len());
+    match waiting.pieces.push(piece) {
+        Ok(()) => waiting,
+        Err(refused) => {
+            let none = feed_waiting(rt, work, waiting, pass);
+            feed_piece(rt, work, refused.value, pass);
+            none
+        }
+    }
+}
+
+/// Lets one more piece wait. Those before it are fed first where all of them have too many rows together.
+fn add_waiting<P: Plan, A: Allocator + Copy, R: Wait + Clock>(
+    rt: &R,
+    work: &Work<P, A>,
+    waiting: Waiting<A>,
+    piece: Piece<A>,
+    pass: &mut FeederPass<A>,
+) -> Waiting<A>
+    requires queue { pass.old.queue ≡ work.now.queue }
+    requires next { ArePlanned P.pieces pass.old.record_of.fed (waiting.pieces.items ++ piece ∷ []) }
+    requires open { pass.old.record_of.ends ≡ 0 }
+    ensures fed { FeedsFirst pass.old (waiting.pieces.items ++ piece ∷ []) result.pieces.items pass.new }
+{
+    if waiting.rows.saturating_add(piece.items.len()) > MOST_ROWS {
+        let none = feed_waiting(rt, work, waiting, pass);
+        return push_waiting(rt, work, none, piece, pass);
+    }
+    push_waiting(rt, work, waiting, piece, pass)
+}
+
+/// Feeds the plan's next pieces, in order; those that have few rows go together. All of them are fed when it returns, so
+/// a piece waits only for the others of this list.
+pub fn feed_pieces<P: Plan, A: Allocator + Copy, R: Wait + Clock>(
     rt: &R,
     work: &Work<P, A>,
     pieces: Vec<Piece<A>, A>,
@@ -85,9 +185,14 @@ pub fn feed_pieces<P: Plan, A: Allocator, R: Wait + Clock>(
     ensures kept { HasFed pass.old.record_of pass.new.record_of }
     ensures pieces { pass.new.pieces ≡ pass.old.pieces ++ pieces.items }
 {
+    let mut waiting = Waiting {
+        pieces: Vec::new(*pieces.allocator()),
+        rows: 0,
+    };
     for piece in pieces {
-        feed_piece(rt, work, piece, pass);
+        waiting = add_waiting(rt, work, waiting, piece, pass);
     }
+    drop(feed_waiting(rt, work, waiting, pass));
 }
 
 /// Feeds an end, again while the queue is full.

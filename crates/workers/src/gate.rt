@@ -1,4 +1,4 @@
-//! How a worker runs a piece.
+//! How a worker runs a piece, and what else it does.
 
 ghost use Rattle.std.specs.Prelude.{◌≡◌, MatchResult};
 ghost use Rattle.line_model.specs.pieces.Plans.{value};
@@ -7,10 +7,16 @@ ghost use Rattle.line_model.specs.declared.fault.Fault.TheVariants.{Memory};
 use line_model::fault::Fault;
 use line_model::piece::{Piece, PieceReport};
 use std::alloc::Allocator;
+use std::sync::Wait;
 
 /// Runs pieces, and is shared by all workers.
 pub trait Gate: Sync {
     /// The value of the piece, or want of memory.
     fn run<A: Allocator + Copy>(&self, alloc: A, piece: &Piece<A>) -> Result<PieceReport<A>, Fault>
         ensures value { MatchResult result (λ r. r ≡ value piece.now) (λ fault. fault ≡ Memory) };
+
+    /// Does some other work of the scan, if some waits, and says whether it did. A worker asks before it takes a piece.
+    fn help<R: Wait>(&self, _rt: &R) -> bool {
+        false
+    }
 }

@@ -1,4 +1,4 @@
-//! What a worker does with a piece.
+//! What a worker does with a piece, and beside the pieces.
 
 ghost use Rattle.std.specs.Prelude.{◌≡◌, ◌+◌, OnOk, IfErr};
 ghost use Rattle.line_model.specs.work.Book.{IsPlanned};
@@ -36,6 +36,11 @@ pub trait Handler<P: Plan, A: Allocator, L: Ledgers> {
         ensures same { pass.new ≡ pass.old }
         ensures posted { OnOk result (share.new.posts ≡ share.old.posts + 1) }
         ensures refused { IfErr result (λ fault. fault ≡ Fault.Memory) };
+
+    /// Does some other work, if some waits, and says whether it did.
+    fn help<R: Wait>(&self, _rt: &R) -> bool {
+        false
+    }
 }
 
 /// Runs pieces by a gate, and posts their reports to a book, each with a witness of its piece.
@@ -75,5 +80,9 @@ impl<'a, 'w, P: Plan, L: Ledgers + QueueName, A: Allocator + Copy, G: Gate> Hand
             }
         }
         unreachable!()
+    }
+
+    fn help<R: Wait>(&self, rt: &R) -> bool {
+        self.gate.help(rt)
     }
 }

@@ -19,4 +19,5 @@ pub use gathering::{Gathered, gather};
 pub use handler::Handler;
 pub use run::{RunOutcome, run_scoped};
 pub use starting::{ReadyWorkers, ready_workers};
+pub use waiting::Backoff;
 pub use whole::{Crew, Worked, work_through};

@@ -1,10 +1,30 @@
--- What stands in the queue, by the piece that it has.
-use Rattle.std.specs.Prelude.{Option, Some, None}
+-- What stands in the queue, by its pieces.
+use Rattle.std.specs.Prelude.{ℕ, ◌<◌, List, [], ◌∷◌, ◌++◌, Option, Some, None, All, length}
 use Rattle.line_model.specs.basics.Records.{Piece}
 use Rattle.line_model.specs.work.Work.{Entry}
 use Rattle.line_model.specs.work.Work.Entry.{job, finish}
 
--- an entry of the queue: a piece, or an end
-abbrev pub entry_of : Option Piece → Entry
-entry_of (Some p) = job p
-entry_of None = finish
+-- each of the pieces is to be run
+abbrev pub jobs : List Piece → List Entry
+jobs [] = []
+jobs (p ∷ ps) = job p ∷ jobs ps
+
+-- an entry of the queue: the pieces of a bundle, or an end
+abbrev pub entry_of : Option (List Piece) → List Entry
+entry_of (Some ps) = jobs ps
+entry_of None = finish ∷ []
+
+-- the entries of the queue as one line of pieces and ends
+abbrev pub line_of : List (List Entry) → List Entry
+line_of [] = []
+line_of (x ∷ xs) = x ++ line_of xs
+
+-- no entry is empty
+abbrev pub AreFilled : List (List Entry) → Type 0
+AreFilled items = All (λ x. 0 < length x) items
+
+-- the pieces of a line
+abbrev pub pieces_in : List Entry → List Piece
+pieces_in [] = []
+pieces_in (job p ∷ xs) = p ∷ pieces_in xs
+pieces_in (finish ∷ xs) = pieces_in xs

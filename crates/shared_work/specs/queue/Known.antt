@@ -1,5 +1,5 @@
 -- The pieces that were fed, and who knows of them.
-use Rattle.std.specs.Prelude.{◌≡◌, ℕ, List, [], ◌∷◌, ◌++◌, true, All, Some, length, map, slice_get}
+use Rattle.std.specs.Prelude.{◌≡◌, ℕ, ◌+◌, List, [], ◌∷◌, ◌++◌, true, All, Some, length, map, slice_get}
 use mathlib.Core.Option.{some}
 use lib.ListN.{get_elem?}
 use Rattle.line_model.specs.basics.Records.{Piece}
@@ -8,7 +8,8 @@ use Rattle.line_model.specs.work.Work.{Entry}
 use Rattle.line_model.specs.work.Work.Entry.{job, finish}
 use Rattle.shared_work.specs.declared.queue.rule.Record.{Record}
 use Rattle.shared_work.specs.declared.queue.rule.Notes.{Notes}
-use Rattle.shared_work.specs.queue.Rule.{IsKept, Fed, EndFed, TookEntry}
+use Rattle.shared_work.specs.queue.Entries.{line_of, AreFilled, pieces_in}
+use Rattle.shared_work.specs.queue.Rule.{feeder, IsKept, EndFed, TookEntry}
 
 -- what a pass did, the pieces that it fed, and those that it knows of
 abbrev pub notes : Record → (fed known : List Piece) → Notes
@@ -27,11 +28,6 @@ abbrev pub IsFedEntry : List Piece → Entry → Type 0
 IsFedEntry fed (job p) = IsFed fed p
 IsFedEntry fed finish = Unit {0}
 
--- what an entry has of pieces
-abbrev pub piece_in : Entry → List Piece
-piece_in (job p) = p ∷ []
-piece_in finish = []
-
 -- what a pass knows: the feeder all pieces that were fed, in order, as many as its record says, and each pass some of them
 pub record Knows (fed : List Piece) (v : Notes) : Type 0 where
   pub own : v.record_of.feeds ≡ true → (v.fed ≡ fed) × (length v.fed ≡ v.record_of.fed)
@@ -47,17 +43,26 @@ pub record IsNoted (plan : KnownPlan) (items : List Entry) (views : List Notes) 
 abbrev pub AreNoted : KnownPlan → List Entry → List Notes → Type 0
 AreNoted plan items views = (fed : List Piece) × IsNoted plan items views fed
 
--- the feeder fed a piece
-abbrev pub FedPiece : Notes → Entry → Notes → Type 0
-FedPiece v x w = Fed v.record_of x w.record_of × (w.fed ≡ v.fed ++ piece_in x) × (w.known ≡ v.known)
+-- the rule of a queue whose entries are bundles and ends
+abbrev pub AreBundled : KnownPlan → List (List Entry) → List Notes → Type 0
+AreBundled plan items views = AreNoted plan (line_of items) views × AreFilled items
+
+-- the feeder fed the pieces of an entry
+abbrev pub FedBundle : Notes → List Entry → Notes → Type 0
+FedBundle v x w = (w.record_of ≡ feeder (v.record_of.fed + length x) v.record_of.ends v.record_of.pending v.record_of.done v.record_of.taken) × (w.fed ≡ v.fed ++ pieces_in x) × (w.known ≡ v.known)
 
 -- the feeder fed an end
-abbrev pub FedEnd : Notes → Entry → Notes → Type 0
-FedEnd v x w = EndFed v.record_of x w.record_of × (w.fed ≡ v.fed) × (w.known ≡ v.known)
+abbrev pub FedEnd : Notes → List Entry → Notes → Type 0
+FedEnd v x w = EndFed v.record_of finish w.record_of × (w.fed ≡ v.fed) × (w.known ≡ v.known)
 
--- a worker took an entry, and knows its piece
+-- a worker took a piece or an end, and knows the piece
 abbrev pub Took : KnownPlan → Notes → Entry → Notes → Type 0
-Took plan v x w = TookEntry plan v.record_of x w.record_of × (w.known ≡ v.known ++ piece_in x)
+Took plan v x w = TookEntry plan v.record_of x w.record_of × (w.known ≡ v.known ++ pieces_in (x ∷ []))
+
+-- a worker took what an entry has, one after the other
+abbrev pub TookAll : KnownPlan → Notes → List Entry → Notes → Type 0
+TookAll plan v [] w = w ≡ v
+TookAll plan v (x ∷ xs) w = (u : Notes) × Took plan v x u × TookAll plan u xs w
 
 -- a pass that knows what a witness knows too
 abbrev pub with_witness : Notes → Notes → Notes

@@ -1,11 +1,13 @@
 -- The queue holds the plan's pieces that were fed and not taken, in order, and then ends. Each number taken stands in one record, once.
-use Rattle.std.specs.Prelude.{◌≡◌, ℕ, ◌+◌, ◌-◌, ◌<◌, ◌≤◌, List, [], ◌∷◌, ◌++◌, Bool, true, false, if◌then◌else◌, sum_by, count_by}
+use Rattle.std.specs.Prelude.{◌≡◌, ℕ, ◌+◌, ◌-◌, ◌<◌, ◌≤◌, List, [], ◌∷◌, ◌++◌, Bool, true, false, if◌then◌else◌, sum_by, count_by, Some, slice_get}
 use mathlib.Core.Option.{some}
 use lib.ListN.{get_elem?}
+use Rattle.line_model.specs.basics.Records.{Piece}
 use Rattle.line_model.specs.work.Book.{KnownPlan, IsPlanned, times, once_below}
 use Rattle.line_model.specs.work.Work.{Entry, IsLine}
 use Rattle.line_model.specs.work.Work.Entry.{job, finish}
 use Rattle.shared_work.specs.declared.queue.rule.Record.{Record}
+use Rattle.shared_work.specs.queue.Entries.{line_of, AreFilled}
 
 -- a record of the feeder's pass
 abbrev pub feeder : ℕ → ℕ → ℕ → ℕ → List ℕ → Record
@@ -14,6 +16,10 @@ feeder fed ends pending done taken = record { feeds = true; works = false; fed =
 -- a record of a worker's pass
 abbrev pub worker : List ℕ → Bool → ℕ → Record
 worker taken finished fed = record { feeds = false; works = true; fed = fed; ends = 0; pending = 0; done = 0; taken = taken; finished = finished; told = 0 }
+
+-- a record of a worker's pass it is
+abbrev pub IsWorker : Record → Type 0
+IsWorker v = v ≡ worker v.taken v.finished v.fed
 
 -- a pass that was joined
 abbrev pub nobody : Record
@@ -36,6 +42,10 @@ after_join v w = record {
   finished = false;
   told = if w.finished then w.fed else v.fed;
 }
+
+-- these are the pieces of the plan from this place on
+abbrev pub ArePlanned : KnownPlan → ℕ → List Piece → Type 0
+ArePlanned plan first ps = (k : ℕ) (p : Piece) → slice_get ps k ≡ Some p → IsPlanned plan (first + k) p
 
 -- the feeder fed a piece
 abbrev pub Fed : Record → Entry → Record → Type 0
@@ -87,6 +97,10 @@ IsKept plan items views = (c : Count) × IsCounted plan items views c
 -- at one moment the queue held the plan's pieces up to the last one fed, and then ends
 abbrev pub IsInQueue : KnownPlan → Record → List Entry → Type 0
 IsInQueue plan v items = (taken : ℕ) × (waiting : ℕ) × IsLine plan taken v.fed waiting items × (waiting ≤ v.ends)
+
+-- so it was with a queue whose entries are bundles and ends, none of them empty
+abbrev pub AreInQueue : KnownPlan → Record → List (List Entry) → Type 0
+AreInQueue plan v items = IsInQueue plan v (line_of items) × AreFilled items
 
 -- at one moment each piece that had been fed was taken, so many: the rule held of these entries and of the records of all passes, this one among them; the feeder's said that so many were fed, each number below stood in one record, once, and the entries were ends
 pub record IsDrained (plan : KnownPlan) (v : Record) (fed : ℕ) (items : List Entry) : Type 0 where

@@ -39,7 +39,7 @@ pub struct Notes {
 }
 
 /// The rule: the queue holds the plan's pieces that were fed and not taken, in order, and then ends; and each piece that
-/// stands in it or that a pass knows was fed.
+/// stands in it or that a pass knows was fed. An entry has one piece or more, or is an end.
 pub struct PlanOrder<P> {
     plan: PhantomData<P>,
 }
@@ -47,9 +47,9 @@ pub struct PlanOrder<P> {
 impl<P: Plan, A: Allocator> Protocol<Entry<A>, Notes> for PlanOrder<P> {
     ghost use Rattle.std.specs.Prelude.{[]};
     ghost use Rattle.shared_work.specs.queue.Rule.{feeder};
-    ghost use Rattle.shared_work.specs.queue.Known.{AreNoted, notes};
+    ghost use Rattle.shared_work.specs.queue.Known.{AreBundled, notes};
 
-    ghost holds = { AreNoted P.pieces };
+    ghost holds = { AreBundled P.pieces };
 
     ghost first = { notes (feeder 0 0 0 0 []) [] [] };
 }
@@ -100,21 +100,21 @@ impl Join<Notes> for Witnessing {
     ghost spent = { notes nobody [] [] };
 }
 
-/// The step that feeds a piece.
-pub struct FeedsPiece<P> {
+/// The step that feeds a bundle of pieces.
+pub struct FeedsBundle<P> {
     plan: PhantomData<P>,
 }
 
-impl<P: Plan, A: Allocator> Outcome<Entry<A>, Notes> for FeedsPiece<P> {
-    ghost use Rattle.shared_work.specs.queue.Known.{FedPiece};
+impl<P: Plan, A: Allocator> Outcome<Entry<A>, Notes> for FeedsBundle<P> {
+    ghost use Rattle.shared_work.specs.queue.Known.{FedBundle};
 
-    ghost then = { FedPiece };
+    ghost then = { FedBundle };
 }
 
-impl<P: Plan, A: Allocator> Lesson<Entry<A>, Notes> for FeedsPiece<P> {
-    ghost use Rattle.shared_work.specs.queue.Rule.{IsInQueue};
+impl<P: Plan, A: Allocator> Lesson<Entry<A>, Notes> for FeedsBundle<P> {
+    ghost use Rattle.shared_work.specs.queue.Rule.{AreInQueue};
 
-    ghost fact = { λ v. IsInQueue P.pieces v.record_of };
+    ghost fact = { λ v. AreInQueue P.pieces v.record_of };
 }
 
 /// The step that feeds an end.
@@ -129,9 +129,9 @@ impl<P: Plan, A: Allocator> Outcome<Entry<A>, Notes> for FeedsEnd<P> {
 }
 
 impl<P: Plan, A: Allocator> Lesson<Entry<A>, Notes> for FeedsEnd<P> {
-    ghost use Rattle.shared_work.specs.queue.Rule.{IsInQueue};
+    ghost use Rattle.shared_work.specs.queue.Rule.{AreInQueue};
 
-    ghost fact = { λ v. IsInQueue P.pieces v.record_of };
+    ghost fact = { λ v. AreInQueue P.pieces v.record_of };
 }
 
 /// The step that takes what stands at the front.
@@ -140,9 +140,9 @@ pub struct Takes<P> {
 }
 
 impl<P: Plan, A: Allocator> Outcome<Entry<A>, Notes> for Takes<P> {
-    ghost use Rattle.shared_work.specs.queue.Known.{Took};
+    ghost use Rattle.shared_work.specs.queue.Known.{TookAll};
 
-    ghost then = { Took P.pieces };
+    ghost then = { TookAll P.pieces };
 }
 
 impl<P: Plan, A: Allocator> Lesson<Entry<A>, Notes> for Takes<P> {

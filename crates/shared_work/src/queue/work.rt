@@ -3,11 +3,11 @@ ghost use Rattle.std.specs.Prelude.{◌≡◌, ◌+◌, ◌<◌, ◌≤◌, [], 
 ghost use Rattle.crossbeam_queue.specs.Fifo.{Held};
 ghost use Rattle.line_model.specs.work.Book.{IsPlanned};
 ghost use Rattle.shared_work.specs.queue.Known.{IsFed};
-ghost use Rattle.shared_work.specs.queue.Rule.{feeder, worker, after_split, after_join, IsInQueue, IsAccounted, IsTold};
+ghost use Rattle.shared_work.specs.queue.Rule.{feeder, worker, after_split, after_join, AreInQueue, ArePlanned, IsAccounted, IsTold};
 
-use crate::queue::entry::Entry;
+use crate::queue::entry::{Bundle, Entry};
 use crate::queue::rule::{
-    Account, Confirmation, FeedsEnd, FeedsPiece, Notes, PlanOrder, Takes, Witnessing, Worker,
+    Account, Confirmation, FeedsBundle, FeedsEnd, Notes, PlanOrder, Takes, Witnessing, Worker,
 };
 use crate::queue::witness::Witness;
 use crossbeam_queue::{ArrayQueue, Pass, RuledArrayQueue};
@@ -17,14 +17,14 @@ use std::alloc::{Allocator, Global};
 use std::marker::Model;
 use std::sync::Wait;
 
-/// No more pieces are freed in one call.
+/// No more bundles are freed in one call.
 const MOST_FREED: usize = 4096;
 
-/// A queue of pieces, and the way back of those that were run. Contracts see which queue it is and how much it holds.
+/// A queue of bundles of pieces, and the way back of those that were run. Contracts see which queue it is and how much it holds.
 #[derive(Drop)]
 pub struct Work<P: Plan, A: Allocator = Global> {
     queue: RuledArrayQueue<Entry<A>, Notes, PlanOrder<P>, A>,
-    used: ArrayQueue<Piece<A>, A>,
+    used: ArrayQueue<Bundle<A>, A>,
 }
 
 impl<P: Plan, A: Allocator> Model for Work<P, A> {
@@ -61,22 +61,23 @@ pub struct WorkerPass<A: Allocator = Global> {
 }
 
 impl<A: Allocator> Model for WorkerPass<A> {
-    ghost use Rattle.std.specs.Prelude.{◌≡◌, [], true};
+    ghost use Rattle.std.specs.Prelude.{◌≡◌, []};
     ghost use Rattle.shared_work.specs.queue.Passes.{PassView};
+    ghost use Rattle.shared_work.specs.queue.Rule.{IsWorker};
     ghost use Rattle.crossbeam_queue.specs.Passes.{view as seen};
 
     ghost Value = { PassView };
 
     ghost view = { λ s. record { queue = s.pass.table_id; record_of = (seen s.pass).record_of; pieces = (seen s.pass).known } };
 
-    ghost invariant = { λ s. (s.pass.me.1 ≡ []) × ((seen s.pass).record_of.works ≡ true) };
+    ghost invariant = { λ s. (s.pass.me.1 ≡ []) × IsWorker (seen s.pass).record_of };
 }
 
 /// What a worker took.
 #[derive(Drop)]
 pub enum Taken<A: Allocator = Global> {
-    /// The plan's piece of its id.
-    Got(Piece<A>),
+    /// A bundle, whose pieces are the plan's of their ids.
+    Got(Bundle<A>),
     /// An end: the pass takes no more.
     Finish,
     /// The queue was empty at one moment of the call.
@@ -104,20 +105,20 @@ impl<P: Plan, A: Allocator> Work<P, A> {
         }
     }
 
-    /// Hands a piece that was run back to the thread that fed it. Where as many wait already as the queue holds, it is
+    /// Hands a bundle that was run back to the thread that fed it. Where as many wait already as the queue holds, it is
     /// freed at once.
-    pub fn give_back<R: Wait>(&self, rt: &R, piece: Piece<A>) {
-        drop(self.used.push(rt, piece));
+    pub fn give_back<R: Wait>(&self, rt: &R, bundle: Bundle<A>) {
+        drop(self.used.push(rt, bundle));
     }
 
-    /// Frees the pieces that were handed back, and says how many. The thread that made them does this: where one thread
-    /// takes memory and others free it, all of them wait for the lock of the allocator.
+    /// Frees the bundles that were handed back, and says how many. The thread that made their pieces does this: where one
+    /// thread takes memory and others free it, all of them wait for the lock of the allocator.
     pub fn free_used<R: Wait>(&self, rt: &R) -> usize
         ensures { result ≤ 4096 }
     {
         for freed in 0..MOST_FREED {
             match self.used.pop(rt) {
-                Some(piece) => drop(piece),
+                Some(bundle) => drop(bundle),
                 None => return freed,
             }
         }
@@ -144,6 +145,8 @@ impl<P: Plan, A: Allocator> Work<P, A> {
         piece: Piece<A>,
         pass: &mut FeederPass<A>,
     ) -> Result<(), Piece<A>>
+    where
+        A: Copy,
         requires queue { pass.old.queue ≡ self.now.queue }
         requires next { IsPlanned P.pieces pass.old.record_of.fed piece }
         requires open { pass.old.record_of.ends ≡ 0 }
@@ -157,15 +160,52 @@ impl<P: Plan, A: Allocator> Work<P, A> {
             (λ _. pass.new.pieces ≡ pass.old.pieces ++ piece ∷ [])
             (λ _. pass.new.pieces ≡ pass.old.pieces) }
         ensures full { OnErr result (Held self.now.capacity
-            (IsInQueue P.pieces pass.old.record_of)) }
+            (AreInQueue P.pieces pass.old.record_of)) }
     {
+        match self.feed_bundle(rt, Bundle::of(piece), pass) {
+            Ok(()) => Ok(()),
+            Err(Bundle { front: _, last }) => Err(last),
+        }
+    }
+
+    /// Feeds the plan's next pieces as a bundle, which a worker takes whole. It comes back only if the queue was full at
+    /// one moment of the call, and nothing has changed then.
+    pub fn feed_bundle<R: Wait>(
+        &self,
+        rt: &R,
+        bundle: Bundle<A>,
+        pass: &mut FeederPass<A>,
+    ) -> Result<(), Bundle<A>>
+        requires queue { pass.old.queue ≡ self.now.queue }
+        requires some { 0 < length bundle }
+        requires next { ArePlanned P.pieces pass.old.record_of.fed bundle }
+        requires open { pass.old.record_of.ends ≡ 0 }
+        ensures queue { pass.new.queue ≡ pass.old.queue }
+        ensures ok { OnOk result (pass.new.record_of
+            ≡ feeder (pass.old.record_of.fed + length bundle) pass.old.record_of.ends
+            pass.old.record_of.pending pass.old.record_of.done pass.old.record_of.taken) }
+        ensures err { IfErr result (λ back. (back ≡ bundle)
+            × (pass.new.record_of ≡ pass.old.record_of)) }
+        ensures pieces { MatchResult result
+            (λ _. pass.new.pieces ≡ pass.old.pieces ++ bundle)
+            (λ _. pass.new.pieces ≡ pass.old.pieces) }
+        ensures full { OnErr result (Held self.now.capacity
+            (AreInQueue P.pieces pass.old.record_of)) }
+    {
+        let entry = Entry {
+            bundle: Some(bundle),
+        };
         match self
             .queue
-            .push_as::<FeedsPiece<P>, R>(rt, &mut pass.pass, Entry { piece: Some(piece) })
+            .push_as::<FeedsBundle<P>, R>(rt, &mut pass.pass, entry)
         {
             Ok(()) => Ok(()),
-            Err(Entry { piece: Some(piece) }) => Err(piece),
-            Err(Entry { piece: None }) => unreachable!(),
+            Err(
+                Entry {
+                    bundle: Some(bundle),
+                },
+            ) => Err(bundle),
+            Err(Entry { bundle: None }) => unreachable!(),
         }
     }
 
@@ -179,19 +219,19 @@ impl<P: Plan, A: Allocator> Work<P, A> {
         ensures err { OnErr result (pass.new.record_of ≡ pass.old.record_of) }
         ensures pieces { pass.new.pieces ≡ pass.old.pieces }
         ensures full { OnErr result (Held self.now.capacity
-            (IsInQueue P.pieces pass.old.record_of)) }
+            (AreInQueue P.pieces pass.old.record_of)) }
     {
         match self
             .queue
-            .push_as::<FeedsEnd<P>, R>(rt, &mut pass.pass, Entry { piece: None })
+            .push_as::<FeedsEnd<P>, R>(rt, &mut pass.pass, Entry { bundle: None })
         {
             Ok(()) => Ok(()),
             Err(_) => Err(()),
         }
     }
 
-    /// Takes what stands at the front: the plan's piece of its id, which goes into the record of the pass, or an end,
-    /// after which the pass takes no more. `Finish` only if at one moment of the call each piece that had been fed was
+    /// Takes what stands at the front: a bundle, whose pieces are the plan's of their ids and go into the record of the
+    /// pass, or an end, after which the pass takes no more. `Finish` only if at one moment of the call each piece that had been fed was
     /// taken, and ends alone stood in the queue; the record then has how many were fed. `Empty` only if the queue was
     /// empty at one moment of the call.
     pub fn take<R: Wait>(&self, rt: &R, pass: &mut WorkerPass<A>) -> Taken<A>
@@ -203,8 +243,12 @@ impl<P: Plan, A: Allocator> Work<P, A> {
         ensures drained { WasDrained P.pieces pass.old.record_of result pass.new.record_of.fed }
     {
         match self.queue.pop_as::<Takes<P>, R>(rt, &mut pass.pass) {
-            Some(Entry { piece: Some(piece) }) => Taken::Got(piece),
-            Some(Entry { piece: None }) => Taken::Finish,
+            Some(
+                Entry {
+                    bundle: Some(bundle),
+                },
+            ) => Taken::Got(bundle),
+            Some(Entry { bundle: None }) => Taken::Finish,
             None => Taken::Empty,
         }
     }

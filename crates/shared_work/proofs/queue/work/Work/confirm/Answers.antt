@@ -3,14 +3,14 @@ use Rattle.std.specs.Prelude.{All}
 use Rattle.line_model.specs.basics.Records.{Piece}
 use Rattle.shared_work.specs.declared.queue.rule.Notes.{Notes}
 use Rattle.shared_work.specs.queue.Known.{IsFed}
-use Rattle.shared_work.proofs.Noted.{noted_learns, noted_confirms}
+use Rattle.shared_work.proofs.Bundles.{bundles_learn, bundles_confirm}
 use Rattle.shared_work.proofs.queue.work.Work.confirm.Goals as goal
 
 pub absorb-requires-clause-rule : goal.absorb-requires-clause-rule
-absorb-requires-clause-rule g c = noted_learns g.P.Plan.pieces _ _ _ _ c.witness.invariant.1
+absorb-requires-clause-rule g c = bundles_learn g.P.Plan.pieces _ _ _ _ c.witness.invariant.1
 
 pub learn_as-requires-clause-rule : goal.learn_as-requires-clause-rule
-learn_as-requires-clause-rule g c = noted_confirms g.P.Plan.pieces _ _ (ap (λ v. v.record_of.feeds) c.absorb.ensures.rule ∙ c.pass.invariant.1)
+learn_as-requires-clause-rule g c = bundles_confirm g.P.Plan.pieces _ _ (ap (λ v. v.record_of.feeds) c.absorb.ensures.rule ∙ c.pass.invariant.1)
 
 pub returns-clause-fed : goal.returns-clause-fed
 returns-clause-fed g c =

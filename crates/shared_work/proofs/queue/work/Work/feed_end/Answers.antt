@@ -1,13 +1,13 @@
 use Rattle.std.proofs.Common.{ap, subst, rules}
 use Rattle.crossbeam_queue.specs.Fifo.{Held}
 use Rattle.crossbeam_queue.specs.Passes.{ruled_capacity}
-use Rattle.shared_work.specs.queue.Rule.{IsInQueue}
-use Rattle.shared_work.proofs.Noted.{noted_end, noted_line}
+use Rattle.shared_work.specs.queue.Rule.{AreInQueue}
+use Rattle.shared_work.proofs.Bundles.{end_pushed, bundles_line}
 use Rattle.shared_work.proofs.queue.work.Work.feed_end.Goals.{in-Ok, in-Err}
 use Rattle.shared_work.proofs.queue.work.Work.feed_end.Goals as goal
 
 pub push_as-requires-clause-rule : goal.push_as-requires-clause-rule
-push_as-requires-clause-rule g c = (noted_end g.P.Plan.pieces _ _ _ c.pass.invariant.1, noted_line g.P.Plan.pieces _ _ c.pass.invariant.1)
+push_as-requires-clause-rule g c = (end_pushed g.P.Plan.pieces _ _ _ c.pass.invariant.1, bundles_line g.P.Plan.pieces _ _ c.pass.invariant.1)
 
 pub returns-clause-full : goal.returns-clause-full
 returns-clause-full g c =
@@ -17,6 +17,6 @@ returns-clause-full g c =
       | in-Ok w ↦ search rules
       | in-Err w ↦
           let full = (rw w.in-Err.is at c.push_as.ensures.rule).2 in
-          let here = subst (λ r. Held (ruled_capacity c.self.inside.queue) (IsInQueue g.P.Plan.pieces r)) known full in
-          rw w.result-is (subst (λ n. Held n (IsInQueue g.P.Plan.pieces c.args.pass.now.record_of)) capacity here)
+          let here = subst (λ r. Held (ruled_capacity c.self.inside.queue) (AreInQueue g.P.Plan.pieces r)) known full in
+          rw w.result-is (subst (λ n. Held n (AreInQueue g.P.Plan.pieces c.args.pass.now.record_of)) capacity here)
     ]

@@ -1,5 +1,5 @@
-use Rattle.shared_work.proofs.Noted.{noted_learns}
+use Rattle.shared_work.proofs.Bundles.{bundles_learn}
 use Rattle.shared_work.proofs.queue.work.Work.learn.Goals as goal
 
 pub absorb-requires-clause-rule : goal.absorb-requires-clause-rule
-absorb-requires-clause-rule g c = noted_learns g.P.Plan.pieces _ _ _ _ c.other.invariant.1
+absorb-requires-clause-rule g c = bundles_learn g.P.Plan.pieces _ _ _ _ c.other.invariant.1

@@ -1,5 +1,5 @@
-use Rattle.shared_work.proofs.Noted.{noted_split}
+use Rattle.shared_work.proofs.Bundles.{bundles_split}
 use Rattle.shared_work.proofs.queue.work.Work.split.Goals as goal
 
 pub another-pass-requires-clause-rule : goal.another-pass-requires-clause-rule
-another-pass-requires-clause-rule g c = noted_split g.P.Plan.pieces _ _ c.pass.invariant.1
+another-pass-requires-clause-rule g c = bundles_split g.P.Plan.pieces _ _ c.pass.invariant.1

@@ -1,0 +1,9 @@
+use Rattle.std.proofs.Common.{sym, subst, rules}
+use Rattle.std.specs.Prelude.{All}
+use Rattle.std.proofs.lemmas.List.Elements.{All-push}
+use Rattle.line_model.specs.basics.Bounds.{IsItem}
+use Rattle.tests_workers.proofs.pieces.add_row.Goals as goal
+
+pub returns-clause-of_channel : goal.returns-clause-of_channel
+returns-clause-of_channel c h =
+    subst (All (IsItem c.args.interface.now 0)) (sym c.in_ok-push.ensures.ok) (All-push (IsItem c.args.interface.now 0) c.args.items.now _ h (record { packet = search rules; channel = search rules }))

@@ -1,0 +1,112 @@
+-- What was fed, list by list.
+use Rattle.std.proofs.Common.{◌≡◌, ℕ, suc, zero, ◌+◌, List, [], ◌∷◌, ◌++◌, Some, length, refl, sym, ap, ◌∙◌, subst, arith, append-nil, length-append}
+use Rattle.std.specs.Prelude.{slice_get}
+use Rattle.std.proofs.lemmas.List.{append_assoc}
+use Rattle.line_model.specs.basics.Records.{Piece}
+use Rattle.line_model.specs.work.Book.{KnownPlan, IsPlanned}
+use Rattle.shared_work.specs.queue.Passes.{PassView}
+use Rattle.shared_work.specs.queue.Rule.{ArePlanned, feeder}
+use Rattle.workers.specs.Workers.{FeedsAll, FeedsFirst}
+
+pub fed_none : (v : PassView) → v.record_of.ends ≡ 0 → FeedsAll v [] v
+fed_none v none = record {
+  queue = refl;
+  kept = record { ends = none; pending = refl; done = refl; taken = refl };
+  fed = omega arith;
+  pieces = sym (append-nil v.pieces);
+}
+
+pub fed_bundle : (v w : PassView) (ps : List Piece) → v.record_of.ends ≡ 0 → w.queue ≡ v.queue
+    → w.record_of ≡ feeder (v.record_of.fed + length ps) v.record_of.ends v.record_of.pending v.record_of.done v.record_of.taken → w.pieces ≡ v.pieces ++ ps → FeedsAll v ps w
+fed_bundle v w ps none queue fed pieces = record {
+  queue = queue;
+  kept = record { ends = ap (λ r. r.ends) fed ∙ none; pending = ap (λ r. r.pending) fed; done = ap (λ r. r.done) fed; taken = ap (λ r. r.taken) fed };
+  fed = ap (λ r. r.fed) fed;
+  pieces = pieces;
+}
+
+pub fed_then : (v u w : PassView) (ps qs : List Piece) → FeedsAll v ps u → FeedsAll u qs w → FeedsAll v (ps ++ qs) w
+fed_then v u w ps qs one two = record {
+  queue = two.queue ∙ one.queue;
+  kept = record { ends = two.kept.ends; pending = two.kept.pending ∙ one.kept.pending; done = two.kept.done ∙ one.kept.done; taken = two.kept.taken ∙ one.kept.taken };
+  fed = omega (arith, one.fed, two.fed, length-append ps qs);
+  pieces = two.pieces ∙ (ap (λ l. l ++ qs) one.pieces ∙ append_assoc v.pieces ps qs);
+}
+
+-- the front of planned pieces, and what comes after it
+pub planned_front : (plan : KnownPlan) (n : ℕ) (ps qs : List Piece) → ArePlanned plan n (ps ++ qs) → ArePlanned plan n ps
+planned_front plan n ps qs planned k p is = planned k p (at ps k is)
+  where
+    at : (l : List Piece) (k : ℕ) → slice_get l k ≡ Some p → slice_get (l ++ qs) k ≡ Some p
+    at [] k e = absurd (cc)
+    at (x ∷ l) zero e = e
+    at (x ∷ l) (suc k) e = at l k e
+
+pub planned_back : (plan : KnownPlan) (n : ℕ) (ps qs : List Piece) → ArePlanned plan n (ps ++ qs) → ArePlanned plan (n + length ps) qs
+planned_back plan n ps qs planned k p is = subst (λ m. IsPlanned plan m p) sum (planned (length ps + k) p (at ps (length ps + k) refl))
+  where
+    sum : n + (length ps + k) ≡ n + length ps + k
+    sum = omega arith
+
+    at : (l : List Piece) (j : ℕ) → j ≡ length l + k → slice_get (l ++ qs) j ≡ Some p
+    at [] j e = subst (λ i. slice_get qs i ≡ Some p) (omega (arith, e)) is
+    at (x ∷ l) zero e = absurd (omega (arith, e))
+    at (x ∷ l) (suc j) e = at l j (omega (arith, e))
+
+-- those that are to be fed next, once the first were
+pub planned_next : (plan : KnownPlan) (v w : PassView) (first rest all : List Piece) → FeedsAll v first w → first ++ rest ≡ all → ArePlanned plan v.record_of.fed all → ArePlanned plan w.record_of.fed rest
+planned_next plan v w first rest all fed same planned =
+    subst (λ n. ArePlanned plan n rest) (sym fed.fed) (planned_back plan v.record_of.fed first rest (subst (ArePlanned plan v.record_of.fed) (sym same) planned))
+
+-- those that wait and the next one are planned
+pub first_planned : (plan : KnownPlan) (v w : PassView) (all waiting rest left : List Piece) (p : Piece) → rest ≡ p ∷ left → FeedsFirst v all (waiting ++ rest) w → ArePlanned plan v.record_of.fed all → ArePlanned plan w.record_of.fed (waiting ++ p ∷ [])
+first_planned plan v w all waiting rest left p is fed planned =
+    planned_front plan w.record_of.fed (waiting ++ p ∷ []) left
+    (subst (ArePlanned plan w.record_of.fed) (ap (λ l. waiting ++ l) is ∙ sym (append_assoc waiting (p ∷ []) left)) (planned_next plan v w fed.0 (waiting ++ rest) all fed.1 fed.2 planned))
+
+-- and some of them are fed
+pub first_next : (v u w : PassView) (all waiting still rest left : List Piece) (p : Piece) → rest ≡ p ∷ left → FeedsFirst v all (waiting ++ rest) u → FeedsFirst u (waiting ++ p ∷ []) still w → FeedsFirst v all (still ++ left) w
+first_next v u w all waiting still rest left p is fed more = (
+  fed.0 ++ more.0,
+  fed_then v u w fed.0 more.0 fed.1 more.1,
+  append_assoc fed.0 more.0 (still ++ left)
+      ∙ (ap (λ l. fed.0 ++ l) (sym (append_assoc more.0 still left) ∙ (ap (λ l. l ++ left) more.2 ∙ (append_assoc waiting (p ∷ []) left ∙ ap (λ l. waiting ++ l) (sym is)))) ∙ fed.2),
+)
+
+-- all that wait are fed
+pub first_whole : (v u w : PassView) (all waiting rest : List Piece) → rest ≡ [] → FeedsFirst v all (waiting ++ rest) u → FeedsAll u waiting w → FeedsAll v all w
+first_whole v u w all waiting rest none fed more =
+    subst (λ l. FeedsAll v l w) (ap (λ l. fed.0 ++ l) (sym (append-nil waiting) ∙ ap (λ l. waiting ++ l) (sym none)) ∙ fed.2) (fed_then v u w fed.0 waiting fed.1 more)
+
+pub last_planned : (plan : KnownPlan) (v w : PassView) (all waiting rest : List Piece) → rest ≡ [] → FeedsFirst v all (waiting ++ rest) w → ArePlanned plan v.record_of.fed all → ArePlanned plan w.record_of.fed waiting
+last_planned plan v w all waiting rest none fed planned =
+    planned_front plan w.record_of.fed waiting rest (planned_next plan v w fed.0 (waiting ++ rest) all fed.1 fed.2 planned)
+
+-- those that waited were fed, and then some of the others
+pub first_then : (v u w : PassView) (waiting none more still : List Piece) → none ≡ [] → FeedsAll v waiting u → FeedsFirst u (none ++ more) still w → FeedsFirst v (waiting ++ more) still w
+first_then v u w waiting none more still empty fed rest = (
+  waiting ++ rest.0,
+  fed_then v u w waiting rest.0 fed rest.1,
+  append_assoc waiting rest.0 still ∙ ap (λ l. waiting ++ l) (rest.2 ∙ ap (λ l. l ++ more) empty),
+)
+
+-- nothing was fed, and all wait
+pub all_wait : (v : PassView) (ps waiting : List Piece) → v.record_of.ends ≡ 0 → waiting ≡ ps → FeedsFirst v ps waiting v
+all_wait v ps waiting none same = ([], fed_none v none, same)
+
+-- all were fed, and none waits
+pub none_wait : (v u w : PassView) (ps waiting : List Piece) (p : Piece) → waiting ≡ [] → FeedsAll v ps u → FeedsAll u (p ∷ []) w → FeedsFirst v (ps ++ p ∷ []) waiting w
+none_wait v u w ps waiting p empty one two = (ps ++ p ∷ [], fed_then v u w ps (p ∷ []) one two, ap (λ l. (ps ++ p ∷ []) ++ l) empty ∙ append-nil (ps ++ p ∷ []))
+
+-- the last of some pieces is planned, once those before it were fed
+pub last_next : (plan : KnownPlan) (v w : PassView) (ps : List Piece) (p q : Piece) → q ≡ p → FeedsAll v ps w → ArePlanned plan v.record_of.fed (ps ++ p ∷ []) → IsPlanned plan w.record_of.fed q
+last_next plan v w ps p q same fed planned =
+    let next = planned_back plan v.record_of.fed ps (p ∷ []) planned 0 p refl in
+    let sum : v.record_of.fed + length ps + 0 ≡ w.record_of.fed = omega (arith, fed.fed) in
+    subst (λ (y : ℕ × Piece). IsPlanned plan y.0 y.1) (λ i. (sum i, sym same i)) next
+
+-- those that come next are planned, where none waits any more
+pub next_planned : (plan : KnownPlan) (v w : PassView) (waiting none more : List Piece) → none ≡ [] → FeedsAll v waiting w → ArePlanned plan v.record_of.fed (waiting ++ more) → ArePlanned plan w.record_of.fed (none ++ more)
+next_planned plan v w waiting none more empty fed planned =
+    subst (λ l. ArePlanned plan w.record_of.fed (l ++ more)) (sym empty)
+    (subst (λ n. ArePlanned plan n more) (sym fed.fed) (planned_back plan v.record_of.fed waiting more planned))
