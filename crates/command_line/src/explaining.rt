@@ -1,6 +1,6 @@
 //! The answer to a question for the meaning of a word.
 
-ghost use Rattle.std.specs.Prelude.{◌≡◌, ℕ, ◌⊎◌, IfOk, map, option_map, string_bytes, take};
+ghost use Rattle.std.specs.Prelude.{◌≡◌, ℕ, ◌⊎◌, IfOk, option_map, string_bytes, take};
 ghost use Rattle.line_model.specs.basics.Device.{with_more};
 ghost use Rattle.explanations.specs.Table.{rows};
 ghost use Rattle.command_line.specs.Explaining.{IsAnswer, IsAnswered, answer_by, asked_rows};

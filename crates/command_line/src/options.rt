@@ -144,7 +144,11 @@ fn with_scanning<'a>(alloc: Global, command: Command<'a>) -> Result<Command<'a>,
 {
     command
         .arg(workers(alloc))?
-        .arg(flag(alloc, "alone", "Scan in one thread"))?
+        .arg(flag(
+            alloc,
+            "alone",
+            "Scan in one thread, which is quicker than workers where most packets are data",
+        ))?
         .arg(flag(
             alloc,
             "follow",

@@ -1,6 +1,6 @@
 //! The rows of the trace in place of its report: the trace once more with comments, or an object for each row.
 
-ghost use Rattle.std.specs.Prelude.{◌≡◌, ◌<◌, ◌≤◌, ◌+◌, ◌^◌, ◌⊎◌, IfErr, IfOk, map, option_map};
+ghost use Rattle.std.specs.Prelude.{◌≡◌, ◌<◌, ◌≤◌, ◌+◌, ◌^◌, ◌⊎◌, IfErr, IfOk, option_map};
 ghost use Rattle.command_line.specs.Printing.{IsPrintAnswer, IsPrintStatus, Prints, StopsBy, is_refused};
 ghost use Rattle.command_line.specs.Program.{IsUnread, trace_of};
 

@@ -44,8 +44,8 @@ pub const USAGE: u8 = 64;
 /// The exit status of a fault that is not the trace's.
 pub const OTHER_FAULT: u8 = 3;
 
-/// How many pieces wait for the workers at the most.
-const WAITING: usize = 1024;
+/// How many bundles of pieces wait for the workers at the most.
+const WAITING: usize = 64;
 
 /// What is printed where the words name a second trace.
 const ONE_TRACE: &str =

@@ -1,6 +1,6 @@
 //! The headers that explain a trace best, in place of its report.
 
-ghost use Rattle.std.specs.Prelude.{◌≡◌, ◌<◌, ◌≤◌, ◌+◌, ◌^◌, ◌⊎◌, ℕ, List, Some, is_some, option_map, ◌==◌, if◌then◌else◌};
+ghost use Rattle.std.specs.Prelude.{◌≡◌, ◌<◌, ◌≤◌, ◌+◌, ◌^◌, ◌⊎◌, is_some, option_map, ◌==◌, if◌then◌else◌};
 ghost use Rattle.command_line.specs.Program.{IsUnread, trace_of};
 ghost use Rattle.command_line.specs.Trying.{IsTryAnswer, TriesOf, cannot_try};
 

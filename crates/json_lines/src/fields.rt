@@ -1,8 +1,8 @@
 //! The fields of the report's lines, by name.
 
-ghost use Rattle.std.specs.Prelude.{◌≡◌, map};
+ghost use Rattle.std.specs.Prelude.{◌≡◌};
 ghost use Rattle.json_lines.specs.Forms.{account, call, finding, form_of, peak, setting, sums};
-ghost use Rattle.json_lines.specs.Shown.{field_shown, form_shown};
+ghost use Rattle.json_lines.specs.Shown.{form_shown};
 
 /// How the value of a field is written. What is absent is `null` in both.
 #[derive(Clone, Copy)]

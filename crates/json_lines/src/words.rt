@@ -1,7 +1,6 @@
 //! The words of a line, parted by single spaces.
 
-ghost use Rattle.std.specs.Prelude.{◌≡◌, ◌∷◌, [], length, drop, MatchOption};
-ghost use Rattle.line_model.specs.text.Header.{words_of};
+ghost use Rattle.std.specs.Prelude.{◌≡◌, ◌∷◌, [], drop, MatchOption};
 ghost use Rattle.json_lines.specs.Json.{first_word, line_words};
 
 use std::marker::Model;

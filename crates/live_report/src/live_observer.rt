@@ -1,6 +1,4 @@
 //! A live trace as any observer of a trace.
-
-ghost use Rattle.std.specs.Prelude.{◌≡◌, ℕ, List};
 ghost use Rattle.trace_text.specs.Progress.{bytes_fed};
 ghost use Rattle.live_report.specs.Lives.{StandsFor};
 ghost use Rattle.trace_text.specs.FedBytes.{fed_length};

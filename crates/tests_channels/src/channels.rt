@@ -1,6 +1,6 @@
 //! The rows of one channel of recorded interfaces: their findings and calls are those of reports that were made elsewhere.
 
-ghost use Rattle.std.specs.Prelude.{◌≡◌, ◌+◌, ◌≤◌, ◌*◌, length, All, IfOk, OnOk};
+ghost use Rattle.std.specs.Prelude.{◌+◌, ◌≤◌, ◌*◌, length, All, IfOk, OnOk};
 ghost use Rattle.line_model.specs.basics.Bounds.{IsItem, all_octets};
 
 use crate::calls::{Call, PLAIN_CALL, calls_are};

@@ -15,33 +15,50 @@ use std::test::Fail;
 use std::thread::Threads;
 use std::time::Clock;
 use tests_devices::{CutSource, Cuts};
+use trace_scan::block_queues::BlockQueues;
+use trace_scan::blocks::TraceText;
 use trace_scan::feeding::{Read, ReadingTask};
-use trace_scan::gate::OpenGate;
+use trace_scan::gate::{BlockGate, OpenGate};
 use trace_scan::text_cutter::TextCutter;
 use workers::{Crew, Worked, work_through};
 
-/// How many bytes a source gives at once.
-const STEPS: [usize; 3] = [1, 7, usize::MAX];
+/// How many bytes a source gives at once, and how many bytes a block has at least.
+const STEPS: [(usize, usize); 6] = [
+    (1, 1),
+    (7, 1),
+    (64, 1),
+    (1, usize::MAX),
+    (7, 20),
+    (usize::MAX, 1),
+];
 
-/// Reads a text beside two workers, over a queue of one piece.
-fn read_by<P: Plan + Send + Sync, R: Threads + Wait + Clock + Sync>(
+/// Reads a text beside two workers, over a queue of one piece. Blocks have so many bytes at least.
+fn read_by<P: Plan + TraceText + Send + Sync, R: Threads + Wait + Clock + Sync>(
     rt: &R,
     alloc: Global,
     text: &[u8],
     cuts: Cuts,
+    least: usize,
 ) -> Option<Result<Read, Fault>>
+    requires text { P.text ≡ Some text.now }
     requires plan { P.pieces ≡ Some (trace_plan_as_read text.now) }
 {
     let mut source = CutSource::new(text, cuts);
+    let queues = BlockQueues::<P, Global>::new(alloc, least).ok()?;
     let reading = ReadingTask {
         source: &mut source,
         alloc,
+        queues: &queues,
         outcome: None,
+    };
+    let gate = BlockGate {
+        gate: &OpenGate,
+        queues: &queues,
     };
     let crew = Crew {
         workers: 2,
         capacity: 1,
-        gate: &OpenGate,
+        gate: &gate,
     };
     match work_through::<P, _, _, _, _>(rt, alloc, crew, reading) {
         Ok(Worked { task, .. }) => task.outcome,
@@ -54,7 +71,7 @@ fn read<R: Threads + Wait + Clock + Sync>(
     rt: &R,
     alloc: Global,
     text: &[u8],
-    step: usize,
+    (step, least): (usize, usize),
     good: usize,
 ) -> Option<Result<Read, Fault>> {
     let cuts = Cuts {
@@ -62,7 +79,7 @@ fn read<R: Threads + Wait + Clock + Sync>(
         good_bytes: good,
         ..Cuts::none()
     };
-    read_by::<Brand, R>(rt, alloc, text, cuts)
+    read_by::<Brand, R>(rt, alloc, text, cuts, least)
 }
 
 /// The rows of a text, and how many packets, pieces and findings of the line they have.
@@ -129,7 +146,12 @@ fn check_fed<R: Threads + Wait + Clock + Sync + Abort>(
     let text = format!(in alloc; "X25 1 MOD 8 WIN 2 SIZE 128 PVC 0 SVC 4\n{rows}")?;
     for step in STEPS {
         let read = read(rt, alloc, text.as_bytes(), step, usize::MAX);
-        assert!(rt; is_fed(read, fed), "{rows} by {step}");
+        assert!(rt;
+            is_fed(read, fed),
+            "{rows} by {}, blocks of {}",
+            step.0,
+            step.1
+        );
     }
     Ok(())
 }
@@ -160,7 +182,12 @@ fn check_refused<R: Threads + Wait + Clock + Sync + Abort>(
 ) {
     for step in STEPS {
         let read = read(rt, alloc, text.as_bytes(), step, good);
-        assert!(rt; is_refused(read, wanted), "{text} by {step}");
+        assert!(rt;
+            is_refused(read, wanted),
+            "{text} by {}, blocks of {}",
+            step.0,
+            step.1
+        );
     }
 }
 
@@ -216,6 +243,14 @@ fn is_piece(piece: &Piece, id: u32, end: Option<u32>, channel: u16, rows: &[(u32
 const CUT: &[u8] =
     b"X25 1 MOD 8 WIN 2 SIZE 128 PVC 0 SVC 4\n1 T 10030B0000\n2 T 10010B0000\n3 N 10030F\n4 T 1000FB0000\n5 N 1000FF\n6 T 100100AABBCC\n7 N 900100AABBCC";
 
+/// What is read of that text.
+const CUT_FED: Fed = Fed {
+    rows: "",
+    packets: 7,
+    pieces: 3,
+    findings: 0,
+};
+
 /// Whether these are the two pieces before the restart, in the order of their channels.
 fn are_closed(pieces: &[Piece]) -> bool {
     let [one, three] = pieces else {
@@ -260,6 +295,8 @@ fn rows_of_a_text_that_is_cut_anywhere_come_with_their_octets_and_packets(
     for at in 0..text.len() {
         let (first, rest) = text.split_at(at);
         check_cut(&rt, rt.alloc(), first, rest, at)?;
+        let read = read(&rt, rt.alloc(), text, (at, 1), usize::MAX);
+        assert!(rt; is_fed(read, &CUT_FED), "in blocks by {at}");
     }
     Ok(())
 }

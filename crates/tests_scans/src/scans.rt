@@ -9,10 +9,14 @@ mod first_read;
 mod following;
 mod growing;
 mod held;
+mod in_blocks;
+mod line_source;
 mod machines;
+mod meeting;
 mod refused;
 mod refused_crews;
 mod runs;
+mod seams;
 mod wanting;
 mod worked;
 

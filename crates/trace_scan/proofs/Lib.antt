@@ -4,12 +4,17 @@ mod StepsAlike
 mod ReadAlike
 mod ReadRows
 pub mod Rows
+pub mod ItemsCut
+pub mod BlockReads
+pub mod BlockTakes
+pub mod InterfaceLemmas
 pub mod Heads
 pub mod Cuts
 pub mod Nexts
 pub mod Texts
 pub mod Firsts
 pub mod Courses
+pub mod Parts
 pub mod ScanLemmas
 pub mod ThreadedLemmas
 pub mod FollowLemmas

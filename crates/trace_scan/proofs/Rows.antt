@@ -33,18 +33,21 @@ all_behind : {X : Type 0} (P : X → Type 0) (xs ys : List X) → All P (xs ++ y
 all_behind P [] ys h = h
 all_behind P (x ∷ xs) ys h = all_behind P xs ys (λ k y lt. h (suc k) y (omega arith))
 
--- the row that comes next in a trace may be given to the cutter
-pub may_come : (before : List Row) (r : Row) (c : Cutting) → IsCounting before c → IsTrace (before ++ r ∷ []) → MayCome c (r ∷ [])
-may_come before r c counting trace =
-    let rises : RisesFrom 0 (map (λ (x : Row). x.number) before ++ map (λ (x : Row). x.number) (r ∷ [])) =
-    subst (RisesFrom 0) (map-append (λ (x : Row). x.number) before (r ∷ [])) (rises-from_index (0 ∷ map (λ (x : Row). x.number) (before ++ r ∷ [])) trace.rising) in
+-- the rows that come next in a trace may be given to the cutter
+pub rows_may_come : (before rs : List Row) (c : Cutting) → IsCounting before c → IsTrace (before ++ rs) → MayCome c rs
+rows_may_come before rs c counting trace =
+    let rises : RisesFrom 0 (map (λ (x : Row). x.number) before ++ map (λ (x : Row). x.number) rs) =
+    subst (RisesFrom 0) (map-append (λ (x : Row). x.number) before rs) (rises-from_index (0 ∷ map (λ (x : Row). x.number) (before ++ rs)) trace.rising) in
     let octets = counting.octets in
     let few = trace.octets in
     record {
-      rising = subst (λ n. RisesFrom n (map (λ (x : Row). x.number) (r ∷ []))) (sym counting.last) (rises_after 0 (map (λ (x : Row). x.number) before) (map (λ (x : Row). x.number) (r ∷ [])) rises);
-      numbers = all_behind (λ x. x.number ≤ 999999999) before (r ∷ []) trace.numbers;
-      octets = omega (arith, octets, few, sum_by-append (λ (x : Row). length x.octets) before (r ∷ []));
+      rising = subst (λ n. RisesFrom n (map (λ (x : Row). x.number) rs)) (sym counting.last) (rises_after 0 (map (λ (x : Row). x.number) before) (map (λ (x : Row). x.number) rs) rises);
+      numbers = all_behind (λ x. x.number ≤ 999999999) before rs trace.numbers;
+      octets = omega (arith, octets, few, sum_by-append (λ (x : Row). length x.octets) before rs);
     }
+
+pub may_come : (before : List Row) (r : Row) (c : Cutting) → IsCounting before c → IsTrace (before ++ r ∷ []) → MayCome c (r ∷ [])
+may_come before r c counting trace = rows_may_come before (r ∷ []) c counting trace
 
 pub room_for : (before : List Row) (r : Row) (c : Cutting) → IsCounting before c → IsTrace (before ++ r ∷ []) → c.octets + length r.octets ≤ 2 ^ 31
 room_for before r c counting trace =

@@ -1,5 +1,6 @@
 pub mod Unread
 pub mod TextCuts
+pub mod TextBlocks
 pub mod Readings
 pub mod Scan
 pub mod Follow

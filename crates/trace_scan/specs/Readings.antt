@@ -5,14 +5,17 @@ use Rattle.line_model.specs.declared.interface.Interface.{Interface}
 use Rattle.line_model.specs.text.Text.{early, fault, head, rows}
 use Rattle.line_model.specs.pieces.Plans.{plan, line_findings}
 use Rattle.trace_text.specs.Decided.{NoneDecidedButLast}
-use Rattle.trace_text.specs.Sources.{IsRefusedBy}
-use Rattle.trace_text.specs.StandsFor.{IsFaultOf, IsTextFault}
+use Rattle.std.specs.Option.{option_map}
+use Rattle.line_model.specs.work.Book.{KnownPlan}
+use Rattle.trace_text.specs.Progress.{Progress}
+use Rattle.trace_text.specs.Sources.{BeginsSo, IsRefusedBy}
+use Rattle.trace_text.specs.StandsFor.{StandsFor, IsFaultOf, IsTextFault}
 use Rattle.line_model.specs.declared.fault.Fault.{Fault}
 use Rattle.line_model.specs.declared.fault.Fault.TheVariants.{Memory, Trace, Read as ReadFailed, Write, Start}
 use Rattle.shared_work.specs.queue.Passes.{PassView, QueueId}
 use Rattle.workers.specs.Workers.{HasFed}
 use Rattle.trace_scan.specs.Unread.{all_as_read}
-use Rattle.trace_scan.specs.TextCuts.{IsFedTo}
+use Rattle.trace_scan.specs.TextCuts.{IsFedTo, trace_plan_as_read}
 use Rattle.trace_scan.specs.declared.text_cutter.TextCutter.{TextCutter}
 use Rattle.trace_scan.specs.declared.feeding.Read.{Read}
 
@@ -48,13 +51,42 @@ IsReadingFault (Trace line kind) = Unit {0}
 IsReadingFault ReadFailed = Unit {0}
 IsReadingFault _ = ⊥
 
--- a text was fed since the pass of the queue was `start`: it was cut, and the pieces that are known whole were fed
-pub record IsFedTextOf {A : Type 0} (queue : QueueId) (start pass : PassView) (text : List ℕ) (c : TextCutter A) : Type 0 where
-  pub kept : HasFed start.record_of pass.record_of
-  pub no_ends : start.record_of.ends ≡ 0
-  pub same : pass.queue ≡ start.queue
+-- the pass of a queue has fed more pieces, and no end
+pub record HasFedOn (before after : PassView) : Type 0 where
+  pub kept : HasFed before.record_of after.record_of
+  pub same : after.queue ≡ before.queue
+
+-- a first part of the text that a source tells was cut, and the pieces that are known whole were fed to this queue
+pub record IsFedSoFar {A : Type 0} (known : Option (List ℕ)) (queue : QueueId) (pass : PassView) (c : TextCutter A) : Type 0 where
+  pub taken : List ℕ
+  pub begins : BeginsSo known taken
+  pub cut : IsFedTo taken pass c
   pub queue_is : pass.queue ≡ queue
-  pub cut : IsFedTo text pass c
+  pub no_ends : pass.record_of.ends ≡ 0
+
+-- a text was judged, of which so many bytes were sent on, and these are left
+pub record IsJudged (text : List ℕ) (judge : Progress) (sent : ℕ) (tail : List ℕ) : Type 0 where
+  pub reads : StandsFor judge text
+  pub front : List ℕ
+  pub is : text ≡ front ++ tail
+  pub sent_is : length front ≡ sent
+
+-- nothing was judged
+pub record HasJudgedNone (judge : Progress) (sent : ℕ) (tail : List ℕ) : Type 0 where
+  pub reads : StandsFor judge []
+  pub sent_is : sent ≡ 0
+  pub tail_is : tail ≡ []
+
+-- a text was judged since the pass of the queue was `start`, and a first part of the text that the source tells was cut
+pub record IsFedTextOf {A : Type 0} (known : Option (List ℕ)) (queue : QueueId) (start pass : PassView) (text : List ℕ) (judge : Progress) (sent : ℕ) (tail : List ℕ) (c : TextCutter A) : Type 0 where
+  pub fed : HasFedOn start pass
+  pub judged : IsJudged text judge sent tail
+  pub cut : IsFedSoFar known queue pass c
+
+-- the text that a source tells begins so, and the plan is that of it
+pub record IsPlanBegunSo (plan : KnownPlan) (known : Option (List ℕ)) (text : List ℕ) : Type 0 where
+  pub planned : plan ≡ option_map trace_plan_as_read known
+  pub begins : BeginsSo known text
 
 -- after this text was fed, the next bytes of it were refused
 pub record IsRefusedText (start pass : PassView) (text last : List ℕ) (told : Fault) : Type 0 where

@@ -1,10 +1,13 @@
 //! The gate through which a scan runs its pieces.
 
+use crate::block_queues::BlockQueues;
+use crate::blocks::TraceText;
 use channel_machine::channel::PackedChannel;
 use channel_run::run::run_piece;
 use line_model::fault::Fault;
 use line_model::piece::{Piece, PieceReport};
 use std::alloc::Allocator;
+use std::sync::Wait;
 use workers::Gate;
 
 /// Runs each piece at once.
@@ -18,5 +21,27 @@ impl Gate for OpenGate {
         piece: &Piece<A>,
     ) -> Result<PieceReport<A>, Fault> {
         run_piece::<A, PackedChannel<A>>(alloc, piece)
+    }
+}
+
+/// Runs pieces by another gate, and reads the blocks of a text that wait.
+#[derive(Drop)]
+pub struct BlockGate<'a, P: TraceText, A: Allocator, G> {
+    pub gate: &'a G,
+    pub queues: &'a BlockQueues<P, A>,
+}
+
+impl<P: TraceText + Send + Sync, B: Allocator + Copy + Send + Sync, G: Gate> Gate
+    for BlockGate<'_, P, B, G> {
+    fn run<A: Allocator + Copy>(
+        &self,
+        alloc: A,
+        piece: &Piece<A>,
+    ) -> Result<PieceReport<A>, Fault> {
+        self.gate.run(alloc, piece)
+    }
+
+    fn help<R: Wait>(&self, rt: &R) -> bool {
+        self.queues.read_one(rt) || self.gate.help(rt)
     }
 }

@@ -1,12 +1,16 @@
 //! The scan of a trace, in one thread or with workers: from a source's bytes to the report that a sink takes.
 #![tactic(auto)]
 
+pub mod block_queues;
+pub mod blocks;
+mod blocks_out;
 pub mod feeding;
 pub mod following;
 pub mod gate;
 mod headers;
 mod reading;
 pub mod scan;
+mod taken_text;
 pub mod text_cutter;
 pub mod threaded;
 mod trial;

@@ -24,7 +24,7 @@ use std::alloc::{Allocator, Global};
 use trace_text::lines::Lines;
 
 /// The packet that the octets of a row are.
-fn packet_of_row<A: Allocator>(interface: &Interface, row: &Row<A>) -> Packet
+pub(crate) fn packet_of_row<A: Allocator>(interface: &Interface, row: &Row<A>) -> Packet
     ensures { result ≡ packet_of interface.now row.now.octets }
 {
     decode(interface, row.octets.as_slice())
@@ -237,6 +237,13 @@ impl<A: Allocator + Copy> TextCutter<A> {
         Ok(pieces)
     }
 
+    /// What the header says, once an LF has ended it.
+    pub fn interface(&self) -> Option<Interface>
+        ensures { result ≡ self.now.lines.interface }
+    {
+        self.lines.interface()
+    }
+
     /// The text has ended, and its last line may lack its LF: all its rows are cut. The pieces that are known whole with
     /// the row of that line are appended.
     pub fn end(self, pieces: &mut Vec<Piece<A>, A>) -> Result<RowCutter<A>, Fault>
@@ -262,3 +269,5 @@ impl<A: Allocator + Copy> TextCutter<A> {
         Ok(row_cutter)
     }
 }
+
+mod blocks;

@@ -11,7 +11,10 @@ ghost use Rattle.trace_scan.specs.Scan.{IsPartTaken};
 ghost use Rattle.trace_scan.specs.TextCuts.{trace_plan_as_read};
 ghost use Rattle.trace_scan.specs.Threaded.{AreScanParts, IsStopped, IsWorkedFault, trace_totals};
 
+use crate::block_queues::BlockQueues;
+use crate::blocks::TraceText;
 use crate::feeding::{Read, ReadingTask};
+use crate::gate::BlockGate;
 use line_model::device::{Sink, Source};
 use line_model::fault::Fault;
 use line_model::lending::take_back;
@@ -51,15 +54,19 @@ fn first_fault<A: Allocator>(
     Ok(ScanParts { read, gathered })
 }
 
+/// A part of the text with fewer bytes is read where it was judged: it takes longer to hand it to another thread.
+const LEAST_BLOCK: usize = 1 << 15;
+
 /// Reads a trace and works through its pieces.
 fn work_on_trace<
-    P: Plan + Send + Sync,
+    P: Plan + TraceText + Send + Sync,
     A: Allocator + Copy + Send + Sync,
     S: Source,
     G: Gate,
     R: Threads + Wait + Clock + Sync,
 >(rt: &R, alloc: A, source: &mut S, crew: Crew<'_, G>) -> Result<ScanParts<A>, Fault>
-    requires plan { P.pieces ≡ option_map trace_plan_as_read (S.left source.old) }
+    requires text { P.text ≡ S.left source.old }
+    requires plan { P.pieces ≡ option_map trace_plan_as_read P.text }
     requires workers { (0 < crew.workers) × (crew.workers ≤ 64) }
     requires capacity { (0 < crew.capacity) × (crew.capacity ≤ 4096) }
     ensures parts { IfOk result (AreScanParts P.pieces crew.entry.workers (S.left source.old)
@@ -71,12 +78,25 @@ fn work_on_trace<
     ensures unasked { S.calls source.new ≡ S.calls source.old → source.new ≡ source.old }
     ensures asked { S.calls source.new ≤ S.calls source.old + (2 ^ 30 + 1) }
 {
+    let queues = BlockQueues::<P, A>::new(alloc, LEAST_BLOCK)?;
+    let gate = BlockGate {
+        gate: crew.gate,
+        queues: &queues,
+    };
     let reading = ReadingTask {
         source,
         alloc,
+        queues: &queues,
         outcome: None,
     };
-    match work_through::<P, A, G, R, ReadingTask<A, S>>(rt, alloc, crew, reading) {
+    let crew = Crew {
+        workers: crew.workers,
+        capacity: crew.capacity,
+        gate: &gate,
+    };
+    match work_through::<P, A, BlockGate<P, A, G>, R, ReadingTask<P, A, S>>(
+        rt, alloc, crew, reading,
+    ) {
         Ok(worked) => {
             let Worked { task, gathered } = worked;
             let ReadingTask {
@@ -112,7 +132,7 @@ pub struct Scan<A: Allocator = Global> {
     pub shares: Vec<Totals, A>,
 }
 
-/// Reads a trace, and has 1 to 64 workers run its pieces while it is read, over a queue of 1 to 4,096 pieces. Once the
+/// Reads a trace, and has 1 to 64 workers run its pieces while it is read, over a queue of 1 to 4,096 entries. Once the
 /// whole text was accepted and all workers were joined, it writes what the one observer finds who walks the trace packet
 /// by packet. Refuses where a thread or memory was refused, as reading does, where a worker wanted memory, and where the
 /// sink fails, in this order. The fault of a line is the text's however it goes on (`line_model::laws::fault`).

@@ -16,6 +16,22 @@ use trace_scan::threaded::Scan;
 /// How many workers, over a queue of how many pieces.
 const CREWS: [(usize, usize); 6] = [(1, 1), (1, 64), (2, 1), (2, 64), (64, 1), (64, 64)];
 
+/// How many bytes a source gives at once: each read that ends a line is a block.
+const BLOCK_STEPS: &[usize] = &[1, 7, 64, 1 << 18];
+
+/// Scans in blocks, and how many bytes their sources give at once. Scans by 64 workers take most of the time, so there are
+/// few.
+const IN_BLOCKS: [(Way, &[usize]); 8] = [
+    (Way::InBlocks(1, 1), BLOCK_STEPS),
+    (Way::InBlocks(1, 64), BLOCK_STEPS),
+    (Way::InBlocks(2, 1), BLOCK_STEPS),
+    (Way::InBlocks(2, 64), BLOCK_STEPS),
+    (Way::InBlocks(4, 1), BLOCK_STEPS),
+    (Way::InBlocks(4, 64), BLOCK_STEPS),
+    (Way::InBlocks(64, 1), &[1]),
+    (Way::InBlocks(64, 64), &[64]),
+];
+
 /// How many findings of a report are of channels: their states are named p or d.
 fn channel_findings(report: &[u8]) -> u64 {
     let mut findings = 0u64;
@@ -59,31 +75,54 @@ fn totals_told(rt: &impl Abort, scanned: Scanned, worked: &Worked, cuts: Cuts) -
     totals
 }
 
-/// Scans a trace by a crew from a source that gives so many bytes at once, and sees what is answered and written.
-fn check_crew<R: Threads + Wait + Clock + Sync + Abort>(
+/// Scans a trace from a source that gives so many bytes at once, and sees what is answered and written.
+fn check_way<R: Threads + Wait + Clock + Sync + Abort>(
     rt: &R,
     alloc: Global,
     worked: &Worked,
-    crew: (usize, usize),
+    way: Way,
     step: usize,
 ) -> Option<Totals> {
-    let way = Way::Crew(crew.0, crew.1);
     let cuts = Cuts::of_steps(step, step);
     let scanned = scan_through(rt, alloc, alloc, &OpenGate, way, worked.text, cuts);
     totals_told(rt, scanned, worked, cuts)
 }
 
-/// Scans a trace by each crew in steps of any size: all count the same.
+/// Scans a trace by a crew in steps of these sizes: it counts the same each time.
+fn check_steps<R: Threads + Wait + Clock + Sync + Abort>(
+    rt: &R,
+    alloc: Global,
+    worked: &Worked,
+    (way, steps): (Way, &[usize]),
+    wanted: Option<Totals>,
+) {
+    for step in steps {
+        let totals = check_way(rt, alloc, worked, way, *step);
+        assert!(rt; totals == wanted, "{} by {step}", worked.name);
+    }
+}
+
+/// Scans a trace by each crew in steps of any size.
 pub fn check_crews<R: Threads + Wait + Clock + Sync + Abort>(
     rt: &R,
     alloc: Global,
     worked: &Worked,
 ) {
-    let wanted = check_crew(rt, alloc, worked, (1, 1), usize::MAX);
-    for crew in CREWS {
-        for step in STEPS {
-            let totals = check_crew(rt, alloc, worked, crew, step);
-            assert!(rt; totals == wanted, "{} by {} workers", worked.name, crew.0);
-        }
+    let wanted = check_way(rt, alloc, worked, Way::Crew(1, 1), usize::MAX);
+    for (workers, capacity) in CREWS {
+        let way = Way::Crew(workers, capacity);
+        check_steps(rt, alloc, worked, (way, STEPS.as_slice()), wanted);
+    }
+}
+
+/// Scans a trace in blocks of any size.
+pub fn check_blocks<R: Threads + Wait + Clock + Sync + Abort>(
+    rt: &R,
+    alloc: Global,
+    worked: &Worked,
+) {
+    let wanted = check_way(rt, alloc, worked, Way::Crew(1, 1), usize::MAX);
+    for (way, steps) in IN_BLOCKS {
+        check_steps(rt, alloc, worked, (way, steps), wanted);
     }
 }

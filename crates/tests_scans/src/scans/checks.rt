@@ -1,6 +1,6 @@
 //! Scans of worked traces, as their sources and sinks cut them, and fail.
 
-use crate::scans::all_crews::check_crews;
+use crate::scans::all_crews::{check_blocks, check_crews};
 use crate::scans::following::check_followed;
 use crate::scans::growing::check_growing;
 use crate::scans::runs::{Outcome, Way, scan};
@@ -90,6 +90,7 @@ pub enum Test {
     Alone,
     Followed,
     ByCrews,
+    InBlocks,
     WhileItGrows,
 }
 
@@ -104,6 +105,7 @@ fn check_trace<R: Threads + Wait + Clock + Sync + Abort>(
         Test::Alone => check_bytes(rt, alloc, Way::Alone, worked, usize::MAX),
         Test::Followed => check_followed(rt, alloc, worked),
         Test::ByCrews => check_crews(rt, alloc, worked),
+        Test::InBlocks => check_blocks(rt, alloc, worked),
         Test::WhileItGrows => check_growing(rt, alloc, worked),
     }
 }

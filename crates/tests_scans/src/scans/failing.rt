@@ -1,4 +1,4 @@
-//! Scans whose source or sink fails, in one thread and by two workers, which answer and write the same.
+//! Scans whose source or sink fails, in one thread and by two workers, which answer and write the same, also in blocks.
 
 use crate::scans::checks::{check, check_writes};
 use crate::scans::runs::Way;
@@ -14,8 +14,8 @@ use tests_devices::Cuts;
 /// The bytes that a source gives at each call.
 const STEP: usize = 7;
 
-/// In one thread, and by two workers.
-const BOTH: [Way; 2] = [Way::Alone, Way::Crew(2, 64)];
+/// In one thread, by two workers, and in blocks.
+const WAYS: [Way; 3] = [Way::Alone, Way::Crew(2, 64), Way::InBlocks(2, 64)];
 
 /// How many lines have ended.
 fn lines_in(bytes: &[u8]) -> usize {
@@ -56,7 +56,7 @@ fn check_call<R: Threads + Wait + Clock + Sync + Abort>(
         fault: Some(fault_of(worked, good_bytes)),
         report: b"",
     };
-    for way in BOTH {
+    for way in WAYS {
         check(rt, alloc, way, &refused, cuts);
     }
 }
@@ -83,8 +83,9 @@ fn check_devices<R: Threads + Wait + Clock + Sync + Abort>(rt: &R, alloc: Global
     for (table, name) in TRACES {
         let worked = trace(rt, table, name);
         check_source(rt, alloc, worked);
-        check_writes(rt, alloc, Way::Alone, worked, usize::MAX);
-        check_writes(rt, alloc, Way::Crew(2, 64), worked, usize::MAX);
+        for way in WAYS {
+            check_writes(rt, alloc, way, worked, usize::MAX);
+        }
     }
 }
 

@@ -64,12 +64,12 @@ struct Noted {
     growths_before: Option<u64>,
 }
 
-/// Scans a text by so many workers.
+/// Scans a text with workers.
 fn scan_noting<R: Threads + Wait + Clock + Sync>(
     rt: &R,
     heap: &Scarce<Global>,
     alloc: Global,
-    workers: usize,
+    way: Way,
 ) -> Noted {
     let mut source = NotingSource {
         rest: NO_ROWS.text,
@@ -84,7 +84,7 @@ fn scan_noting<R: Threads + Wait + Clock + Sync>(
         heap,
         alloc,
         &OpenGate,
-        Way::Crew(workers, 64),
+        way,
         &mut source,
         Cuts::of_steps(7, 7),
     );
@@ -94,16 +94,16 @@ fn scan_noting<R: Threads + Wait + Clock + Sync>(
     }
 }
 
-/// Scans a text by so many workers, with one growth refused after so many.
+/// Scans a text with workers, with one growth refused after so many.
 fn scan_wanting<R: Threads + Wait + Clock + Sync>(
     rt: &R,
     heap: &Scarce<Global>,
     alloc: Global,
-    workers: usize,
+    way: Way,
     good: u64,
 ) -> Noted {
     heap.refuse_one(good);
-    scan_noting(rt, heap, alloc, workers)
+    scan_noting(rt, heap, alloc, way)
 }
 
 /// Refuses a growth before the source is asked: it is not asked then, nothing is written and no block is kept.
@@ -111,40 +111,35 @@ fn check_growth<R: Threads + Wait + Clock + Sync + Abort>(
     rt: &R,
     heap: &Scarce<Global>,
     alloc: Global,
-    workers: usize,
+    way: Way,
     good: u64,
 ) {
-    let noted = scan_wanting(rt, heap, alloc, workers, good);
+    let noted = scan_wanting(rt, heap, alloc, way, good);
     let fault = noted.outcome.answer.err();
     let told = fault == Some(Fault::Memory) || fault == Some(Fault::Start);
-    assert!(rt; told, "{workers} workers, growth {good}");
-    assert!(rt;
-        noted.growths_before.is_none(),
-        "{workers} workers, growth {good}"
-    );
-    assert!(rt;
-        noted.outcome.taken.is_empty(),
-        "{workers} workers, growth {good}"
-    );
+    assert!(rt; told, "growth {good}");
+    assert!(rt; noted.growths_before.is_none(), "growth {good}");
+    assert!(rt; noted.outcome.taken.is_empty(), "growth {good}");
     same_number(rt, heap.held(), 0, "blocks");
 }
 
 /// Refuses each growth before the source is asked in turn.
-fn check_crew<R: Threads + Wait + Clock + Sync + Abort>(rt: &R, alloc: Global, workers: usize) {
+fn check_crew<R: Threads + Wait + Clock + Sync + Abort>(rt: &R, alloc: Global, way: Way) {
     let heap = Scarce::new(alloc);
-    let whole = scan_wanting(rt, &heap, alloc, workers, u64::MAX);
-    assert!(rt; whole.outcome.answer.is_ok(), "{workers} workers");
+    let whole = scan_wanting(rt, &heap, alloc, way, u64::MAX);
+    assert!(rt; whole.outcome.answer.is_ok());
     let growths = whole.growths_before.unwrap_or(0);
-    assert!(rt; 0 < growths, "{workers} workers");
+    assert!(rt; 0 < growths);
     for good in 0..growths {
-        check_growth(rt, &heap, alloc, workers, good);
+        check_growth(rt, &heap, alloc, way, good);
     }
 }
 
 fn check_crews<R: Threads + Wait + Clock + Sync + Abort>(rt: &R, alloc: Global) {
-    check_crew(rt, alloc, 1);
-    check_crew(rt, alloc, 2);
-    check_crew(rt, alloc, 64);
+    check_crew(rt, alloc, Way::Crew(1, 64));
+    check_crew(rt, alloc, Way::Crew(2, 64));
+    check_crew(rt, alloc, Way::Crew(64, 64));
+    check_crew(rt, alloc, Way::InBlocks(2, 64));
 }
 
 #[test]

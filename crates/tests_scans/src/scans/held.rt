@@ -1,18 +1,22 @@
 //! Scans whose workers are held until others came, and whose reader waits for the workers.
 
 use crate::scans::crews::{Work, agree, findings};
+use crate::scans::line_source::length_of_lines;
+use crate::scans::meeting::check_meetings;
 use crate::scans::runs::{NONE, Scanned, Way, scan_from, scan_through};
 use crate::scans::worked::{Table, trace};
 use line_model::device::{CHUNK, Source};
 use line_model::fault::Fault;
 use line_model::history::{Count, History};
 use line_model::piece::{Piece, PieceReport};
+use line_model::totals::Totals;
 use std::alloc::{Allocator, Global};
 use std::marker::Brand;
 use std::process::Abort;
 use std::sync::Wait;
 use std::sync::atomic::Ordering::SeqCst;
 use std::sync::atomic::{AtomicBool, AtomicU64};
+use std::test::Fail;
 use std::thread::Threads;
 use std::time::Clock;
 use std::{array, thread};
@@ -31,14 +35,14 @@ const TURNS_OF_ONE_YIELD: u32 = 8;
 
 /// How often each piece was entered, and whether a hold ended before the pieces came that it waited for.
 #[derive(Drop)]
-struct Record {
+pub struct Record {
     times: [AtomicU64; PIECES],
     strangers: AtomicU64,
     late: AtomicBool,
 }
 
 impl Record {
-    fn new() -> Record {
+    pub fn new() -> Record {
         Record {
             times: array::from_fn(|_| AtomicU64::new(0)),
             strangers: AtomicU64::new(0),
@@ -46,34 +50,43 @@ impl Record {
         }
     }
 
-    fn enter(&self, id: u32) {
+    pub fn enter(&self, id: u32) {
         let times = self.times.get(id as usize).unwrap_or(&self.strangers);
         times.fetch_add(1, SeqCst);
     }
 
-    /// Whether each of so many pieces from this one on was entered between so many and so many times.
-    fn has(&self, first: usize, count: usize, least: u64, most: u64) -> bool {
-        for times in self.times.iter().skip(first).take(count) {
-            let times = times.load(SeqCst);
-            if times < least || most < times {
+    /// Whether each piece was entered so many times, and no other.
+    fn has_each(&self, wanted: u64) -> bool {
+        for times in self.times.iter() {
+            if times.load(SeqCst) != wanted {
+                return false;
+            }
+        }
+        self.strangers.load(SeqCst) == 0
+    }
+
+    /// Whether a hold ended too early.
+    pub fn is_late(&self) -> bool {
+        self.late.load(SeqCst)
+    }
+
+    /// Whether these pieces were entered.
+    pub fn has(&self, ids: &[usize]) -> bool {
+        for id in ids {
+            if self.times.get(*id).unwrap_or(&self.strangers).load(SeqCst) == 0 {
                 return false;
             }
         }
         true
     }
 
-    /// Whether each piece was entered so many times, and no other.
-    fn has_each(&self, times: u64) -> bool {
-        self.strangers.load(SeqCst) == 0 && self.has(0, PIECES, times, times)
-    }
-
-    /// Waits until so many pieces from this one on were entered, and says whether they were.
-    fn wait_for(&self, first: usize, count: usize) -> bool {
+    /// Waits until these pieces were entered, and says whether they were.
+    pub fn wait_for(&self, ids: &[usize]) -> bool {
         for turn in 0..TURNS {
-            if self.has(first, count, 1, u64::MAX) {
+            if self.has(ids) {
                 return true;
             }
-            if self.late.load(SeqCst) {
+            if self.is_late() {
                 return false;
             }
             if turn % TURNS_OF_ONE_YIELD == 0 {
@@ -85,11 +98,11 @@ impl Record {
     }
 }
 
-/// Notes each piece, and holds it until all pieces of its group were entered.
+/// Notes each piece, and holds it until these pieces were entered.
 #[derive(Drop)]
 struct Holding<'a> {
     record: &'a Record,
-    group: usize,
+    until: &'a [usize],
 }
 
 impl Gate for Holding<'_> {
@@ -98,20 +111,15 @@ impl Gate for Holding<'_> {
         alloc: A,
         piece: &Piece<A>,
     ) -> Result<PieceReport<A>, Fault> {
-        let id = piece.id as usize;
-        let group = self.group.max(1);
         self.record.enter(piece.id);
-        self.record.wait_for(id - id % group, group);
+        self.record.wait_for(self.until);
         OpenGate.run(alloc, piece)
     }
 }
 
 /// The scan found what the one observer finds in three epochs, and each piece was entered once.
 fn check_three_epochs(rt: &impl Abort, scanned: &Scanned, record: &Record, work: &Work) {
-    assert!(rt;
-        !record.late.load(SeqCst),
-        "a piece was held for {TURNS} turns"
-    );
+    assert!(rt; !record.is_late(), "a piece was held for {TURNS} turns");
     assert!(rt; record.has_each(1));
     agree(
         rt,
@@ -121,65 +129,53 @@ fn check_three_epochs(rt: &impl Abort, scanned: &Scanned, record: &Record, work:
     );
 }
 
-/// Holds as many pieces as there are workers, or all twelve, until all of them were entered, so that each of them has a
-/// worker of its own.
+/// The first piece of each epoch. The four of an epoch are known whole together, so they are one bundle.
+const FIRSTS: [usize; 3] = [0, 4, 8];
+
+/// Holds each piece until the first ones of so many bundles were entered, so that each of these has a worker of its own.
 fn check_crew<R: Threads + Wait + Clock + Sync + Abort>(
     rt: &R,
     alloc: Global,
     capacity: usize,
+    held: usize,
     work: &Work,
 ) {
     let text = trace(rt, Table::Epochs, "three-epochs").text;
     let record = Record::new();
+    let (until, _) = FIRSTS.as_slice().split_at(held.min(3));
     let gate = Holding {
         record: &record,
-        group: work.workers,
+        until,
     };
     let way = Way::Crew(work.workers, capacity);
     let scanned = scan_through(rt, alloc, alloc, &gate, way, text, Cuts::of_steps(7, 7));
     check_three_epochs(rt, &scanned, &record, work);
 }
 
-/// Has so many workers run so many pieces each side by side.
+/// Has so many workers run the three bundles side by side, so many of them at a time.
 fn check_side_by_side<R: Threads + Wait + Clock + Sync + Abort>(
     rt: &R,
     alloc: Global,
+    held: usize,
     workers: usize,
-    each: u64,
+    shares: &[(usize, Totals)],
 ) {
     let work = Work {
         workers,
         totals: findings(12),
-        shares: &[(workers, findings(each))],
+        shares,
     };
-    check_crew(rt, alloc, 64, &work);
-    check_crew(rt, alloc, 1, &work);
-}
-
-/// Has each of twelve workers run a piece, side by side, and 52 none.
-fn check_all_at_once<R: Threads + Wait + Clock + Sync + Abort>(rt: &R, alloc: Global) {
-    let work = Work {
-        workers: 64,
-        totals: findings(12),
-        shares: &[(12, findings(1)), (52, NONE)],
-    };
-    check_crew(rt, alloc, 64, &work);
-    check_crew(rt, alloc, 1, &work);
+    check_crew(rt, alloc, 64, held, &work);
+    check_crew(rt, alloc, 1, held, &work);
 }
 
 #[test]
-fn twelve_pieces_are_run_side_by_side_by_1_2_4_and_64_workers(rt: HostRuntime) {
-    check_side_by_side(&rt, rt.alloc(), 1, 12);
-    check_side_by_side(&rt, rt.alloc(), 2, 6);
-    check_side_by_side(&rt, rt.alloc(), 4, 3);
-    check_all_at_once(&rt, rt.alloc());
-}
-
-/// How many bytes the first line has, with its LF.
-fn line_length(text: &[u8]) -> usize {
-    text.iter()
-        .position(|byte| *byte == b'\n')
-        .map_or(text.len(), |at| at.saturating_add(1))
+fn three_bundles_are_run_side_by_side_by_1_2_4_and_64_workers(rt: HostRuntime) {
+    let alloc = rt.alloc();
+    check_side_by_side(&rt, alloc, 1, 1, &[(1, findings(12))]);
+    check_side_by_side(&rt, alloc, 2, 2, &[(1, findings(8)), (1, findings(4))]);
+    check_side_by_side(&rt, alloc, 3, 4, &[(3, findings(4)), (1, NONE)]);
+    check_side_by_side(&rt, alloc, 3, 64, &[(3, findings(4)), (61, NONE)]);
 }
 
 /// Gives three epochs, a line a call. Before row 7 it waits until the pieces of the first epoch were entered.
@@ -216,10 +212,10 @@ impl Source for WaitingSource<'_> {
             self.none_at_row_5 = self.record.has_each(0);
         }
         if self.rest.starts_with(b"7 ") {
-            self.four_at_row_7 = self.record.wait_for(0, 4);
+            self.four_at_row_7 = self.record.wait_for(&[0, 1, 2, 3]);
         }
         let most = self.rest.len().min(CHUNK);
-        let n = most.min(line_length(self.rest).max(1));
+        let n = most.min(length_of_lines(self.rest, 1).max(1));
         let (front, back) = self.rest.split_at(n);
         self.latest = front;
         self.rest = back;
@@ -239,7 +235,7 @@ fn check_waiting<R: Threads + Wait + Clock + Sync + Abort>(
 ) -> Scanned {
     let gate = Holding {
         record: source.record,
-        group: 1,
+        until: &[],
     };
     let scanned = scan_from(
         rt,
@@ -285,6 +281,7 @@ fn check_while_read<R: Threads + Wait + Clock + Sync + Abort>(rt: &R, alloc: Glo
 }
 
 #[test]
-fn pieces_are_run_while_the_text_is_read(rt: HostRuntime) {
-    check_while_read(&rt, rt.alloc())
+fn pieces_are_run_and_blocks_are_read_while_the_text_is_read(rt: HostRuntime) -> Result<(), Fail> {
+    check_while_read(&rt, rt.alloc());
+    check_meetings(&rt, rt.alloc())
 }

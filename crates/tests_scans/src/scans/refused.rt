@@ -21,7 +21,7 @@ const GROWTHS: u64 = 10_000;
 fn tells_want(way: Way, fault: Option<Fault>) -> bool {
     match fault {
         Some(Fault::Memory) => true,
-        Some(Fault::Start) => matches!(way, Way::Crew(_, _)),
+        Some(Fault::Start) => way.has_workers(),
         _ => false,
     }
 }
@@ -42,6 +42,12 @@ fn agree(rt: &impl Abort, way: Way, outcome: &Outcome, worked: &Worked, refused:
     );
 }
 
+/// Whether a scan wrote its report though a growth was refused: a crew feeds one by one the pieces for whose bundle there
+/// is no memory, and the reading thread reads a block for which a worker has none.
+fn goes_on(way: Way, outcome: &Outcome) -> bool {
+    way.has_workers() && outcome.answer.is_ok()
+}
+
 /// Refuses one growth of a scan, and sees that nothing is written and no block is kept: so all workers were joined.
 /// Answers whether there was such a growth.
 fn check_growth<R: Threads + Wait + Clock + Sync + Abort>(
@@ -55,7 +61,8 @@ fn check_growth<R: Threads + Wait + Clock + Sync + Abort>(
     heap.refuse_one(good);
     let outcome = scan_in(rt, heap, alloc, way, worked.text, Cuts::of_steps(7, 7));
     let refused = good < heap.asked();
-    agree(rt, way, &outcome, worked, refused, good);
+    let stops = refused && !goes_on(way, &outcome);
+    agree(rt, way, &outcome, worked, stops, good);
     refused
 }
 

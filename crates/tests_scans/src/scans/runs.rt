@@ -1,10 +1,12 @@
 //! Scans over the devices of the tests.
 
+use crate::scans::in_blocks::scan_in_blocks;
 use line_model::device::{Sink, Source};
 use line_model::fault::Fault;
 use line_model::totals::{Summary, Totals};
 use live_report::uncounted::Uncounted;
 use std::alloc::{Allocator, Global};
+use std::marker::Brand;
 use std::sync::Wait;
 use std::thread::Threads;
 use std::time::Clock;
@@ -13,14 +15,23 @@ use trace_scan::following::follow;
 use trace_scan::gate::OpenGate;
 use trace_scan::scan::scan_alone;
 use trace_scan::threaded::{Scan, scan_with};
-use workers::Gate;
+use workers::{Crew, Gate};
 
-/// How a text is scanned: in one thread, as it grows, or by so many workers over a queue of so many pieces.
+/// How a text is scanned: in one thread, as it grows, or by so many workers over a queue of so many pieces. In blocks the
+/// workers read each part of the text that the source gives and that ends a line; else only parts of many lines.
 #[derive(Clone, Copy)]
 pub enum Way {
     Alone,
     Following,
     Crew(usize, usize),
+    InBlocks(usize, usize),
+}
+
+impl Way {
+    /// Whether workers run the pieces.
+    pub fn has_workers(self) -> bool {
+        matches!(self, Way::Crew(_, _) | Way::InBlocks(_, _))
+    }
 }
 
 /// The totals of no pieces.
@@ -73,6 +84,14 @@ fn scan_by<
             capacity.clamp(1, 4096),
             gate,
         ),
+        Way::InBlocks(workers, capacity) => {
+            let crew = Crew {
+                workers: workers.clamp(1, 64),
+                capacity: capacity.clamp(1, 4096),
+                gate,
+            };
+            scan_in_blocks::<Brand, A, S, K, G, R>(rt, heap, source, sink, crew)
+        }
     }
 }
 

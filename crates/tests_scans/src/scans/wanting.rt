@@ -79,6 +79,7 @@ fn check_crews<R: Threads + Wait + Clock + Sync + Abort>(rt: &R, alloc: Global) 
     check_pieces(rt, alloc, Way::Crew(2, 64));
     check_pieces(rt, alloc, Way::Crew(2, 1));
     check_pieces(rt, alloc, Way::Crew(64, 64));
+    check_pieces(rt, alloc, Way::InBlocks(2, 64));
 }
 
 #[test]

@@ -1,7 +1,8 @@
-use Rattle.std.proofs.Common.{◌≡◌, ◌<◌, ap, subst, arith, rules}
+use Rattle.std.proofs.Common.{◌≡◌, ◌<◌, ap, subst, refl, inl, arith, rules}
 use Rattle.std.specs.Prelude.{IfErr, IfOk}
 use Rattle.trace_scan.specs.Threaded.{AreScanParts, IsStopped}
 use Rattle.trace_scan.proofs.ThreadedLemmas.{parts_are, stopped, unfed_stopped}
+use Rattle.trace_text.proofs.SourceLemmas.{passed_on}
 use Rattle.trace_scan.proofs.threaded.work_on_trace.Goals as goal
 
 pub returns-in-Ok-clause-stopped : goal.returns-in-Ok-clause-stopped
@@ -25,7 +26,12 @@ returns-in-Ok-clause-unasked g c none =
     let called : g.S.Source.calls c.args.source.now < g.S.Source.calls c.source-1.given.0 = subst (λ s. g.S.Source.calls c.args.source.now < g.S.Source.calls s) same w.1.2 in
     absurd (omega (arith, called, none))
 
-pub returns-in-Err-clause-stopped : goal.returns-in-Err-clause-stopped
-returns-in-Err-clause-stopped g c =
+pub returns-in_err-queues-clause-stopped : goal.returns-in_err-queues-clause-stopped
+returns-in_err-queues-clause-stopped g c =
+    passed_on c.from_residual.result c.in_err-queues.field-0.0 _ c.from_residual.ensures.1
+    (unfed_stopped (g.S.Source.left c.args.source.now) (g.S.Source.left c.args.source.now) (g.S.Source.before c.args.source.now) c.in_err-queues.field-0.0 refl (inl c.in_err-queues.ensures.refused))
+
+pub returns-clause-stopped : goal.returns-clause-stopped
+returns-clause-stopped g c =
     let same : c.source-in-Err-1.given.0 ≡ c.args.source.now = search rules in
     unfed_stopped (g.S.Source.left c.args.source.now) (g.S.Source.left c.source-in-Err-1.given.0) (g.S.Source.before c.source-in-Err-1.given.0) c.in-Err.fault (ap (g.S.Source.left) same) c.in-Err.ensures.refused.1

@@ -1,51 +1,21 @@
-use Rattle.std.proofs.Common.{◌≢◌, ◌∙◌, ◌++◌, ap, sym}
-use Rattle.std.proofs.lemmas.Result.{IfOk-from_err}
-use Rattle.line_model.specs.declared.fault.Fault.TheVariants.{Read}
-use Rattle.trace_text.proofs.SourceLemmas.{passed_on}
-use Rattle.trace_scan.proofs.Courses.{fed_on, no_read_fault}
-use Rattle.trace_scan.proofs.Rows.{all_fed}
-use Rattle.trace_scan.proofs.Texts.{part_next}
+use Rattle.std.proofs.Common.{◌≡◌, ◌∙◌, ◌-◌, ◌++◌, ap, subst, sym, length}
+use Rattle.trace_text.specs.StandsFor.{StandsFor}
+use Rattle.trace_scan.specs.Readings.{IsFedSoFar}
+use Rattle.trace_scan.proofs.Parts.{fed_both, lines_sent, lines_stand}
 use Rattle.trace_scan.proofs.feeding.FedTextConsumerFeederPass.feed.Goals as goal
 
-pub feed-requires : goal.feed-requires
-feed-requires g c = let was = c.requires.fed in (was.2, was.3.cut.taken)
-
-pub feed_pieces-requires-clause-queue : goal.feed_pieces-requires-clause-queue
-feed_pieces-requires-clause-queue g c = c.requires.fed.3.queue_is
-
-pub feed_pieces-requires-clause-open : goal.feed_pieces-requires-clause-open
-feed_pieces-requires-clause-open g c = c.requires.fed.3.kept.ends
-
-pub feed_pieces-requires-clause-next : goal.feed_pieces-requires-clause-next
-feed_pieces-requires-clause-next g c =
+pub take_lines-requires-clause-place : goal.take_lines-requires-clause-place
+take_lines-requires-clause-place g c =
     let was = c.requires.fed in
-    let cut = was.3.cut in
-    part_next g.P.Plan.pieces was.2 _ c.in_ok-pieces.pieces.items c.args.pass.now.record_of.fed (c.in_ok-pieces.ensures.taken was.2 cut.taken).reads.sound cut.count (c.in_ok-pieces.ensures.pieces was.2 cut.taken) was.4
+    lines_stand g.P.TraceText.text was.2 c.args.chunk.now was.3.judged.front _ c.in-Some.lines.now c.in-Some.begun.now _ was.4.begins was.3.judged.is was.3.judged.sent_is c.in-Some.ensures
 
 pub returns-clause-fed : goal.returns-clause-fed
 returns-clause-fed g c first start text was =
-    let cut = was.cut in
-    let pieces = c.in_ok-pieces.pieces in
-    let more = c.in_ok-pieces.ensures.pieces text cut.taken in
+    let same = c.take_lines.ensures.same in
+    let reads : StandsFor c.take_lines.new.self.judge (text ++ c.args.chunk.now) = subst (λ j. StandsFor j (text ++ c.args.chunk.now)) (sym same.0) (c.in_ok-judge.ensures.ok text was.judged.reads) in
+    let now : c.extend_from_slice-2.new.self.items ≡ c.in-Some.begun.now = ◌∙◌ {b = c.clear.new.self.items ++ c.in-Some.begun.now} c.in_ok-extend_from_slice-2.ensures.items (ap (λ xs. xs ++ c.in-Some.begun.now) c.clear.ensures.items) in
     record {
-      kept = fed_on start.record_of c.args.pass.now.record_of c.feed_pieces.new.pass.record_of was.kept c.feed_pieces.ensures.kept;
-      no_ends = was.no_ends;
-      same = c.feed_pieces.ensures.queue ∙ was.same;
-      queue_is = c.feed_pieces.ensures.queue ∙ was.queue_is;
-      cut = record {
-        taken = c.in_ok-pieces.ensures.taken text cut.taken;
-        count = all_fed _ _ _ _ pieces.items _ pieces.ok.0 cut.count more c.feed_pieces.ensures.fed;
-        pieces = c.feed_pieces.ensures.pieces ∙ ap (λ ps. ps ++ pieces.items) cut.pieces ∙ sym more;
-      };
+      fed = fed_both start c.args.pass.now c.take_lines.new.pass was.fed c.take_lines.ensures.fed;
+      judged = lines_sent text c.args.chunk.now c.args.self.now.tail.items c.in-Some.lines.now c.in-Some.begun.now c.extend_from_slice-2.new.self.items c.args.self.now.judge c.take_lines.new.self.judge c.args.self.now.sent c.saturating_sub-self.result was.judged reads c.in-Some.ensures now (c.saturating_sub-self.ensures ∙ ap (λ n. n - length c.in-Some.begun.now) c.bytes.ensures);
+      cut = subst (λ v. IsFedSoFar g.P.TraceText.text v.queue c.take_lines.new.pass c.take_lines.new.self.taken.text) (sym same.3) c.in_ok-take_lines.ensures.taken;
     }
-
-pub returns-in_err-pieces-clause-fed : goal.returns-in_err-pieces-clause-fed
-returns-in_err-pieces-clause-fed g c first start text was = IfOk-from_err _ _ c.from_residual.ensures.0
-
-pub returns-in_err-pieces-clause-refused : goal.returns-in_err-pieces-clause-refused
-returns-in_err-pieces-clause-refused g c first start text was =
-    passed_on c.from_residual.result c.in_err-pieces.field-0.0 _ c.from_residual.ensures.1
-    (record { kept = was.kept; same = was.same; refusal = c.in_err-pieces.ensures.refused text was.cut.taken; kinds = c.in_err-pieces.ensures.kinds })
-
-pub returns-in_err-pieces-clause-kinds : goal.returns-in_err-pieces-clause-kinds
-returns-in_err-pieces-clause-kinds g c = passed_on c.from_residual.result c.in_err-pieces.field-0.0 (λ f. f ≢ Read) c.from_residual.ensures.1 (no_read_fault c.in_err-pieces.field-0.0 c.in_err-pieces.ensures.kinds)

@@ -1,0 +1,79 @@
+//! The queues by which the reading thread and the workers hand each other blocks.
+
+ghost use Rattle.std.specs.Prelude.{◌≡◌, IfErr};
+ghost use Rattle.line_model.specs.declared.fault.Fault.TheVariants.{Memory};
+
+use crate::blocks::{Block, ReadBlock, TraceText};
+use crossbeam_queue::ArrayQueue;
+use line_model::fault::Fault;
+use std::alloc::{Allocator, Global};
+use std::sync::Wait;
+use std::thread;
+
+/// No more blocks are out of the hands of the reading thread.
+pub const MOST_BLOCKS: usize = 16;
+
+/// Blocks that wait to be read, and blocks that were read, in any order.
+#[derive(Drop)]
+pub struct BlockQueues<P: TraceText, A: Allocator = Global> {
+    /// A part of the text with fewer bytes is no block.
+    pub least: usize,
+    unread: ArrayQueue<Block<P, A>, A>,
+    read: ArrayQueue<ReadBlock<P, A>, A>,
+}
+
+impl<P: TraceText, A: Allocator + Copy> BlockQueues<P, A> {
+    /// Both queues are empty. A part of the text with fewer bytes than `least` is no block.
+    pub fn new(alloc: A, least: usize) -> Result<Self, Fault>
+        ensures refused { IfErr result (λ fault. fault ≡ Memory) }
+    {
+        let unread = ArrayQueue::new(alloc, MOST_BLOCKS)?;
+        let read = ArrayQueue::new(alloc, MOST_BLOCKS)?;
+        Ok(BlockQueues {
+            least,
+            unread,
+            read,
+        })
+    }
+
+    /// Has a block wait until a thread reads it. It comes back where as many wait as there is room for.
+    pub fn hand_out<R: Wait>(&self, rt: &R, block: Block<P, A>) -> Result<(), Block<P, A>>
+        ensures back { IfErr result (λ back. back ≡ block) }
+    {
+        self.unread.push(rt, block)
+    }
+
+    /// Hands a block back that was read.
+    fn hand_back<R: Wait>(&self, rt: &R, block: ReadBlock<P, A>) {
+        let mut left = block;
+        for _ in rt.forever() {
+            match self.read.push(rt, left) {
+                Ok(()) => return,
+                Err(back) => left = back,
+            }
+            thread::yield_now();
+        }
+        unreachable!()
+    }
+
+    /// Reads a block that waits, if one does, and hands it back. Says whether one did.
+    pub fn read_one<R: Wait>(&self, rt: &R) -> bool {
+        match self.unread.pop(rt) {
+            Some(block) => {
+                self.hand_back(rt, block.read());
+                true
+            }
+            None => false,
+        }
+    }
+
+    /// A block that waits to be read, if one does.
+    pub fn take_unread<R: Wait>(&self, rt: &R) -> Option<Block<P, A>> {
+        self.unread.pop(rt)
+    }
+
+    /// A block that was read, if one was handed back.
+    pub fn take_read<R: Wait>(&self, rt: &R) -> Option<ReadBlock<P, A>> {
+        self.read.pop(rt)
+    }
+}

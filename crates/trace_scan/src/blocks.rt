@@ -1,0 +1,183 @@
+//! Blocks of a text: whole lines that any thread reads.
+
+ghost use Rattle.std.specs.Prelude.{◌≡◌, ◌++◌, ◌∷◌, ◌==◌, [], List, ℕ, IfSome, OnOk, cond, length};
+ghost use Rattle.line_model.specs.basics.Records as records;
+ghost use Rattle.trace_scan.specs.TextBlocks.{AreRead, HasReadTo, IsReadAs};
+
+use crate::text_cutter::packet_of_row;
+use crate::unread::leave_out_unread;
+use line_model::fault::Fault;
+use line_model::interface::Interface;
+use line_model::items::Items;
+use line_model::row::Row;
+use line_model::state::Side;
+use std::alloc::{AllocError, Allocator, Global};
+use std::marker::{Brand, Model, PhantomData};
+use trace_text::lines::Lines;
+use trace_text::lines::block::BlockSpan;
+
+/// The text that a source tells, which contracts alone see. With none they speak of any text.
+pub trait TraceText {
+    ghost use Rattle.std.specs.Prelude.{Option, List, ℕ};
+
+    ghost text: { Option (List ℕ) };
+}
+
+impl TraceText for Brand {
+    ghost use Rattle.std.specs.Prelude.{None};
+
+    ghost text = { None };
+}
+
+/// Bytes of a text, and how many of its bytes stand before them.
+#[derive(Drop)]
+pub struct Block<P: TraceText, A: Allocator = Global> {
+    pub place: u32,
+    /// What the header of the text says.
+    pub interface: Interface,
+    pub bytes: Vec<u8, A>,
+    pub text: PhantomData<P>,
+}
+
+impl<P: TraceText, A: Allocator> Model for Block<P, A> {
+    ghost use Rattle.std.specs.Prelude.{IfSome};
+    ghost use Rattle.trace_scan.specs.TextBlocks.{BlockView, StandsAt};
+
+    ghost Value = { BlockView };
+
+    ghost view = { λ b. record { place = b.place; interface = b.interface; bytes = b.bytes.items } };
+
+    ghost invariant = { λ b. IfSome P.text (λ whole. StandsAt whole b.place b.bytes.items) };
+}
+
+/// The rows of a block as their channels read them, and what the reader of the text has to know of it.
+#[derive(Drop)]
+pub struct BlockRows<A: Allocator = Global> {
+    pub span: BlockSpan,
+    pub items: Items<A>,
+}
+
+/// A block with its rows; none where it could not be read apart.
+#[derive(Drop)]
+pub struct ReadBlock<P: TraceText, A: Allocator = Global> {
+    pub block: Block<P, A>,
+    pub rows: Option<BlockRows<A>>,
+}
+
+impl<P: TraceText, A: Allocator> Model for ReadBlock<P, A> {
+    ghost use Rattle.std.specs.Prelude.{IfSome};
+    ghost use Rattle.trace_scan.specs.TextBlocks.{BlockView, IsReadAs, StandsAt};
+
+    ghost Value = { BlockView };
+
+    ghost view = { λ r. r.block };
+
+    ghost invariant = { λ r. IfSome P.text (λ whole. StandsAt whole r.block.place r.block.bytes) × IfSome r.rows (IsReadAs r.block.interface r.block.bytes) };
+}
+
+/// The rows that were read of a block so far.
+#[derive(Drop)]
+struct RowsSoFar<A: Allocator = Global> {
+    interface: Interface,
+    /// The number of the first row, or 0.
+    first: u32,
+    items: Items<A>,
+}
+
+impl<A: Allocator + Copy> RowsSoFar<A> {
+    /// Before the first row. It takes no memory.
+    fn new(alloc: A, interface: &Interface) -> Self
+        ensures interface { result.interface ≡ interface.now }
+        ensures none { AreRead [] result }
+    {
+        RowsSoFar {
+            interface: *interface,
+            first: 0,
+            items: Items::new(alloc),
+        }
+    }
+
+    /// The number of the first row once a row of this number is added.
+    fn first_with(&self, number: u32) -> u32
+        ensures { result ≡ cond (length self.now.items == 0) number self.now.first }
+    {
+        if self.items.is_empty() {
+            number
+        } else {
+            self.first
+        }
+    }
+
+    /// Adds a row. User data that the row's channel does not read is left out, in the row too.
+    fn add(&mut self, row: &mut Row<A>) -> Result<(), AllocError>
+        ensures interface { self.new.interface ≡ self.old.interface }
+        ensures added { (rows : List records.Row) → AreRead rows self.old
+            → OnOk result (AreRead (rows ++ row.old ∷ []) self.new) }
+    {
+        let packet = packet_of_row(&self.interface, row);
+        leave_out_unread(&packet, row)?;
+        self.first = self.first_with(row.number);
+        self.items.push(&row.with_packet(packet))
+    }
+
+    /// Adds the rows of the lines that an LF of these bytes ends, each read into the place of the one before.
+    fn add_lines(
+        &mut self,
+        bytes: &[u8],
+        lines: &mut Lines<A>,
+        row: &mut Row<A>,
+    ) -> Result<(), Fault>
+        ensures interface { self.new.interface ≡ self.old.interface }
+        ensures added { (text : List ℕ) → HasReadTo text lines.old self.old
+            → OnOk result (HasReadTo (text ++ bytes.now) lines.new self.new) }
+    {
+        let mut rest = bytes;
+        while let Some(after) = lines.next_row(rest, row)? {
+            self.add(row)?;
+            rest = after;
+        }
+        Ok(())
+    }
+}
+
+/// The rows of a block after a header of this interface. `None`: a line is faulty, the last line has no LF, or memory is
+/// wanted.
+fn rows_of<A: Allocator + Copy>(
+    alloc: A,
+    interface: &Interface,
+    bytes: &[u8],
+) -> Option<BlockRows<A>>
+    ensures { IfSome result (IsReadAs interface.now bytes.now) }
+{
+    let mut lines = Lines::at_rows(alloc, interface);
+    let mut rows = RowsSoFar::new(alloc, interface);
+    let mut row = Row {
+        number: 0,
+        side: Side::T,
+        octets: Vec::new(alloc),
+    };
+    match rows.add_lines(bytes, &mut lines, &mut row) {
+        Ok(()) => {
+            let span = lines.end_block(rows.first)?;
+            Some(BlockRows {
+                span,
+                items: rows.items,
+            })
+        }
+        Err(_) => None,
+    }
+}
+
+impl<P: TraceText, A: Allocator + Copy> Block<P, A> {
+    /// Reads the rows of the block apart from the text before it.
+    pub fn read(self) -> ReadBlock<P, A>
+        ensures { result ≡ self }
+    {
+        let rows = rows_of(
+            *self.bytes.allocator(),
+            &self.interface,
+            self.bytes.as_slice(),
+        );
+        ReadBlock { block: self, rows }
+    }
+}
