@@ -1,7 +1,7 @@
 //! Rows with their packets, in two lists: what stands before the octets of each row, and the octets that are kept.
 
-ghost use Rattle.std.specs.Prelude.{◌≡◌, ◌++◌, ◌∷◌, [], length, replicate, true, OnErr, OnOk, IfErr, IfOk, ◌==◌};
-ghost use Rattle.line_model.specs.basics.Items.{kept_of, unfolded};
+ghost use Rattle.std.specs.Prelude.{◌≡◌, ◌<◌, ◌^◌, ◌++◌, ◌∷◌, [], length, replicate, take, drop, true, OnErr, OnOk, IfErr, IfOk, ◌==◌};
+ghost use Rattle.line_model.specs.basics.Items.{kept_of, octets_of, unfolded};
 ghost use Rattle.line_model.specs.declared.fault.Fault.TheVariants.{Memory};
 
 use crate::fault::Fault;
@@ -22,7 +22,7 @@ pub struct Head {
     /// Whether the octets after the fourth are all 0. They are not kept then.
     is_blank: bool,
     /// How many octets the row has.
-    octets: usize,
+    octets: u32,
 }
 
 impl Head {
@@ -30,12 +30,25 @@ impl Head {
     fn kept(&self) -> usize
         ensures { result ≡ kept_of self.now.is_blank self.now.octets }
     {
+        let octets = self.octets as usize;
         if self.is_blank {
-            FRONT.min(self.octets)
+            FRONT.min(octets)
         } else {
-            self.octets
+            octets
         }
     }
+}
+
+/// How many octets of some rows are kept.
+fn kept_of_all(heads: &[Head]) -> usize
+    requires { octets_of heads.now < 2 ^ 64 }
+    ensures { result ≡ octets_of heads.now }
+{
+    let mut kept = 0;
+    for head in heads {
+        kept += head.kept();
+    }
+    kept
 }
 
 /// Rows with their packets, in order. It takes memory for all heads and for all octets, and none for a single row. Octets
@@ -107,7 +120,7 @@ impl<'a> KeptItem<'a> {
     {
         octets.clear();
         octets.extend_from_slice(self.octets)?;
-        octets.resize(self.head.octets.max(self.octets.len()), 0)?;
+        octets.resize((self.head.octets as usize).max(self.octets.len()), 0)?;
         Ok(())
     }
 
@@ -142,6 +155,20 @@ impl<'a> Model for Iter<'a> {
     ghost view = { λ i. items_of i.heads.now i.octets.now };
 
     ghost invariant = { λ i. octets_of i.heads.now ≡ length i.octets.now };
+}
+
+impl<'a> Iter<'a> {
+    /// Takes out the first rows that are left, as many as that. Where fewer are left it takes all.
+    pub fn take_front(&mut self, count: usize) -> Iter<'a>
+        ensures taken { result ≡ take count self.old }
+        ensures left { self.new ≡ drop count self.old }
+    {
+        let (heads, other_heads) = self.heads.split_at(count.min(self.heads.len()));
+        let (octets, other_octets) = self.octets.split_at(kept_of_all(heads));
+        self.heads = other_heads;
+        self.octets = other_octets;
+        Iter { heads, octets }
+    }
 }
 
 impl<'a> Iterator for Iter<'a> {
@@ -226,11 +253,14 @@ impl<A: Allocator> Items<A> {
         self.octets.clear();
     }
 
-    /// Appends a row. Where memory is refused nothing changes.
+    /// Appends a row of less than 2^32 octets. Where memory is refused nothing changes.
     pub fn push(&mut self, item: &ItemRef<'_>) -> Result<(), AllocError>
         ensures ok { OnOk result (self.new ≡ self.old ++ item.now ∷ []) }
         ensures refused { OnErr result (self.new ≡ self.old) }
     {
+        let Ok(octets) = u32::try_from(item.octets.len()) else {
+            return Err(AllocError);
+        };
         let (kept, is_blank) = kept_octets(item.octets);
         self.heads.reserve(1)?;
         self.octets.extend_from_slice(kept)?;
@@ -239,9 +269,25 @@ impl<A: Allocator> Items<A> {
             side: item.side,
             packet: item.packet,
             is_blank,
-            octets: item.octets.len(),
+            octets,
         });
         Ok(())
+    }
+
+    /// Appends the rows that are left of others. Where memory is refused nothing changes.
+    pub fn append(&mut self, rows: &Iter<'_>) -> Result<(), AllocError>
+        ensures ok { OnOk result (self.new ≡ self.old ++ rows.now) }
+        ensures refused { OnErr result (self.new ≡ self.old) }
+    {
+        let count = self.heads.len();
+        self.heads.extend_from_slice(rows.heads)?;
+        match self.octets.extend_from_slice(rows.octets) {
+            Ok(()) => Ok(()),
+            Err(error) => {
+                self.heads.truncate(count);
+                Err(error)
+            }
+        }
     }
 }
 

@@ -3,6 +3,7 @@
 use line_model::items::{ItemRef, Items, KeptItem};
 use line_model::packet::{DataHeader, Packet, PacketKind};
 use line_model::state::Side;
+use std::alloc::Global;
 use std::test::Fail;
 
 /// A row: its number, its side, its octets and what they are.
@@ -110,10 +111,26 @@ fn copied(items: &mut Items) -> Result<Items, Fail> {
     Ok(items.copy()?)
 }
 
+/// The rows of a list in another one, to which they were appended in two parts, so many of them first.
+fn in_two_parts(alloc: Global, items: &Items, count: usize) -> Result<Items, Fail> {
+    let mut parts = Items::new(alloc);
+    let mut rows = items.iter();
+    parts.append(&rows.take_front(count))?;
+    if !rows_are(&parts, LINES.get(..count).unwrap_or(&LINES)) {
+        return Err("the first part has other rows")?;
+    }
+    parts.append(&rows)?;
+    Ok(parts)
+}
+
 #[test]
-fn a_copy_has_the_rows_and_a_cleared_list_has_none(rt: HostRuntime) -> Result<(), Fail> {
+fn rows_are_copied_appended_in_parts_and_cleared(rt: HostRuntime) -> Result<(), Fail> {
     let mut items = Items::new(rt.alloc());
     let copy = copied(&mut items)?;
+    for count in 0..9 {
+        let parts = in_two_parts(rt.alloc(), &copy, count)?;
+        assert!(rt; rows_are(&parts, &LINES));
+    }
     items.clear();
     assert!(rt; rows_are(&items, &[]) && rows_are(&copy, &LINES));
     push_all(&mut items, &[DATA, CALL])?;

@@ -1,4 +1,4 @@
-use Rattle.std.proofs.Common.{◌≡◌, ◌∙◌, ap, ap₂, List, [], ◌∷◌, ◌++◌, length, rules}
+use Rattle.std.proofs.Common.{◌≡◌, ◌∙◌, ap, ap₂, [], ◌∷◌, ◌++◌, length, rules}
 use Rattle.line_model.specs.basics.Items.{items_of}
 use Rattle.line_model.specs.declared.items.Head.{Head}
 use Rattle.line_model.proofs.ItemLemmas.{item_of, items-push}
