@@ -18,3 +18,9 @@ pub mod Listings
 pub mod States
 pub mod Peeks
 pub mod HandingOn
+pub mod ListedRows
+pub mod Parts
+pub mod SplitSteps
+pub mod Stretched
+pub mod Runs
+pub mod Splittings

@@ -22,7 +22,7 @@ passes f (k ∷ ks) = at (f k) refl (passes f ks)
     at true e rest = (e, rest)
     at false e rest = rest
 
-some_mapped : (i : Interface) (rs : List Row) → has_some (map (item_of i) rs) ≡ has_some rs
+pub some_mapped : (i : Interface) (rs : List Row) → has_some (map (item_of i) rs) ≡ has_some rs
 some_mapped i [] = refl
 some_mapped i (r ∷ rs) = refl
 

@@ -181,4 +181,5 @@ impl<A: Allocator + Copy> Cutter<A> {
     }
 }
 
+mod stretches;
 mod taken;

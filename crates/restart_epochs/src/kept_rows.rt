@@ -3,10 +3,12 @@
 ghost use Rattle.std.specs.Prelude.{◌≡◌, [], IfErr, IfOk, OnOk, OnErr, MatchOption};
 ghost use Rattle.line_model.specs.declared.fault.Fault.TheVariants.{Memory};
 ghost use Rattle.restart_epochs.specs.OpenRows.{rows_of, IsSame, HasMore, IsTakenOut};
+ghost use Rattle.restart_epochs.specs.Stretches.{AreAdded, HasAll, parts_of};
 
 use crate::channel_table::ChannelTable;
+use crate::stretch::Part;
 use line_model::fault::Fault;
-use line_model::items::{ItemRef, Items};
+use line_model::items::{ItemRef, Items, Iter};
 use std::alloc::{AllocError, Allocator};
 use std::boxed::Box;
 
@@ -31,6 +33,50 @@ pub fn keep_row<A: Allocator + Copy>(
     items.push(item)?;
     rows.list(channel)?;
     rows.put(channel, items);
+    Ok(())
+}
+
+/// Appends rows of a channel. Where memory is refused the rows stay as they were.
+pub fn keep_rows<A: Allocator + Copy>(
+    alloc: A,
+    channel: u16,
+    added: &Iter<'_>,
+    table: &mut ChannelTable<Items<A>, A>,
+) -> Result<(), AllocError>
+    ensures ok { OnOk result (HasAll channel added.now table.old table.new) }
+    ensures refused { OnErr result (IsSame table.old table.new) }
+{
+    if let Some(mut items) = table.take(channel) {
+        if !items.is_empty() {
+            let kept = items.append(added);
+            table.put(channel, items);
+            return kept;
+        }
+    }
+    let mut first = Box::new(alloc, Items::new(alloc))?;
+    first.append(added)?;
+    if first.is_empty() {
+        return Ok(());
+    }
+    table.list(channel)?;
+    table.put(channel, first);
+    Ok(())
+}
+
+/// Appends the rows of parts, which lie one after the other.
+pub fn keep_parts<A: Allocator + Copy>(
+    alloc: A,
+    parts: &[Part],
+    items: Iter<'_>,
+    rows: &mut ChannelTable<Items<A>, A>,
+) -> Result<(), AllocError>
+    ensures { OnOk result (AreAdded (parts_of parts.now items.entry) rows.old rows.new) }
+{
+    let mut left = items;
+    for part in parts {
+        let added = left.take_front(part.rows);
+        keep_rows(alloc, part.channel, &added, rows)?;
+    }
     Ok(())
 }
 

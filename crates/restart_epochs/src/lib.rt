@@ -9,4 +9,6 @@ mod kept_rows;
 mod open_pieces;
 pub mod restart;
 mod showing;
+pub mod splitter;
+pub mod stretch;
 pub mod walk;

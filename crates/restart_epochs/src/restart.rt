@@ -68,6 +68,13 @@ impl Restart {
         }
     }
 
+    /// Whether this is the other machine.
+    pub fn is_same(&self, other: &Restart) -> bool
+        ensures { OnTrue result (self.now ≡ other.now) }
+    {
+        self.state == other.state && self.owed == other.owed && self.joining == other.joining
+    }
+
     /// The state of the machine.
     pub fn state(&self) -> RState
         ensures { result ≡ self.now.state }
