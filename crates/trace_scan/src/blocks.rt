@@ -1,6 +1,7 @@
 //! Blocks of a text: whole lines that any thread reads.
 
-ghost use Rattle.std.specs.Prelude.{◌≡◌, ◌++◌, ◌∷◌, ◌==◌, [], List, ℕ, IfSome, OnOk, cond, length};
+ghost use Rattle.std.specs.Prelude.{◌≡◌, ◌++◌, ◌∷◌, [], List, ℕ, IfSome, OnOk, cond};
+ghost use Rattle.line_model.specs.channels.RestartMachine.{LineState};
 ghost use Rattle.line_model.specs.basics.Records as records;
 ghost use Rattle.trace_scan.specs.TextBlocks.{AreRead, HasReadTo, IsReadAs};
 
@@ -8,9 +9,11 @@ use crate::text_cutter::packet_of_row;
 use crate::unread::leave_out_unread;
 use line_model::fault::Fault;
 use line_model::interface::Interface;
-use line_model::items::Items;
 use line_model::row::Row;
 use line_model::state::Side;
+use restart_epochs::restart::Restart;
+use restart_epochs::splitter::Splitter;
+use restart_epochs::stretch::Stretch;
 use std::alloc::{AllocError, Allocator, Global};
 use std::marker::{Brand, Model, PhantomData};
 use trace_text::lines::Lines;
@@ -29,12 +32,20 @@ impl TraceText for Brand {
     ghost text = { None };
 }
 
+/// What the rows of a block are read after.
+#[derive(Clone, Copy)]
+pub struct Start {
+    /// What the header of the text says.
+    pub interface: Interface,
+    /// The restart machine after the rows before the block, by a guess: its reader has not read them.
+    pub machine: Restart,
+}
+
 /// Bytes of a text, and how many of its bytes stand before them.
 #[derive(Drop)]
 pub struct Block<P: TraceText, A: Allocator = Global> {
     pub place: u32,
-    /// What the header of the text says.
-    pub interface: Interface,
+    pub start: Start,
     pub bytes: Vec<u8, A>,
     pub text: PhantomData<P>,
 }
@@ -45,16 +56,16 @@ impl<P: TraceText, A: Allocator> Model for Block<P, A> {
 
     ghost Value = { BlockView };
 
-    ghost view = { λ b. record { place = b.place; interface = b.interface; bytes = b.bytes.items } };
+    ghost view = { λ b. record { place = b.place; start = b.start; bytes = b.bytes.items } };
 
     ghost invariant = { λ b. IfSome P.text (λ whole. StandsAt whole b.place b.bytes.items) };
 }
 
-/// The rows of a block as their channels read them, and what the reader of the text has to know of it.
+/// The rows of a block as their channels read them, by channel, and what the reader of the text has to know of it.
 #[derive(Drop)]
 pub struct BlockRows<A: Allocator = Global> {
     pub span: BlockSpan,
-    pub items: Items<A>,
+    pub stretches: Vec<Stretch<A>, A>,
 }
 
 /// A block with its rows; none where it could not be read apart.
@@ -72,52 +83,51 @@ impl<P: TraceText, A: Allocator> Model for ReadBlock<P, A> {
 
     ghost view = { λ r. r.block };
 
-    ghost invariant = { λ r. IfSome P.text (λ whole. StandsAt whole r.block.place r.block.bytes) × IfSome r.rows (IsReadAs r.block.interface r.block.bytes) };
+    ghost invariant = { λ r. IfSome P.text (λ whole. StandsAt whole r.block.place r.block.bytes) × IfSome r.rows (IsReadAs r.block.start r.block.bytes) };
 }
 
 /// The rows that were read of a block so far.
 #[derive(Drop)]
 struct RowsSoFar<A: Allocator = Global> {
     interface: Interface,
+    is_empty: bool,
     /// The number of the first row, or 0.
     first: u32,
-    items: Items<A>,
+    splitter: Splitter<A>,
 }
 
 impl<A: Allocator + Copy> RowsSoFar<A> {
     /// Before the first row. It takes no memory.
-    fn new(alloc: A, interface: &Interface) -> Self
-        ensures interface { result.interface ≡ interface.now }
-        ensures none { AreRead [] result }
+    fn new(alloc: A, start: &Start) -> Self
+        ensures interface { result.interface ≡ start.now.interface }
+        ensures none { AreRead start.now.machine [] result }
     {
         RowsSoFar {
-            interface: *interface,
+            interface: start.interface,
+            is_empty: true,
             first: 0,
-            items: Items::new(alloc),
+            splitter: Splitter::new(alloc, start.machine),
         }
     }
 
     /// The number of the first row once a row of this number is added.
     fn first_with(&self, number: u32) -> u32
-        ensures { result ≡ cond (length self.now.items == 0) number self.now.first }
+        ensures { result ≡ cond self.now.is_empty number self.now.first }
     {
-        if self.items.is_empty() {
-            number
-        } else {
-            self.first
-        }
+        if self.is_empty { number } else { self.first }
     }
 
     /// Adds a row. User data that the row's channel does not read is left out, in the row too.
     fn add(&mut self, row: &mut Row<A>) -> Result<(), AllocError>
         ensures interface { self.new.interface ≡ self.old.interface }
-        ensures added { (rows : List records.Row) → AreRead rows self.old
-            → OnOk result (AreRead (rows ++ row.old ∷ []) self.new) }
+        ensures added { (l : LineState) (rows : List records.Row) → AreRead l rows self.old
+            → OnOk result (AreRead l (rows ++ row.old ∷ []) self.new) }
     {
         let packet = packet_of_row(&self.interface, row);
         leave_out_unread(&packet, row)?;
         self.first = self.first_with(row.number);
-        self.items.push(&row.with_packet(packet))
+        self.is_empty = false;
+        self.splitter.push(&row.with_packet(packet))
     }
 
     /// Adds the rows of the lines that an LF of these bytes ends, each read into the place of the one before.
@@ -128,8 +138,8 @@ impl<A: Allocator + Copy> RowsSoFar<A> {
         row: &mut Row<A>,
     ) -> Result<(), Fault>
         ensures interface { self.new.interface ≡ self.old.interface }
-        ensures added { (text : List ℕ) → HasReadTo text lines.old self.old
-            → OnOk result (HasReadTo (text ++ bytes.now) lines.new self.new) }
+        ensures added { (l : LineState) (text : List ℕ) → HasReadTo l text lines.old self.old
+            → OnOk result (HasReadTo l (text ++ bytes.now) lines.new self.new) }
     {
         let mut rest = bytes;
         while let Some(after) = lines.next_row(rest, row)? {
@@ -140,32 +150,21 @@ impl<A: Allocator + Copy> RowsSoFar<A> {
     }
 }
 
-/// The rows of a block after a header of this interface. `None`: a line is faulty, the last line has no LF, or memory is
-/// wanted.
-fn rows_of<A: Allocator + Copy>(
-    alloc: A,
-    interface: &Interface,
-    bytes: &[u8],
-) -> Option<BlockRows<A>>
-    ensures { IfSome result (IsReadAs interface.now bytes.now) }
+/// The rows of a block that is read after this. `None`: a line is faulty, the last line has no LF, or memory is wanted.
+fn rows_of<A: Allocator + Copy>(alloc: A, start: &Start, bytes: &[u8]) -> Option<BlockRows<A>>
+    ensures { IfSome result (IsReadAs start.now bytes.now) }
 {
-    let mut lines = Lines::at_rows(alloc, interface);
-    let mut rows = RowsSoFar::new(alloc, interface);
+    let mut lines = Lines::at_rows(alloc, &start.interface);
+    let mut rows = RowsSoFar::new(alloc, start);
     let mut row = Row {
         number: 0,
         side: Side::T,
         octets: Vec::new(alloc),
     };
-    match rows.add_lines(bytes, &mut lines, &mut row) {
-        Ok(()) => {
-            let span = lines.end_block(rows.first)?;
-            Some(BlockRows {
-                span,
-                items: rows.items,
-            })
-        }
-        Err(_) => None,
-    }
+    rows.add_lines(bytes, &mut lines, &mut row).ok()?;
+    let span = lines.end_block(rows.first)?;
+    let stretches = rows.splitter.end().ok()?;
+    Some(BlockRows { span, stretches })
 }
 
 impl<P: TraceText, A: Allocator + Copy> Block<P, A> {
@@ -173,11 +172,7 @@ impl<P: TraceText, A: Allocator + Copy> Block<P, A> {
     pub fn read(self) -> ReadBlock<P, A>
         ensures { result ≡ self }
     {
-        let rows = rows_of(
-            *self.bytes.allocator(),
-            &self.interface,
-            self.bytes.as_slice(),
-        );
+        let rows = rows_of(*self.bytes.allocator(), &self.start, self.bytes.as_slice());
         ReadBlock { block: self, rows }
     }
 }

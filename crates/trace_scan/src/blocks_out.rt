@@ -1,6 +1,6 @@
 //! The blocks that are out of the hands of the reading thread.
 
-ghost use Rattle.std.specs.Prelude.{◌≡◌, IfErr, IfOk, IfSome};
+ghost use Rattle.std.specs.Prelude.{◌≡◌, [], IfErr, IfOk, IfSome};
 ghost use Rattle.trace_scan.specs.TextBlocks.{IsBlockAt};
 
 use crate::block_queues::{BlockQueues, MOST_BLOCKS};
@@ -18,6 +18,8 @@ pub struct BlocksOut<'a, P: TraceText, A: Allocator = Global> {
     early: Vec<ReadBlock<P, A>, A>,
     /// How many blocks are out.
     count: usize,
+    /// The rooms of bytes that were taken, for the next ones.
+    rooms: Vec<Vec<u8, A>, A>,
 }
 
 impl<'a, P: TraceText, A: Allocator + Copy> BlocksOut<'a, P, A> {
@@ -27,7 +29,26 @@ impl<'a, P: TraceText, A: Allocator + Copy> BlocksOut<'a, P, A> {
             queues,
             early: Vec::new(alloc),
             count: 0,
+            rooms: Vec::new(alloc),
         }
+    }
+
+    /// An empty list, which has the room of bytes that were taken, if there is one.
+    pub fn room(&mut self) -> Vec<u8, A>
+        ensures { result.items ≡ [] }
+    {
+        match self.rooms.pop() {
+            Some(mut bytes) => {
+                bytes.clear();
+                bytes
+            }
+            None => Vec::new(*self.rooms.allocator()),
+        }
+    }
+
+    /// Keeps the room of bytes that were taken. It is given up where memory is refused.
+    pub fn keep_room(&mut self, bytes: Vec<u8, A>) {
+        drop(self.rooms.push(bytes));
     }
 
     /// A part of the text with fewer bytes is no block.

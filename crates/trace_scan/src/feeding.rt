@@ -28,7 +28,7 @@ use line_model::piece::Plan;
 use memchr::memrchr;
 use restart_epochs::cutter::Cut;
 use shared_work::queue::{FeederPass, Work};
-use std::alloc::{AllocError, Allocator, Global};
+use std::alloc::{Allocator, Global};
 use std::marker::PhantomData;
 use std::sync::Wait;
 use std::time::Clock;
@@ -134,16 +134,6 @@ struct FedText<'a, P: Plan + TraceText, A: Allocator, R> {
 }
 
 impl<'a, P: Plan + TraceText, A: Allocator + Copy, R: Wait + Clock> FedText<'a, P, A, R> {
-    /// The line that had not ended, and these bytes after it.
-    fn with_tail(&self, bytes: &[u8]) -> Result<Vec<u8, A>, AllocError>
-        ensures { IfOk result (λ lines. lines.items ≡ self.now.tail.items ++ bytes.now) }
-    {
-        let mut lines = Vec::with_capacity(*self.tail.allocator(), self.tail.len() + bytes.len())?;
-        lines.extend_from_slice(self.tail.as_slice())?;
-        lines.extend_from_slice(bytes)?;
-        Ok(lines)
-    }
-
     /// Takes the line that had not ended, with these bytes after it, or hands it out as a block.
     fn take_lines(&mut self, bytes: &[u8], pass: &mut FeederPass<A>) -> Result<(), Fault>
         requires plan { P.pieces ≡ option_map trace_plan_as_read P.text }
@@ -157,12 +147,15 @@ impl<'a, P: Plan + TraceText, A: Allocator + Copy, R: Wait + Clock> FedText<'a, 
             × (self.new.tail ≡ self.old.tail) × (self.new.taken.work.now ≡ self.old.taken.work.now) }
         ensures memory { IfErr result (λ fault. fault ≡ Memory) }
     {
-        let lines = self.with_tail(bytes)?;
-        match self.taken.text.interface() {
-            Some(interface) if lines.len() >= self.taken.blocks.least() => {
+        let mut lines = self.taken.blocks.room();
+        lines.reserve(self.tail.len() + bytes.len())?;
+        lines.extend_from_slice(self.tail.as_slice())?;
+        lines.extend_from_slice(bytes)?;
+        match self.taken.text.start() {
+            Some(start) if lines.len() >= self.taken.blocks.least() => {
                 let block = Block {
                     place: self.sent,
-                    interface,
+                    start,
                     bytes: lines,
                     text: PhantomData,
                 };
@@ -170,7 +163,9 @@ impl<'a, P: Plan + TraceText, A: Allocator + Copy, R: Wait + Clock> FedText<'a, 
             }
             _ => {
                 self.taken.take_up_to(self.sent, pass)?;
-                self.taken.take_bytes(lines.as_slice(), pass)
+                self.taken.take_bytes(lines.as_slice(), pass)?;
+                self.taken.blocks.keep_room(lines);
+                Ok(())
             }
         }
     }

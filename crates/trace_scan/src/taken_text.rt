@@ -75,8 +75,10 @@ impl<'a, P: Plan + TraceText, A: Allocator + Copy, R: Wait + Clock> TakenText<'a
         ensures same { self.new.work.now ≡ self.old.work.now }
         ensures memory { IfErr result (λ fault. fault ≡ Memory) }
     {
-        let block = self.blocks.take(self.rt, self.text.lines.bytes())?;
-        self.take_block(&block, pass)
+        let read = self.blocks.take(self.rt, self.text.lines.bytes())?;
+        self.take_block(&read, pass)?;
+        self.blocks.keep_room(read.block.bytes);
+        Ok(())
     }
 
     /// Takes the blocks that were read, up to one that was not.
@@ -90,10 +92,11 @@ impl<'a, P: Plan + TraceText, A: Allocator + Copy, R: Wait + Clock> TakenText<'a
     {
         for _ in 0..MOST_BLOCKS {
             let place = self.text.lines.bytes();
-            let Some(block) = self.blocks.take_ready(self.rt, place)? else {
+            let Some(read) = self.blocks.take_ready(self.rt, place)? else {
                 return Ok(());
             };
-            self.take_block(&block, pass)?;
+            self.take_block(&read, pass)?;
+            self.blocks.keep_room(read.block.bytes);
         }
         Ok(())
     }

@@ -237,13 +237,6 @@ impl<A: Allocator + Copy> TextCutter<A> {
         Ok(pieces)
     }
 
-    /// What the header says, once an LF has ended it.
-    pub fn interface(&self) -> Option<Interface>
-        ensures { result ≡ self.now.lines.interface }
-    {
-        self.lines.interface()
-    }
-
     /// The text has ended, and its last line may lack its LF: all its rows are cut. The pieces that are known whole with
     /// the row of that line are appended.
     pub fn end(self, pieces: &mut Vec<Piece<A>, A>) -> Result<RowCutter<A>, Fault>

@@ -101,6 +101,38 @@ fn check_rows<R: Threads + Wait + Clock + Sync + Abort>(
     Ok(())
 }
 
+/// How many rows of channels stand between restarts: after one some rows stand in order, and those after them by channel.
+const RUNS: [u32; 4] = [127, 128, 129, 300];
+
+/// A text of rows on four channels, with a restart after each run of them.
+fn text_of_runs(alloc: Global) -> Result<Vec<u8>, AllocError> {
+    let mut text = Vec::new(alloc);
+    text.extend_from_slice(HEADER.as_bytes())?;
+    let mut number: u32 = 1;
+    for run in RUNS {
+        for row in 0..run {
+            let channel = (row % 4).saturating_add(1);
+            let row = format!(in alloc; "{number} T 100{channel}00AA\n")?;
+            text.extend_from_slice(row.as_bytes())?;
+            number = number.saturating_add(1);
+        }
+        let confirmed = number.saturating_add(1);
+        let restart = format!(in alloc; "{number} T 1000FB0000\n{confirmed} N 1000FF\n")?;
+        text.extend_from_slice(restart.as_bytes())?;
+        number = number.saturating_add(2);
+    }
+    Ok(text)
+}
+
+/// Scans runs of many rows by blocks of any number of lines.
+fn check_runs<R: Threads + Wait + Clock + Sync + Abort>(rt: &R, alloc: Global) -> Result<(), Fail> {
+    let text = text_of_runs(alloc)?;
+    for lines in [7, 100, 131, 1000] {
+        check_lines(rt, alloc, ("runs of many rows", text.as_slice()), lines);
+    }
+    Ok(())
+}
+
 /// How many rows a text has of which one is faulty.
 const ALL_ROWS: u32 = 12;
 
@@ -175,6 +207,7 @@ fn texts_are_reported_and_refused_in_blocks_of_any_size(rt: HostRuntime) -> Resu
     for (name, rows) in ROWS {
         check_rows(&rt, rt.alloc(), (name, rows))?;
     }
+    check_runs(&rt, rt.alloc())?;
     for faulty in FAULTY_ROWS {
         check_faults(&rt, rt.alloc(), faulty)?;
     }

@@ -1,97 +1,111 @@
 //! A text that is taken block by block: the rows of a block were read apart, and are cut in the order of the text.
 
-ghost use Rattle.std.specs.Prelude.{◌≡◌, ℕ, ◌++◌, ◌+◌, List, Some, IfErr, IfOk, OnOk, false, true, length};
+ghost use Rattle.std.specs.Prelude.{◌≡◌, ℕ, ◌++◌, ◌+◌, List, IfErr, IfOk, OnOk, MatchOption, false, true, length};
+ghost use Rattle.std.specs.Bool.{OnTrue};
+ghost use Rattle.std.specs.Option.{option_map};
 ghost use Rattle.line_model.specs.basics.Records as records;
 ghost use Rattle.line_model.specs.declared.fault.Fault.TheVariants.{Memory};
 ghost use Rattle.trace_text.specs.Progress.{bytes_fed};
 ghost use Rattle.trace_text.specs.StandsFor.{IsTextFault};
 ghost use Rattle.restart_epochs.specs.Cutting.{HasAppended};
+ghost use Rattle.restart_epochs.specs.Stretches.{IsSplit};
 ghost use Rattle.trace_scan.specs.TextBlocks.{IsReadAs, items_as_read};
 ghost use Rattle.trace_scan.specs.TextCuts.{HasCut, HasTaken, IsTrace, OfCut, OfTaken, given_as_read, known_pieces};
 
-use super::{RowCutter, TextCutter, row_cutter_of};
-use crate::blocks::{BlockRows, ReadBlock, TraceText};
+use super::{RowCutter, TextCutter};
+use crate::blocks::{BlockRows, ReadBlock, Start, TraceText};
 use line_model::fault::Fault;
-use line_model::interface::Interface;
-use line_model::items::Items;
 use line_model::piece::Piece;
+use restart_epochs::stretch::Stretch;
 use std::alloc::Allocator;
 
 impl<A: Allocator + Copy> RowCutter<A> {
-    /// Cuts rows that were read elsewhere, and appends the pieces that are known whole with them. The octets of each row
-    /// are written into `octets`.
-    fn cut_items(
-        &mut self,
-        items: &Items<A>,
-        octets: &mut Vec<u8, A>,
+    /// Whether the rows that come next are read after this.
+    fn is_at(&self, start: &Start) -> bool
+        ensures { OnTrue result ((self.now.interface ≡ start.now.interface) × (self.now.cutter.line ≡ start.now.machine)) }
+    {
+        self.interface == start.interface && self.cutter.machine().is_same(&start.machine)
+    }
+
+    /// Cuts rows that were read and split elsewhere, and appends the pieces that are known whole with them. After a
+    /// refusal no cutter is left.
+    fn cut_stretches(
+        self,
+        stretches: &[Stretch<A>],
         pieces: &mut Vec<Piece<A>, A>,
-    ) -> Result<(), Fault>
+    ) -> Result<Self, Fault>
         requires next { (before : List records.Row) × (rows : List records.Row)
-            × HasCut before self.old × IsTrace (before ++ rows)
-            × (items.now ≡ items_as_read self.old.interface rows) }
-        ensures interface { self.new.interface ≡ self.old.interface }
-        ensures cut { OfCut self.old (λ before. (rows : List records.Row)
-            → items.now ≡ items_as_read self.old.interface rows
-            → OnOk result (HasCut (before ++ rows) self.new)) }
-        ensures pieces { OfCut self.old (λ before. (rows : List records.Row)
-            → items.now ≡ items_as_read self.old.interface rows
-            → OnOk result (HasAppended pieces.old.items pieces.new.items
-            (given_as_read self.old.interface before) (given_as_read self.old.interface
+            × HasCut before self × IsTrace (before ++ rows)
+            × IsSplit self.cutter.line (items_as_read self.interface rows) stretches.now }
+        ensures interface { IfOk result (λ cutter. cutter.interface ≡ self.interface) }
+        ensures cut { OfCut self (λ before. (rows : List records.Row) → IsTrace (before ++ rows)
+            → IsSplit self.cutter.line (items_as_read self.interface rows) stretches.now
+            → IfOk result (HasCut (before ++ rows))) }
+        ensures pieces { OfCut self (λ before. (rows : List records.Row) → IsTrace (before ++ rows)
+            → IsSplit self.cutter.line (items_as_read self.interface rows) stretches.now
+            → IfOk result (λ cutter. HasAppended pieces.old.items pieces.new.items
+            (given_as_read self.interface before) (given_as_read self.interface
             (before ++ rows)))) }
         ensures memory { IfErr result (λ fault. fault ≡ Memory) }
     {
-        for kept in items.iter() {
-            kept.unfold(octets)?;
-            let item = kept.with_octets(octets.as_slice());
-            self.cutter.push(&item, pieces)?;
-        }
-        Ok(())
-    }
-}
-
-/// Whether the header that was read says this.
-fn is_headed(header: Option<Interface>, interface: &Interface) -> bool
-    ensures { result ≡ true → header ≡ Some interface.now }
-{
-    match header {
-        Some(header) => header == *interface,
-        None => false,
+        let RowCutter { interface, cutter } = self;
+        let cutter = cutter.take_stretches(stretches, pieces)?;
+        Ok(RowCutter { interface, cutter })
     }
 }
 
 impl<A: Allocator + Copy> TextCutter<A> {
-    /// Takes the rows of a block that was read after a header of this interface, if the block follows the text that was
-    /// taken, and appends the pieces that are known whole with them. `false`: nothing has changed, and the bytes of the
-    /// block are to be fed.
+    /// What the rows that come next are read after, once a row was read.
+    pub fn start(&self) -> Option<Start>
+        ensures { result ≡ option_map (λ f. record { interface = f.interface; machine = f.cutter.line })
+            self.now.row_cutter }
+    {
+        let row_cutter = self.row_cutter.as_ref()?;
+        Some(Start {
+            interface: row_cutter.interface,
+            machine: row_cutter.cutter.machine(),
+        })
+    }
+
+    /// Whether a row was read, and the rows that come next are read after this.
+    fn is_at(&self, start: &Start) -> bool
+        ensures { result ≡ true → MatchOption self.now.row_cutter ⊥
+            (λ f. (f.interface ≡ start.now.interface) × (f.cutter.line ≡ start.now.machine)) }
+    {
+        match &self.row_cutter {
+            Some(row_cutter) => row_cutter.is_at(start),
+            None => false,
+        }
+    }
+
+    /// Takes the rows of a block that was read after this, if they follow the text that was taken, and appends the
+    /// pieces that are known whole with them. `false`: nothing has changed, and the bytes of the block are to be fed.
     pub fn take_rows(
         &mut self,
-        interface: &Interface,
+        start: &Start,
         rows: &BlockRows<A>,
         pieces: &mut Vec<Piece<A>, A>,
     ) -> Result<bool, Fault>
         requires { (text : List ℕ) × (bytes : List ℕ) × HasTaken text self.old
-            × IsReadAs interface.now bytes rows.now }
+            × IsReadAs start.now bytes rows.now }
         ensures taken { OfTaken self.old (λ text. (bytes : List ℕ)
-            → IsReadAs interface.now bytes rows.now → IfOk result (λ taken. taken ≡ true
+            → IsReadAs start.now bytes rows.now → IfOk result (λ taken. taken ≡ true
             → HasTaken (text ++ bytes) self.new)) }
         ensures pieces { OfTaken self.old (λ text. (bytes : List ℕ)
-            → IsReadAs interface.now bytes rows.now → IfOk result (λ taken. taken ≡ true
+            → IsReadAs start.now bytes rows.now → IfOk result (λ taken. taken ≡ true
             → HasAppended pieces.old.items pieces.new.items (known_pieces text)
             (known_pieces (text ++ bytes)))) }
         ensures same { IfOk result (λ taken. taken ≡ false
             → (self.new ≡ self.old) × (pieces.new.items ≡ pieces.old.items)) }
         ensures memory { IfErr result (λ fault. fault ≡ Memory) }
     {
-        if !is_headed(self.lines.interface(), interface) || !self.lines.pass_block(&rows.span) {
+        if !self.is_at(start) || !self.lines.pass_block(&rows.span) {
             return Ok(false);
         }
-        let mut row_cutter = row_cutter_of(
-            *self.row.octets.allocator(),
-            interface,
-            self.row_cutter.take(),
-        );
-        row_cutter.cut_items(&rows.items, &mut self.row.octets, pieces)?;
-        self.row_cutter = Some(row_cutter);
+        let Some(row_cutter) = self.row_cutter.take() else {
+            unreachable!();
+        };
+        self.row_cutter = Some(row_cutter.cut_stretches(&rows.stretches, pieces)?);
         Ok(true)
     }
 
@@ -113,7 +127,7 @@ impl<A: Allocator + Copy> TextCutter<A> {
     {
         if let Some(rows) = &read.rows {
             let mut pieces = Vec::new(*self.row.octets.allocator());
-            if self.take_rows(&read.block.interface, rows, &mut pieces)? {
+            if self.take_rows(&read.block.start, rows, &mut pieces)? {
                 return Ok(pieces);
             }
         }

@@ -6,7 +6,7 @@ use Rattle.trace_scan.proofs.blocks.RowsSoFar.add_lines.Goals as goal
 pub loop-after-init : goal.loop-after-init
 loop-after-init g c = record {
   same = refl;
-  read = λ text to. read_none text c.args.bytes.now c.args.lines.now c.args.self.now to;
+  read = λ l text to. read_none l text c.args.bytes.now c.args.lines.now c.args.self.now to;
 }
 
 pub loop-after-preserved : goal.loop-after-preserved
@@ -15,10 +15,10 @@ loop-after-preserved g c =
     let row : TakesRow c.loop-after.lines c.next_row.new.self c.loop-after.rest.now c.in-Some.after.now c.next_row.new.row = rw c.in-Some.is at c.in_ok-after.ensures.ok in
     record {
       same = c.in_ok-add.ensures.interface ∙ inv.same;
-      read = λ text to. read_row text c.args.bytes.now c.loop-after.rest.now c.in-Some.after.now c.next_row.new.row c.loop-after.lines c.next_row.new.self c.loop-after.self c.add.new.self (inv.read text to) row (λ rs are. c.in_ok-add.ensures.added rs are);
+      read = λ l text to. read_row l text c.args.bytes.now c.loop-after.rest.now c.in-Some.after.now c.next_row.new.row c.loop-after.lines c.next_row.new.self c.loop-after.self c.add.new.self (inv.read l text to) row (λ rs are. c.in_ok-add.ensures.added l rs are);
     }
 
 pub returns-clause-added : goal.returns-clause-added
-returns-clause-added g c text to =
+returns-clause-added g c l text to =
     let end : ReadsChunk c.loop-after.lines c.next_row.new.self c.loop-after.rest.now = rw c.in_default.is at c.in_ok-after.ensures.ok in
-    read_end text c.args.bytes.now c.loop-after.rest.now c.loop-after.lines c.next_row.new.self c.loop-after.self (c.loop-after.invariant.read text to) end
+    read_end l text c.args.bytes.now c.loop-after.rest.now c.loop-after.lines c.next_row.new.self c.loop-after.self (c.loop-after.invariant.read l text to) end

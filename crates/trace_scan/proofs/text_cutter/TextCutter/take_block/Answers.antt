@@ -8,17 +8,17 @@ use Rattle.trace_scan.proofs.text_cutter.TextCutter.take_block.Goals.{in-Some+in
 
 pub returns-then-branch-clause-taken : goal.returns-then-branch-clause-taken
 returns-then-branch-clause-taken g c text taken =
-    let read = read_apart c.read.inside.rows c.in-Some.rows c.read.inside.block c.args.read.now c.read-inside.inside.0.0.interface c.read.invariant.1 (sym (ap (λ b. b.rows) c.read-inside.view_is) ∙ c.in-Some.is) c.read.view_is (ap (λ b. b.block.interface) c.read-inside.view_is) in
+    let read = read_apart c.read.inside.rows c.in-Some.rows c.read.inside.block c.args.read.now c.read-inside.inside.0.0.start c.read.invariant.1 (sym (ap (λ b. b.rows) c.read-inside.view_is) ∙ c.in-Some.is) c.read.view_is (ap (λ b. b.block.start) c.read-inside.view_is) in
     c.in_ok-take_rows.ensures.taken text taken c.args.read.now.bytes read c.if-branch.true
 
 pub returns-then-branch-clause-pieces : goal.returns-then-branch-clause-pieces
 returns-then-branch-clause-pieces g c text taken =
-    let read = read_apart c.read.inside.rows c.in-Some.rows c.read.inside.block c.args.read.now c.read-inside.inside.0.0.interface c.read.invariant.1 (sym (ap (λ b. b.rows) c.read-inside.view_is) ∙ c.in-Some.is) c.read.view_is (ap (λ b. b.block.interface) c.read-inside.view_is) in
+    let read = read_apart c.read.inside.rows c.in-Some.rows c.read.inside.block c.args.read.now c.read-inside.inside.0.0.start c.read.invariant.1 (sym (ap (λ b. b.rows) c.read-inside.view_is) ∙ c.in-Some.is) c.read.view_is (ap (λ b. b.block.start) c.read-inside.view_is) in
     all_appended c.new-pieces.result.items c.take_rows.new.pieces.items (known_pieces text) (known_pieces (text ++ c.args.read.now.bytes)) c.new-pieces.ensures.items (c.in_ok-take_rows.ensures.pieces text taken c.args.read.now.bytes read c.if-branch.true)
 
 pub returns-then-branch-clause-size : goal.returns-then-branch-clause-size
 returns-then-branch-clause-size g c =
-    let read = read_apart c.read.inside.rows c.in-Some.rows c.read.inside.block c.args.read.now c.read-inside.inside.0.0.interface c.read.invariant.1 (sym (ap (λ b. b.rows) c.read-inside.view_is) ∙ c.in-Some.is) c.read.view_is (ap (λ b. b.block.interface) c.read-inside.view_is) in
+    let read = read_apart c.read.inside.rows c.in-Some.rows c.read.inside.block c.args.read.now c.read-inside.inside.0.0.start c.read.invariant.1 (sym (ap (λ b. b.rows) c.read-inside.view_is) ∙ c.in-Some.is) c.read.view_is (ap (λ b. b.block.start) c.read-inside.view_is) in
     more_fed c.args.self.now c.take_rows.new.self c.requires.0 c.args.read.now.bytes c.requires.1 (c.in_ok-take_rows.ensures.taken c.requires.0 c.requires.1 c.args.read.now.bytes read c.if-branch.true)
 
 pub feed-requires : goal.feed-requires
