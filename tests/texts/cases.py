@@ -38,7 +38,8 @@ class Text:
     # None where only the first line of the refusal is compared.
     said: Optional[str] = None
     rows: int = 0
-    # How many bytes of comments come first.
+    # What comes first: rows, and then so many bytes of comments.
+    first: bytes = b""
     comments: int = 0
 
 
@@ -197,11 +198,13 @@ def texts():
     yield from recordings()
 
 
-def texts_at_the_limit():
-    """Texts whose last line begins shortly before byte 2^30."""
+def texts_at_the_limit(rows):
+    """Texts with these rows first, whose last line begins shortly before byte 2^30."""
+    count = rows.count(b"\n")
     for left, line, kind in LAST_LINES:
-        comments = TEXT_LIMIT - len(HEADER) - left
+        comments = TEXT_LIMIT - len(HEADER) - len(rows) - left
         whole, rest = divmod(comments, LINE_LIMIT + 1)
-        lines = 1 + whole + (1 if rest else 0)
+        lines = 1 + count + whole + (1 if rest else 0)
+        last = line.replace(b"1 ", b"%d " % (count + 1), 1)
         said = TOO_LARGE if kind == TEXT_LARGE else None
-        yield Text(line, lines + 1 if kind else 0, kind, said, rows=0 if kind else 1, comments=comments)
+        yield Text(last, lines + 1 if kind else 0, kind, said, 0 if kind else count + 1, rows, comments)
