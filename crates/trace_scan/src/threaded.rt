@@ -25,7 +25,7 @@ use report_merge::text::write_report;
 use std::alloc::{Allocator, Global};
 use std::marker::Brand;
 use std::sync::Wait;
-use std::thread::Threads;
+use std::thread::{Threads, available_parallelism};
 use std::time::Clock;
 use workers::{Crew, Gate, Gathered, Worked, work_through};
 
@@ -57,6 +57,14 @@ fn first_fault<A: Allocator>(
 /// A part of the text with fewer bytes is read where it was judged: it takes longer to hand it to another thread.
 const LEAST_BLOCK: usize = 1 << 15;
 
+/// How many bytes a block has at the least. On one processor nothing is a block: no other thread would read it meanwhile.
+fn least_block(rt: &impl Threads) -> usize {
+    match available_parallelism(rt) {
+        Ok(processors) if processors.get() > 1 => LEAST_BLOCK,
+        _ => usize::MAX,
+    }
+}
+
 /// Reads a trace and works through its pieces.
 fn work_on_trace<
     P: Plan + TraceText + Send + Sync,
@@ -78,7 +86,7 @@ fn work_on_trace<
     ensures unasked { S.calls source.new ≡ S.calls source.old → source.new ≡ source.old }
     ensures asked { S.calls source.new ≤ S.calls source.old + (2 ^ 30 + 1) }
 {
-    let queues = BlockQueues::<P, A>::new(alloc, LEAST_BLOCK)?;
+    let queues = BlockQueues::<P, A>::new(alloc, least_block(rt))?;
     let gate = BlockGate {
         gate: crew.gate,
         queues: &queues,
