@@ -1,4 +1,6 @@
 """A headless Chromium that shows pages from the disk, by its debugging protocol over two pipes."""
+from __future__ import annotations
+
 import base64
 import json
 import os
@@ -8,6 +10,7 @@ import shutil
 import subprocess
 import tempfile
 import time
+from typing import Any
 
 NAMES = ("chromium", "chromium-browser", "google-chrome", "chrome")
 WORDS = ("--headless", "--no-sandbox", "--disable-gpu", "--hide-scrollbars", "--no-first-run",
@@ -16,58 +19,67 @@ SECONDS = 50
 END = b"\0"
 
 
-def path_of_browser():
+def path_of_browser() -> str | None:
     """Where Chromium is installed, or None."""
     return next(filter(None, map(shutil.which, NAMES)), None)
 
 
+# The codes of keys that are no letters.
+KEYS = {"Tab": 9, "Enter": 13, "Escape": 27, "End": 35, "Home": 36, "ArrowLeft": 37, "ArrowUp": 38, "ArrowRight": 39,
+        "ArrowDown": 40}
+TEXTS = {"Enter": "\r"}
+LOCAL = ("file:", "about:", "data:")
+INCH = 25.4
+
+
 class Browser:
-    """One window of a browser. Faults are what its scripts and its policy complained of."""
+    """One window of a browser. Faults are what its scripts and its policy complained of, and what it asked a network."""
 
-    def __init__(self, width=1280, height=900):
+    def __init__(self, width: int = 1280, height: int = 900) -> None:
         self.width, self.height = width, height
-        self.faults, self.seen, self.asked, self.ahead = [], [], 0, b""
-        self.session = None
+        self.faults: list[str] = []
+        self.asked, self.ahead = 0, b""
+        self.session: str | None = None
 
-    def __enter__(self):
+    def __enter__(self) -> Browser:
         self.folder = tempfile.TemporaryDirectory(ignore_cleanup_errors=True)
         there, self.out = os.pipe()
         self.into, back = os.pipe()
-        command = [path_of_browser(), *WORDS, f"--user-data-dir={self.folder.name}", "about:blank"]
+        command = [path_of_browser() or NAMES[0], *WORDS, f"--user-data-dir={self.folder.name}", "about:blank"]
         shell = ["bash", "-c", f'exec "$@" 3<&{there} 4>&{back}', "bash", *command]
-        quiet = {"stdin": subprocess.DEVNULL, "stdout": subprocess.DEVNULL, "stderr": subprocess.DEVNULL}
-        self.running = subprocess.Popen(shell, pass_fds=(there, back), **quiet)
+        quiet = subprocess.DEVNULL
+        self.running = subprocess.Popen(shell, pass_fds=(there, back), stdin=quiet, stdout=quiet, stderr=quiet)
         os.close(there)
         os.close(back)
         target = self.ask("Target.createTarget", url="about:blank")["targetId"]
         self.session = self.ask("Target.attachToTarget", targetId=target, flatten=True)["sessionId"]
-        for domain in ("Page", "Runtime", "Log"):
+        for domain in ("Page", "Runtime", "Log", "Network"):
             self.ask(f"{domain}.enable")
         self.resize(self.width, self.height)
         return self
 
-    def __exit__(self, *_):
+    def __exit__(self, *_: object) -> None:
         self.running.terminate()
         self.running.wait(SECONDS)
         os.close(self.out)
         os.close(self.into)
         self.folder.cleanup()
 
-    def ask(self, method, **parameters):
-        """Sends a command, and returns its answer."""
+    def ask(self, method: str, **parameters: object) -> Any:
+        """Sends a command, and returns its result."""
         self.asked += 1
-        message = {"id": self.asked, "method": method, "params": parameters}
+        message: dict[str, Any] = {"id": self.asked, "method": method, "params": parameters}
         if self.session:
             message["sessionId"] = self.session
         os.write(self.out, json.dumps(message).encode() + END)
         while True:
-            told = self.next_message()
-            if told.get("id") == self.asked:
-                if "error" in told:
-                    raise RuntimeError(f"{method}: {told['error']}")
-                return told["result"]
+            reply = self.next_message()
+            if reply.get("id") == self.asked:
+                if "error" in reply:
+                    raise RuntimeError(f"{method}: {reply['error']}")
+                return reply["result"]
 
-    def next_message(self):
+    def next_message(self) -> dict[str, Any]:
         """The next message, whose complaints are kept."""
         while END not in self.ahead:
             if not select.select([self.into], [], [], SECONDS)[0]:
@@ -77,21 +89,24 @@ class Browser:
                 raise RuntimeError("the browser ended")
             self.ahead += octets
         text, _, self.ahead = self.ahead.partition(END)
-        told = json.loads(text)
-        if told.get("method") == "Runtime.exceptionThrown":
-            self.faults.append(str(told["params"]["exceptionDetails"])[:600])
-        elif told.get("method") == "Log.entryAdded" and told["params"]["entry"]["level"] in ("error", "warning"):
-            self.faults.append(told["params"]["entry"]["text"])
-        return told
+        message: dict[str, Any] = json.loads(text)
+        if message.get("method") == "Runtime.exceptionThrown":
+            self.faults.append(str(message["params"]["exceptionDetails"])[:600])
+        elif message.get("method") == "Log.entryAdded" and message["params"]["entry"]["level"] in ("error", "warning"):
+            self.faults.append(message["params"]["entry"]["text"])
+        elif message.get("method") == "Network.requestWillBeSent":
+            address = message["params"]["request"]["url"]
+            self.faults += [] if address.startswith(LOCAL) else [f"it asks for {address}"]
+        return message
 
-    def resize(self, width, height):
+    def resize(self, width: int, height: int) -> None:
         self.ask("Emulation.setDeviceMetricsOverride", width=width, height=height, deviceScaleFactor=1, mobile=False)
 
-    def colours(self, name):
+    def colours(self, name: str) -> None:
         """Has the page believe that the system is light or dark."""
         self.ask("Emulation.setEmulatedMedia", features=[{"name": "prefers-color-scheme", "value": name}])
 
-    def open(self, path, part=""):
+    def open(self, path: str | pathlib.Path, part: str = "") -> float:
         """Opens a page, waits until its script is done, and returns how many seconds that took."""
         begun = time.monotonic()
         self.ask("Page.navigate", url="about:blank")
@@ -102,27 +117,47 @@ class Browser:
             time.sleep(0.02)
         return time.monotonic() - begun
 
-    def value(self, expression):
+    def value(self, expression: str) -> Any:
         """The value of an expression in the page."""
-        told = self.ask("Runtime.evaluate", expression=expression, returnByValue=True)
-        if "exceptionDetails" in told:
-            raise RuntimeError(f"{expression}: {told['exceptionDetails']}")
-        return told["result"].get("value")
+        reply = self.ask("Runtime.evaluate", expression=expression, returnByValue=True)
+        if "exceptionDetails" in reply:
+            raise RuntimeError(f"{expression}: {reply['exceptionDetails']}")
+        return reply["result"].get("value")
 
-    def click(self, selector, part=0):
+    def click(self, selector: str, part: float = 0) -> None:
         """Clicks on the middle of an element, or on that of the part of it that an expression gives."""
         place = f"document.querySelector({json.dumps(selector)})"
         self.value(f"{place}.scrollIntoView({{block: 'center'}})")
         box = self.value(f"(({place}).getBoundingClientRect().toJSON())")
         self.press(box["x"] + box["width"] / 2 + part, box["y"] + box["height"] / 2)
 
-    def press(self, x, y):
+    def press(self, x: float, y: float) -> None:
         self.ask("Input.dispatchMouseEvent", type="mouseMoved", x=x, y=y)
         for kind in ("mousePressed", "mouseReleased"):
             self.ask("Input.dispatchMouseEvent", type=kind, x=x, y=y, button="left", clickCount=1)
 
-    def picture(self, path, box=None):
+    def key(self, name: str, many: int = 1) -> None:
+        """Presses a key, as often as this."""
+        text = TEXTS.get(name, "" if name in KEYS else name)
+        key = {"key": name, "windowsVirtualKeyCode": KEYS.get(name, ord(name[0])), "text": text}
+        for _ in range(many):
+            self.ask("Input.dispatchKeyEvent", type="keyDown" if text else "rawKeyDown", **key)
+            self.ask("Input.dispatchKeyEvent", type="keyUp", **key)
+
+    def go_back(self) -> None:
+        """Goes one step back in the history."""
+        history = self.ask("Page.getNavigationHistory")
+        before = history["entries"][history["currentIndex"] - 1]
+        self.ask("Page.navigateToHistoryEntry", entryId=before["id"])
+
+    def print(self, path: str | pathlib.Path, width: float, height: float) -> None:
+        """Prints the page on paper of this size in millimetres, with the margins that it asks for."""
+        size = {"paperWidth": width / INCH, "paperHeight": height / INCH, "preferCSSPageSize": False}
+        reply = self.ask("Page.printToPDF", printBackground=True, **size)
+        pathlib.Path(path).write_bytes(base64.b64decode(reply["data"]))
+
+    def picture(self, path: str | pathlib.Path, box: dict[str, float] | None = None) -> None:
         """Writes a picture of the window, or of a part of the page."""
-        clip = {"clip": {**box, "scale": 1}, "captureBeyondViewport": True} if box else {}
-        told = self.ask("Page.captureScreenshot", format="png", **clip)
-        pathlib.Path(path).write_bytes(base64.b64decode(told["data"]))
+        clip: dict[str, Any] = {"clip": {**box, "scale": 1}, "captureBeyondViewport": True} if box else {}
+        reply = self.ask("Page.captureScreenshot", format="png", **clip)
+        pathlib.Path(path).write_bytes(base64.b64decode(reply["data"]))

@@ -6,6 +6,8 @@ first those with the longest chain of others above them; processors that no libr
 proved. What is made of a library is what crates above it can cite, its statements and not its proofs, which each crate
 above would read again. It stands in out/ at the top, which `rt` does not touch: it keeps its own in the out/ of each crate.
 """
+from __future__ import annotations
+
 import fcntl
 import functools
 import os
@@ -16,6 +18,7 @@ import subprocess
 import sys
 import threading
 import time
+from collections.abc import Iterable, Mapping
 
 ROOT = pathlib.Path(__file__).resolve().parent.parent
 CRATES = ROOT / "crates"
@@ -29,12 +32,12 @@ MEMORY, MORE_MEMORY = 3_000_000_000, 1_500_000_000
 MOST_JOBS = 4
 
 
-def say(text):
+def say(text: object) -> None:
     print(f"x25scan: {text}", file=sys.stderr, flush=True)
 
 
 @functools.cache
-def kit():
+def kit() -> pathlib.Path:
     """The folder of the kit whose rt is on the path."""
     found = shutil.which("rt")
     if not found:
@@ -43,18 +46,18 @@ def kit():
     return pathlib.Path(found).resolve().parent.parent
 
 
-def uses():
+def uses() -> dict[str, list[str]]:
     """The libraries that each crate of crates.txt names, the kit's among them."""
     lines = (ROOT / "crates.txt").read_text().split("\n")
     pairs = (line.partition(":") for line in lines if line and line[0] != "#")
     return {head.split()[0]: tail.split() for head, _, tail in pairs}
 
 
-def libraries(*above):
+def libraries(*above: str) -> dict[str, set[str]]:
     """The repository's libraries that crates use, each with those below it, lowest first."""
     used = uses()
 
-    def below(name):
+    def below(name: str) -> set[str]:
         mine = [it for it in used[name] if it in used]
         return set(mine).union(*map(below, mine))
 
@@ -62,26 +65,26 @@ def libraries(*above):
     return dict(sorted(found.items(), key=lambda it: len(it[1])))
 
 
-def sources(name):
+def sources(name: str) -> list[pathlib.Path]:
     """The files that the proof of a crate reads."""
     return [it for part in PARTS for it in (CRATES / name / part).rglob("*") if it.is_file()]
 
 
-def chains(below):
+def chains(below: Mapping[str, set[str]]) -> dict[str, int]:
     """The lines of each library and of the longest chain of libraries above it."""
     length = {name: sum(it.read_bytes().count(b"\n") for it in sources(name)) for name in below}
-    found = {}
-    for name in reversed(below):
+    found: dict[str, int] = {}
+    for name in reversed(list(below)):
         found[name] = length[name] + max((found[it] for it in found if name in below[it]), default=0)
     return found
 
 
-def form(name):
+def form(name: str) -> pathlib.Path:
     """The file of a built library that says when its build began."""
     return LIBRARIES / f"{name}.rlib" / "format"
 
 
-def is_older(file, others):
+def is_older(file: pathlib.Path, others: Iterable[pathlib.Path]) -> bool:
     """Whether a file is not there, or older than one of the others."""
     if not file.exists():
         return True
@@ -89,35 +92,35 @@ def is_older(file, others):
     return any(it.stat().st_mtime > made for it in others)
 
 
-def is_stale():
+def is_stale() -> bool:
     """Whether the program is not built, or older than a source of it."""
     return is_older(PROGRAM, [ROOT / "crates.txt", *(it for name in [*libraries("x25scan"), "x25scan"] for it in sources(name))])
 
 
-def stale_libraries(below):
+def stale_libraries(below: Mapping[str, set[str]]) -> set[str]:
     """Those libraries that are not built, or older than a source of theirs or than a library that they stand on."""
-    found = set()
+    found: set[str] = set()
     for name, lower in below.items():
         if lower & found or is_older(form(name), [*sources(name), *map(form, lower)]):
             found.add(name)
     return found
 
 
-def lanes():
+def lanes() -> int:
     """How many processors prove side by side."""
     free = re.search(r"MemAvailable:\s+(\d+)", pathlib.Path("/proc/meminfo").read_text())
     room = 1024 * int(free[1]) // MEMORY if free else 1
     return max(1, min(len(os.sched_getaffinity(0)), room))
 
 
-def run(folder, *words):
+def run(folder: pathlib.Path, *words: object) -> tuple[bool, str]:
     """Runs a program of the kit in a folder, and returns whether it succeeded and what it said."""
-    how = {"stdin": subprocess.DEVNULL, "stdout": subprocess.PIPE, "stderr": subprocess.STDOUT, "text": True}
-    ended = subprocess.run([str(it) for it in words], cwd=folder, check=False, **how)
+    quiet, pipe, both = subprocess.DEVNULL, subprocess.PIPE, subprocess.STDOUT
+    ended = subprocess.run([str(it) for it in words], cwd=folder, check=False, stdin=quiet, stdout=pipe, stderr=both, text=True)
     return ended.returncode == 0, ended.stdout
 
 
-def rattle(name, root, jobs, *how):
+def rattle(name: str, root: str, jobs: int, *how: object) -> tuple[bool, str]:
     """Has the kit's prover prove a crate over the libraries below it, which are built, and build it."""
     used = uses()
     words = [kit() / "bin" / "rattle", "build", "--crate-name", name, root]
@@ -129,7 +132,7 @@ def rattle(name, root, jobs, *how):
     return run(CRATES / name, *words, *how)
 
 
-def prove(name, jobs):
+def prove(name: str, jobs: int) -> tuple[bool, str]:
     """Proves and builds a library over those below it."""
     began, fresh = time.time(), FRESH / f"{name}.rlib"
     shutil.rmtree(fresh, ignore_errors=True)
@@ -141,7 +144,7 @@ def prove(name, jobs):
     return is_proved, said
 
 
-def prove_program(jobs, began):
+def prove_program(jobs: int, began: float) -> tuple[bool, str]:
     """Proves the program over its libraries, has LLVM compile it, and links it. Its age is that of the build."""
     tools, code = kit() / "toolchain", FRESH / "x25scan.o"
     is_proved, said = rattle("x25scan", "src/main.rt", jobs, "--toolchain", tools, "--backend", "llvm", "-o", code)
@@ -160,27 +163,29 @@ def prove_program(jobs, began):
 class Build:
     """A build in its course: which libraries are left, which are being proved by how many processors, which are proved."""
 
-    def __init__(self, *above):
+    def __init__(self, *above: str) -> None:
         self.began, self.below, self.lanes = time.monotonic(), libraries(*above), lanes()
         chain, stale = chains(self.below), stale_libraries(self.below)
-        self.left, self.running, self.proved = sorted(stale, key=lambda it: -chain[it]), {}, set(self.below) - stale
+        self.left, self.proved = sorted(stale, key=lambda it: -chain[it]), set(self.below) - stale
+        self.running: dict[str, int] = {}
         self.count = len(stale)
-        self.failed, self.turn = {}, threading.Condition()
+        self.failed: dict[str, str] = {}
+        self.turn = threading.Condition()
 
-    def seconds(self):
+    def seconds(self) -> str:
         return f"{time.monotonic() - self.began:.0f} s"
 
-    def ready(self):
+    def ready(self) -> list[str]:
         """The libraries that could be begun, those first that the longest chains wait for."""
         return [it for it in self.left if self.below[it] <= self.proved]
 
-    def jobs(self, ready):
+    def jobs(self, ready: list[str]) -> int:
         """How many processors the first library that is ready gets: its share of the idle ones, where memory is free for them."""
         idle = self.lanes - sum(self.running.values())
         free = self.lanes * MEMORY - sum(MEMORY + (it - 1) * MORE_MEMORY for it in self.running.values())
         return min(MOST_JOBS, max(idle // len(ready), 1), 1 + max(free - MEMORY, 0) // MORE_MEMORY) if idle else 0
 
-    def work(self, name, jobs):
+    def work(self, name: str, jobs: int) -> None:
         """Proves one library, and reports that it is done."""
         is_proved, said = prove(name, jobs)
         with self.turn:
@@ -192,7 +197,7 @@ class Build:
                 self.failed[name] = said
             self.turn.notify()
 
-    def begin(self):
+    def begin(self) -> None:
         """Begins what can be begun."""
         while not self.failed and (ready := self.ready()) and (jobs := self.jobs(ready)):
             name = ready[0]
@@ -200,7 +205,7 @@ class Build:
             self.running[name] = jobs
             threading.Thread(target=self.work, args=(name, jobs)).start()
 
-    def prove_libraries(self):
+    def prove_libraries(self) -> dict[str, str]:
         """Proves all libraries, and returns what was said of those that failed, by their names."""
         with self.turn:
             self.begin()
@@ -210,13 +215,13 @@ class Build:
         return self.failed
 
 
-def tell(failed, what):
+def report(failed: Mapping[str, str], what: str) -> None:
     """Prints what was said of those that failed, by their names, and what came of it."""
     sys.stderr.writelines(line + "\n" for said in failed.values() for line in said.split("\n")[-60:])
     say(f"{what}, since this was not proved or not built: {', '.join(failed)}")
 
 
-def build_libraries(*above):
+def build_libraries(*above: str) -> bool:
     """Proves and builds the libraries that crates use where they do not stand, and returns whether they do; waits for another build."""
     kit()
     for folder in (LIBRARIES, FRESH):
@@ -225,11 +230,11 @@ def build_libraries(*above):
         fcntl.flock(lock, fcntl.LOCK_EX)
         failed = Build(*above).prove_libraries()
     if failed:
-        tell(failed, "the libraries were not built")
+        report(failed, "the libraries were not built")
     return not failed
 
 
-def build():
+def build() -> bool:
     """Builds the program, and returns whether it stands."""
     kit()
     say("proving and building the program, which takes a quarter of an hour the first time; bin/x25try prints a report in a minute")
@@ -242,13 +247,13 @@ def build():
         is_built, said = prove_program(going.lanes, began)
         failed = {} if is_built else {"x25scan": said}
     if failed:
-        tell(failed, "the program was not built")
+        report(failed, "the program was not built")
         return False
     say(f"built, {going.seconds()}")
     return True
 
 
-def main():
+def main() -> int:
     """Builds the program unless it stands; a run waits for another that builds it."""
     if not is_stale():
         return 0

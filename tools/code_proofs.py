@@ -2,6 +2,8 @@
 
 `tools/codes_document.py` writes them into docs/CODES.md, and checks that each of them is there.
 """
+from __future__ import annotations
+
 from dataclasses import dataclass
 from typing import Optional
 
@@ -17,49 +19,60 @@ class Proof:
     function: str
     # The edit of the function, or of what it stands on, that the prover has to refuse.
     edit: str
-    # None where the prover finds the proof of the contract by itself.
+    # None where the prover finds the proof of the contract without help.
     proof: Optional[str] = None
+    # The file and the name of the comparison that the function calls, where that is a function of its own.
+    comparison: Optional[tuple[str, str]] = None
 
 
-def table(rule, edit="restart_is_taken_in_r2"):
+def table(rule: str, edit: str = "restart_is_taken_in_r2") -> Proof:
     """A code that is an entry of the state tables."""
     return Proof(rule, "crates/line_model/src/table.rt", "table_t", f"crates/line_model/must-fail/{edit}.edit")
 
 
-def number(function, edit):
-    """A code of windows and interrupts."""
-    return Proof("Windows and interrupts", "crates/data_transfer/src/flow.rt", function, f"crates/data_transfer/must-fail/{edit}.edit", f"crates/data_transfer/proofs/flow/Flow/{function}/Answers.antt")
+def number(function: str, edit: str) -> Proof:
+    """A code of interrupts, given over the word in which the scans keep them."""
+    return Proof("Windows and interrupts", "crates/data_transfer/src/packed.rt", function, f"crates/data_transfer/{edit}.edit")
 
 
-def field(function, edit):
+def compared_number(function: str, comparison: str, edit: str) -> Proof:
+    """A code of sequence numbers: the scans keep them in a word, and compare those of one direction."""
+    proof = f"crates/data_transfer/proofs/direction/Direction/{comparison}/Answers.antt"
+    edit = f"crates/data_transfer/must-fail/{edit}.edit"
+    return Proof("Windows and interrupts", "crates/data_transfer/src/packed.rt", function, edit, proof, ("crates/data_transfer/src/direction.rt", comparison))
+
+
+def field(function: str, edit: str) -> Proof:
     """A code of a call packet's fields."""
     return Proof("Call packets", "crates/packet_decode/src/fields.rt", function, f"crates/packet_decode/must-fail/{edit}.edit", f"crates/packet_decode/proofs/fields/{function}/Answers.antt")
 
 
-def length(function, edit):
-    """A code of a packet's length."""
-    return Proof("Faults of format", "crates/packet_decode/src/lengths.rt", function, f"crates/packet_decode/{edit}.edit", "crates/packet_decode/proofs/ContentsLemmas.antt")
+def length(comparison: str, edit: str) -> Proof:
+    """A code of a packet's length: the bounds of its class, and the comparison with them."""
+    source = "crates/channel_machine/src/format.rt"
+    edit = f"crates/channel_machine/{edit}.edit"
+    return Proof("Faults of format", source, "length_fault", edit, comparison=(source, comparison))
 
 
-def packet_class(edit):
+def packet_class(edit: str) -> Proof:
     """A code that a packet's class has by itself."""
     return Proof("Packets", "crates/packet_decode/src/decode.rt", "decode", f"crates/packet_decode/{edit}.edit", "crates/packet_decode/proofs/decode/decode/Answers.antt")
 
 
-def message(edit):
+def message(edit: str) -> Proof:
     """A code of a PAD message's form."""
     return Proof("Sequences and PAD messages", "crates/pad/src/message.rt", "read_message", f"crates/pad/{edit}.edit", "crates/pad/proofs/message/read_message/Answers.antt")
 
 
-def setting(edit):
+def setting(edit: str) -> Proof:
     """A code of what a PAD message asks or says."""
     return Proof("Sequences and PAD messages", "crates/pad/src/settings.rt", "apply", f"crates/pad/must-fail/{edit}.edit", "crates/pad/proofs/Applied.antt")
 
 
 RESTART, CALL, TRANSFER = "The restart tables", "The call tables", "The data transfer tables"
 PROOFS = {
-    "1": number("data", "window_is_not_judged"),
-    "2": number("ack", "any_residue_is_acknowledged"),
+    "1": compared_number("data", "is_next", "window_is_not_judged"),
+    "2": compared_number("ack", "acknowledges", "any_residue_is_acknowledged"),
     **{code: table(RESTART) for code in ("17", "18")},
     "19": table(RESTART, "owed_indication_is_an_error"),
     **{code: table(CALL) for code in ("20", "21", "22", "23", "24", "25", "26")},
@@ -71,12 +84,12 @@ PROOFS = {
     "35": table(TRANSFER),
     "36": packet_class("must-fail/unassigned_channel_before_wrong_format"),
     "37": table(TRANSFER),
-    "38": length("at_least", "must-fail-more/receive_number_of_a_cut_header_passes"),
-    "39": length("at_most", "must-fail/interrupt_of_36_octets_passes"),
+    "38": length("at_least", "must-fail-more/clear_of_three_octets_passes"),
+    "39": length("between", "must-fail/interrupt_of_36_octets_passes"),
     "40": packet_class("must-fail/unassigned_channel_before_wrong_format"),
     "41": packet_class("must-fail-more/restart_confirmation_on_a_channel_is_undefined"),
-    "43": number("confirm", "confirmation_leaves_interrupt"),
-    "44": number("interrupt", "second_interrupt_passes"),
+    "43": number("confirm", "must-fail-more/confirmation_leaves_interrupt_in_a_word"),
+    "44": number("interrupt", "must-fail-more/second_interrupt_passes_in_a_word"),
     "66": field("read_tail", "window_of_the_modulus_passes"),
     "67": field("read_addresses", "calling_digits_are_judged_first"),
     "68": field("read_addresses", "calling_digits_are_judged_first"),

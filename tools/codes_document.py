@@ -5,6 +5,8 @@ With --check it writes nothing, and says where the document is another one, wher
 proof or an edit that a row names is not there, and where a trace does not print the row's example. The last line is
 'N passed, M failed'.
 """
+from __future__ import annotations
+
 import pathlib
 import re
 import sys
@@ -17,6 +19,8 @@ SOURCES = ROOT / "crates" / "explanations" / "src"
 DOCUMENT = ROOT / "docs" / "CODES.md"
 ROW = re.compile(r"    Explanation \{\n(.*?)    \},\n", re.DOTALL)
 FIELD = re.compile(r'^        (\w+):\s+(?:Topic::(\w+)|"((?:[^"\\]|\\.)*)"),$', re.MULTILINE)
+# The fields of a row by their names.
+Row = dict[str, str]
 SECTION = re.compile(r"^        (\w+)\(\),$", re.MULTILINE)
 TITLES = {
     "Line": "Lines of the report",
@@ -55,18 +59,20 @@ PROOFS_HEAD = """
 
 Each code has its rule in words, the definition that says it, the function that gives it with the contract that names the
 definition, the file of the function's proof, an edit that the prover refuses, and a trace that prints it. Where no file is
-named the prover finds the proof of the contract by itself.
+named the prover finds the proof of the contract without help. The contract of `table_t` is the whole table, so most of its
+rows name the same edit of an entry.
 
-The scans keep the windows and interrupts of a channel in one word: `FlowWord` of
-[packed.rt](../crates/data_transfer/src/packed.rt) judges P(S) and P(R) there, and its contract says what that of `Flow`
-says. `Flow` judges for `PlainChannel`, which only tests and users of the library run.
+The scans keep the windows and interrupts of a channel in one word, `FlowWord` of
+[packed.rt](../crates/data_transfer/src/packed.rt). Its functions judge P(S) and P(R) by a comparison of the numbers of one
+direction; the proof and the edit of codes 1 and 2 are those of the comparison. `Flow` has the same contracts and calls the
+same comparisons. It judges for `PlainChannel`, which only tests and users of the library run.
 
 | code | rule | definition | function | proof | edit | trace |
 |---|---|---|---|---|---|---|
 """
 
 
-def rows():
+def rows() -> list[Row]:
     """The rows of the table, section after section, as dictionaries of their fields."""
     found = []
     for section in SECTION.findall((SOURCES / "table.rt").read_text()):
@@ -76,38 +82,40 @@ def rows():
     return found
 
 
-def link(path):
+def link(path: str) -> str:
     name = pathlib.Path(path)
     return f"[{name.stem}](../{path})"
 
 
-def line_of(row):
+def line_of(row: Row) -> str:
     """The line of a row in its table."""
     example = f"`{row['example']}`" + (f" {link(row['trace'])}" if row["trace"] else "")
     cells = [f"`{row['word']}`", f"**{row['name']}** {row['meaning']} {row['when']}", f"{row['clause']}; {link(row['definition'])}", example]
     return "| " + " | ".join(cell.replace("|", "\\|") for cell in cells) + " |\n"
 
 
-def anchor(heading):
+def anchor(heading: str) -> str:
     """The anchor of a heading."""
     return re.sub(r"[^\w -]", "", heading.lower()).replace(" ", "-")
 
 
-def proof_line(row):
+def proof_line(row: Row) -> str:
     """The line that leads from a code to its proof."""
     proof = PROOFS[row["word"]]
     source = f"[`{proof.function}`](../{proof.source})"
+    if proof.comparison:
+        source += f", by [`{proof.comparison[1]}`](../{proof.comparison[0]})"
     cells = [f"`{row['word']}`", f"[{proof.rule}](RULES.md#{anchor(proof.rule)})", link(row["definition"]), source]
     cells += [f"[{'/'.join(pathlib.Path(proof.proof).parts[3:])}](../{proof.proof})" if proof.proof else "-", link(proof.edit), link(row["trace"])]
     return "| " + " | ".join(cells) + " |\n"
 
 
-def codes():
+def codes() -> list[Row]:
     """The rows of codes."""
     return [row for row in rows() if row["topic"] in ("Code", "Message")]
 
 
-def document():
+def document() -> str:
     """The text of the document."""
     text, topic = HEAD, None
     for row in rows():
@@ -118,7 +126,7 @@ def document():
     return text + PROOFS_HEAD + "".join(map(proof_line, codes()))
 
 
-def printed(trace):
+def printed(trace: pathlib.Path) -> list[str]:
     """The lines that the program prints of a trace, its exit status among them."""
     status = trace.with_suffix(".status")
     said = f"x25scan < t; echo $? prints {status.read_text().strip() if status.exists() else 0}\n"
@@ -126,7 +134,7 @@ def printed(trace):
     return (said + "".join(trace.with_suffix(it).read_text() for it in endings if trace.with_suffix(it).exists())).split("\n")
 
 
-def complaints(row):
+def complaints(row: Row) -> list[str]:
     """What is wrong with the files that a row names."""
     said = []
     if not (ROOT / row["definition"]).exists():
@@ -139,20 +147,21 @@ def complaints(row):
     return said
 
 
-def proof_complaints(row):
+def proof_complaints(row: Row) -> list[str]:
     """What is missing between a code and its proof."""
     proof = PROOFS.get(row["word"])
     if not proof:
         return ["tools/code_proofs.py has no row for it"]
-    said = [f"there is no {path}" for path in (proof.source, proof.edit, proof.proof) if path and not (ROOT / path).exists()]
-    if not said and not re.search(rf"\bfn {proof.function}\b", (ROOT / proof.source).read_text()):
-        said.append(f"{proof.source} has no function {proof.function}")
+    said = [f"there is no {path}" for path in (proof.edit, proof.proof) if path and not (ROOT / path).exists()]
+    for source, function in [(proof.source, proof.function)] + ([proof.comparison] if proof.comparison else []):
+        if not (ROOT / source).exists() or not re.search(rf"\bfn {function}\b", (ROOT / source).read_text()):
+            said.append(f"{source} has no function {function}")
     if not re.search(rf"^#+ {re.escape(proof.rule)}$", (ROOT / "docs" / "RULES.md").read_text(), re.MULTILINE):
         said.append(f"docs/RULES.md has no heading {proof.rule}")
     return said
 
 
-def check():
+def check() -> int:
     """Checks the document and the rows, and returns the exit status."""
     passed, failed = 0, 0
     current = DOCUMENT.exists() and DOCUMENT.read_text() == document()

@@ -1,5 +1,9 @@
 """Completions of the programs for bash, zsh and fish, written from the tables of their options."""
-from option_tables import OPTIONS
+from __future__ import annotations
+
+from collections.abc import Iterable
+
+from option_tables import OPTIONS, Option
 
 BASH = """\
 # Completion of {program} in bash, written by tools/completions.py from the table of its options.
@@ -28,7 +32,7 @@ FISH = """\
 """
 
 
-def bash_cases(options):
+def bash_cases(options: Iterable[Option]) -> str:
     """What completes the value of an option: its choices, or nothing."""
     chosen = [it for it in options if it.choices]
     lines = [f"""{it.names[0]}) mapfile -t COMPREPLY < <(compgen -W '{" ".join(it.choices)}' -- "$word"); return ;;""" for it in chosen]
@@ -37,21 +41,21 @@ def bash_cases(options):
     return "".join(f"        {line}\n" for line in lines)
 
 
-def bash(program):
+def bash(program: str) -> str:
     """The completion in bash."""
     options = [it for it in OPTIONS[program]() if it.names]
     cases = bash_cases([it for it in options if it.value and not it.is_file and not it.is_value_free])
     return BASH.format(program=program, cases=cases, names=" ".join(name for it in options for name in it.names))
 
 
-def zsh_text(text):
+def zsh_text(text: str) -> str:
     """A text as a specification of _arguments has it within single quotes."""
     for letter in "\\[]:":
         text = text.replace(letter, "\\" + letter)
     return text.replace("'", "'\\''")
 
 
-def zsh_line(option):
+def zsh_line(option: Option) -> str:
     """The specification of an option."""
     help_text, value = zsh_text(option.help), zsh_text(option.value)
     action = f"({' '.join(option.choices)})" if option.choices else "_files" * option.is_file
@@ -65,20 +69,20 @@ def zsh_line(option):
     return f"  '{repeated}{option.names[0]}[{help_text}]{message}'"
 
 
-def zsh(program):
+def zsh(program: str) -> str:
     """The completion in zsh."""
     return ZSH.format(program=program, lines=" \\\n".join(map(zsh_line, OPTIONS[program]())))
 
 
-def fish_line(program, option):
+def fish_line(program: str, option: Option) -> str:
     """The line of an option."""
     names = " ".join(f"-l {name[2:]}" if name.startswith("--") else f"-s {name[1:]}" for name in option.names)
     value = (" -r" if option.is_file else " -x") if option.value and not option.is_value_free else ""
     choices = f" -a '{' '.join(option.choices)}'" if option.choices else ""
-    told = option.help.replace("\\", "\\\\").replace("'", "\\'")
-    return f"complete -c {program} {names}{value}{choices} -d '{told}'"
+    text = option.help.replace("\\", "\\\\").replace("'", "\\'")
+    return f"complete -c {program} {names}{value}{choices} -d '{text}'"
 
 
-def fish(program):
+def fish(program: str) -> str:
     """The completion in fish."""
     return FISH.format(program=program, lines="\n".join(fish_line(program, it) for it in OPTIONS[program]() if it.names))

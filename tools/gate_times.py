@@ -5,6 +5,8 @@ gate_times.py table FILE: prints what each part of the gate cost, with the ten d
 `rt ci` says nothing of time, so the watcher reads /proc once a second: which checks run, of which crate and with
 which edit, and the processor seconds that each took until it was last seen.
 """
+from __future__ import annotations
+
 import collections
 import json
 import os
@@ -12,6 +14,7 @@ import pathlib
 import signal
 import sys
 import time
+from collections.abc import Iterable, Mapping, Sequence
 from dataclasses import dataclass
 
 ROOT = pathlib.Path(__file__).resolve().parent.parent
@@ -23,6 +26,10 @@ PARTS = ("libraries", "tests", "seeds", "edits", "programs", *SUITES)
 DEAREST = 10
 
 
+# What distinguishes a process from others, and from what it was before it began to run another program.
+Key = tuple[int, int, tuple[str, ...]]
+
+
 @dataclass
 class Process:
     """A process as /proc shows it, with the processor seconds of its own and of the children that have ended."""
@@ -31,14 +38,14 @@ class Process:
     parent: int
     started: int
     seconds: float
-    words: list
+    words: list[str]
 
     @property
-    def name(self):
+    def name(self) -> str:
         return os.path.basename(self.words[0]) if self.words else ""
 
     @property
-    def key(self):
+    def key(self) -> Key:
         """What distinguishes a process from others, and from what it was before it began to run another program."""
         return self.number, self.started, tuple(self.words)
 
@@ -54,7 +61,7 @@ class Run:
     seconds: float
 
 
-def processes():
+def processes() -> dict[int, Process]:
     """All processes by their number; one that ends while it is read is left out."""
     found = {}
     for folder in pathlib.Path("/proc").iterdir():
@@ -70,16 +77,17 @@ def processes():
     return found
 
 
-def below(process, ancestor, found):
+def below(process: Process | None, ancestor: int, found: Mapping[int, Process]) -> bool:
     """Whether a process descends from another."""
     while process and process.number != ancestor:
         process = found.get(process.parent)
     return process is not None
 
 
-def edited(edit, folder):
+def edited(edit: pathlib.Path, folder: pathlib.Path) -> dict[str, str]:
     """The texts of the files that a must-fail edit changes, by their path in the crate."""
-    texts, file, old = {}, "", ""
+    texts: dict[str, str] = {}
+    file = old = ""
     for line in edit.read_text().split("\n"):
         name, _, value = line.partition(":")
         value = value.removeprefix(" ")
@@ -93,7 +101,7 @@ def edited(edit, folder):
     return texts
 
 
-def edit_of(crate, room):
+def edit_of(crate: str, room: str) -> str | None:
     """The name of the must-fail edit whose texts stand in the copy of a crate that is being checked; None for the crate as it stands."""
     folder = ROOT / "crates" / crate
     for edit in sorted((folder / "must-fail").glob("*.edit")):
@@ -102,7 +110,7 @@ def edit_of(crate, room):
     return None
 
 
-def kind_of(process):
+def kind_of(process: Process) -> tuple[str, str] | None:
     """The part of the gate that a process is, and what it is of; None for others."""
     words = process.words
     if process.name == "rattle" and "--crate-name" in words:
@@ -121,11 +129,13 @@ def kind_of(process):
     return None
 
 
-def watch(file, ancestor):
-    """Notes all runs below a process until this one is told to end."""
-    runs, parts, going = {}, {}, True
+def watch(file: str, ancestor: int) -> None:
+    """Notes all runs below a process until SIGTERM ends this one."""
+    runs: dict[Key, Run] = {}
+    parts: dict[Key, tuple[str, str] | None] = {}
+    going = True
 
-    def end(*_):
+    def end(*_: object) -> None:
         nonlocal going
         going = False
 
@@ -141,14 +151,14 @@ def watch(file, ancestor):
                 parent = found.get(process.parent)
                 if parent and parts.get(parent.key):
                     parts[process.key] = None
-            if parts[process.key]:
+            if part := parts[process.key]:
                 begun = runs[process.key].begun if process.key in runs else now
-                runs[process.key] = Run(*parts[process.key], begun, now + PAUSE, process.seconds)
+                runs[process.key] = Run(*part, begun, now + PAUSE, process.seconds)
         time.sleep(PAUSE)
     pathlib.Path(file).write_text(json.dumps([vars(run) for run in runs.values()]))
 
 
-def united(runs):
+def united(runs: Iterable[Run]) -> float:
     """The seconds in which at least one of the runs went on."""
     total, last = 0.0, 0.0
     for run in sorted(runs, key=lambda it: it.begun):
@@ -157,7 +167,7 @@ def united(runs):
     return total
 
 
-def table(file):
+def table(file: str) -> None:
     """Prints the parts with their cost, and the dearest of each."""
     parts = collections.defaultdict(list)
     for record in json.loads(pathlib.Path(file).read_text()):
@@ -167,15 +177,15 @@ def table(file):
     for name, runs in [*((part, parts[part]) for part in PARTS), ("all", everything)]:
         print(f"{name:10} {sum(run.seconds for run in runs):12.0f} {united(runs):8.0f} {len(runs):7}")
     for part in PARTS:
-        costs = collections.Counter()
+        costs: dict[str, float] = collections.defaultdict(float)
         for run in parts[part]:
             costs[run.label] += run.seconds
         if len(costs) > 1:
-            dearest = "; ".join(f"{label} {seconds:.0f}" for label, seconds in costs.most_common(DEAREST))
+            dearest = "; ".join(f"{label} {seconds:.0f}" for label, seconds in sorted(costs.items(), key=lambda it: -it[1])[:DEAREST])
             print(f"dearest {part}, processor s: {dearest}")
 
 
-def main(words):
+def main(words: Sequence[str]) -> None:
     if words[:1] == ["watch"] and len(words) == 3:
         watch(words[1], int(words[2]))
     elif words[:1] == ["table"] and len(words) == 2:

@@ -5,21 +5,27 @@ Each text is a header of either form and rows of an interface that mostly keeps 
 every field at its limits and octets that are cut or changed mixed in, and now and then a line that is no row. The same
 seed always gives the same text.
 """
+from __future__ import annotations
+
 import random
 import sys
 
 TYPES = [0x0B, 0x0F, 0x13, 0x17, 0x1B, 0x1F, 0x23, 0x27, 0xFB, 0xFF, 0xF1, 0xF3, 0xF7]
 SIDES = "TN"
+# How many lines a text has, about.
+COUNTS = [0, 1, 5, 40, 120, 300]
+# Rows, each with its side and its octets.
+Rows = list[tuple[str, bytes]]
 
 
-def other(side):
+def other(side: str) -> str:
     return "N" if side == "T" else "T"
 
 
 class Interface:
     """The terms of an interface, and its header line."""
 
-    def __init__(self, source):
+    def __init__(self, source: random.Random) -> None:
         self.modulus = source.choice([8, 8, 8, 128])
         self.window = source.choice([1, 2, 2, 3, self.modulus - 1])
         self.size = source.choice([16, 16, 32, 128, 4096])
@@ -39,16 +45,16 @@ class Interface:
             )
         self.header = form
 
-    def callers(self, channel):
+    def callers(self, channel: int) -> str:
         """The sides that may call on a channel."""
         if channel <= self.incoming:
             return "N"
         return SIDES if channel <= self.two_way else "T"
 
-    def general_format(self):
+    def general_format(self) -> int:
         return 0x10 if self.modulus == 8 else 0x20
 
-    def counted(self, kind, send, receive, more):
+    def counted(self, kind: int | None, send: int, receive: int, more: int) -> bytes:
         """The octets behind the channel of a packet with sequence numbers; `kind` is None for data."""
         if self.modulus == 8:
             low = (send % 8) << 1 | more << 4 if kind is None else kind
@@ -61,41 +67,41 @@ class Interface:
 class Channel:
     """What a well-behaved user of a channel knows of it."""
 
-    def __init__(self):
+    def __init__(self) -> None:
         self.forget()
 
-    def forget(self):
+    def forget(self) -> None:
         self.up = False
         self.pad = False
         self.begin()
 
-    def begin(self):
+    def begin(self) -> None:
         self.sent = {"T": 0, "N": 0}
         self.known = {"T": 0, "N": 0}
 
 
 class Writer:
-    """Writes the rows of one text."""
+    """Writes one text by the choices of a random source."""
 
-    def __init__(self, seed):
-        self.source = random.Random(seed)
+    def __init__(self, source: random.Random) -> None:
+        self.source = source
         self.interface = Interface(self.source)
         self.channels = [Channel() for _ in range(self.interface.channels + 1)]
         self.number = 0
-        self.lines = []
+        self.lines: list[bytes] = []
 
-    def chance(self, share):
+    def chance(self, share: float) -> bool:
         return self.source.random() < share
 
     # ---- packets
 
-    def start(self, channel, bits=0):
+    def start(self, channel: int, bits: int = 0) -> bytes:
         return bytes([self.interface.general_format() | bits | channel >> 8 & 15, channel & 255])
 
-    def octets(self, length):
+    def octets(self, length: int) -> bytes:
         return self.source.randbytes(length)
 
-    def address_block(self):
+    def address_block(self) -> bytes:
         called, calling = (self.source.choice([0, 0, 1, 5, 14, 15]) for _ in SIDES)
         digits = [self.source.randrange(10) for _ in range(called + calling)]
         if digits and self.chance(0.05):
@@ -105,7 +111,7 @@ class Writer:
         pairs = zip(digits[::2], digits[1::2])
         return bytes([calling << 4 | called]) + bytes(high << 4 | low for high, low in pairs)
 
-    def facilities(self):
+    def facilities(self) -> bytes:
         source = self.source
         known = [
             lambda: bytes([0x01, source.choice([0, 1, 0x80, 0x81, 0xC0, 0xFF])]),
@@ -120,23 +126,23 @@ class Writer:
         length = len(made) + (source.choice([1, -1, 200]) if self.chance(0.05) else 0)
         return bytes([length % 256]) + made
 
-    def call_data(self):
+    def call_data(self) -> bytes:
         return self.source.choice([b"", b"\x01\0\0\0", b"\x01\0\0\0", b"\x01", b"\xC0"]) + self.octets(
             self.source.choice([0, 0, 0, 1, 11, 12, 13, 16, 17, 124, 128, 129])
         )
 
-    def call(self, kind):
+    def call(self, kind: int) -> bytes:
         parts = [self.address_block(), self.facilities(), self.call_data()]
         return bytes([kind]) + b"".join(parts[:self.source.choice([3, 3, 3, 2, 1, 0])])
 
-    def sound_call(self, kind):
+    def sound_call(self, kind: int) -> bytes:
         """A call packet without a fault, mostly of a PAD."""
         if kind == 0x0F:
             return bytes([kind]) + self.source.choice([b"", b"", b"\0\0", b"\0\x03\x42\x07\x07", b"\0\x03\x43\x01\x02"])
         facilities = self.source.choice([b"\0", b"\0", b"\x02\x01\x01", b"\x02\x01\x80", b"\x03\x42\x05\x04", b"\x03\x43\x03\x02"])
         return bytes([kind, 0x21, 0x12, 0x30]) + facilities + self.source.choice([b"\x01\0\0\0", b"\x01\0\0\0", b""])
 
-    def message(self):
+    def message(self) -> bytes:
         """A PAD message, as the user data of a data packet."""
         source = self.source
         code = source.choice([0, 1, 2, 3, 4, 5, 6, 6, 7, 8, 9, 0x10, 2, 4, 0])
@@ -148,7 +154,7 @@ class Writer:
             pairs = self.octets(source.choice([1022, 1023, 1024, 1025]))
         return (bytes([code]) + pairs)[:None if self.chance(0.9) else -1]
 
-    def data(self, number, channel, side):
+    def data(self, number: int, channel: Channel, side: str) -> bytes:
         interface, send, receive = self.interface, channel.sent[side], channel.sent[other(side)]
         if self.chance(0.06):
             send += self.source.choice([-1, 1, 2, interface.modulus - 1])
@@ -167,25 +173,25 @@ class Writer:
         bits = (0x80 if qualified else 0) | (0x40 if self.chance(0.05) else 0)
         return self.start(number, bits) + interface.counted(None, send, receive, int(more)) + field
 
-    def ready(self, number, channel, side):
+    def ready(self, number: int, channel: Channel, side: str) -> bytes:
         kinds = {8: [0x01, 0x01, 0x05, 0x09], 128: [0x01, 0x01, 0x05, 0x09]}[self.interface.modulus]
         receive = channel.sent[other(side)] + (self.source.choice([-1, 1]) if self.chance(0.05) else 0)
         channel.known[other(side)] = channel.sent[other(side)]
         return self.start(number) + self.interface.counted(self.source.choice(kinds), 0, receive, 0)
 
-    def plain(self, kind):
+    def plain(self, kind: int) -> bytes:
         """The octets of a packet that carries a cause and a diagnostic, or nothing."""
         lengths = {0x13: [2, 1, 0, 5], 0x1B: [2, 1, 0, 3], 0xFB: [2, 1, 0, 3], 0x23: [1, 32, 0, 33]}.get(kind, [0, 1])
         return bytes([kind]) + self.octets(lengths[0] if self.chance(0.85) else self.source.choice(lengths))
 
     # ---- rows
 
-    def answered(self, number, side, asks, answers):
+    def answered(self, number: int, side: str, asks: bytes, answers: bytes) -> Rows:
         """A packet and its answer, which now and then does not come."""
         rows = [(side, self.start(number) + asks), (other(side), self.start(number) + answers)]
         return rows if self.chance(0.93) else rows[:1]
 
-    def usual(self):
+    def usual(self) -> Rows:
         """What a side does next on some channel."""
         number = self.source.randint(1, self.interface.channels)
         channel, side = self.channels[number], self.source.choice(SIDES)
@@ -213,14 +219,14 @@ class Writer:
             return [(other(side), self.ready(number, channel, other(side)))]
         return [(side, self.data(number, channel, side))]
 
-    def strange(self):
+    def strange(self) -> Rows:
         """Any packet, at any time."""
         number = self.source.choice([0, 1, self.interface.channels, self.interface.channels + 1, 255, 4095])
         kind = self.source.choice([*TYPES, self.source.randrange(256)])
         made = self.call(kind) if kind in (0x0B, 0x0F) else self.plain(kind)
         return [(self.source.choice(SIDES), self.start(number, self.source.choice([0, 0, 0, 0x40, 0x80])) + made)]
 
-    def spoilt(self, octets):
+    def spoilt(self, octets: bytes) -> bytes:
         """Octets that are cut or changed."""
         if not octets or self.chance(0.6):
             return octets[:self.source.randint(0, len(octets))]
@@ -228,14 +234,14 @@ class Writer:
         changed[self.source.randrange(min(len(changed), 6))] ^= 1 << self.source.randrange(8)
         return bytes(changed)
 
-    def row(self, side, octets):
+    def row(self, side: str, octets: bytes) -> None:
         if self.chance(0.04):
             octets = self.spoilt(octets)
         self.number += 1 if self.chance(0.95) else self.source.choice([2, 10, 100_000])
         digits = octets.hex() if self.chance(0.2) else octets.hex().upper()
         self.lines.append(f"{self.number} {side} {digits or '-'}".encode())
 
-    def broken(self):
+    def broken(self) -> bytes:
         """A line that is no row, or a header where none may stand."""
         number = self.number + 1
         return self.source.choice([
@@ -246,19 +252,20 @@ class Writer:
             f"{number} T {'00' * 4201}".encode(), b"#" + b"x" * 8500, self.interface.header.encode(), b"\xff\xfe\x00",
         ])
 
-    def broken_header(self):
+    def broken_header(self) -> bytes:
         header = self.interface.header
         return self.source.choice([
             header.lower(), header + " ", header.replace("MOD 8", "MOD 9"), header.replace("X25", "X26"),
             header.replace("WIN", "WIN 0"), header.replace("SIZE ", "SIZE 0"), header.rsplit(" ", 1)[0], "",
         ]).encode()
 
-    def text(self):
+    def text(self, count: int | None = None) -> bytes:
+        """The text, of at least `count` lines where one is named."""
         source = self.source
         if self.chance(0.2):
             self.lines.append(b"# a recording")
         self.lines.append(self.broken_header() if self.chance(0.03) else self.interface.header.encode())
-        count = source.choice([0, 1, 5, 40, 120, 300])
+        count = source.choice(COUNTS) if count is None else count
         while len(self.lines) < count:
             for side, octets in self.strange() if self.chance(0.06) else self.usual():
                 self.row(side, octets)
@@ -272,9 +279,9 @@ class Writer:
         return b"\n".join(self.lines) + (b"" if self.chance(0.3) else b"\n")
 
 
-def text_of(seed):
+def text_of(seed: int) -> bytes:
     """The text of a seed."""
-    return Writer(seed).text()
+    return Writer(random.Random(seed)).text()
 
 
 if __name__ == "__main__":

@@ -1,7 +1,7 @@
 """The options of the programs that a package installs, as their help has them.
 
-Those of x25scan are read from crates/command_line, and those of x25trace and x25page from the parsers of their words. The manual
-pages (manual_page.py) and the completions (completions.py) are written from these tables.
+Those of x25scan are read from its help in crates/command_line, and those of x25trace and x25page from the parsers of their words.
+The manual pages (manual_page.py) and the completions (completions.py) are written from these tables.
 """
 import pathlib
 import re
@@ -11,13 +11,10 @@ from x25page_lib import words as page_words
 from x25trace_lib import words as trace_words
 
 ROOT = pathlib.Path(__file__).resolve().parent.parent
-WORDS = ROOT / "crates" / "command_line" / "src"
-TEXT = r'"((?:[^"\\]|\\.)*)"'
-CONSTANT = re.compile(r"pub const (\w+): &str =\s+" + TEXT + ";", re.DOTALL)
-FLAG = re.compile(r"flag\(\s*alloc,\s*" + TEXT + r",\s*" + TEXT + r",?\s*\)")
-ARGUMENT = re.compile(r"Arg::new\(alloc, " + TEXT + r"\)(.*?)\n\}", re.DOTALL)
-CALL = re.compile(r"\.(\w+)\((.*?)\)\n")
-ORDER = re.compile(r"\.arg\((?:flag\(\s*alloc,\s*" + TEXT + r"|(\w+))")
+HELP = ROOT / "crates" / "command_line" / "src" / "help.rt"
+CONSTANT = re.compile(r'pub const (\w+): &str = "((?:[^"\\]|\\.)*)";', re.DOTALL)
+OPTION = re.compile(r"^ +(?:(-\w), )?(--[\w-]+)(?: (\[?)<(\w+)>\]?)? {2,}(.+)$", re.MULTILINE)
+OPERAND = re.compile(r"^  \[(\w+)\] {2,}(.+)$", re.MULTILINE)
 FILES = ("FILE", "CAPTURE", "OUT", "PROGRAM")
 TITLES_OF_ARGPARSE = ("positional arguments", "options")
 
@@ -49,28 +46,25 @@ def plain(text):
 
 
 def texts_of_scan():
-    """The texts of the help and of the version of x25scan."""
-    return {name: plain(text) for name, text in CONSTANT.findall((WORDS / "help.rt").read_text())}
+    """The help and the version of x25scan."""
+    return {name: plain(text) for name, text in CONSTANT.findall(HELP.read_text())}
 
 
-def option_of_scan(name, body):
-    """The option that the calls in a body build."""
-    calls = {call: words.strip('"') for call, words in CALL.findall(body)}
-    names = (f"--{name}",) if "long" in calls else ()
-    return Option(names, plain(calls["help"]), calls.get("value_name", ""), calls.get("default_value", ""), is_value_free="num_args" in calls)
+def section(text: str, title: str) -> str:
+    """The lines of a help below a title."""
+    found = re.search(rf"^{title}:\n(.*?)(?:\n\n|\Z)", text, re.MULTILINE | re.DOTALL)
+    if not found:
+        raise ValueError(f"the help has no {title}")
+    return found[1]
 
 
 def options_of_scan():
-    """The options of x25scan in the order of its help, and those that clap adds."""
-    source = (WORDS / "options.rt").read_text()
-    found = {name: Option((f"--{name}",), plain(text)) for name, text in FLAG.findall(source)}
-    found |= {name: option_of_scan(name, body) for name, body in ARGUMENT.findall(source) if ".help(" in body and name not in found}
-    order = [flag or function for flag, function in ORDER.findall(source)]
-    added = [
-        Option(("-h", "--help"), "Print help"),
-        Option(("-V", "--version"), "Print the version, and the kit that proved the program"),
-    ]
-    return [found[name] for name in sorted(found, key=order.index)] + added
+    """The options of x25scan in the order of its help, and the name of the trace before those that have a letter."""
+    helped = texts_of_scan()["HELP"]
+    found = OPTION.findall(section(helped, "Options"))
+    named = [Option((name,), text, value, is_value_free=bool(free)) for letter, name, free, value, text in found if not letter]
+    operands = [Option((), text, value) for value, text in OPERAND.findall(section(helped, "Arguments"))]
+    return named + operands + [Option((letter, name), text) for letter, name, _, _, text in found if letter]
 
 
 def option_of_action(action, group):
@@ -78,9 +72,9 @@ def option_of_action(action, group):
     choices = tuple(map(str, action.choices or ()))
     has_value = action.nargs != 0
     value = (action.metavar or "|".join(choices)) if has_value else ""
-    told = Option(tuple(action.option_strings), action.help, value, choices=choices, group=group)
-    told.is_needed, told.is_repeated = action.required, isinstance(action.default, list) or action.nargs == "+"
-    return told
+    option = Option(tuple(action.option_strings), action.help, value, choices=choices, group=group)
+    option.is_needed, option.is_repeated = action.required, isinstance(action.default, list) or action.nargs == "+"
+    return option
 
 
 def options_of_parser(parser):

@@ -1,9 +1,12 @@
 """The files of a package: programs, manual pages, completions, documents with their pictures and traces, and PROVED."""
+from __future__ import annotations
+
 import functools
 import gzip
 import hashlib
 import posixpath
 import re
+from collections.abc import Iterator, Sequence
 from dataclasses import dataclass
 
 import completions
@@ -19,7 +22,8 @@ LINK = re.compile(r"\[([^\]\n]*)\]\(([^)#\s]*)(#[^)\s]*)?\)")
 INSTALLED_PROGRAM = re.compile(rf"(?<![\w/])(?:bin|tools)/({'|'.join(OPTIONS)})(?![\w/])")
 # The other programs, their libraries and a link to x25scan stand as in the repository; links lead to the launchers.
 SHARED = "share/x25scan"
-LIBRARIES = {"x25trace": ("*.py",), "x25page": ("*.py", "page/*.*")}
+LAUNCHED = ("x25trace", "x25page")
+LIBRARIES = {"x25tools_lib": ("*.py",), "x25trace_lib": ("*.py",), "x25page_lib": ("*.py", "page/*.*")}
 PICTURES = "docs/pictures"
 
 
@@ -53,13 +57,13 @@ class File:
     target: str = ""
 
 
-def place_of(path, target):
+def place_of(path: str, target: str) -> str:
     """The place in the repository that a link of a document leads to."""
     return posixpath.normpath(posixpath.join(posixpath.dirname(path), target))
 
 
 @functools.cache
-def shown():
+def shown() -> set[str]:
     """The examples, the traces that a document links to, and the captures that one names, by their place in the repository."""
     texts = {path: (ROOT / path).read_text() for path in READ}
     linked = {place_of(path, target) for path, text in texts.items() for _, target, _ in LINK.findall(text)}
@@ -68,12 +72,12 @@ def shown():
     return traces | captures | {f"{EXAMPLES}/{it.name}" for it in (ROOT / EXAMPLES).iterdir()}
 
 
-def pictures():
+def pictures() -> dict[str, str]:
     """The pictures of the documents, as they are installed, by their place in the repository."""
     return {f"{PICTURES}/{it.name}": f"pictures/{it.name}" for it in sorted((ROOT / PICTURES).glob("*.png"))}
 
 
-def link_of(match, path):
+def link_of(match: re.Match[str], path: str) -> str:
     """A link of a document as it is where this is installed, or its text where it leads to nothing that is."""
     text, target, part = match[1], match[2], match[3] or ""
     if not target or "://" in target:
@@ -84,26 +88,26 @@ def link_of(match, path):
     return f"[{text}]({installed}{part})" if installed else text
 
 
-def document(path):
+def document(path: str) -> bytes:
     """A document with the links and the names of programs that hold where it is installed."""
     text = LINK.sub(lambda it: link_of(it, path), (ROOT / path).read_text())
     return INSTALLED_PROGRAM.sub(r"\1", text).encode()
 
 
-def programs(release):
+def programs(release: Release) -> Iterator[File]:
     """The programs, and what those in Python are made of."""
     yield File("bin/x25scan", release.program, 0o755)
     yield File(f"{SHARED}/bin/x25scan", target="../../../bin/x25scan")
-    for name, patterns in LIBRARIES.items():
+    for name in LAUNCHED:
         yield File(f"bin/{name}", target=f"../{SHARED}/bin/{name}")
         for path in (f"bin/{name}", f"tools/{name}"):
             yield File(f"{SHARED}/{path}", (ROOT / path).read_bytes(), 0o755)
-        library = ROOT / "tools" / f"{name}_lib"
-        for path in sorted(it for pattern in patterns for it in library.glob(pattern)):
-            yield File(f"{SHARED}/{path.relative_to(ROOT)}", path.read_bytes())
+    for library, patterns in LIBRARIES.items():
+        for file in sorted(it for pattern in patterns for it in (ROOT / "tools" / library).glob(pattern)):
+            yield File(f"{SHARED}/{file.relative_to(ROOT)}", file.read_bytes())
 
 
-def pages_and_completions(zsh_folder):
+def pages_and_completions(zsh_folder: str) -> Iterator[File]:
     """The manual pages and the completions of each program."""
     for name in OPTIONS:
         page = (ROOT / "docs" / f"{name}.1").read_bytes()
@@ -113,7 +117,7 @@ def pages_and_completions(zsh_folder):
         yield File(f"share/fish/vendor_completions.d/{name}.fish", completions.fish(name).encode())
 
 
-def documents():
+def documents() -> Iterator[File]:
     """The documents, and the traces and captures that they name."""
     for path, name in READ.items():
         yield File(f"{DOCUMENTS}/{name}", document(path))
@@ -123,7 +127,7 @@ def documents():
         yield File(f"{DOCUMENTS}/{path}", (ROOT / path).read_bytes())
 
 
-def proved(release, files):
+def proved(release: Release, files: Sequence[File]) -> File:
     """By which kit and of which commit, with the sums of the files; `sha256sum -c` reads it where bin and share are."""
     sums = "".join(f"{hashlib.sha256(it.content).hexdigest()}  {it.path}\n" for it in files if not it.target)
     known = "the program is the one that was named: whether it was proved of this commit is not known"
@@ -132,7 +136,7 @@ def proved(release, files):
     return File(f"{DOCUMENTS}/PROVED", text.encode())
 
 
-def files_of(release, zsh_folder):
+def files_of(release: Release, zsh_folder: str) -> list[File]:
     """All files of a package, in the order of their paths, which are below the folder that has bin and share."""
     found = [*programs(release), *pages_and_completions(zsh_folder), *documents()]
     found.sort(key=lambda it: it.path)

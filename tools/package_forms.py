@@ -1,13 +1,17 @@
 """The forms of a package: a .tar.gz, and a .deb."""
+from __future__ import annotations
+
 import gzip
 import io
 import os
+import pathlib
 import re
 import shutil
 import subprocess
 import tarfile
+from collections.abc import Sequence
 
-from package_files import Refusal, files_of
+from package_files import File, Refusal, Release, files_of
 
 # The machine of an ELF file, as tar archives and as Debian name it.
 MACHINES = {62: ("x86_64", "amd64"), 183: ("aarch64", "arm64"), 243: ("riscv64", "riscv64")}
@@ -32,7 +36,7 @@ Description: reports which side of a recorded X.25 interface broke the protocol
 """
 
 
-def machine(program):
+def machine(program: bytes) -> tuple[str, str]:
     """The names of the machine that a program is for."""
     number = int.from_bytes(program[18:20], "little")
     if program[:4] != b"\x7fELF" or number not in MACHINES:
@@ -40,7 +44,7 @@ def machine(program):
     return MACHINES[number]
 
 
-def archive(release, root):
+def archive(release: Release, root: str) -> bytes:
     """The bytes of a tar archive, whose entries are of root and of the commit's date."""
     held = io.BytesIO()
     with tarfile.open(fileobj=held, mode="w", format=tarfile.USTAR_FORMAT) as tar:
@@ -54,7 +58,7 @@ def archive(release, root):
     return held.getvalue()
 
 
-def write_archive(release, folder):
+def write_archive(release: Release, folder: pathlib.Path) -> pathlib.Path:
     """Writes the .tar.gz, and returns its path."""
     root = f"x25scan-{release.version}"
     path = folder / f"{root}-linux-{machine(release.program)[0]}.tar.gz"
@@ -62,7 +66,7 @@ def write_archive(release, folder):
     return path
 
 
-def put(file, top):
+def put(file: File, top: pathlib.Path) -> None:
     """Writes a file below a folder."""
     path = top / file.path
     path.parent.mkdir(parents=True, exist_ok=True)
@@ -73,8 +77,8 @@ def put(file, top):
         path.chmod(file.mode)
 
 
-def control(release, files):
-    """What dpkg is told of the package."""
+def control(release: Release, files: Sequence[File]) -> str:
+    """The control file of the package, which dpkg reads."""
     versions = re.findall(rb"GLIBC_(\d+)\.(\d+)", release.program)
     library = max(tuple(map(int, it)) for it in versions)
     size = sum(len(it.content) + 1023 >> 10 for it in files)
@@ -82,7 +86,7 @@ def control(release, files):
     return CONTROL.format(**names, size=size, library=".".join(map(str, library)))
 
 
-def write_debian(release, folder, top):
+def write_debian(release: Release, folder: pathlib.Path, top: pathlib.Path) -> pathlib.Path:
     """Writes the .deb from a tree below an empty folder, and returns its path."""
     if not shutil.which("dpkg-deb"):
         raise Refusal("there is no .deb: dpkg-deb is not on the path; install dpkg, or use the .tar.gz")
@@ -96,7 +100,7 @@ def write_debian(release, folder, top):
             path.chmod(0o755 if path.is_dir() else 0o644)
         os.utime(path, (release.seconds, release.seconds), follow_symlinks=False)
     path = folder / f"x25scan_{release.version}_{machine(release.program)[1]}.deb"
-    how = ["--root-owner-group", "-Zxz", "--build", top, path]
+    how: list[str | pathlib.Path] = ["--root-owner-group", "-Zxz", "--build", top, path]
     env = {**os.environ, "SOURCE_DATE_EPOCH": str(release.seconds)}
     done = subprocess.run(["dpkg-deb", *how], env=env, capture_output=True, text=True, check=False)
     if done.returncode:

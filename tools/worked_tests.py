@@ -5,8 +5,12 @@ tests_scans.
 They are crates/tests_scans/src/scans/worked/TOPIC.rt. Run it after a change of those traces.
 With --check it writes nothing, and names each file that is another one. The last line is 'N passed, M failed'.
 """
+from __future__ import annotations
+
+import pathlib
 import re
 import sys
+from collections.abc import Sequence
 
 sys.dont_write_bytecode = True
 from worked_traces import ROOT, content, refusal, report, traces, write_or_check
@@ -22,7 +26,7 @@ TOPICS = {
 }
 
 
-def literal(text):
+def literal(text: str) -> str:
     """A byte string, a line of the text on each line."""
     if not text:
         return 'b""'
@@ -31,7 +35,7 @@ def literal(text):
     return 'b"\\\n' + INDENT + "".join(ended) + lines[-1] + '"'
 
 
-def fault(trace):
+def fault(trace: pathlib.Path) -> str:
     """The fault that a scan answers, if it does."""
     refused = refusal(trace)
     if not refused:
@@ -40,7 +44,7 @@ def fault(trace):
     return f"Some(Fault::Trace({line}, Kind::{kind}))"
 
 
-def constant(trace):
+def constant(trace: pathlib.Path) -> str:
     """A trace with what comes of it."""
     return f"""    Worked {{
         name: "{trace.stem}",
@@ -51,12 +55,12 @@ def constant(trace):
 """
 
 
-def topic_of(trace):
+def topic_of(trace: pathlib.Path) -> str:
     """The first topic that a trace belongs to."""
     return next(topic for topic, (_, names) in TOPICS.items() if re.match(names, trace.stem))
 
 
-def topic_file(topic, chosen):
+def topic_file(topic: str, chosen: Sequence[pathlib.Path]) -> str:
     """The file of a topic's traces."""
     faults = any(map(refusal, chosen))
     uses = "use crate::scans::worked::Worked;\n" + ("use line_model::fault::{Fault, Kind};\n" if faults else "")
@@ -68,7 +72,7 @@ pub const {topic.upper()}: [Worked; {len(chosen)}] = [
 """
 
 
-def files():
+def files() -> dict[pathlib.Path, str]:
     """The files that are written, with what stands in each."""
     short = [trace for trace in traces() if max(map(len, content(trace).split("\n"))) <= LONGEST]
     return {

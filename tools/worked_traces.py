@@ -5,9 +5,12 @@ In crates/line_model they are specs/traces/WorkedTexts.antt (the texts), specs/t
 specs/traces/WorkedTraces.antt (the statement) and proofs/WorkedTraces.antt (by computing). Run it after a change of those traces.
 With --check it writes nothing, and names each file that is another one. The last line is 'N passed, M failed'.
 """
+from __future__ import annotations
+
 import pathlib
 import re
 import sys
+from collections.abc import Mapping
 
 ROOT = pathlib.Path(__file__).resolve().parent.parent
 TRACES = ROOT / "tests/traces/worked"
@@ -24,31 +27,33 @@ RUN = re.compile(r"(..?)\1{40,}")
 REFUSAL = re.compile(r"x25scan: line (\d+): kind (\d+)\n")
 
 
-def traces():
+def traces() -> list[pathlib.Path]:
     """The worked traces, by name."""
     return sorted(TRACES.glob("*.trace"))
 
 
-def content(path):
+def content(path: pathlib.Path) -> str:
     """The text of a file as it stands, each CR included."""
     return path.read_bytes().decode("utf-8")
 
 
-def refusal(trace):
+def refusal(trace: pathlib.Path) -> tuple[int, str] | None:
     """The line and the kind by which a trace is refused, or None."""
     errors = trace.with_suffix(".errors")
     if not errors.exists():
         return None
-    line, kind = REFUSAL.match(content(errors)).groups()
-    return int(line), KINDS[int(kind) - 21]
+    refused = REFUSAL.match(content(errors))
+    if not refused:
+        raise ValueError(f"{errors} does not say a line and a kind")
+    return int(refused[1]), KINDS[int(refused[2]) - 21]
 
 
-def report(trace):
+def report(trace: pathlib.Path) -> str:
     """The report of a trace."""
     return content(trace.with_suffix(".report"))
 
 
-def line_term(line):
+def line_term(line: str) -> str:
     """The codes of a line, long runs as repetitions."""
     run = RUN.search(line)
     if not run:
@@ -60,19 +65,19 @@ def line_term(line):
     return "(" + " ++ ".join(parts) + ")"
 
 
-def text_term(text):
+def text_term(text: str) -> str:
     """The bytes of a text, line by line."""
     *ended, begun = text.split("\n")
     lines = "text (" + "".join(f"{line_term(line)} ∷\n    " for line in ended) + "[])"
     return lines if not begun else f"{lines} ++ {line_term(begun)}"
 
 
-def name_of(trace):
+def name_of(trace: pathlib.Path) -> str:
     """The name of a trace in the definitions."""
     return trace.stem.replace("-", "_")
 
 
-def claim(trace):
+def claim(trace: pathlib.Path) -> str:
     """What is stated of a trace."""
     name, refused = name_of(trace), refusal(trace)
     if not refused:
@@ -81,7 +86,7 @@ def claim(trace):
     return f"fault {name}-text ≡ Some ({line}, {kind})"
 
 
-def constants(ending, texts):
+def constants(ending: str, texts: Mapping[pathlib.Path, str]) -> str:
     """A constant for each text, by its trace."""
     return "".join(
         f"\nabbrev pub {name_of(trace)}-{ending} : List ℕ\n{name_of(trace)}-{ending} =\n    {text_term(text)}\n"
@@ -89,22 +94,23 @@ def constants(ending, texts):
     )
 
 
-def constants_file(title, terms):
-    """The file of some constants."""
+def constants_file(title: str, terms: str) -> str:
+    """The file of some constants, which imports only what they name."""
+    joined, repeated = " ◌++◌," if "++" in terms else "", ", repeated" if "repeated " in terms else ""
     return f"""-- {title}
 {WRITTEN}
-use Rattle.std.specs.Prelude.{{ℕ, List, [], ◌∷◌, ◌++◌, codes}}
-use Rattle.line_model.specs.traces.Traces.{{text, repeated}}
+use Rattle.std.specs.Prelude.{{ℕ, List, [], ◌∷◌,{joined} codes}}
+use Rattle.line_model.specs.traces.Traces.{{text{repeated}}}
 {terms}"""
 
 
-def uses_of_constants(terms, module):
+def uses_of_constants(terms: str, module: str) -> str:
     """What takes all constants of a module."""
     names = ", ".join(re.findall(r"abbrev pub (\S+)", terms))
     return f"use Rattle.line_model.specs.{module}.{{{names}}}"
 
 
-def statement_file(uses):
+def statement_file(uses: str) -> str:
     """The file of the statement."""
     fields = "".join(f"  pub {name_of(trace)} : {claim(trace)}\n" for trace in traces())
     return f"""-- What the worked traces come to: each is refused by its first faulty line, or has no fault and exactly this report.
@@ -120,14 +126,14 @@ pub record WorkedTraces : Type 0 where
 """
 
 
-def proof(trace):
+def proof(trace: pathlib.Path) -> str:
     """The proof of what is stated of a trace."""
     name = name_of(trace)
     body = "refl" if refusal(trace) else "record { sound = refl; report = refl }"
     return f"\n{name}-holds : {claim(trace)}\nunfolding {UNFOLDING}\n{name}-holds = {body}\n"
 
 
-def proof_file(uses):
+def proof_file(uses: str) -> str:
     """The file of the proofs."""
     proofs = "".join(map(proof, traces()))
     holds = ";\n".join(f"  {name_of(trace)} = {name_of(trace)}-holds" for trace in traces())
@@ -156,7 +162,7 @@ worked = record {{
 """
 
 
-def files():
+def files() -> dict[pathlib.Path, str]:
     """The files that are written, with what stands in each."""
     texts = constants("text", {trace: content(trace) for trace in traces()})
     reports = constants("report", {trace: report(trace) for trace in traces() if not refusal(trace)})
@@ -171,7 +177,7 @@ def files():
     }
 
 
-def check(tool, wanted):
+def check(tool: str, wanted: Mapping[pathlib.Path, str]) -> int:
     """Compares files with what a tool writes there, and returns the exit status."""
     differing = [path for path, text in wanted.items() if not path.exists() or content(path) != text]
     for path in differing:
@@ -180,7 +186,7 @@ def check(tool, wanted):
     return 1 if differing else 0
 
 
-def write_or_check(tool, wanted, usage):
+def write_or_check(tool: str, wanted: Mapping[pathlib.Path, str], usage: str | None) -> int:
     """Writes the files, or checks them where --check asks for it, and returns the exit status."""
     if sys.argv[1:] == ["--check"]:
         return check(tool, wanted)

@@ -113,9 +113,10 @@ class Called(unittest.TestCase):
 
     def test_only_one_carrier(self):
         frames = [cooked_1(one, 4) for one in conversation()] + [cooked_1(one, 4, 0x0805) for _, one in packets_of()]
-        for carrier, rows in (("xot", 6), ("x25", 8)):
+        for carrier, rows, status in (("xot", 6, 0), ("x25", 8, 1)):
             done = run("--only", carrier, "-", input=pcap(113, frames))
-            self.assertEqual(done.returncode, 0, done.stderr)
+            self.assertEqual(done.returncode, status, done.stderr)
+            self.assertEqual(b"x25trace: only the DTE was recorded\n" in done.stderr, status == 1)
             self.assertEqual(sum(line[0:1].isdigit() for line in done.stdout.splitlines()), rows)
             self.assertIn(b"packets that --only does not name", done.stderr)
 
@@ -132,8 +133,8 @@ class Called(unittest.TestCase):
             out, same = pathlib.Path(folder, "out.pcapng"), pathlib.Path(folder, "same.pcap")
             same.write_bytes((FILES / "ethernet.pcap").read_bytes())
             lines = (
-                (64, b"it wants a file, no pipe", ["-"], {"input": same.read_bytes()}),
-                (64, b"it wants another file", [same], {}),
+                (64, b"it needs a file, not a pipe", ["-"], {"input": same.read_bytes()}),
+                (64, b"name another file", [same], {}),
                 (2, b"dump-of-packets.txt says no link type", ["--as", "x25", "dump-of-packets.txt"], {}),
                 (2, b"x25trace: NoPacket: ", ["--port", "99", same], {}),
                 (3, b"x25trace: reading or writing failed: ", ["--scanner", "/nowhere/x25scan", same], {}),
@@ -186,7 +187,7 @@ class Streams(unittest.TestCase):
         """It ends by the signal, as other programs of a pipeline do, and says nothing."""
         reader = subprocess.Popen(["true"], stdin=subprocess.PIPE)
         reader.wait()
-        words = [PROGRAM, FILES / "ethernet.pcap"]
+        words = [PROGRAM, "--win", "2", "--size", "128", FILES / "ethernet.pcap"]
         done = subprocess.run(words, stdout=reader.stdin, stderr=subprocess.PIPE, timeout=SECONDS)
         reader.stdin.close()
         self.assertEqual((done.returncode, done.stderr), (-signal.SIGPIPE, b""))
@@ -204,7 +205,7 @@ class Streams(unittest.TestCase):
             self.assertIn(b"x25trace: Absent: ", done.stderr)
 
     def test_wrong_kind(self):
-        """A message for each of 1,000 frames is told a few times, and then counted."""
+        """A message for each of 1,000 frames is printed a few times, and then counted."""
         frames = [ethernet(one) for one in conversation()] * 84
         for kind in ("hdlc", "ip", "lapb", "lapb-dir", "x25", "sll", "sll2"):
             done = run("--as", f"1={kind}", "-", input=pcap(1, frames))
@@ -214,7 +215,7 @@ class Streams(unittest.TestCase):
             self.assertIn(f"with frames read as {kind}: another KIND of --as may be right\n".encode(), done.stderr)
 
     def test_interrupted(self):
-        """What was read before is written, with what was left out, and the status tells."""
+        """What was read before is written, with what was left out; the status is 130."""
         capture = (FILES / "ethernet.pcap").read_bytes()
         words = [PROGRAM, "-"]
         streams = {"stdin": subprocess.PIPE, "stdout": subprocess.PIPE, "stderr": subprocess.PIPE}
@@ -260,7 +261,8 @@ class Rotated(unittest.TestCase):
         """Files that are not in the order of their times are read as they come, and a message says so."""
         frames = [ethernet(one) for one in conversation()]
         done = self.run_on(("day.pcap10", pcap(1, frames[:6], begin=6)), ("day.pcap2", pcap(1, frames[6:])))
-        words = b"x25trace: day.pcap2 begins before the file before it ends: give the files in the order of their times\n"
+        words = b"x25trace: day.pcap2 begins before the file before it ends: give the files in the order of their times, or "
+        words += b"join them with mergecap\n"
         self.assertEqual(done.returncode, 0)
         self.assertIn(words, done.stderr)
 

@@ -32,14 +32,14 @@ def frames():
     return [ethernet(one) for one in [*talk.open(), talk.a(CALL), talk.b(ACCEPTED), talk.a("100104AA")]]
 
 
-TOLD = {3: CALL_WORDS.format(4, 5), 5: FINDING.format(6)}
+COMMENTS = {3: CALL_WORDS.format(4, 5), 5: FINDING.format(6)}
 
 
 def said(at, order="<", other=b""):
-    """The options of a frame of those above: others first, then what is told of it."""
-    if at not in TOLD:
+    """The options of a frame of those above: others first, then the comment on it."""
+    if at not in COMMENTS:
         return other and other + option(0, b"", order)
-    return other + comment(TOLD[at], order) + option(0, b"", order)
+    return other + comment(COMMENTS[at], order) + option(0, b"", order)
 
 
 def from_pcap():
@@ -68,9 +68,9 @@ def from_modified_pcap():
     directed = [(one, 4 if at % 2 else 3) for at, one in enumerate(frames())]
     out = section() + interface(1, 262_144, options=MICROSECONDS)
     for at, (one, kind) in enumerate(directed):
-        told = comment(TOLD[at]) if at in TOLD else b""
-        told += option(2, struct.pack("<I", 2)) if kind == 4 else b""
-        out += enhanced(one, time=(SECONDS + at) * 10**6 + at, options=told and told + END)
+        commented = comment(COMMENTS[at]) if at in COMMENTS else b""
+        commented += option(2, struct.pack("<I", 2)) if kind == 4 else b""
+        out += enhanced(one, time=(SECONDS + at) * 10**6 + at, options=commented and commented + END)
     yield "modified pcap", modified(1, directed), out
 
 
@@ -98,11 +98,11 @@ def from_pcapng():
         after = [enhanced(one, order=order, time=at, options=said(at, order, own)) for at, one in enumerate(frames())]
         yield f"pcapng {order}", file(before, 4096), file(after, -1)
         before = [simple(one, order=order) for one in frames()]
-        after = [simple(one, order=order) if at not in TOLD else enhanced(one, order=order, options=said(at, order))
+        after = [simple(one, order=order) if at not in COMMENTS else enhanced(one, order=order, options=said(at, order))
                  for at, one in enumerate(frames())]
         yield f"pcapng with simple blocks {order}", file(before, -1), file(after, -1)
         before = [obsolete(one, order=order, time=at) for at, one in enumerate(frames())]
-        after = [one if at not in TOLD else block(2, one[8:-4] + said(at, order), order)
+        after = [one if at not in COMMENTS else block(2, one[8:-4] + said(at, order), order)
                  for at, one in enumerate(before)]
         # Wireshark numbers the custom block as a frame: it stands behind those with packets.
         yield f"pcapng with obsolete blocks {order}", file([*before, custom], -1), file([*after, custom], -1)
@@ -112,13 +112,13 @@ def from_damaged_files():
     """What can be read is there, whole: a section's header before it, and the end of the block that the file ends in."""
     blocks = [enhanced(one, time=at) for at, one in enumerate(frames())]
     last = enhanced(ethernet(bytes(46), 0x0806))
-    told = [enhanced(one, time=at, options=said(at)) for at, one in enumerate(frames())]
+    commented = [enhanced(one, time=at, options=said(at)) for at, one in enumerate(frames())]
     before = section() + interface(1)
     kept = enhanced(ethernet(bytes(46), 0x0806)[:40], length=60)
-    yield "pcapng that ends in a frame", before + b"".join(blocks) + last[:68], before + b"".join(told) + kept, 1
-    yield "pcapng that ends in a head", before + b"".join(blocks) + last[:20], before + b"".join(told), 1
+    yield "pcapng that ends in a frame", before + b"".join(blocks) + last[:68], before + b"".join(commented) + kept, 1
+    yield "pcapng that ends in a head", before + b"".join(blocks) + last[:20], before + b"".join(commented), 1
     bad = block(0x0A0D0D0A, struct.pack("<I", 0x1A2B3C4D))[:4] + b"\xff\xff\xff\xff" + section()[8:]
-    yield "pcapng with a damaged section", bad + interface(1) + b"".join(blocks), before + b"".join(told), 1
+    yield "pcapng with a damaged section", bad + interface(1) + b"".join(blocks), before + b"".join(commented), 1
 
 
 TOPICS = (from_damaged_files, from_pcap, from_pcap_with_lengths, from_modified_pcap, from_snoop, from_pcapng)
@@ -143,7 +143,7 @@ def tshark_complaints(out):
     words = [TSHARK, "-r", out, "-Y", 'frame.comment contains "x25scan: "', "-T", "fields", "-e", "frame.number", "-E",
              "aggregator=|", "-e", "frame.comment"]
     done = subprocess.run(words, capture_output=True, text=True, timeout=TIMEOUT)
-    lines = [f"{at + 1}\t{words}" for at, words in TOLD.items()]
+    lines = [f"{at + 1}\t{words}" for at, words in COMMENTS.items()]
     got = [line.replace("\tx25scan, über|", "\t") for line in done.stdout.splitlines()]
     return [] if got == lines else [f"tshark: {got}"]
 

@@ -1,4 +1,4 @@
-"""Damaged files: each damage is told with its offset, and what can be read is read."""
+"""Damaged files: each damage is reported with its offset, and what can be read is read."""
 from case import Case, text
 from forms import *
 from link_cases import CALL, LINE_REPORT, LINE_ROWS, REPORT, ROWS, SIX, conversation, packets_of, shifted

@@ -1,17 +1,17 @@
 """Tests that whatever is done to a capture gives a trace by the rules of docs/TRACE.md, or a named refusal."""
 import contextlib
 import io
-import random
 import re
 import tempfile
 import unittest
 
 from cases import all_cases
+from random_sources import each_source
+from x25tools_lib.refusals import Why
 from x25trace_lib import command
-from x25trace_lib.told import Why
 
 LARGEST = 6000
-ROUNDS = 600
+ROUNDS, EXAMPLES = 600, 100
 HEADER = re.compile(
     r"X25 (?:1 MOD (8|128) WIN (\d+) SIZE (\d+) PVC (\d+) SVC (\d+)"
     r"|2 MOD (8|128) WIN (\d+) SIZE (\d+) PVC (\d+) IN (\d+) TWO (\d+) OUT (\d+)(?: JOIN)?)"
@@ -65,22 +65,22 @@ def damaged(octets, source):
 
 
 class Damages(unittest.TestCase):
-    def test_random_damages(self):
-        cases = [case for case in all_cases() if len(case.octets) < LARGEST]
-        refusals = tuple(f"x25trace: {why.value}: " for why in Why)
-        for seed in range(ROUNDS):
-            source = random.Random(seed)
-            case = source.choice(cases)
-            with self.subTest(seed=seed, capture=case.name), tempfile.NamedTemporaryFile() as file:
-                file.write(damaged(case.octets, source))
-                file.flush()
-                status, out, errors = self.run_on([*case.words.split(), file.name])
-                if status == 2:
-                    self.assertEqual(out, "")
-                    self.assertTrue(any(line.startswith(refusals) for line in errors.splitlines()), errors)
-                else:
-                    self.assertIn(status, (0, 1), errors)
-                    self.assertIsNone(trace_fault(out))
+    CASES = [case for case in all_cases() if len(case.octets) < LARGEST]
+    REFUSALS = tuple(f"x25trace: {why.value}: " for why in Why)
+
+    @each_source(ROUNDS, EXAMPLES)
+    def test_random_damages(self, source, _number):
+        case = source.choice(self.CASES)
+        with tempfile.NamedTemporaryFile() as file:
+            file.write(damaged(case.octets, source))
+            file.flush()
+            status, out, errors = self.run_on([*case.words.split(), file.name])
+        if status == 2:
+            self.assertEqual(out, "")
+            self.assertTrue(any(line.startswith(self.REFUSALS) for line in errors.splitlines()), errors)
+        else:
+            self.assertIn(status, (0, 1), errors)
+            self.assertIsNone(trace_fault(out), case.name)
 
     @staticmethod
     def run_on(words):

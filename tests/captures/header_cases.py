@@ -95,16 +95,16 @@ def channel_cases():
     """Channels 1 and 2 have data after the restart and no call: they are permanent."""
     packets = [("T", RESTART), ("N", RESTARTED), ("T", "100100AA"), ("N", "100200AA"), ("T", "10030B0000"),
                ("N", "10030F"), ("N", "10050B0000")]
-    told = text("""
+    reported = text("""
         C 1 2 3 out - - 5 6 - open 0 0 0 0 0
         C 2 2 5 in - - 7 - - open 0 0 0 0 0
         A - 2 0
         P 1 6
         Z 7 0 2 2 2
     """)
-    yield on_line("header-permanent-channels", "X25 1 MOD 8 WIN 1 SIZE 16 PVC 2 SVC 5", packets, report=told)
+    yield on_line("header-permanent-channels", "X25 1 MOD 8 WIN 1 SIZE 16 PVC 2 SVC 5", packets, report=reported)
     yield on_line("header-channels-given", "X25 1 MOD 8 WIN 1 SIZE 16 PVC 2 SVC 16", packets, "--pvc 2 --svc 16",
-                  report=told)
+                  report=reported)
     yield on_line("header-one-way-channels-given", "X25 2 MOD 8 WIN 1 SIZE 16 PVC 2 IN 2 TWO 4 OUT 5", packets,
                   "--in 2 --two 4 --out 5", report=text("""
         F 7 N p1 34
@@ -114,16 +114,16 @@ def channel_cases():
         Z 7 1 1 2 2
     """))
     yield on_line("header-all-given", "X25 1 MOD 8 WIN 3 SIZE 256 PVC 2 SVC 9", packets,
-                  "--mod 8 --win 3 --size 256 --pvc 2 --svc 9", report=told)
+                  "--mod 8 --win 3 --size 256 --pvc 2 --svc 9", report=reported)
 
 
 def join_cases():
     """The capture begins with no restart: no channel is known, and none is said to be permanent."""
     packets = [("N", RESTARTED), ("T", "100144AA"), ("N", "100161"), ("N", "1002130000"), ("T", "100217")]
-    told = "P 0 -\nZ 5 0 0 0 0\n"
-    yield on_line("header-join", "X25 2 MOD 8 WIN 2 SIZE 16 PVC 0 IN 0 TWO 2 OUT 2 JOIN", packets, report=told)
+    reported = "P 0 -\nZ 5 0 0 0 0\n"
+    yield on_line("header-join", "X25 2 MOD 8 WIN 2 SIZE 16 PVC 0 IN 0 TWO 2 OUT 2 JOIN", packets, report=reported)
     permanent = "X25 2 MOD 8 WIN 2 SIZE 16 PVC 1 IN 1 TWO 2 OUT 2 JOIN"
-    yield on_line("header-join-with-permanent-channel-given", permanent, packets, "--pvc 1", report=told)
+    yield on_line("header-join-with-permanent-channel-given", permanent, packets, "--pvc 1", report=reported)
     yield on_line("header-no-join-wanted", "X25 1 MOD 8 WIN 2 SIZE 16 PVC 0 SVC 2", packets[:3], "--no-join --svc 2",
                   report="F 1 N r1 17\nF 2 T p1 20\nP 0 -\nZ 3 2 0 0 0\n")
     yield on_line("header-join-wanted", "X25 2 MOD 8 WIN 2 SIZE 128 PVC 0 IN 0 TWO 1 OUT 1 JOIN", HEAD, "--join",

@@ -64,7 +64,7 @@ def repeat_cases():
 
 
 def loss_cases():
-    """N(S) 3 was not recorded. The N(R) 5 of the DCE's frame tells that its receiver had it."""
+    """N(S) 3 was not recorded. The N(R) 5 of the DCE's frame shows that its receiver had it."""
     sent = [information("T", 2 + at, 2, data(at)) for at in range(4)]
     frames = head() + [sent[0], sent[2], information("N", 2, 5, "100161"), sent[3]]
     rows = first(3) + HEAD_ROWS + text("""
@@ -84,7 +84,7 @@ def loss_cases():
     flags = [b"\x01" + one for one in head()[::2]] + [b"\0" + one for one in head()[1::2]]
     ordered = [flags[0], flags[2], flags[1], flags[3]]
     frames = ordered + [b"\x01" + sent[0], b"\x01" + sent[2], b"\0" + ready("N", 5), b"\x01" + sent[3]]
-    yield Case("lapb-lost-frame-told-by-rr", pcap(207, frames), first(4) + HEAD_ROWS + text("""
+    yield Case("lapb-lost-frame-shown-by-rr", pcap(207, frames), first(4) + HEAD_ROWS + text("""
         5 T 100100A0
         6 T 100104A2
         8 T 100106A3
@@ -185,7 +185,7 @@ def middle_cases():
         5 T 1001130000
         6 N 100117
     """), report="P 0 -\nZ 5 0 0 0 0\n", tshark=False)
-    # The recording host is the DCE. Its RR comes first, before an address has told which side it is.
+    # The recording host is the DCE. Its RR comes first, before an address has shown which side it is.
     frames = [b"\1" + ready("N", 7), b"\0" + information("T", 7, 3, "100146AA"), b"\1" + information("N", 3, 0, "100161"),
               b"\0" + ready("T", 4), b"\0" + information("T", 0, 4, "100168BB"), b"\1" + ready("N", 1)]
     yield Case("lapb-recorded-by-the-dce-from-the-middle", pcap(207, frames), text("""

@@ -128,7 +128,7 @@ def check_that_ends_like_a_flag():
     rows = "X25 2 MOD 8 WIN 2 SIZE 128 PVC 0 IN 0 TWO 1 OUT 1 JOIN\n"
     rows += f"1 N {ends[0][2:-2].hex().upper()}\n"
     return Case("hdlc-check-sequence-that-ends-like-a-flag", pcap(147, [b"\x7e" + ends[0] + b"\x7e\x7e", ends[0]]), rows,
-                "--as 147=hdlc", report="P 0 -\nZ 1 0 0 0 0\n", tshark=None)
+                "--as 147=hdlc", status=1, report="P 0 -\nZ 1 0 0 0 0\n", tshark=None)
 
 
 def packet_cases():

@@ -10,13 +10,14 @@ import unittest
 import cases
 from forms import Talk, dump, enhanced, ethernet, interface, pcap, record, section
 from link_cases import ACCEPTED, CALL, DATA, conversation, packets_of
+from x25tools_lib.ledger import Ledger
+from x25tools_lib.options import chosen
+from x25tools_lib.streams import Waiting
 from x25trace_lib.captures import Captures
 from x25trace_lib.live import Live
 from x25trace_lib.reading import Reading
-from x25trace_lib.source import Waiting
-from x25trace_lib.told import Ledger
 from x25trace_lib.trace import Trace
-from x25trace_lib.words import chosen, parsed
+from x25trace_lib.words import parsed
 
 HERE = pathlib.Path(__file__).resolve().parent
 PROGRAM = HERE.parent.parent / "bin" / "x25trace"
@@ -26,7 +27,8 @@ STREAMS = {"stdin": subprocess.PIPE, "stdout": subprocess.PIPE, "stderr": subpro
 NUMBERS = re.compile(r"MOD (\d+) WIN (\d+) SIZE (\d+) PVC (\d+) (?:SVC (\d+)|IN (\d+) TWO (\d+) OUT (\d+))")
 OPTIONS = ("--mod", "--win", "--size", "--pvc", "--svc", "--in", "--two", "--out")
 HEAD = re.compile(
-    r"X25 |# from |# estimated |# WIN |# SIZE |# connection |# \d+ packets are not of modulo |.* gets no channel"
+    r"X25 |# from |# estimated |# WIN |# SIZE |# connection |# \d+ packets are not of modulo |# only the D"
+    r"|.* gets no channel"
 )
 ENDS = "192.0.2.1 port 1025 (T) and 192.0.2.2 port 1998 (N)"
 CHANNEL = f"# connection 1 is channel 1: {ENDS}, logical channel 1 in the capture"
@@ -86,7 +88,7 @@ class Rows(unittest.TestCase):
         self.assertIn("# left out: packets of another carrier than the first one, which --only may name: 8", lines)
 
     def test_join(self):
-        """On a line the first packet tells whether the recording began in the middle; options decide it for XOT too."""
+        """On a line the first packet shows whether the recording began in the middle; options decide it for XOT too."""
         talk = Talk()
         line = dump([(octets, "O" if side == "T" else "I") for side, octets in packets_of()[2:4]])
         lines = self.follow(["--as", "x25"], [(line, [])])

@@ -1,14 +1,19 @@
 """Random connections and links, recorded badly: what is read is what was sent, but for what was not recorded."""
-import random
 import unittest
 
 from forms import Talk, information, ready, xot
+from random_sources import each_source
+from x25tools_lib.choices import Choices
+from x25tools_lib.ledger import Ledger, Reason
+from x25tools_lib.sides import Side
 from x25trace_lib.frames import Direction, Frame
-from x25trace_lib.packets import Side
-from x25trace_lib.reading import Choices, Reading
-from x25trace_lib.told import Ledger, Reason
+from x25trace_lib.reading import Reading
 
-ROUNDS = 150
+ROUNDS, EXAMPLES = 150, 50
+# The most places later that a recorder puts a segment: with nine segments after it its octets are given up.
+FARTHEST = 7
+# The most frames in a row that a recorder misses: N(S) doesn't show that a whole modulus of them is missing.
+MISSED = 5
 RAW_IP = 101
 LAPB_WITH_DIRECTION = 207
 SERVER_PORT = (1998).to_bytes(2, "big")
@@ -55,35 +60,33 @@ class Connections(unittest.TestCase):
         if whole:
             self.assertEqual(seen, [len(packets[0]), len(packets[1])])
 
-    def test_order_and_repeats(self):
-        for seed in range(ROUNDS):
-            source = random.Random(seed)
-            segments, packets, answered = self.sent(source)
-            recorded = segments[:3] + [one for one in segments[3:] for _ in range(source.choice((1, 1, 1, 2)))]
-            for at in range(3, len(recorded) - 1):
-                if source.random() < 0.3:
-                    recorded[at], recorded[at + 1] = recorded[at + 1], recorded[at]
-            with self.subTest(seed=seed):
-                found, ledger = read(RAW_IP, recorded)
-                self.judge(found, packets, answered, True)
-                self.assertTrue(ledger.whole)
+    @each_source(ROUNDS, EXAMPLES)
+    def test_order_and_repeats(self, source, _number):
+        segments, packets, answered = self.sent(source)
+        recorded = segments[:3] + [one for one in segments[3:] for _ in range(source.choice((1, 1, 1, 2)))]
+        moved = 0
+        for at in range(3, len(recorded) - 1):
+            moved = moved + 1 if source.random() < 0.3 and moved < FARTHEST else 0
+            if moved:
+                recorded[at], recorded[at + 1] = recorded[at + 1], recorded[at]
+        found, ledger = read(RAW_IP, recorded)
+        self.judge(found, packets, answered, True)
+        self.assertTrue(ledger.whole)
 
-    def test_losses(self):
+    @each_source(ROUNDS, EXAMPLES)
+    def test_losses(self, source, _number):
         """After a gap packets are read on: each of those found was sent, and none comes before what it answers."""
-        for seed in range(ROUNDS):
-            source = random.Random(seed)
-            segments, packets, answered = self.sent(source)
-            recorded = segments[:3] + [one for one in segments[3:] if source.random() < 0.8]
-            with self.subTest(seed=seed):
-                found, _ = read(RAW_IP, recorded)
-                places = [self.place(packet, packets) for packet in found]
-                for side in range(2):
-                    own = [number for which, number in places if which == side]
-                    self.assertEqual(own, sorted(set(own)))
-                for at, (side, number) in enumerate(places):
-                    later = [other for which, other in places[at:] if which != side]
-                    self.assertGreaterEqual(min(later, default=LARGEST), answered[side][number])
-                self.assertLessEqual(self.whole(recorded[3:], packets), set(places))
+        segments, packets, answered = self.sent(source)
+        recorded = segments[:3] + [one for one in segments[3:] if source.random() < 0.8]
+        found, _ = read(RAW_IP, recorded)
+        places = [self.place(packet, packets) for packet in found]
+        for side in range(2):
+            own = [number for which, number in places if which == side]
+            self.assertEqual(own, sorted(set(own)))
+        for at, (side, number) in enumerate(places):
+            later = [other for which, other in places[at:] if which != side]
+            self.assertGreaterEqual(min(later, default=LARGEST), answered[side][number])
+        self.assertLessEqual(self.whole(recorded[3:], packets), set(places))
 
     @staticmethod
     def place(packet, packets):
@@ -114,6 +117,8 @@ class Link:
         self.unrecorded = set()
         self.base = self.following = self.taken = 0
         self.rejected = False
+        # How many frames in a row the recorder missed.
+        self.missed = 0
 
     def send(self, lost, unrecorded):
         """The next frame of the window goes out; it may be lost behind the recorder, or the recorder may miss it."""
@@ -123,10 +128,12 @@ class Link:
         at = self.following
         self.following += 1
         frame = information("T", at % self.modulus, 0, self.packets[at], self.modulus == 128)
-        received = self.source.random() >= lost
-        if received and at == self.taken and self.source.random() < unrecorded:
+        received = self.source.random() <= 1 - lost
+        if received and at == self.taken and self.source.random() > 1 - unrecorded and self.missed < MISSED:
             self.unrecorded.add(at)
+            self.missed += 1
         else:
+            self.missed = 0
             self.unrecorded.discard(at)
             self.recorded.append(b"\1" + frame)
         if received:
@@ -165,18 +172,16 @@ class Links(unittest.TestCase):
         self.assertTrue(all(packet.side is Side.T for packet in found))
         return [packet.octets.hex().upper() for packet in found], ledger
 
-    def test_sent_again(self):
-        for seed in range(ROUNDS):
-            with self.subTest(seed=seed):
-                link = Link(random.Random(seed), 8 if seed % 2 else 128, 60).run(0.2)
-                found, ledger = self.read(link)
-                self.assertEqual(found, link.packets)
-                self.assertTrue(ledger.whole)
+    @each_source(ROUNDS, EXAMPLES)
+    def test_sent_again(self, source, number):
+        link = Link(source, 8 if number % 2 else 128, 60).run(0.2)
+        found, ledger = self.read(link)
+        self.assertEqual(found, link.packets)
+        self.assertTrue(ledger.whole)
 
-    def test_not_recorded(self):
-        for seed in range(ROUNDS):
-            with self.subTest(seed=seed):
-                link = Link(random.Random(seed), 8 if seed % 2 else 128, 60).run(0.0, 0.1)
-                found, ledger = self.read(link)
-                self.assertEqual(found, [packet for at, packet in enumerate(link.packets) if at not in link.unrecorded])
-                self.assertEqual(ledger.counts[Reason.LOST_FRAME], len(link.unrecorded))
+    @each_source(ROUNDS, EXAMPLES)
+    def test_not_recorded(self, source, number):
+        link = Link(source, 8 if number % 2 else 128, 60).run(0.0, 0.1)
+        found, ledger = self.read(link)
+        self.assertEqual(found, [packet for at, packet in enumerate(link.packets) if at not in link.unrecorded])
+        self.assertEqual(ledger.counts[Reason.LOST_FRAME], len(link.unrecorded))

@@ -278,22 +278,22 @@ def not_cleared():
         5 N 10010F
         6 T 100100AA
     """)
-    told = report(4, 5, None, 1, 3)
+    reported = report(4, 5, None, 1, 3)
 
     def begun():
         talk = Talk()
         return talk, talk.open() + call(talk, SIX[:3])
 
     talk, frames = begun()
-    yield Case("tcp-end-without-a-clear", file_of(frames + talk.close()), rows, report=told)
+    yield Case("tcp-end-without-a-clear", file_of(frames + talk.close()), rows, report=reported)
     talk, frames = begun()
-    yield Case("tcp-reset-without-a-clear", file_of(frames + [talk.segment(1, flags=4)]), rows, report=told)
+    yield Case("tcp-reset-without-a-clear", file_of(frames + [talk.segment(1, flags=4)]), rows, report=reported)
     talk, frames = begun()
     frames += [talk.segment(0, xot(CLEAR)[:6])] + talk.close()
-    yield Case("tcp-end-inside-of-a-packet", file_of(frames), rows, status=1, report=told, tshark=None)
+    yield Case("tcp-end-inside-of-a-packet", file_of(frames), rows, status=1, report=reported, tshark=None)
     talk, frames = begun()
     frames += [talk.segment(1, b"\0\1\0\3\x10\x01\x21")] + call(talk, SIX[4:]) + talk.close()
-    yield Case("tcp-not-xot", file_of(frames), rows, status=1, report=told, tshark=None)
+    yield Case("tcp-not-xot", file_of(frames), rows, status=1, report=reported, tshark=None)
 
 
 def ports_used_again():

@@ -1,14 +1,17 @@
 """Tests of parts that no small capture reaches."""
 import unittest
 
+from x25tools_lib.halves import Halves
+from x25tools_lib.header import Header
+from x25tools_lib.ledger import Ledger
+from x25tools_lib.notes import Head
+from x25tools_lib.sides import Side
 from x25trace_lib.channels import assign
 from x25trace_lib.comments import comments_of
-from x25trace_lib.estimate import Header
 from x25trace_lib.internet import Segment
-from x25trace_lib.packets import Packet, Side, Type
+from x25trace_lib.packets import Packet, Type
 from x25trace_lib.spool import Spool
 from x25trace_lib.tcp import MOST_OF_ONE, PATIENCE, PATIENCE_ONE_WAY, Budget, Connection, Gap
-from x25trace_lib.told import Ledger
 from x25trace_lib.xot import Circuit
 
 ENDS = (b"\1\2\3\4\4\1", b"\1\2\3\5\7\xce")
@@ -82,7 +85,7 @@ class Memory(unittest.TestCase):
 
 
 class Comments(unittest.TestCase):
-    """Findings and calls are told of rows, whose numbers may not be those of their frames."""
+    """Comments on findings and calls name rows, whose numbers may not be those of their frames."""
 
     def test_frames_of_rows(self):
         lines = [
@@ -95,7 +98,7 @@ class Comments(unittest.TestCase):
             "# Call 2, incoming on logical channel 1: called -, calling -; opened by packet 7, never up, open",
         ]
         call = "x25scan: Call {} on logical channel 1: called -, calling -; opened by packet {}, never up, open"
-        self.assertEqual(dict(comments_of(f"{line}\n" for line in lines)), {
+        self.assertEqual(dict(comments_of((f"{line}\n" for line in lines), Halves(Head()))), {
             6: ["x25scan: F 7 T p2 20: Invalid packet type for state p2: words", call.format("1, outgoing", 6),
                 call.format("2, incoming", 7)],
             9: ["x25scan: F 9 T p2 20: Invalid packet type for state p2: other words"],

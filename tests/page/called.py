@@ -14,7 +14,7 @@ from pages import PROGRAM, ROOT, SECONDS, Page, run
 
 sys.path.insert(0, str(ROOT / "tools"))
 
-from x25page_lib.command import written  # noqa: E402
+from x25page_lib.places import written  # noqa: E402
 
 TRACE = ROOT / "examples" / "seven-calls.trace"
 FAULTY = ROOT / "examples" / "no-side.trace"
@@ -74,6 +74,31 @@ class Called(unittest.TestCase):
         self.assertEqual(facts["again"], {name: f"{words} ethernet.pcap" for name, words in wanted.items()})
         self.assertEqual(facts["trial"], "x25trace --win 2 --size=128 ethernet.pcap | x25scan --try-headers")
 
+    def test_summary(self):
+        """Text on standard output, and a page only where one is named."""
+        for words, how in (([CAPTURE], {}), (["-"], {"input": CAPTURE.read_bytes()}), ([TRACE], {})):
+            done = self.run_page("--summary", *words, **how)
+            self.assertEqual((done.returncode, self.there()), (0, []), done.stderr)
+            name = "standard input" if words == ["-"] else words[0].name
+            self.assertTrue(done.stdout.startswith(f"{name}: ".encode()), done.stdout)
+            self.assertIn(b"\ncalls by how they ended\n", done.stdout)
+        done = self.run_page("--summary", "-o", "a.html", TRACE)
+        self.assertEqual((done.returncode, self.there()), (0, ["a.html"]), done.stderr)
+        self.assertIn(b"\n  52 packets, 7 calls, ", done.stdout)
+        self.assertNotIn("--summary", Page(self.folder / "a.html").facts["trial"])
+        odd = os.path.join(os.fsencode(self.folder), b"day\xff.trace")
+        pathlib.Path(os.fsdecode(odd)).write_bytes(TRACE.read_bytes())
+        done = self.run_page("--summary", os.fsdecode(odd))
+        self.assertEqual((done.returncode, done.stdout.split(b": ")[0]), (0, b"day\\udcff.trace"), done.stderr)
+
+    def test_summary_that_is_not_written(self):
+        for how in (">&-", "> /dev/full"):
+            command = ["bash", "-c", f'"$0" --scanner "$1" --summary "$2" {how}', PROGRAM, SCANNER, TRACE]
+            done = subprocess.run(command, capture_output=True, cwd=self.folder, timeout=SECONDS)
+            self.assertEqual((done.returncode, self.there()), (3, []), done.stderr)
+            self.assertIn(b"x25page: reading or writing failed: ", done.stderr)
+            self.assertNotIn(b"Traceback", done.stderr)
+
     def test_header_that_may_be_wrong(self):
         """Standard error names the command that tries others."""
         done = self.run_page(ROOT / "examples" / "window-guessed.trace")
@@ -84,8 +109,8 @@ class Called(unittest.TestCase):
     def test_damaged_capture(self):
         done = self.run_page(FILES / "tcp-gap-and-next-connection.pcap")
         self.assertEqual(done.returncode, 1, done.stderr)
-        heard = Page(self.folder / "tcp-gap-and-next-connection.html").facts["heard"]
-        self.assertIn("left out: gaps in TCP connections: 1", heard)
+        messages = Page(self.folder / "tcp-gap-and-next-connection.html").facts["messages"]
+        self.assertIn("left out: gaps in TCP connections: 1", messages)
 
     def test_standard_input(self):
         for name, octets in (("trace", TRACE.read_bytes()), ("capture", CAPTURE.read_bytes())):

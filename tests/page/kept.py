@@ -9,25 +9,32 @@ sys.path.insert(0, str(pathlib.Path(__file__).resolve().parents[2] / "tools"))
 
 from x25page_lib.calls import COLUMNS, MEMBERS, Calls  # noqa: E402
 from x25page_lib.facts import Thinned, Times  # noqa: E402
-from x25page_lib.ladders import Ladders  # noqa: E402
-from x25page_lib.rows import ROW, Row, RowForms, nanoseconds  # noqa: E402
+from x25page_lib.ladders import Ladders, Run  # noqa: E402
+from x25page_lib.rows import Kept as KeptRow, Row, RowForms, microseconds  # noqa: E402
 from x25page_lib.suspicions import Debts, warnings  # noqa: E402
 
 FINDING = {"code": "1", "name": "Invalid P(S)", "wrong": "<b>", "then": "", "clause": "X.25"}
 CALLS, LONGEST = 40, 60
 
 
-def told(packet, kind="data", finding=None, octets=100, forms=None, **more):
-    """A row, as x25scan says it."""
+def row_of(packet, kind="data", finding=None, octets=100, forms=None, **more):
+    """A row, as x25scan says it: data without a finding is quiet."""
     base = {"line": "row", "packet": packet, "side": "TN"[packet % 2], "channel": 1, "before": "d1", "after": "d1",
             "counted": None, "finding": finding, "epoch": 1, "owed": False, "call": 1, "begins": False, "up": False,
             "ends": [], "not_counted": None, "time": None, "type": kind, "hex": "00" * octets}
-    rest = {"send": 0, "receive": 0, "octets": octets} if kind == "data" else {}
-    line = json.dumps(base | more | rest, separators=(",", ":"))
-    return Row(ROW.match(line).groups(), forms or RowForms())
+    rest = {}
+    if kind == "data":
+        rest = {"send": 3, "receive": 5, "more": packet % 7 == 0, "qualified": False, "delivery": False, "octets": octets}
+        base["counted"] = None if finding else {"octets": octets, "segments": -(-octets // 64)}
+    return Row(base | more | rest, forms or RowForms())
 
 
-FAULTY = told(2, side="T", finding=FINDING, owed=True)
+FAULTY = row_of(2, side="T", finding=FINDING, owed=True)
+
+
+def items_of(ladder):
+    """What a ladder keeps; of a quiet row it keeps the text alone."""
+    return [KeptRow(item) if isinstance(item, str) else item for item in ladder.items]
 
 
 class Kept(unittest.TestCase):
@@ -41,7 +48,7 @@ class Kept(unittest.TestCase):
                 packet += 1
                 finding = FINDING if call in faulty and at and random.random() < 0.2 else None
                 kind = "data" if at else "call_request"
-                ladders.add(f"call-{call}", told(packet, kind, finding, forms=forms))
+                ladders.add(f"call-{call}", row_of(packet, kind, finding, forms=forms))
                 sums[0] += 1
                 sums[1] += 100 if kind == "data" else 0
                 sums[2] += finding is not None
@@ -52,8 +59,8 @@ class Kept(unittest.TestCase):
     def sums_of(ladder):
         """The rows, octets of data and findings of a ladder: of rows that are kept, and of sums."""
         sums = [0, 0, 0]
-        for item in ladder.items:
-            is_row = isinstance(item, Row)
+        for item in items_of(ladder):
+            is_row = not isinstance(item, Run)
             sums[0] += 1 if is_row else item.packets
             sums[1] += item.octets * item.is_data if is_row else sum(item.octets)
             sums[2] += bool(item.code) if is_row else sum(item.findings.values())
@@ -67,9 +74,21 @@ class Kept(unittest.TestCase):
             self.assertLessEqual(sum(map(len, texts.values())), budget * 1.2)
             for key, ladder in ladders.ladders.items():
                 self.assertEqual(self.sums_of(ladder), wanted[key], (budget, key))
-                places = [item.packet if isinstance(item, Row) else item.first for item in ladder.items]
+                places = [item.packet if not isinstance(item, Run) else item.first for item in items_of(ladder)]
                 self.assertEqual(places, sorted(places))
             self.assertEqual(len(texts) + ladders.left_out, CALLS)
+
+    def test_marked_rows(self):
+        """Of ladders whose rows all have a finding, what is kept and what is left out are together what they had."""
+        for budget, level in ((800_000, 0), (400_000, 6), (150_000, 8)):
+            ladders, forms = Ladders(budget), RowForms()
+            for packet in range(1, 1001):
+                ladders.add(f"call-{packet % 4}", row_of(packet, finding=FINDING, octets=300, forms=forms))
+            sizes = [len(text) for _, text in ladders.texts()]
+            self.assertLessEqual(sum(sizes), budget)
+            self.assertEqual(ladders.level, level)
+            for ladder in ladders.ladders.values():
+                self.assertEqual(self.sums_of(ladder), [250, 75_000, 250])
 
     def test_findings_first(self):
         """Ladders without a finding are left out first."""
@@ -81,7 +100,7 @@ class Kept(unittest.TestCase):
     def test_octets_first(self):
         """Of a trace that is a little too long all rows are kept, with the first of their octets."""
         ladders, wanted = self.ladders(250_000, {3})
-        kept = [item for ladder in ladders.ladders.values() for item in ladder.items]
+        kept = [item for ladder in ladders.ladders.values() for item in items_of(ladder)]
         self.assertEqual((len(kept), ladders.level), (sum(it[0] for it in wanted.values()), 1))
         self.assertEqual({len(row.text.split('"')[1]) for row in kept if not row.code}, {64})
 
@@ -92,7 +111,7 @@ class Kept(unittest.TestCase):
             for at in range(8):
                 packet += 1
                 finding = FINDING if call == 300 and at == 7 else None
-                ladders.add(f"call-{call}", told(packet, "data" if at else "call_request", finding, 10, forms))
+                ladders.add(f"call-{call}", row_of(packet, "data" if at else "call_request", finding, 10, forms))
             if call < 299:
                 ladders.finish(f"call-{call}")
         self.assertTrue(ladders.is_full)
@@ -105,12 +124,25 @@ class Kept(unittest.TestCase):
     def test_whole(self):
         """Nothing is left out of a short trace."""
         ladders, wanted = self.ladders(1_000_000, {3})
-        kept = sum(isinstance(item, Row) for ladder in ladders.ladders.values() for item in ladder.items)
+        kept = sum(not isinstance(item, Run) for ladder in ladders.ladders.values() for item in ladder.items)
         self.assertEqual((kept, ladders.left_out, ladders.level), (sum(it[0] for it in wanted.values()), 0, 0))
+
+    def test_quiet_rows(self):
+        """A quiet row has the same array by both ways to write it, and its text has what sums need."""
+        for more in ({"time": 1_700_000_000.25}, {"frame": 152}, {"octets": 0}, {"octets": 300}, {"kind": "rr", "receive": 7}):
+            forms, kind = RowForms(), more.pop("kind", "data")
+            forms.begin(1_700_000_000_000_000)
+            row = row_of(7, kind, forms=forms, **more)
+            self.assertTrue(row.is_quiet)
+            self.assertEqual(json.loads(forms.quiet(row, 64)), json.loads(forms.text(row, 64)), more)
+            kept, same = KeptRow(forms.quiet(row, 64)), KeptRow(forms.text(row, 64), row)
+            for name in ("packet", "side", "octets", "code", "is_data", "is_marked"):
+                self.assertEqual(getattr(kept, name), getattr(same, name), (name, more))
+        self.assertFalse(FAULTY.is_quiet or row_of(3, "call_request").is_quiet or row_of(3, "rr", before="d3", after="d3").is_quiet)
 
     def test_no_markup(self):
         ladders = Ladders(10_000)
-        ladders.add("interface", told(1, finding=FINDING))
+        ladders.add("interface", row_of(1, finding=FINDING))
         (_, text), = ladders.texts()
         self.assertNotIn("<", text)
         self.assertIn("\\u003cb\\u003e", text)
@@ -131,12 +163,12 @@ class Kept(unittest.TestCase):
 
     def test_times(self):
         times, forms = Times(), RowForms()
-        forms.begin("0.5")
+        forms.begin(500_000)
         for packet in range(1, 10_001):
-            times.add(packet, f"{packet // 2}.{packet % 2 * 5}")
+            times.add(packet, packet * 500_000)
         found = times.all(forms)
         self.assertLess(len(found), 1100)
-        self.assertEqual((found[0], found[-1]), ([1, 0.0], [10_000, 4999.5]))
+        self.assertEqual((found[0], found[-1]), ((1, 0.0), (10_000, 4999.5)))
 
     def test_thinned(self):
         """What does not fit is left out evenly."""
@@ -148,13 +180,14 @@ class Kept(unittest.TestCase):
         self.assertLessEqual(len(thinned.text), 1001)
         self.assertEqual((kept, thinned.left_out), (list(range(0, 10_000, kept[1])), 10_000 - len(kept)))
 
-    def test_nanoseconds(self):
+    def test_microseconds(self):
+        """Times of this and the next decades have whole microseconds; what no clock shows is none."""
         pairs = (
-            (None, None), (5, 5 * 10**9), ("1700000003.000003", 1_700_000_003_000_003_000),
-            ("-0.25", -250_000_000), ("0.123456789", 123_456_789),
+            (None, None), (5, 5_000_000), (1700000003.000003, 1_700_000_003_000_003), (0.1234567, 123_457),
+            (4_000_000_000.999999, 4_000_000_000_999_999), (10**400, None), (float("inf"), None),
         )
-        for text, wanted in pairs:
-            self.assertEqual(nanoseconds(text), wanted)
+        for seconds, wanted in pairs:
+            self.assertEqual(microseconds(seconds), wanted)
 
 
 class Doubts(unittest.TestCase):
@@ -167,27 +200,27 @@ class Doubts(unittest.TestCase):
         return debts
 
     def test_the_dce_went_on(self):
-        rows = [FAULTY, told(3, "rr", side="N", owed=True), told(4, "rr", side="N", owed=True)]
+        rows = [FAULTY, row_of(3, "rr", side="N", owed=True), row_of(4, "rr", side="N", owed=True)]
         (sentence, name, values), = warnings(self.HEADER, [], self.seen(rows))
         self.assertIn("After 1 finding of the DTE (the first is packet 2)", sentence)
         self.assertEqual((name, values), ("WIN", [2, 3]))
 
     def test_the_dce_reset(self):
-        rows = [FAULTY, told(3, "rr", side="N", owed=True), told(4, "reset_indication", side="N")]
+        rows = [FAULTY, row_of(3, "rr", side="N", owed=True), row_of(4, "reset_indication", side="N")]
         self.assertEqual(warnings(self.HEADER, [], self.seen(rows)), [])
 
-    def test_the_dce_alone_tells_of_it(self):
+    def test_the_dce_alone_shows_it(self):
         """A reset for an error that no finding is of: the header may have too great a number."""
         end = {"side": "N", "after": "d3", "cause": {"value": 5, "name": ""}, "diagnostic": {"value": 1, "name": ""}}
         header = self.HEADER | {"WIN": "7"}
-        (sentence, name, values), = warnings(header, [], self.seen([told(3, "reset_indication", **end)]))
+        (sentence, name, values), = warnings(header, [], self.seen([row_of(3, "reset_indication", **end)]))
         self.assertIn("By diagnostic code 1 the DCE says 1 time (the first is packet 3) that the DTE broke", sentence)
         self.assertEqual((name, values), ("WIN", [2, 6]))
         for rows in (
-            [told(3, "reset_indication", **end | {"before": "d3"})],
-            [told(3, "reset_indication", **end | {"cause": {"value": 7, "name": ""}})],
-            [told(3, "reset_indication", **end | {"diagnostic": {"value": 20, "name": ""}})],
-            [told(1, side="T", finding=FINDING), told(3, "reset_indication", **end)],
+            [row_of(3, "reset_indication", **end | {"before": "d3"})],
+            [row_of(3, "reset_indication", **end | {"cause": {"value": 7, "name": ""}})],
+            [row_of(3, "reset_indication", **end | {"diagnostic": {"value": 20, "name": ""}})],
+            [row_of(1, side="T", finding=FINDING), row_of(3, "reset_indication", **end)],
         ):
             self.assertEqual(warnings(header, [], self.seen(rows)), [])
 

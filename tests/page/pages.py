@@ -13,7 +13,7 @@ FACTS = re.compile(r'(<script type="application/json" id="facts">)(.*?)(</script
 POLICY = re.compile(r'<meta http-equiv="Content-Security-Policy" content="([^"]*)">')
 # What asks for something from outside, and what makes markup of a text.
 OUTSIDE = re.compile(
-    r"\b(?:src|href|action|data)=|url\(|@import|\bimport\b|\bfetch\b|XMLHttpRequest"
+    r"\b(?:src|action|data)=|\bhref=(?!\"#)|url\(|@import|\bimport\b|\bfetch\b|XMLHttpRequest"
     r"|innerHTML|outerHTML|insertAdjacentHTML|document\.write|eval\("
 )
 

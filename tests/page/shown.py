@@ -3,6 +3,8 @@ import pathlib
 import sys
 import time
 
+import printed
+import reached
 from pages import ROOT, Page, run
 
 sys.path.insert(0, str(ROOT / "tools"))
@@ -187,3 +189,5 @@ def outcomes(scanner, folder):
         yield "long runs are folded", shown.faults()
         doubtful(shown, pathlib.Path(folder), scanner)
         yield "a header that may be wrong", shown.faults()
+        yield from reached.outcomes(shown, scanner, folder)
+        yield from printed.outcomes(shown, scanner, folder)

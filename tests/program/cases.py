@@ -1,14 +1,9 @@
-"""Words of the command line, and what the program has to answer to them."""
-import os
-import pathlib
+"""Words of the command line, each with the outcome that it has to have."""
 import re
-import signal
-import subprocess
-import tempfile
-import time
 
-from case import Case
 from explain_cases import explain_cases
+
+from runner import RunCase
 
 HEADER = b"X25 1 MOD 8 WIN 2 SIZE 128 PVC 0 SVC 4\n"
 CLEAN = HEADER
@@ -21,7 +16,6 @@ GUESSED_REPORT = b"F 2 T d1 1\nP 0 -\nZ 5 1 0 1 1\n"
 NOTE = b"x25scan: 2 data packets with 2 octets were not counted: 1 (1 octet) with a finding, 1 (1 octet) while the DCE owes its indication; --annotate shows where\n"
 ANY = re.compile(rb".*", re.DOTALL)
 FULL = b"x25scan: write failed\n  No space left on device (os error 28)\n"
-SHOWN = b" lines a second"
 NUMBERS = rb"x25scan: \d+ bytes read, \d+ lines, \d+ lines a second\n"
 
 
@@ -29,79 +23,78 @@ def pattern(text):
     return re.compile(text, re.DOTALL)
 
 
-def refused(line, kind, told):
+def refused(line, kind, sentence):
     """The two lines that refuse a trace."""
-    return f"x25scan: line {line}: kind {kind}\n  {told}\n".encode()
+    return f"x25scan: line {line}: kind {kind}\n  {sentence}\n".encode()
 
 
 def file_cases():
     """A trace by its name, and names of no trace."""
     day = {"day.trace": FOUND}
-    yield Case("a file is read in place of standard input", ("day.trace",), CLEAN, 1, FOUND_REPORT, files=day)
-    yield Case("a file is read in one thread", ("--alone", "day.trace"), CLEAN, 1, FOUND_REPORT, files=day)
-    yield Case("a file is followed", ("--follow", "day.trace"), CLEAN, 1, FOUND_REPORT, files=day)
-    yield Case("words stand behind the file", ("day.trace", "--workers", "2"), CLEAN, 1, FOUND_REPORT, files=day)
-    yield Case("a dash is standard input", ("-",), FOUND, 1, FOUND_REPORT, files=day)
-    yield Case("no file is standard input", (), FOUND, 1, FOUND_REPORT, files=day)
-    yield Case("a name begins with a dash behind two dashes", ("--", "-day.trace"), b"", 1, FOUND_REPORT, files={"-day.trace": FOUND})
+    yield RunCase("a file is read in place of standard input", ("day.trace",), CLEAN, 1, FOUND_REPORT, files=day)
+    yield RunCase("a file is read in one thread", ("--alone", "day.trace"), CLEAN, 1, FOUND_REPORT, files=day)
+    yield RunCase("a file is followed", ("--follow", "day.trace"), CLEAN, 1, FOUND_REPORT, files=day)
+    yield RunCase("words come after the file", ("day.trace", "--workers", "2"), CLEAN, 1, FOUND_REPORT, files=day)
+    yield RunCase("a dash is standard input", ("-",), FOUND, 1, FOUND_REPORT, files=day)
+    yield RunCase("no file is standard input", (), FOUND, 1, FOUND_REPORT, files=day)
+    yield RunCase("a name begins with a dash, after two dashes", ("--", "-day.trace"), b"", 1, FOUND_REPORT, files={"-day.trace": FOUND})
     faulty = {"day.trace": HEADER + b"1 t -\n"}
     for words in ((), ("--alone",), ("--follow",), ("--json",)):
-        yield Case(f"a named trace is refused by its name {words}", (*words, "day.trace"), b"", 2, b"", refused(2, 26, "day.trace: The side t is written T."), files=faulty)
-    yield Case("a named trace is refused as it is annotated", ("--annotate", "day.trace"), b"", 2, HEADER, refused(2, 26, "day.trace: The side t is written T."), files=faulty)
+        yield RunCase(f"a named trace is refused by its name {words}", (*words, "day.trace"), b"", 2, b"", refused(2, 26, "day.trace: The side t is written T."), files=faulty)
+    yield RunCase("a named trace is refused as it is annotated", ("--annotate", "day.trace"), b"", 2, HEADER, refused(2, 26, "day.trace: The side t is written T."), files=faulty)
     missing = b"x25scan: cannot open night.trace: no such file\n  No such file or directory (os error 2)\n"
-    yield Case("a file that is not there", ("night.trace",), FOUND, 3, b"", missing)
-    yield Case("a file that is not there is not followed", ("--follow", "night.trace"), FOUND, 3, b"", missing)
-    yield Case("a name below a file", ("day.trace/x",), b"", 3, b"", b"x25scan: cannot open day.trace/x: no such file\n  Not a directory (os error 20)\n", files=day)
-    yield Case("a folder", ("days",), FOUND, 3, b"", b"x25scan: cannot open days: it is a directory\n  Is a directory (os error 21)\n", files={"days": None})
-    yield Case("the empty name", ("",), FOUND, 3, b"", b"x25scan: cannot open : no such file\n  No such file or directory (os error 2)\n")
+    yield RunCase("a file that is not there", ("night.trace",), FOUND, 3, b"", missing)
+    yield RunCase("a file that is not there is not followed", ("--follow", "night.trace"), FOUND, 3, b"", missing)
+    yield RunCase("a name below a file", ("day.trace/x",), b"", 3, b"", b"x25scan: cannot open day.trace/x: no such file\n  Not a directory (os error 20)\n", files=day)
+    yield RunCase("a folder", ("days",), FOUND, 3, b"", b"x25scan: cannot open days: it is a directory\n  Is a directory (os error 21)\n", files={"days": None})
+    yield RunCase("the empty name", ("",), FOUND, 3, b"", b"x25scan: cannot open : no such file\n  No such file or directory (os error 2)\n")
     denied = b"x25scan: cannot open day.trace: permission denied\n  Permission denied (os error 13)\n"
-    yield Case("a file that may not be read", ("day.trace",), b"", 3, b"", denied, files=day, modes={"day.trace": 0})
+    yield RunCase("a file that may not be read", ("day.trace",), b"", 3, b"", denied, files=day, modes={"day.trace": 0})
     long = "x" * 300
-    yield Case("a name that is too long", (long,), FOUND, 3, b"", f"x25scan: cannot open {long}: the system refuses it\n  File name too long (os error 36)\n".encode())
-    yield Case("two files", ("a", "b"), b"", 64, b"", pattern(rb"error: unexpected argument 'b' found.*\nx25scan reads one trace\. .*\n  awk '!/\^X25 / \|\| !n\+\+' FILE\.\. \| x25scan\n"))
-    yield Case("two files as they are told to be read", run=joined_traces)
+    yield RunCase("a name that is too long", (long,), FOUND, 3, b"", f"x25scan: cannot open {long}: the system refuses it\n  File name too long (os error 36)\n".encode())
+    yield RunCase("two files", ("a", "b"), b"", 64, b"", pattern(rb"error: unexpected argument 'b' found.*\nx25scan reads one trace\. .*\n  awk '!/\^X25 / \|\| !n\+\+' FILE\.\. \| x25scan\n"))
 
 
 def word_cases():
     """Words that ask for no scan, and wrong words."""
     version = pattern(rb"x25scan \d+\.\d+\.\d+\nproved with Rattle, logic [0-9a-f]{16}\n")
-    yield Case("the version", ("--version",), report=version)
-    yield Case("the version by its letter", ("-V",), report=version)
+    yield RunCase("the version", ("--version",), output=version)
+    yield RunCase("the version by its letter", ("-V",), output=version)
     helped = pattern(rb"Reports what .*Usage: x25scan \[OPTIONS\] \[FILE\].*--workers.*--alone.*--follow.*--json.*--annotate.*--rows.*--channel.*--call.*--progress.*--notes.*--explain.*Examples:\n.*Exit status:\n  0 .*\n  64 .*TRACE.md.*\n")
-    yield Case("help", ("--help",), report=helped)
-    yield Case("help by its letter", ("-h",), report=helped)
-    yield Case("an explanation reads no file", ("--explain", "22", "day.trace"), report=pattern(rb"22 \(.*"))
-    yield Case("a word that is not explained", ("--explain", "d4"), status=64, errors=b"x25scan: no such word: d4 (x25scan --explain lists them)\n")
-    yield Case("no workers", ("--workers", "0"), status=64, errors=pattern(rb"error: .*0.*1\.\.=64.*"))
-    yield Case("an unknown word", ("--fast",), status=64, errors=re.compile(rb"error: unexpected argument '--fast' found(?:(?!one trace).)*", re.DOTALL))
+    yield RunCase("help", ("--help",), output=helped)
+    yield RunCase("help by its letter", ("-h",), output=helped)
+    yield RunCase("an explanation reads no file", ("--explain", "22", "day.trace"), output=pattern(rb"22 \(.*"))
+    yield RunCase("a word that is not explained", ("--explain", "d4"), status=64, errors=b"x25scan: no such word: d4 (x25scan --explain lists them)\n")
+    yield RunCase("no workers", ("--workers", "0"), status=64, errors=pattern(rb"error: .*0.*1\.\.=64.*"))
+    yield RunCase("an unknown word", ("--fast",), status=64, errors=re.compile(rb"error: unexpected argument '--fast' found(?:(?!one trace).)*", re.DOTALL))
     no_text = b"x25scan: arguments are no text\n  A word of the command line is not UTF-8. A file of such a name can be read as standard input: x25scan < FILE\n"
-    yield Case("a word that is no text", (b"\xff",), status=64, errors=no_text)
+    yield RunCase("a word that is no text", (b"\xff",), status=64, errors=no_text)
 
 
 def progress_cases():
     """How far the reading is."""
-    yield Case("progress is told at the end", ("--progress",), FOUND, 1, FOUND_REPORT, pattern(NUMBERS))
-    told = b"x25scan: %d bytes read, 2 lines, " % len(FOUND)
-    yield Case("progress counts bytes and lines", ("--alone", "--progress"), FOUND, 1, FOUND_REPORT, pattern(re.escape(told) + rb"\d+ lines a second\n"))
-    yield Case("progress is not told by itself where no terminal is", ("--alone",), FOUND, 1, FOUND_REPORT, b"")
+    yield RunCase("progress is shown at the end", ("--progress",), FOUND, 1, FOUND_REPORT, pattern(NUMBERS))
+    counts = b"x25scan: %d bytes read, 2 lines, " % len(FOUND)
+    yield RunCase("progress counts bytes and lines", ("--alone", "--progress"), FOUND, 1, FOUND_REPORT, pattern(re.escape(counts) + rb"\d+ lines a second\n"))
+    yield RunCase("progress is not shown without a terminal", ("--alone",), FOUND, 1, FOUND_REPORT, b"")
 
 
 def note_cases():
     """The data that was not counted."""
     for words in (("--notes",), ("--notes", "--alone"), ("--follow", "--notes"), ("--workers", "2", "--alone", "--notes"), ("--notes", "--follow", "--workers", "64")):
-        yield Case(f"a note is printed {words}", words, GUESSED, 1, GUESSED_REPORT, NOTE)
-    yield Case("a note after objects", ("--notes", "--json"), GUESSED, 1, pattern(rb'\{"line":"finding".*\{"line":"sums".*\}\n'), NOTE)
-    yield Case("no note is printed by itself where no terminal is", ("--alone",), GUESSED, 1, GUESSED_REPORT, b"")
+        yield RunCase(f"a note is printed {words}", words, GUESSED, 1, GUESSED_REPORT, NOTE)
+    yield RunCase("a note after objects", ("--notes", "--json"), GUESSED, 1, pattern(rb'\{"line":"finding".*\{"line":"sums".*\}\n'), NOTE)
+    yield RunCase("no note is printed without a terminal", ("--alone",), GUESSED, 1, GUESSED_REPORT, b"")
     one = CALL + b"3 T 100102414243\n"
-    yield Case("a note of one packet", ("--notes",), one, 1, ANY, b"x25scan: 1 data packet with 3 octets was not counted: 1 (3 octets) with a finding; --annotate shows where\n")
-    yield Case("no note where all data was counted", ("--notes",), CALL + b"3 T 10010041\n", 0, ANY, b"")
-    yield Case("a refused trace has no note", ("--notes",), GUESSED + b"1 T -\n", 2, b"", pattern(rb"x25scan: line 7: kind 25\n  .*"))
+    yield RunCase("a note of one packet", ("--notes",), one, 1, ANY, b"x25scan: 1 data packet with 3 octets was not counted: 1 (3 octets) with a finding; --annotate shows where\n")
+    yield RunCase("no note where all data was counted", ("--notes",), CALL + b"3 T 10010041\n", 0, ANY, b"")
+    yield RunCase("a refused trace has no note", ("--notes",), GUESSED + b"1 T -\n", 2, b"", pattern(rb"x25scan: line 7: kind 25\n  .*"))
     workers = b"error: --notes needs a scan of one thread: name --alone in place of --workers\n"
-    yield Case("workers make no note", ("--notes", "--workers", "2"), GUESSED, 64, b"", workers)
-    yield Case("an explanation needs no note", ("--notes", "--workers", "2", "--explain", "22"), report=pattern(rb"22 \(.*"))
+    yield RunCase("workers make no note", ("--notes", "--workers", "2"), GUESSED, 64, b"", workers)
+    yield RunCase("an explanation needs no note", ("--notes", "--workers", "2", "--explain", "22"), output=pattern(rb"22 \(.*"))
     rows = b"error: --notes is for a report, and --annotate, --rows, --channel and --call print why at each row: leave it out\n"
     for words in (("--rows",), ("--annotate",), ("--call", "1"), ("--channel", "1"), ("--rows", "--workers", "2")):
-        yield Case(f"rows have no note {words}", ("--notes", *words), GUESSED, 64, b"", rows)
+        yield RunCase(f"rows have no note {words}", ("--notes", *words), GUESSED, 64, b"", rows)
 
 
 def object_cases():
@@ -109,13 +102,13 @@ def object_cases():
     finding = b'{"line":"finding","packet":1,"side":"T","state":null,"code":"38"}\n'
     objects = finding + b'{"line":"peak","count":0,"packet":null}\n{"line":"sums","packets":1,"findings":1,"calls":0,"octets":0,"segments":0}\n'
     for words in (("--json",), ("--json", "--alone"), ("--json", "--follow"), ("--workers", "64", "--json")):
-        yield Case(f"the report as JSON lines {words}", words, FOUND, 1, objects)
-    yield Case("a file as JSON lines", ("--json", "day.trace"), b"", 1, objects, files={"day.trace": FOUND})
-    told = "The row's number is 1, and that of the row before is 1: numbers rise."
+        yield RunCase(f"the report as JSON lines {words}", words, FOUND, 1, objects)
+    yield RunCase("a file as JSON lines", ("--json", "day.trace"), b"", 1, objects, files={"day.trace": FOUND})
+    order = "The row's number is 1, and that of the row before is 1: numbers rise."
     twice = FOUND + FOUND.splitlines(keepends=True)[-1]
-    yield Case("a refused trace has no objects", ("--json",), twice, 2, b"", refused(3, 25, told))
-    yield Case("a refused trace that is followed has the objects before", ("--json", "--follow"), twice, 2, finding, refused(3, 25, told))
-    yield Case("a full device as JSON lines", ("--json",), FOUND, 3, b"", FULL, output="/dev/full")
+    yield RunCase("a refused trace has no objects", ("--json",), twice, 2, b"", refused(3, 25, order))
+    yield RunCase("a refused trace that is followed has the objects before", ("--json", "--follow"), twice, 2, finding, refused(3, 25, order))
+    yield RunCase("a full device as JSON lines", ("--json",), FOUND, 3, b"", FULL, device="/dev/full")
 
 
 def annotation_cases():
@@ -123,159 +116,49 @@ def annotation_cases():
     noted = b"# DTE: cut packet\n# stays r1\n#! F 1 T - 38: Packet too short: 0 octets, which is too short. Nothing changes. (X.25 5; the code by Annex E)\n"
     closing = b"# Report: 1 packet, 1 finding, 0 calls; counted: 0 octets in 0 segments\n# Peak: 0 calls in data transfer at once\n"
     for words in (("--annotate",), ("--annotate", "--alone"), ("--follow", "--annotate"), ("--workers", "64", "--annotate", "-")):
-        yield Case(f"an annotated trace {words}", words, FOUND, 1, FOUND + noted + closing)
-    yield Case("a file is annotated", ("--annotate", "day.trace"), b"", 1, FOUND + noted + closing, files={"day.trace": FOUND})
+        yield RunCase(f"an annotated trace {words}", words, FOUND, 1, FOUND + noted + closing)
+    yield RunCase("a file is annotated", ("--annotate", "day.trace"), b"", 1, FOUND + noted + closing, files={"day.trace": FOUND})
     for words in (("--channel", "1"), ("--annotate", "--channel", "4")):
-        yield Case(f"rows that are not chosen have no comments {words}", words, FOUND, 1, FOUND + closing)
+        yield RunCase(f"rows that are not chosen have no comments {words}", words, FOUND, 1, FOUND + closing)
     no_channel = b"x25scan: --channel %d: the header has logical channels 1 to %d\n"
-    yield Case("a channel that is not there", ("--channel", "5"), FOUND, 1, FOUND + closing, no_channel % (5, 4))
+    yield RunCase("a channel that is not there", ("--channel", "5"), FOUND, 1, FOUND + closing, no_channel % (5, 4))
     second = b"# first\nX25 2 MOD 8 WIN 2 SIZE 128 PVC 0 IN 0 TWO 8 OUT 9 JOIN\n"
-    yield Case("a channel that the second form of the header has not", ("--channel", "4095"), second, 0, ANY, no_channel % (4095, 9))
-    yield Case("the last channel of the second form", ("--channel", "9"), second, 0, ANY)
+    yield RunCase("a channel that the second form of the header has not", ("--channel", "4095"), second, 0, ANY, no_channel % (4095, 9))
+    yield RunCase("the last channel of the second form", ("--channel", "9"), second, 0, ANY)
     no_call = b"x25scan: --call %d chose no row: the report has %s\n"
-    yield Case("a call that is not there", ("--call", "7"), FOUND, 1, FOUND + closing, no_call % (7, b"0 calls"))
+    yield RunCase("a call that is not there", ("--call", "7"), FOUND, 1, FOUND + closing, no_call % (7, b"0 calls"))
     both = no_channel % (4095, 4) + no_call % (999999999, b"0 calls")
-    yield Case("neither a channel nor a call that is there", ("--annotate", "--channel", "4095", "--call", "999999999"), FOUND, 1, FOUND + closing, both)
-    yield Case("a call after the last one", ("--call", "2"), CALL, 0, ANY, no_call % (2, b"1 call"))
-    yield Case("the last call", ("--call", "1"), CALL, 0, ANY)
-    yield Case("an annotated trace is a trace", ("--annotate",), FOUND + noted + closing, 1, ANY)
-    told = "The row's number is 1, and that of the row before is 1: numbers rise."
+    yield RunCase("neither a channel nor a call that is there", ("--annotate", "--channel", "4095", "--call", "999999999"), FOUND, 1, FOUND + closing, both)
+    yield RunCase("a call after the last one", ("--call", "2"), CALL, 0, ANY, no_call % (2, b"1 call"))
+    yield RunCase("the last call", ("--call", "1"), CALL, 0, ANY)
+    yield RunCase("an annotated trace is a trace", ("--annotate",), FOUND + noted + closing, 1, ANY)
+    order = "The row's number is 1, and that of the row before is 1: numbers rise."
     twice = FOUND + FOUND.splitlines(keepends=True)[-1]
-    yield Case("the lines before a faulty one are annotated", ("--annotate",), twice, 2, FOUND + noted, refused(3, 25, told))
+    yield RunCase("the lines before a faulty one are annotated", ("--annotate",), twice, 2, FOUND + noted, refused(3, 25, order))
     both = b"error: --json writes the report, and --annotate, --channel and --call write a trace instead\n"
     for words in (("--annotate", "--json"), ("--json", "--call", "7")):
-        yield Case(f"JSON of a trace {words}", words, FOUND, 64, b"", both)
+        yield RunCase(f"JSON of a trace {words}", words, FOUND, 64, b"", both)
     neither = b"error: --annotate prints the trace again, and --rows an object for each row: name one of them\n"
     for words in (("--annotate", "--rows"), ("--rows", "--annotate", "--call", "7")):
-        yield Case(f"two forms of the rows {words}", words, FOUND, 64, b"", neither)
+        yield RunCase(f"two forms of the rows {words}", words, FOUND, 64, b"", neither)
     for words in (("--channel", "0"), ("--channel", "4096"), ("--call", "0"), ("--call", "x")):
-        yield Case(f"a choice that is none {words}", words, FOUND, 64, b"", pattern(rb"error: invalid value.*"))
-    yield Case("a full device at an annotation", ("--annotate",), FOUND, 3, b"", FULL, output="/dev/full")
+        yield RunCase(f"a choice that is none {words}", words, FOUND, 64, b"", pattern(rb"error: invalid value.*"))
+    yield RunCase("a full device at an annotation", ("--annotate",), FOUND, 3, b"", FULL, device="/dev/full")
 
 
-def joined_traces(program):
-    """Two parts of a recording are read by the command that the program says."""
-    with tempfile.TemporaryDirectory() as folder:
-        for name, text in (("a", FOUND), ("b", HEADER + b"2 T -\n")):
-            pathlib.Path(folder, name).write_bytes(text)
-        told = subprocess.run([program, "a", "b"], capture_output=True, cwd=folder, timeout=60).stderr.decode()
-        command = told.splitlines()[-1].replace("FILE..", "a b").replace("x25scan", program)
-        done = subprocess.run(["bash", "-c", command], capture_output=True, cwd=folder, timeout=60)
-    wanted = (1, b"F 1 T - 38\nF 2 T - 38\nP 0 -\nZ 2 2 0 0 0\n", b"")
-    got = (done.returncode, done.stdout, done.stderr)
-    return [] if got == wanted else [f"{command} has {got}"]
-
-
-def folder_as_input(program):
-    """A folder stands on standard input."""
-    folder = os.open("/", os.O_RDONLY)
-    done = subprocess.run([program], stdin=folder, capture_output=True, timeout=60)
-    os.close(folder)
-    got = (done.returncode, done.stdout, done.stderr)
-    wanted = (3, b"", b"x25scan: read failed\n  Is a directory (os error 21)\n")
-    return [] if got == wanted else [f"a folder on standard input has {got}"]
-
-
-def into_closed_pipe(program, words, handler):
-    """The status and the errors of a run whose output goes into a pipe that nobody reads."""
-    reader, writer = os.pipe()
-    os.close(reader)
-    done = subprocess.run(
-        [program, *words], input=FOUND, stdout=writer, stderr=subprocess.PIPE, preexec_fn=lambda: signal.signal(signal.SIGPIPE, handler), timeout=60
-    )
-    os.close(writer)
-    return done.returncode, done.stderr
-
-
-def closed_pipe(program):
-    """Nothing is printed where the reader of standard output went away, whether or not the signal of it is ignored."""
-    said = []
-    for words in ((), ("--alone",), ("--follow",), ("--json",), ("--annotate",), ("--explain", "22"), ("--help",), ("--version",)):
-        wanted = (0 if words in (("--help",), ("--version",)) else 3, b"")
-        for handler in (signal.SIG_IGN, signal.SIG_DFL):
-            got = into_closed_pipe(program, words, handler)
-            said += [] if got == wanted else [f"a closed pipe at {words} has {got}, wanted {wanted}"]
-    return said
-
-
-def on_terminal(program, words, pause):
-    """The status, the output and the errors of a run whose standard input and errors are a terminal."""
-    master, slave = os.openpty()
-    going = subprocess.Popen([program, *words], stdin=slave, stdout=subprocess.PIPE, stderr=slave)
-    os.close(slave)
-    told = os.read(master, 4096)
-    os.write(master, HEADER)
-    time.sleep(pause)
-    os.write(master, b"1 T -\n\x04")
-    report = going.communicate(timeout=60)[0]
-    while SHOWN not in told and pause:
-        told += os.read(master, 4096)
-    os.close(master)
-    return going.returncode, report, told.replace(b"\r\n", b"\n")
-
-
-def terminal(program):
-    """The trace is written on a terminal."""
-    status, report, told = on_terminal(program, (), 0)
-    waits = b"x25scan: reads the trace from the terminal, until Ctrl-D at the beginning of a line (--help says more)\n"
-    return [] if (status, report) == (1, FOUND_REPORT) and told.startswith(waits) else [f"a terminal has {(status, report, told)}"]
-
-
-def slow_terminal(program):
-    """It is written for more than a second."""
-    status, report, told = on_terminal(program, ("--alone",), 1.2)
-    return [] if (status, report) == (1, FOUND_REPORT) and SHOWN in told else [f"a slow terminal has {(status, report, told)}"]
-
-
-def shown_errors(program, words):
-    """The status, the output and what a terminal shows of the errors of a run."""
-    master, slave = os.openpty()
-    going = subprocess.Popen([program, *words], stdin=subprocess.PIPE, stdout=subprocess.PIPE, stderr=slave)
-    os.close(slave)
-    report = going.communicate(input=GUESSED, timeout=60)[0]
-    told = b""
-    try:
-        while more := os.read(master, 4096):
-            told += more
-    except OSError:
-        pass
-    os.close(master)
-    return going.returncode, report, told.replace(b"\r\n", b"\n")
-
-
-def noting_terminal(program):
-    """A terminal has a note by itself, where one thread may scan."""
-    said = []
-    for words, note in (((), NOTE), (("--alone",), NOTE), (("--follow",), NOTE), (("--workers", "2"), b""), (("--workers", "2", "--alone"), NOTE)):
-        got = shown_errors(program, words)
-        said += [] if got == (1, GUESSED_REPORT, note) else [f"a terminal at {words} has {got}"]
-    return said
-
-
-def full_errors(program):
-    """A note that standard error does not take changes nothing."""
-    with open("/dev/full", "wb") as full:
-        done = subprocess.run([program, "--notes"], input=GUESSED, stdout=subprocess.PIPE, stderr=full, timeout=60, check=False)
-    got = (done.returncode, done.stdout)
-    return [] if got == (1, GUESSED_REPORT) else [f"full errors have {got}"]
-
-
-def device_cases():
-    """Devices that fail."""
+def full_device_cases():
+    """Standard output that takes nothing."""
     for words in ((), ("--alone",), ("--follow",)):
-        yield Case(f"the report goes to a full device {words}", words, FOUND, 3, b"", FULL, output="/dev/full")
+        yield RunCase(f"the report goes to a full device {words}", words, FOUND, 3, b"", FULL, device="/dev/full")
     for words in (("--help",), ("--version",)):
-        yield Case(f"a full device at {words[0]}", words, b"", 0, b"", b"", output="/dev/full")
-    yield Case("a full device at an explanation", ("--explain",), b"", 3, b"", FULL, output="/dev/full")
-    yield Case("a folder stands on standard input", run=folder_as_input)
-    yield Case("the report goes into a closed pipe", run=closed_pipe)
-    yield Case("a terminal is read to its end", run=terminal)
-    yield Case("progress is told by itself on a terminal", run=slow_terminal)
-    yield Case("a note is printed by itself on a terminal", run=noting_terminal)
-    yield Case("a note on a full device", run=full_errors)
+        yield RunCase(f"a full device at {words[0]}", words, b"", 0, b"", b"", device="/dev/full")
+    yield RunCase("a full device at an explanation", ("--explain",), b"", 3, b"", FULL, device="/dev/full")
 
 
-def cases():
-    """All cases."""
-    for family in (file_cases, word_cases, object_cases, annotation_cases, progress_cases, note_cases, explain_cases, device_cases):
+FAMILIES = (file_cases, word_cases, object_cases, annotation_cases, progress_cases, note_cases, explain_cases, full_device_cases)
+
+
+def run_cases():
+    """All cases that are one run."""
+    for family in FAMILIES:
         yield from family()

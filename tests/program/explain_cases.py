@@ -1,7 +1,7 @@
 """Words that --explain is asked for, and what it has to print."""
 import re
 
-from case import Case
+from runner import RunCase
 
 # Words that have one meaning, and its heading.
 HEADINGS = (
@@ -114,17 +114,17 @@ def headed(headings):
 
 def explain_cases():
     """Words with one meaning, with several and with none, lines that are printed, and all words."""
-    yield Case("both meanings of a number are explained", ("--explain", "26"), report=TWENTY_SIX)
+    yield RunCase("both meanings of a number are explained", ("--explain", "26"), output=TWENTY_SIX)
     for word, heading in HEADINGS:
-        report = re.compile(re.escape(heading.encode()) + rb"\n(?:  [^\n]+\n){4,6}")
-        yield Case(f"{word} has one meaning", ("--explain", word), report=report)
+        explanation = re.compile(re.escape(heading.encode()) + rb"\n(?:  [^\n]+\n){4,6}")
+        yield RunCase(f"{word} has one meaning", ("--explain", word), output=explanation)
     for line, headings in LINES:
-        yield Case(f"{line} is explained word by word", ("--explain", line), report=headed(headings))
+        yield RunCase(f"{line} is explained word by word", ("--explain", line), output=headed(headings))
     for word, count, first in SEVERAL:
-        yield Case(f"{word} has {count} meanings", ("--explain", word), report=meanings(count, first))
+        yield RunCase(f"{word} has {count} meanings", ("--explain", word), output=meanings(count, first))
     for word in UNKNOWN:
         errors = f"x25scan: no such word: {word} (x25scan --explain lists them)\n".encode()
-        yield Case(f"{word!r} is not explained", ("--explain", word), status=64, errors=errors)
+        yield RunCase(f"{word!r} is not explained", ("--explain", word), status=64, errors=errors)
     first = rb"F \(line of the report\): finding\nC \(line of the report\): call\n"
     listed = re.compile(first + rb"(?:[^\n]+\n){151}22 \(PAD parameter\): page wait\n")
-    yield Case("all words are listed", ("--explain",), report=listed)
+    yield RunCase("all words are listed", ("--explain",), output=listed)

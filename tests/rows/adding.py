@@ -17,8 +17,8 @@ def findings(rows):
 
 def counted(rows, side=None):
     """The data packets, octets and segments that rows counted, of one side or of both."""
-    told = [row["counted"] for row in rows if row["counted"] and side in (None, row["side"])]
-    return len(told), sum(item["octets"] for item in told), sum(item["segments"] for item in told)
+    amounts = [row["counted"] for row in rows if row["counted"] and side in (None, row["side"])]
+    return len(amounts), sum(item["octets"] for item in amounts), sum(item["segments"] for item in amounts)
 
 
 def wrong_call(rows, call):
@@ -28,7 +28,7 @@ def wrong_call(rows, call):
     ups = [row["packet"] for row in own if row["up"] and row["call"] == call["call"]]
     ends = [(row["packet"], end["how"]) for row in rows for end in row["ends"] if end["call"] == call["call"]]
     sides = [counted([row for row in own if row["call"] == call["call"]], side) for side in "TN"]
-    wanted = {
+    expected = {
         "begins": ([call["opened"]], begins),
         "up": ([call["up"]] if call["up"] else [], ups),
         "ends": ([(call["ended"], call["how"])] if call["ended"] else [], ends),
@@ -37,14 +37,14 @@ def wrong_call(rows, call):
         "channel": ({call["channel"]}, {row["channel"] for row in own}),
         "epoch": ({call["epoch"]}, {row["epoch"] for row in own}),
     }
-    return [f"call {call['call']}: {name} is {found}, wanted {right}" for name, (right, found) in wanted.items() if right != found]
+    return [f"call {call['call']}: {name} is {found}, expected {right}" for name, (right, found) in expected.items() if right != found]
 
 
 def wrong_facts(rows, facts, call):
     """What is wrong with the facts of a call that its line does not have."""
     codes = collections.Counter(row["finding"]["code"] for row in rows if row["finding"] and row["call"] == call["call"])
     said = {item["code"]: item["count"] for item in facts["findings"]}
-    problems = [] if said == codes else [f"call {call['call']}: findings {said}, wanted {dict(codes)}"]
+    problems = [] if said == codes else [f"call {call['call']}: findings {said}, expected {dict(codes)}"]
     if facts["payer"] != call[facts["pays"]]:
         problems.append(f"call {call['call']}: payer {facts['payer']}")
     if facts["cleared_by"] != (call["how"] if call["how"] in ("T", "N") else None):
@@ -61,7 +61,7 @@ def wrong_reasons(rows, objects):
     for item in objects:
         if item["line"] == "not_counted":
             reasons[item["reason"]] = item["packets"]
-    return [] if reasons == packets else [f"not counted {reasons}, wanted {dict(packets)}"]
+    return [] if reasons == packets else [f"not counted {reasons}, expected {dict(packets)}"]
 
 
 def wrong_payers(objects):
@@ -72,7 +72,7 @@ def wrong_payers(objects):
         if item["line"] == "call_facts":
             paid[item["payer"]] += calls[item["call"]]["segments"]
     accounts = {item["address"]: item["segments"] for item in objects if item["line"] == "account"}
-    return [] if accounts == dict(paid) else [f"accounts {accounts}, wanted {dict(paid)}"]
+    return [] if accounts == dict(paid) else [f"accounts {accounts}, expected {dict(paid)}"]
 
 
 def problems(objects, report):
@@ -83,12 +83,12 @@ def problems(objects, report):
     wrong = []
     if objects[:len(rows)] != rows or rest[:len(found)] != found or found != report:
         wrong.append("the objects after the rows are not those of --json")
-    told = [(item["packet"], item["side"], item["code"]) for item in report if item["line"] == "finding"]
-    if findings(rows) != told:
-        wrong.append(f"findings {findings(rows)[:3]}.., wanted {told[:3]}..")
+    reported = [(item["packet"], item["side"], item["code"]) for item in report if item["line"] == "finding"]
+    if findings(rows) != reported:
+        wrong.append(f"findings {findings(rows)[:3]}.., expected {reported[:3]}..")
     sums = report[-1]
     if counted(rows)[1:] != (sums["octets"], sums["segments"]):
-        wrong.append(f"counted {counted(rows)}, wanted {sums}")
+        wrong.append(f"counted {counted(rows)}, expected {sums}")
     facts = {item["call"]: item for item in rest if item["line"] == "call_facts"}
     for call in (item for item in report if item["line"] == "call"):
         wrong += wrong_call(rows, call)

@@ -1,7 +1,7 @@
 """The note on standard error, read back."""
 import re
 
-import running
+import runner
 
 NOTE = re.compile(rb"x25scan: (\d+) data packets? with (\d+) octets? (?:was|were) not counted: (.*); --annotate shows where\n")
 PART = re.compile(rb"(\d+) \((\d+) octets?\) (.*)")
@@ -29,16 +29,16 @@ def noted(errors):
 
 def problems(program, text, objects):
     """What is wrong with the note of a trace that is not refused: it has the sums of what its rows say."""
-    wanted = {}
+    expected = {}
     for row in objects:
         if row["line"] == "row" and row["not_counted"]:
-            packets, octets = wanted.get(row["not_counted"], (0, 0))
-            wanted[row["not_counted"]] = (packets + 1, octets + row.get("octets", 0))
+            packets, octets = expected.get(row["not_counted"], (0, 0))
+            expected[row["not_counted"]] = (packets + 1, octets + row.get("octets", 0))
     said = []
     for words in (["--alone"], ["--follow"]):
-        errors = running.run([program, "--notes", *words], text)[2]
+        errors = runner.run([program, "--notes", *words], text).errors
         amounts, sums = noted(errors)
-        right = tuple(sum(amount[place] for amount in wanted.values()) for place in (0, 1))
-        if (amounts, sums) != (wanted, right):
-            said.append(f"the note with {words[0]} is {errors!r}, wanted {wanted}")
+        right = tuple(sum(amount[place] for amount in expected.values()) for place in (0, 1))
+        if (amounts, sums) != (expected, right):
+            said.append(f"the note with {words[0]} is {errors!r}, expected {expected}")
     return said

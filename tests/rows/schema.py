@@ -1,19 +1,48 @@
-"""The part of JSON Schema that docs/rows.schema.json uses."""
+"""Readers of a JSON schema: jsonschema where it is installed, and one of the part of JSON Schema that docs/rows.schema.json uses."""
+import functools
 import json
 import re
+
+try:
+    import jsonschema
+except ImportError:
+    jsonschema = None
 
 TYPES = {"object": dict, "array": list, "string": str, "boolean": bool, "null": type(None), "number": (int, float), "integer": int}
 KNOWN = {"$schema", "$id", "title", "description", "$defs", "$ref", "oneOf", "type", "const", "enum", "pattern", "minimum", "maximum",
          "properties", "required", "additionalProperties", "items"}
+# Objects that no line of the program has, each with one mistake.
+BROKEN = (
+    {"line": "peak", "count": 0},
+    {"line": "peak", "count": 0, "packet": None, "more": 1},
+    {"line": "peak", "count": -1, "packet": None},
+    {"line": "peak", "count": "0", "packet": None},
+    {"line": "peak", "count": True, "packet": None},
+    {"line": "peak", "count": 0, "packet": 0},
+    {"line": "peaks", "count": 0, "packet": None},
+    ["peak", 0, None],
+)
 
 
-def of_file(path):
-    """The schema of a file."""
-    return json.loads(path.read_text())
+def readers_of(path):
+    """The readers of the schema in a file by their names, the one to use first. Each returns what is wrong with a value."""
+    schema = json.loads(path.read_text())
+    own = {"tests/rows/schema.py": functools.partial(problems, schema)}
+    if jsonschema is None:
+        return own
+    validator = jsonschema.Draft202012Validator(schema)
+    return {"jsonschema": lambda value: [error.message for error in validator.iter_errors(value)], **own}
+
+
+def schema_problems(path):
+    """What is wrong with the schema in a file: it is none, or a reader accepts a broken object."""
+    if jsonschema is not None:
+        jsonschema.Draft202012Validator.check_schema(json.loads(path.read_text()))
+    return [f"{name} accepts {value}" for name, reader in readers_of(path).items() for value in BROKEN if not reader(value)]
 
 
 def is_of(value, name):
-    """Whether a value is of a type; a truth value is no number."""
+    """Whether a value is of a type; a boolean is no number."""
     if isinstance(value, bool):
         return name == "boolean"
     return isinstance(value, TYPES[name])
@@ -33,7 +62,7 @@ def problems(root, value, shape=None):
 
 
 def plain_problems(shape, value):
-    """What is wrong with a value but for its parts."""
+    """What is wrong with a value itself."""
     names = shape.get("type", [])
     names = [names] if isinstance(names, str) else names
     wrong = []

@@ -1,5 +1,8 @@
 """The calls of a page: an array of each, within a budget of bytes, those with the most findings first."""
+from __future__ import annotations
+
 import heapq
+from typing import Any
 
 from .rows import Table
 from .texts import encoded
@@ -17,45 +20,47 @@ SPREADING, RANGE = 2_654_435_769, 1 << 32
 class Calls:
     """The calls that a page has."""
 
-    def __init__(self, budget):
+    def __init__(self, budget: int) -> None:
         self.budget, self.left_out = budget, 0
-        self.findings, self.kept, self.names = {}, {}, Table()
-        self.waiting = []
+        self.findings: dict[int, int] = {}
+        self.kept: dict[int, list[Any]] = {}
+        self.names = Table()
+        self.waiting: list[tuple[int, ...]] = []
         self.most = budget // BYTES
 
-    def count(self, call):
+    def count(self, call: int) -> None:
         """A row of the call has a finding."""
         self.findings[call] = self.findings.get(call, 0) + 1
 
-    def add(self, told):
+    def add(self, it: dict[str, Any]) -> None:
         """Takes what the report says of a call; those with the fewest findings and segments are left out.
 
         Of equal ones those are kept that lie evenly over the trace.
         """
-        number = told["call"]
-        rank = (self.findings.get(number, 0), told["segments"], number * SPREADING % RANGE, number)
-        self.kept[number] = [told[name] for name in MEMBERS]
+        number = it["call"]
+        rank = (self.findings.get(number, 0), it["segments"], number * SPREADING % RANGE, number)
+        self.kept[number] = [it[name] for name in MEMBERS]
         heapq.heappush(self.waiting, rank)
         if len(self.waiting) > self.most:
             self.leave_out()
 
-    def leave_out(self):
+    def leave_out(self) -> None:
         *_, number = heapq.heappop(self.waiting)
         del self.kept[number]
         self.left_out += 1
 
-    def facts(self, told):
+    def facts(self, it: dict[str, Any]) -> None:
         """Takes what is said of a call besides."""
-        if told["call"] in self.kept:
-            told["cause"], told["diagnostic"] = map(self.named, (told["cause"], told["diagnostic"]))
-            told["findings"] = {it["code"]: it["count"] for it in told["findings"]} or None
-            self.kept[told["call"]] += [told[name] for name in FACTS]
+        if it["call"] in self.kept:
+            it["cause"], it["diagnostic"] = map(self.named, (it["cause"], it["diagnostic"]))
+            it["findings"] = {finding["code"]: finding["count"] for finding in it["findings"]} or None
+            self.kept[it["call"]] += [it[name] for name in FACTS]
 
-    def named(self, value):
+    def named(self, value: dict[str, Any] | None) -> int | None:
         """The place of a cause or a diagnostic code with its name."""
         return None if value is None else self.names.place((value["value"], value["name"]))
 
-    def text(self):
+    def text(self) -> str:
         """The arrays of the calls in their order, without more than the budget allows."""
         texts = {call: encoded(array) for call, array in self.kept.items()}
         size = sum(map(len, texts.values())) + len(texts)

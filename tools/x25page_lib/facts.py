@@ -1,15 +1,23 @@
 """What a page shows of a trace: gathered from the objects of x25scan, each of which is looked at once."""
-from dataclasses import dataclass, field
+from __future__ import annotations
 
-from .calls import Calls
+from collections.abc import Callable, Iterable
+from dataclasses import dataclass, field
+from typing import Any
+
+from x25tools_lib.halves import Halves
+
+from .calls import BYTES, Calls
 from .ladders import Ladders
-from .rows import NO_END, NOTHING, ROW, SIDES, Row, RowForms, in_seconds, nanoseconds
-from .scanner import read
+from .rows import SECOND, SIDES, Row, RowForms, in_seconds, microseconds
 from .suspicions import Debts
 from .texts import encoded
+from .use import UNRECORDED, Use
+from .verdicts import Verdict, of_halves, verdict_of
 
-# What parts of a page may have, in bytes.
-LADDERS, CALLS, MARKS, ACCOUNTS, SETTINGS = 8_000_000, 4_500_000, 1_000_000, 500_000, 500_000
+# What a page may have, in bytes: its markup, its words and its other parts, and its ladders what these leave.
+PAGE, WORDS = 25_000_000, 600_000
+CALLS, MARKS, ACCOUNTS, SETTINGS, CHANNELS = 4_500_000, 1_000_000, 500_000, 500_000, 200_000
 MOST_TIMES = 1024
 SETTING = ("call", "side", "parameter", "word", "value")
 CLEARING = ("p6", "p7")
@@ -18,34 +26,36 @@ CLEARING = ("p6", "p7")
 class Budgeted:
     """Texts of a list, as many as its bytes allow."""
 
-    def __init__(self, budget):
-        self.budget, self.texts, self.left_out = budget, [], 0
+    def __init__(self, budget: int) -> None:
+        self.budget, self.size, self.left_out = budget, 0, 0
+        self.texts: list[str] = []
 
-    def add(self, value):
+    def add(self, value: Any) -> None:
         text = encoded(value)
-        self.budget -= len(text) + 1
-        if self.budget >= 0:
+        if not self.left_out and self.size + len(text) < self.budget:
             self.texts.append(text)
+            self.size += len(text) + 1
         else:
             self.left_out += 1
 
     @property
-    def text(self):
+    def text(self) -> str:
         return f"[{','.join(self.texts)}]"
 
 
 class Thinned:
     """Texts of a list, evenly over the trace: where its bytes do not allow all, each second one, or fourth one."""
 
-    def __init__(self, budget):
-        self.budget, self.texts, self.size, self.step, self.seen = budget, [], 0, 1, 0
+    def __init__(self, budget: int) -> None:
+        self.budget, self.size, self.step, self.seen = budget, 0, 1, 0
+        self.texts: list[str] = []
 
-    def takes_next(self):
+    def takes_next(self) -> bool:
         """Whether the next value is kept; another one need not be made."""
         self.seen += 1
         return (self.seen - 1) % self.step == 0
 
-    def add(self, value):
+    def add(self, value: Any) -> None:
         text = encoded(value)
         self.texts.append(text)
         self.size += len(text) + 1
@@ -54,32 +64,38 @@ class Thinned:
             self.size = sum(map(len, self.texts)) + len(self.texts)
 
     @property
-    def left_out(self):
+    def left_out(self) -> int:
         return self.seen - len(self.texts)
 
     @property
-    def text(self):
+    def text(self) -> str:
         return f"[{','.join(self.texts)}]"
 
 
 class Times:
     """The times of some rows, evenly over the trace."""
 
-    def __init__(self):
-        self.pairs, self.step, self.seen = [], 1, 0
+    def __init__(self) -> None:
+        self.step, self.seen = 1, 0
+        self.pairs: list[tuple[int, int]] = []
+        self.last: tuple[int, int] = (0, 0)
 
-    def add(self, packet, time):
+    def add(self, packet: int, time: int) -> None:
         if self.seen % self.step == 0:
-            self.pairs.append([packet, time])
+            self.pairs.append((packet, time))
             if len(self.pairs) > MOST_TIMES:
                 self.pairs, self.step = self.pairs[::2], self.step * 2
         self.seen += 1
-        self.last = [packet, time]
+        self.last = (packet, time)
 
-    def all(self, forms):
+    def all(self, forms: RowForms) -> list[tuple[int, float]]:
         """The pairs of a row and its time after the first one."""
         pairs = [*self.pairs, self.last] if self.pairs else []
-        return [[packet, forms.since_begin(time)] for packet, time in pairs]
+        return [(packet, forms.since_begin(time)) for packet, time in pairs]
+
+    def span(self) -> tuple[float, float] | None:
+        """The first and the last time in seconds, or None."""
+        return (self.pairs[0][1] / SECOND, self.last[1] / SECOND) if self.pairs else None
 
 
 @dataclass
@@ -88,30 +104,43 @@ class Broken:
 
     name: str
     clause: str
-    counts: list = field(default_factory=lambda: [0, 0])
-    first: list = field(default_factory=lambda: [None, None])
+    counts: list[int] = field(default_factory=lambda: [0, 0])
+    first: list[tuple[int, str] | None] = field(default_factory=lambda: [None, None])
 
 
 @dataclass(slots=True)
 class LastCall:
     """The last call of a channel, which its clear confirmation still belongs to, and the key of its ladder."""
 
-    number: str
+    number: int
     key: str
 
 
 class Facts:
     """The facts of a page so far."""
 
-    def __init__(self):
-        self.forms, self.ladders, self.calls = RowForms(), Ladders(LADDERS), Calls(CALLS)
-        self.times, self.debts = Times(), Debts()
-        self.broken, self.marks, self.restarts = {}, Thinned(MARKS), Thinned(MARKS // 4)
-        self.accounts, self.settings, self.not_counted = Budgeted(ACCOUNTS), Budgeted(SETTINGS), []
-        self.sums = self.peak = None
-        self.last_calls, self.channels, self.first, self.last = {}, set(), None, 0
-        self.takers = {
-            "call": self.calls.add,
+    def __init__(self, halves: Halves) -> None:
+        self.halves, self.has_halves = halves, bool(halves)
+        # The rows of each side, and of what was recorded of one side alone its findings and those rows, and the calls
+        # that ended by a packet of the side that was not recorded.
+        self.rows_of, self.half_counts, self.half_rows = [0, 0], [0, 0], 0
+        self.unrecorded_ends: list[int] = []
+        self.forms, self.ladders, self.calls = RowForms(), Ladders(PAGE - WORDS), Calls(CALLS)
+        self.times, self.debts, self.use = Times(), Debts(), Use()
+        self.broken: dict[str, Broken] = {}
+        self.marks, self.restarts = Thinned(MARKS), Thinned(MARKS // 4)
+        self.accounts, self.settings = Budgeted(ACCOUNTS), Budgeted(SETTINGS)
+        # Of each channel the findings of both sides and where the first is.
+        self.by_channel: dict[int | None, tuple[int | None, list[int], tuple[int, str]]] = {}
+        self.found_channels = Budgeted(CHANNELS)
+        self.not_counted: list[list[Any]] = []
+        self.sums: dict[str, int] = {}
+        self.peak: list[int] = []
+        self.last_calls: dict[int | None, LastCall] = {}
+        self.channels: set[int] = set()
+        self.first, self.last, self.begun_calls, self.call_text = 0, 0, 0, ""
+        self.takers: dict[str, Callable[[dict[str, Any]], object]] = {
+            "call": self.call,
             "setting": lambda it: self.settings.add([it[name] for name in SETTING]),
             "account": lambda it: self.accounts.add([it[name] for name in ("address", "calls", "segments")]),
             "peak": lambda it: setattr(self, "peak", [it["count"], it["packet"]]),
@@ -120,85 +149,151 @@ class Facts:
             "call_facts": self.call_facts,
         }
 
-    def take(self, lines):
-        """Takes all objects of a trace, a line each."""
-        match, take_row, takers, forms = ROW.match, self.row, self.takers, self.forms
-        for line in lines:
-            if found := match(line):
-                take_row(Row(found.groups(), forms))
-                continue
-            it = read(line)[0]
+    def take(self, objects: Iterable[dict[str, Any]]) -> None:
+        """Takes all objects of a trace."""
+        take_row, takers, forms = self.row, self.takers, self.forms
+        for it in objects:
             if it["line"] == "row":
-                raise ValueError("a row with other members")
-            if taker := takers.get(it["line"]):
+                take_row(Row(it, forms))
+            elif taker := takers.get(it["line"]):
                 taker(it)
+        self.finish()
 
-    def row(self, row):
+    def finish(self) -> None:
+        """All objects are taken: the ladders may have what the other parts of the page leave."""
+        self.use.finish()
+        self.call_text = self.calls.text()
+        for channel, counts, first in sorted(self.by_channel.values(), key=lambda it: -sum(it[1])):
+            self.found_channels.add([channel, *counts, *first])
+        thinned, budgeted = (self.marks, self.restarts), (self.accounts, self.settings, self.found_channels)
+        parts = len(self.call_text) + sum(it.size for it in thinned) + sum(it.size for it in budgeted)
+        self.ladders.limit(PAGE - WORDS - parts)
+
+    def reserve(self) -> None:
+        """Leaves room for the parts of the page that are known so far."""
+        calls = min(CALLS, BYTES * self.begun_calls)
+        self.ladders.budget = PAGE - WORDS - calls - self.marks.size - self.restarts.size
+
+    def row(self, row: Row) -> None:
+        """Takes a row."""
         packet = self.last = row.packet
+        self.rows_of[row.side] += 1
         self.first = self.first or packet
-        self.channels.add(row.channel)
-        key = self.key(row)
-        if row.time != NOTHING:
-            self.forms.begin(row.time)
-            self.times.add(packet, row.time)
+        key, time = self.key(row), row.time
+        if time is not None:
+            if not self.times.seen:
+                self.forms.begin(time)
+            self.times.add(packet, time)
+        if row.is_quiet and not self.has_halves:
+            # Fast path: data and RR with which all goes well, the common case.
+            self.use.flow(row, key)
+            self.ladders.add(key, row)
+        else:
+            self.news(row, key)
+
+    def news(self, row: Row, key: str) -> None:
+        """Takes a row that is more than data that flows."""
+        packet = row.packet
         if row.code:
             self.finding(row, key)
-        elif row.channel == NOTHING and row.kind.startswith("restart_") and row.after in ("r2", "r3"):
+        elif row.channel is None and row.kind.startswith("restart_") and row.after in ("r2", "r3"):
             if self.restarts.takes_next():
                 self.restarts.add([packet, row.side])
+        is_half = self.has_halves and self.half(row)
+        self.use.count(row)
+        if not is_half:
+            self.use.see(row, key)
         if self.debts.concerns(row):
             self.debts.see(row)
         self.ladders.add(key, row)
 
-    def key(self, row):
+    def half(self, row: Row) -> bool:
+        """Counts a row of what was recorded of one side alone; returns whether it is one."""
+        if not self.halves.side(row.channel, row.packet):
+            return False
+        self.half_rows += 1
+        if row.finding:
+            self.half_counts[row.side] += 1
+            # What the other side did after it was not recorded.
+            row.finding["then"] = ""
+        return True
+
+    def key(self, row: Row) -> str:
         """Which ladder a row stands in."""
         channel, call = row.channel, row.call
         last = self.last_calls.get(channel)
         if last is not None and call == last.number:
             return last.key
-        if channel == NOTHING:
-            if NO_END not in row.course:
+        if channel is not None:
+            self.channels.add(channel)
+        else:
+            if row.members["ends"]:
                 self.end_all()
             return "interface"
-        if call != NOTHING:
+        if call is not None:
             if last is not None:
                 self.ladders.finish(last.key)
             last = self.last_calls[channel] = LastCall(call, f"call-{call}")
+            self.begun_calls += 1
+            self.reserve()
         elif last is None or row.before not in CLEARING:
             return f"channel-{channel}"
         return last.key
 
-    def end_all(self):
+    def end_all(self) -> None:
         """A restart ended the calls."""
         for call in self.last_calls.values():
             self.ladders.finish(call.key)
         self.last_calls.clear()
 
-    def finding(self, row, key):
-        packet, side = row.packet, row.side
-        broken = self.broken.get(row.code)
+    def finding(self, row: Row, key: str) -> None:
+        """Counts what is wrong with a row."""
+        packet, side, finding = row.packet, row.side, row.finding or {}
+        broken = self.broken.get(finding["code"])
         if broken is None:
-            broken = self.broken[row.code] = Broken(row.finding["name"], row.finding["clause"])
+            broken = self.broken[finding["code"]] = Broken(finding["name"], finding["clause"])
         broken.counts[side] += 1
         if broken.first[side] is None:
-            broken.first[side] = [packet, key]
-        if row.call != NOTHING:
-            self.calls.count(int(row.call))
+            broken.first[side] = (packet, key)
+        if row.channel not in self.by_channel:
+            self.by_channel[row.channel] = (row.channel, [0, 0], (packet, key))
+        self.by_channel[row.channel][1][side] += 1
+        if row.call is not None:
+            self.calls.count(row.call)
         if self.marks.takes_next():
-            channel = None if row.channel == NOTHING else int(row.channel)
-            self.marks.add([packet, side, channel, row.code, key, row.finding["wrong"]])
+            self.marks.add([packet, side, row.channel, row.code, key, finding["wrong"]])
+            self.reserve()
 
-    def call_facts(self, told):
-        time = nanoseconds(told["start"])
-        begun = self.forms.begun
-        told["start"] = None if time is None or begun is None else in_seconds(time - begun)
-        told["seconds"] = in_seconds(nanoseconds(told["seconds"]))
-        self.calls.facts(told)
+    def call(self, it: dict[str, Any]) -> None:
+        """Takes what the report says of a call."""
+        side = self.halves.side(it["channel"], it["opened"]) if self.has_halves else None
+        is_unrecorded = bool(side and it["how"] in SIDES and it["how"] != side)
+        if is_unrecorded:
+            self.unrecorded_ends.append(it["call"])
+        self.use.causes.add(it | {"how": UNRECORDED} if is_unrecorded else it)
+        self.calls.add(it)
 
-    def codes(self):
+    def call_facts(self, it: dict[str, Any]) -> None:
+        """Takes what is said of a call besides its line of the report."""
+        self.use.causes.facts_of(it)
+        time, begun = microseconds(it["start"]), self.forms.begun
+        it["start"] = None if time is None or begun is None else in_seconds(time - begun)
+        it["seconds"] = in_seconds(microseconds(it["seconds"]))
+        self.calls.facts(it)
+
+    def codes(self) -> list[list[Any]]:
         """Each code with its name, the counts of both sides and where each had it first; the most frequent first."""
         ordered = sorted(self.broken.items(), key=lambda it: -sum(it[1].counts))
         return [[code, it.name, it.clause, it.counts, it.first] for code, it in ordered]
 
-    def count_of(self, side):
+    def verdict(self) -> Verdict:
+        """Who broke the protocol, as far as what was recorded shows it."""
+        counts = [self.count_of(side) - half for side, half in zip(SIDES, self.half_counts)]
+        if self.halves:
+            return of_halves(self.halves.all, counts, self.half_rows < self.sums["packets"])
+        late = sum(it.late for it in self.use.waits.sums())
+        return verdict_of(self.sums["packets"], counts, late)
+
+    def count_of(self, side: str) -> int:
+        """How many findings a side has."""
         return sum(it.counts[SIDES.index(side)] for it in self.broken.values())

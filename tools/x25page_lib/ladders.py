@@ -1,8 +1,11 @@
 """The ladders of a page: the rows that are kept of each call, and the sums of those that are left out."""
+from __future__ import annotations
+
 from collections import deque
+from collections.abc import Iterator
 from dataclasses import dataclass, field
 
-from .rows import SIDES, Row
+from .rows import SIDES, Kept, Row, cut
 from .texts import encoded
 
 # A ladder keeps its first rows, which show how the call was set up.
@@ -12,6 +15,8 @@ WAITING = 16
 # What a row counts for, in bytes, that waits for one to be kept beside.
 COST = 150
 ALL = 1 << 30
+# What the key of a ladder has in a page, in bytes.
+KEY = 18
 
 
 @dataclass(frozen=True)
@@ -46,12 +51,13 @@ class Run:
     first: int = 0
     last: int = 0
     packets: int = 0
-    data: list = field(default_factory=lambda: [0, 0])
-    octets: list = field(default_factory=lambda: [0, 0])
-    findings: dict = field(default_factory=dict)
+    data: list[int] = field(default_factory=lambda: [0, 0])
+    octets: list[int] = field(default_factory=lambda: [0, 0])
+    findings: dict[str, int] = field(default_factory=dict)
     text: str = ""
 
-    def add(self, row):
+    def add(self, row: Row | Kept) -> None:
+        """Takes a row."""
         self.first = self.first or row.packet
         self.last = row.packet
         self.packets += 1
@@ -61,7 +67,7 @@ class Run:
         if row.code:
             self.findings[row.code] = self.findings.get(row.code, 0) + 1
 
-    def join(self, other):
+    def join(self, other: Run) -> None:
         """Takes the sums of a run that follows."""
         self.first = self.first or other.first
         self.last = other.last
@@ -72,37 +78,46 @@ class Run:
         for code, count in other.findings.items():
             self.findings[code] = self.findings.get(code, 0) + count
 
-    def write(self, _level):
+    def kept(self, _level: Level) -> Run:
+        """The same with its text."""
         names = ("first", "last", "packets", "data", "octets", "findings")
         self.text = encoded({name: getattr(self, name) for name in names})
+        return self
 
 
 class Ladder:
     """The rows of a call, of a channel outside of calls, or of the interface."""
 
-    __slots__ = ("items", "run", "tail", "following", "findings", "size", "is_closed", "is_waiting")
+    __slots__ = (
+        "items", "run", "tail", "following", "findings", "size", "widest", "unmarked", "is_closed", "is_waiting",
+    )
 
-    def __init__(self, is_waiting=False):
+    def __init__(self, is_waiting: bool = False) -> None:
         self.begin()
         self.findings, self.is_closed, self.is_waiting = 0, False, is_waiting
+        # The most digits of a row, and how many rows without a mark there were.
+        self.widest = self.unmarked = 0
 
-    def begin(self):
+    def begin(self) -> None:
         """Forgets all rows."""
-        self.items, self.run, self.tail = [], None, deque()
-        self.following = self.size = 0
+        # Of a quiet row this is its text; of a ladder that waits these are rows without a text.
+        self.items: list[Row | Kept | Run | str] = []
+        self.run: Run | None = None
+        self.tail: deque[Row | Kept] | tuple[()] = ()
+        self.following, self.size = 0, KEY
 
-    def wants(self, row, level):
+    def keeps(self, row: Row | Kept, level: Level) -> bool:
         """Whether a row is kept for itself, and not for those beside it."""
         many = len(self.items)
         if many >= (level.most if row.code else level.most // 2):
             return False
         return row.is_marked or level.edge == ALL or many < BEGINNING
 
-    def place(self, row, level):
+    def place(self, row: Row | Kept, level: Level) -> None:
         """Keeps a row, or has it wait for one that is kept, or leaves it out."""
         if self.is_closed:
             self.sum_up(row)
-        elif self.wants(row, level):
+        elif self.keeps(row, level):
             if self.tail or self.run:
                 self.release(level)
             self.keep(row, level)
@@ -113,35 +128,44 @@ class Ladder:
             self.keep(row, level)
         else:
             self.following = 0
+            self.tail = self.tail or deque()
             self.tail.append(row)
             if len(self.tail) > level.edge:
                 self.sum_up(self.tail.popleft())
             else:
                 self.size += COST
 
-    def sum_up(self, row):
+    def sum_up(self, row: Row | Kept) -> None:
         """Leaves a row out."""
         if self.run is None:
             self.run = Run()
         self.run.add(row)
 
-    def keep(self, item, level):
-        self.items.append(item)
+    def keep(self, item: Row | Kept | Run, level: Level) -> None:
+        """Keeps a row, or sums."""
         if self.is_waiting:
+            self.items.append(item)
             if len(self.items) > WAITING:
                 self.show(level)
             return
-        item.write(level)
-        self.size += len(item.text) + 1
+        kept = item.kept(level)
+        self.items.append(kept)
+        self.size += len(kept.text) + 1
 
-    def show(self, level):
+    def keep_text(self, text: str) -> None:
+        """Keeps a quiet row by its text."""
+        self.items.append(text)
+        self.size += len(text) + 1
+
+    def show(self, level: Level) -> None:
         """Makes the texts of what waited."""
         self.is_waiting = False
-        for item in self.items:
-            item.write(level)
-            self.size += len(item.text) + 1
+        items, self.items = self.items, []
+        for item in items:
+            if not isinstance(item, str):
+                self.keep(item, level)
 
-    def release(self, level):
+    def release(self, level: Level) -> None:
         """Keeps the sums of what was left out, and the rows that wait."""
         if self.run:
             self.keep(self.run, level)
@@ -149,15 +173,27 @@ class Ladder:
         self.size -= COST * len(self.tail)
         for row in self.tail:
             self.keep(row, level)
-        self.tail.clear()
+        self.tail = ()
 
-    def fold(self, level):
+    def fits(self, level: Level) -> bool:
+        """Whether all that it has kept stays by another level: short rows, few of them or none without a mark."""
+        many = len(self.items) + len(self.tail)
+        if self.is_closed or self.widest > level.digits:
+            return False
+        return many <= level.edge or not self.unmarked and many < level.most // 2
+
+    def fold(self, level: Level) -> None:
         """Keeps by another level what it has kept so far."""
+        if self.fits(level):
+            self.following = min(self.following, level.edge)
+            return
         self.release(level)
         items = self.items
         self.begin()
         for item in items:
-            if isinstance(item, Run):
+            if isinstance(item, str) and level.edge == ALL:
+                self.keep_text(cut(item, level.digits))
+            elif isinstance(item, Run):
                 self.size -= COST * len(self.tail)
                 while self.tail:
                     self.sum_up(self.tail.popleft())
@@ -165,45 +201,55 @@ class Ladder:
                 self.run.join(item)
                 self.following = 0
             else:
-                self.place(item, level)
+                self.place(Kept(item) if isinstance(item, str) else item, level)
+        self.widest = min(self.widest, level.digits)
 
-    def close(self):
+    def close(self) -> None:
         """Keeps nothing but sums, of what was and of what comes."""
         self.is_closed = True
         self.fold(LEVELS[-1])
 
-    def texts(self, level):
+    def texts(self, level: Level) -> list[str]:
         """The texts of what was kept, to its end."""
         self.release(level)
-        return [item.text for item in self.items]
+        return [item if isinstance(item, str) else item.kept(level).text for item in self.items]
 
 
 class Ladders:
     """The ladders of all calls, within a budget of bytes: those with the most findings are kept first."""
 
-    def __init__(self, budget):
+    def __init__(self, budget: int) -> None:
         self.budget, self.size, self.level = budget, 0, 0
-        self.ladders = {}
-        self.finished = set()
+        self.ladders: dict[str, Ladder] = {}
+        self.finished: set[str] = set()
         self.left_out = 0
         # Whether a ladder without a finding was left out, as all further ones are then.
         self.is_full = False
 
-    def add(self, key, row):
+    def add(self, key: str, row: Row) -> None:
+        """Takes a row of the ladder with a key."""
         ladder = self.ladders.get(key)
         if ladder is None:
             ladder = self.ladders[key] = Ladder(self.is_full)
+            self.size += ladder.size
         before = ladder.size
+        # A finding keeps eight times as many digits.
+        ladder.widest = max(ladder.widest, len(row.hex) // 8 if row.code else len(row.hex))
+        ladder.unmarked += not row.is_marked
         if row.code:
             ladder.findings += 1
             if ladder.is_waiting:
                 ladder.show(LEVELS[self.level])
-        ladder.place(row, LEVELS[self.level])
+        level = LEVELS[self.level]
+        if row.is_quiet and level.edge == ALL and not ladder.is_waiting and not ladder.is_closed:
+            ladder.keep_text(row.forms.quiet(row, level.digits))
+        else:
+            ladder.place(row, level)
         self.size += ladder.size - before
         if self.size > self.budget:
             self.shrink()
 
-    def finish(self, key):
+    def finish(self, key: str) -> None:
         """No more rows will come for a ladder."""
         ladder = self.ladders.get(key)
         if ladder is None:
@@ -216,12 +262,19 @@ class Ladders:
         ladder.release(LEVELS[self.level])
         self.size += ladder.size - before
 
-    def drop(self, key):
+    def drop(self, key: str) -> None:
+        """Leaves a ladder out."""
         self.size -= self.ladders.pop(key).size
         self.finished.discard(key)
         self.left_out += 1
 
-    def shrink(self):
+    def limit(self, budget: int) -> None:
+        """Takes the last budget: no more rows come."""
+        self.budget = budget
+        if self.size > budget:
+            self.shrink()
+
+    def shrink(self) -> None:
         """Keeps less: first of rows, then of ladders without a finding, and last of those with the fewest findings."""
         enough = self.budget * 3 // 4
         while self.size > enough and self.level + 1 < len(LEVELS):
@@ -234,13 +287,14 @@ class Ladders:
             self.drop_quiet(enough)
             self.close_some(enough)
 
-    def fold_all(self):
+    def fold_all(self) -> None:
+        """Keeps all ladders by the level."""
         level = LEVELS[self.level]
         for ladder in self.ladders.values():
             ladder.fold(level)
         self.size = sum(ladder.size for ladder in self.ladders.values())
 
-    def drop_quiet(self, enough):
+    def drop_quiet(self, enough: int) -> None:
         """Leaves out finished ladders without a finding, the last ones first."""
         for key in reversed([it for it in self.ladders if it in self.finished and not self.ladders[it].findings]):
             if self.size <= enough:
@@ -248,7 +302,8 @@ class Ladders:
             self.drop(key)
             self.is_full = True
 
-    def close_some(self, enough):
+    def close_some(self, enough: int) -> None:
+        """Keeps only sums of some ladders, those with the fewest findings first."""
         for key in sorted(self.ladders, key=lambda it: self.ladders[it].findings):
             ladder = self.ladders[key]
             if self.size <= enough:
@@ -261,14 +316,14 @@ class Ladders:
             if key in self.finished:
                 self.drop(key)
 
-    def texts(self):
+    def texts(self) -> Iterator[tuple[str, str]]:
         """The key of each ladder that has more than sums, and its text."""
         level = LEVELS[self.level]
         for key, ladder in self.ladders.items():
             if ladder.is_waiting and self.size < self.budget:
                 ladder.show(level)
                 self.size += ladder.size
-            if not ladder.is_waiting and any(isinstance(item, Row) for item in ladder.items):
+            if not ladder.is_waiting and any(not isinstance(item, Run) for item in ladder.items):
                 yield key, f"[{','.join(ladder.texts(level))}]"
             else:
                 self.left_out += 1

@@ -1,125 +1,109 @@
 """The file of a page: its markup, its style, its scripts and its facts, in one text that asks nothing of a network."""
-import base64
-import hashlib
-import pathlib
-from dataclasses import dataclass, field
+from __future__ import annotations
 
-from .facts import Facts
-from .inputs import Head
-from .rows import NOTHING, SIDES
+from collections.abc import Iterable, Iterator
+from dataclasses import dataclass, field
+from typing import Any
+
+from .gathering import Read
+from .markup import filled, part_of_page, policy_of
+from .rows import SIDES
 from .suspicions import number, trial, warnings
 from .texts import encoded
 
-FOLDER = pathlib.Path(__file__).resolve().parent / "page"
-SCRIPTS = ("words.js", "overview.js", "strip.js", "tables.js", "ladder.js", "detail.js", "page.js")
-MARK = b'<meta name="generator" content="x25page">'
-LOOK = 2000
-
-
-def is_page(path):
-    """Whether a file is a page that x25page wrote."""
-    if not path.is_file():
-        return False
-    with path.open("rb") as file:
-        return MARK in file.read(LOOK)
-
-
-def source_of(text):
-    """How a policy names a style or a script that stands in the page."""
-    return f"'sha256-{base64.b64encode(hashlib.sha256(text.encode()).digest()).decode()}'"
-
-
-def read(name):
-    return (FOLDER / name).read_text(encoding="ascii")
+SCRIPTS = ("words.js", "filters.js", "overview.js", "strip.js", "strip_keys.js", "tables.js", "use.js", "rungs.js", "ladder.js",
+           "detail.js", "packets.js", "find.js", "history.js", "page.js")
 
 
 @dataclass
 class Page:
-    """A page of a trace: what it is of, what was said of it, what x25scan says, and how it is made again."""
+    """A page of what was read."""
 
-    name: str
-    head: Head
-    heard: list
-    facts: Facts
-    explanations: dict
-    again: dict | str
+    read: Read
     size: int = 0
-    warnings: list = field(default_factory=list)
+    warnings: list[list[Any]] = field(default_factory=list)
 
-    def parts(self):
+    def parts(self) -> Iterator[str]:
         """The text of the page, in parts."""
         for part in self.markup():
             self.size += len(part)
             yield part
 
-    def markup(self):
-        style, script = read("page.css"), "".join(map(read, SCRIPTS))
-        allowed = f"style-src {source_of(style)}; script-src {source_of(script)}"
-        policy = f"default-src 'none'; {allowed}; base-uri 'none'; form-action 'none'"
-        filled = {"policy": [policy], "style": [style], "facts": self.json(), "script": [script]}
-        rest = read("page.html")
-        for name, parts in filled.items():
-            before, _, rest = rest.partition(f"{{{{{name}}}}}")
-            yield before
-            yield from parts
-        yield rest
+    def markup(self) -> Iterator[str]:
+        """The parts in their order."""
+        style, script = part_of_page("page.css"), "".join(map(part_of_page, SCRIPTS))
+        return filled("page.html", {
+            "policy": [policy_of(style, script)], "style": [style], "facts": self.json(), "script": [script],
+        })
 
-    def json(self):
+    def json(self) -> Iterator[str]:
         """The facts as one JSON object, in parts."""
         for at, (name, parts) in enumerate(self.members()):
             yield f"{',' if at else '{'}\n{encoded(name)}:"
             yield from parts
         yield "\n}"
 
-    def members(self):
+    def members(self) -> Iterator[tuple[str, Iterable[str]]]:
         """The names of the object's members, each with the parts of its text."""
-        facts = self.facts
+        facts = self.read.facts
         yield from ((name, [encoded(value)]) for name, value in self.small().items())
-        yield "calls", [facts.calls.text()]
+        yield "calls", [facts.call_text]
         yield "marks", [facts.marks.text]
         yield "restarts", [facts.restarts.text]
         yield "accounts", [facts.accounts.text]
         yield "settings", [facts.settings.text]
+        yield "found_channels", [facts.found_channels.text]
         yield "ladders", self.ladders()
         # What was left out is known when all else was written.
         yield "left_out", [encoded(self.left_out())]
 
-    def small(self):
-        facts, head, codes = self.facts, self.head, self.facts.codes()
-        self.warnings = warnings(head.numbers, codes, facts.debts)
+    def small(self) -> dict[str, Any]:
+        """The members that are small."""
+        facts, head, codes = self.read.facts, self.read.head, self.read.facts.codes()
+        verdict = facts.verdict()
+        # Of half a recording the header can't be judged.
+        self.warnings = [] if facts.halves else warnings(head.numbers, codes, facts.debts)
         return {
-            "name": self.name,
-            "again": self.again,
-            "trial": trial(self.again),
+            "name": self.read.name,
+            "again": self.read.again,
+            "trial": trial(self.read.again),
             "header": head.header,
-            "numbers": [[name, value, head.estimates.get(name)] for name, value in head.numbers.items()],
-            "heard": self.heard,
+            "numbers": [[name, value, head.sources.get(name)] for name, value in head.numbers.items()],
+            "messages": self.read.messages.all,
             "comments": head.comments,
-            "circuits": head.circuits,
+            "circuits": [[it.row, it.channel, it.words] for it in head.circuits],
             "sums": facts.sums,
             "peak": facts.peak,
             "codes": codes,
+            "verdict": [verdict.kind, verdict.sentence],
+            "rows_of": facts.rows_of,
+            "half_counts": facts.half_counts if facts.halves else None,
+            "unrecorded_ends": facts.unrecorded_ends,
             "warnings": self.warnings,
             "not_counted": facts.not_counted,
             "rows": [facts.first, facts.last],
-            "channels": sorted(int(channel) for channel in facts.channels if channel != NOTHING),
+            "channels": sorted(facts.channels),
             "times": facts.times.all(facts.forms),
-            "begun": None if facts.forms.begun is None else str(facts.forms.begun),
+            # In nanoseconds, as a text: a script has no whole number so great.
+            "begun": None if facts.forms.begun is None else f"{facts.forms.begun}000",
             "types": facts.forms.types.values(),
             "states": facts.forms.states.values(),
             "faults": facts.forms.faults.values(),
             "names": facts.calls.names.values(),
-            "texts": self.explanations,
+            "texts": self.read.explanations,
+            "use": facts.use.facts(),
         }
 
-    def ladders(self):
+    def ladders(self) -> Iterator[str]:
+        """The ladders by their keys."""
         yield "{"
-        for at, (key, text) in enumerate(self.facts.ladders.texts()):
+        for at, (key, text) in enumerate(self.read.facts.ladders.texts()):
             yield f"{',' if at else ''}\n{encoded(key)}:{text}"
         yield "}"
 
-    def left_out(self):
-        facts = self.facts
+    def left_out(self) -> dict[str, int]:
+        """How much is left out."""
+        facts = self.read.facts
         return {
             "level": facts.ladders.level,
             "ladders": facts.ladders.left_out,
@@ -128,11 +112,13 @@ class Page:
             "restarts": facts.restarts.left_out,
             "accounts": facts.accounts.left_out,
             "settings": facts.settings.left_out,
+            "found_channels": facts.found_channels.left_out,
         }
 
-    def summary(self):
+    def summary(self) -> str:
         """What is said of the page on standard error."""
-        sums, of_sides = self.facts.sums, [self.facts.count_of(side) for side in SIDES]
-        told = ", ".join(number(sums[f"{noun}s"], noun) for noun in ("packet", "call", "finding"))
-        told += f" (DTE {of_sides[0]:,}, DCE {of_sides[1]:,})" if sums["findings"] else ""
-        return f"{told}; {self.size / 1e6:.1f} MB"
+        facts = self.read.facts
+        sums, of_sides = facts.sums, [facts.count_of(side) for side in SIDES]
+        said = ", ".join(number(sums[f"{noun}s"], noun) for noun in ("packet", "call", "finding"))
+        said += f" (DTE {of_sides[0]:,}, DCE {of_sides[1]:,})" if sums["findings"] else ""
+        return f"{said}; {self.size / 1e6:.1f} MB"

@@ -1,173 +1,207 @@
 """The rows of a page: what x25scan says of each, and its array; words that many rows have stand in tables beside it."""
-import json
-import re
+from __future__ import annotations
+
+from collections.abc import Hashable
 from functools import lru_cache
+from operator import itemgetter
+from typing import Any, Protocol
 
 from .texts import encoded
 
 SIDES = "TN"
-# The object of a row, whose members stand in this order; those of its kind of packet come last.
-ROW = re.compile(
-    r'\{"line":"row","packet":([^,]*),"side":"([^"]*)","channel":([^,]*),"before":"([^"]*)","after":"([^"]*)",'
-    r'"counted":(?:null|\{"octets":[^,]*,"segments":([^}]*)\}),"finding":(?:null|(\{"code":"([^"]*)",[^}]*\})),'
-    r'"epoch":[^,]*,"owed":([^,]*),"call":([^,]*),("begins":[^[]*\[[^]]*\],"not_counted":[^,]*),"time":([^,]*),'
-    r'"type":"([^"]*)","hex":"(.*)\}'
-)
-TRUE, NOTHING, NO_END = "true", "null", '"ends":[]'
-# How a row begins to say what it did, where it opens, brings up and ends no call; and what it says where all is counted.
-QUIET = f'"begins":false,"up":false,{NO_END},'
-COUNTED = f'{QUIET}"not_counted":null'
 # Packets that are no news while all goes well, and members that are.
 FLOWING = {"data", "rr", "rnr", "interrupt", "interrupt_confirmation"}
-NEWS = ('"message":', '"settings":')
-OCTETS = re.compile(r'"octets":(\d+)')
 SHORT = {"send": "s", "receive": "r", "octets": "o", "more": "m", "qualified": "q", "delivery": "d"}
-SECOND = 1_000_000_000
-# Many rows say the same: so many different texts are remembered.
+BITS = (("more", '"m":true,'), ("qualified", '"q":true,'), ("delivery", '"d":true,'))
+OCTETS = '"o":'
+# The members that each row has, and that a page has in other places than the others.
+EACH = ("packet", "side", "channel", "before", "after", "counted", "finding", "owed", "call", "time", "type", "hex")
+BASE, APART = itemgetter(*EACH), frozenset((*EACH, "line", "epoch"))
+SECOND = 1_000_000
+# No clock of a recorder is so late, and a number of seconds before it has whole microseconds.
+LATEST = 1 << 32
+# Many rows have the same kind and states.
 REMEMBERED = 1 << 15
 
 
-def nanoseconds(seconds):
-    """A number of seconds as it was read, in nanoseconds; None where there is none."""
-    if seconds is None:
-        return None
-    whole, _, part = str(seconds).partition(".")
-    if "e" in part or "E" in whole:
-        return round(float(seconds) * SECOND)
-    size = abs(int(whole)) * SECOND + int(part[:9].ljust(9, "0"))
-    return -size if whole.startswith("-") else size
+def microseconds(seconds: float | None) -> int | None:
+    """A number of seconds in microseconds, which are what a page shows; None where there is none."""
+    return round(seconds * SECOND) if seconds is not None and seconds < LATEST else None
 
 
-def in_seconds(time):
-    """Nanoseconds as seconds; None stays None."""
+def in_seconds(time: int | None) -> float | None:
+    """Microseconds as seconds; None stays None."""
     return None if time is None else time / SECOND
 
 
-@lru_cache(REMEMBERED)
-def octets_and_news(members):
-    """What the members of a kind of packet say of its user data, and whether one of them is news."""
-    octets = OCTETS.search(members)
-    return int(octets[1]) if octets else 0, any(it in members for it in NEWS)
+class Level(Protocol):
+    """How much of a row is kept."""
 
-
-@lru_cache(REMEMBERED)
-def spoken(members):
-    """Members of an object, each after a comma, without those that are null, false or empty."""
-    told = json.loads(f"{{{members[1:]}}}")
-    found = encoded({SHORT.get(name, name): it for name, it in told.items() if it or it == 0 and it is not False})
-    return f",{found[1:-1]}" if len(found) > 2 else ""
-
-
-@lru_cache(REMEMBERED)
-def finding_of(text):
-    """What a finding says."""
-    return json.loads(text)
+    @property
+    def digits(self) -> int:
+        """The hex digits of its octets."""
 
 
 class Row:
-    """A row that may be kept: what x25scan says of it, its place in sums, and its text in the page once it is kept."""
+    """A row that may be kept: what x25scan says of it. Its members are all that its object has."""
 
     __slots__ = (
-        "packet", "side", "channel", "before", "after", "segments", "fault", "code", "owed", "call", "course", "time",
-        "kind", "hex", "members", "octets", "is_data", "is_marked", "forms", "text",
+        "packet", "side", "channel", "before", "after", "segments", "finding", "code", "owed", "call", "time", "kind",
+        "hex", "members", "octets", "receive", "is_data", "is_marked", "is_quiet", "forms",
     )
 
-    def __init__(self, found, forms):
+    def __init__(self, it: dict[str, Any], forms: RowForms) -> None:
+        self.packet: int
+        self.channel: int | None
+        self.before: str
+        self.after: str
+        self.finding: dict[str, str] | None
+        self.owed: bool
+        self.call: int | None
+        self.kind: str
+        self.hex: str
         (
-            packet, side, self.channel, self.before, self.after, self.segments, self.fault, self.code, self.owed,
-            self.call, self.course, self.time, self.kind, rest,
-        ) = found
-        self.hex, _, self.members = rest.partition('"')
-        self.packet, self.side = int(packet), SIDES.index(side)
-        self.forms, self.text = forms, ""
-        self.octets, is_news = octets_and_news(self.members)
+            self.packet, side, self.channel, self.before, self.after, counted, self.finding, self.owed, self.call, time,
+            self.kind, self.hex,
+        ) = BASE(it)
+        self.side = SIDES.index(side)
+        self.segments: int | None = counted and counted["segments"]
+        self.code: str | None = None if self.finding is None else self.finding["code"]
+        self.time = microseconds(time)
+        self.members, self.forms = it, forms
+        self.octets: int = it.get("octets", 0)
+        self.receive: int | None = it.get("receive")
         self.is_data = self.kind == "data"
-        self.is_marked = (
-            self.code is not None or self.before != self.after or self.kind not in FLOWING or is_news
-            or not self.course.startswith(QUIET)
+        self.is_marked: bool = (
+            self.code is not None or self.before != self.after or self.kind not in FLOWING
+            or it["begins"] or it["up"] or bool(it["ends"]) or "message" in it or "settings" in it
+        )
+        # Data that was counted, or an RR in d1, and nothing else: the common case.
+        self.is_quiet: bool = (
+            not self.is_marked and not self.owed
+            and (counted is not None or self.kind == "rr" and self.after == "d1")
         )
 
-    @property
-    def finding(self):
-        """What is wrong with the row."""
-        return finding_of(self.fault)
+    def kept(self, level: Level) -> Kept:
+        """What a page keeps of it, with as many digits as a level keeps; a finding keeps eight times as many."""
+        return Kept(self.forms.text(self, level.digits * 8 if self.code else level.digits), self)
 
-    def forget(self):
-        """Forgets what its text says."""
-        self.channel = self.before = self.after = self.segments = self.fault = self.owed = self.call = None
-        self.course = self.time = self.kind = self.hex = self.members = self.forms = None
 
-    def write(self, level):
-        """Makes the text with as many digits as a level keeps; a finding keeps eight times as many."""
-        if not self.text:
-            self.text = self.forms.text(self)
-            self.forget()
-        digits = level.digits * 8 if self.code else level.digits
-        if len(self.text) <= digits:
-            return
-        begin = self.text.index('"') + 1
-        end = self.text.index('"', begin)
+def cut(text: str, digits: int) -> str:
+    """The text of a row with so many digits of its octets at most."""
+    if len(text) > digits:
+        begin = text.index('"') + 1
+        end = text.index('"', begin)
         if end - begin > digits:
-            self.text = self.text[:begin + digits] + self.text[end:]
+            return text[:begin + digits] + text[end:]
+    return text
+
+
+class Kept:
+    """A row that a page keeps: its text, and its place in sums."""
+
+    __slots__ = ("packet", "side", "octets", "code", "is_data", "is_marked", "text")
+
+    def __init__(self, text: str, row: Row | None = None) -> None:
+        """Of a quiet row the text alone is known."""
+        self.text = text
+        if row is not None:
+            self.packet, self.side, self.octets, self.code = row.packet, row.side, row.octets, row.code
+            self.is_data, self.is_marked = row.is_data, row.is_marked
+            return
+        packet, side, _ = text[1:].split(",", 2)
+        _, found, octets = text.rpartition(OCTETS)
+        self.packet, self.side, self.code, self.is_marked = int(packet), int(side), None, False
+        self.octets, self.is_data = int(octets.split(",")[0]) if found else 0, bool(found)
+
+    def kept(self, level: Level) -> Kept:
+        """The same with as many digits as a level keeps."""
+        self.text = cut(self.text, level.digits * 8 if self.code else level.digits)
+        return self
+
+
+def bits_of(it: dict[str, Any]) -> str:
+    """The bits of data that are 1."""
+    return "".join(text for name, text in BITS if it[name])
 
 
 class Table:
     """Values that have a place each."""
 
-    def __init__(self):
-        self.places = {}
+    def __init__(self) -> None:
+        self.places: dict[Hashable, int] = {}
 
-    def place(self, value):
+    def place(self, value: Hashable) -> int:
         return self.places.setdefault(value, len(self.places))
 
-    def values(self):
+    def values(self) -> list[Hashable]:
         return list(self.places)
 
 
 class RowForms:
     """Makes the arrays of rows."""
 
-    def __init__(self):
+    def __init__(self) -> None:
         self.types, self.states, self.faults = Table(), Table(), Table()
-        self.begun = None
-        self.step, self.fault = map(lru_cache(REMEMBERED), (self.step, self.fault))
+        # The first time of the trace.
+        self.begun: int | None = None
+        self.step = lru_cache(REMEMBERED)(self.places)
+        self.steps: dict[str, str] = {}
 
-    def begin(self, seconds):
+    def begin(self, time: int) -> None:
         """Takes the first time of the trace."""
         if self.begun is None:
-            self.begun = nanoseconds(seconds)
+            self.begun = time
 
-    def since_begin(self, seconds):
+    def since_begin(self, time: int) -> float:
         """A time after the first one, in seconds."""
-        return in_seconds(nanoseconds(seconds) - self.begun)
+        return (time - (self.begun or 0)) / SECOND
 
-    def text(self, row):
-        """The array of a row, as the page has it."""
-        time = row.time if row.time == NOTHING else self.since_begin(row.time)
-        octets = 0 if row.hex == "-" else len(row.hex) // 2
-        digits = f'"{row.hex}"' if row.hex.isascii() and row.hex.isalnum() else encoded(row.hex)
+    def text(self, row: Row, digits: int) -> str:
+        """The array of a row, as the page has it, with so many digits of its octets."""
+        time = "null" if row.time is None else self.since_begin(row.time)
+        shown = row.hex[:digits]
+        text = f'"{shown}"' if shown.isascii() and shown.isalnum() else encoded(shown)
         step = self.step(row.kind, row.before, row.after)
-        return f"[{row.packet},{row.side},{step},{time},{digits},{octets},{self.more(row)}]"
+        return f"[{row.packet},{row.side},{step},{time},{text},{len(row.hex) // 2},{self.more(row)}]"
 
-    def step(self, kind, before, after):
+    def places(self, kind: str, before: str, after: str) -> str:
         """The kind of packet and the states before and after it, by their places."""
         return f"{self.types.place(kind)},{self.states.place(before)},{self.states.place(after)}"
 
-    def more(self, row):
-        """What a row says besides."""
-        text = ',"owed":true' if row.owed == TRUE else ""
-        if row.course != COUNTED:
-            text += spoken(f",{row.course}")
-        if row.members:
-            text += spoken(row.members)
-        if row.segments is not None:
-            text += f',"c":{int(row.segments)}'
-        if row.fault is not None:
-            text += f',"f":{self.fault(row.fault)}'
-        return f"{{{text[1:]}}}" if text else "0"
+    def quiet(self, row: Row, digits: int) -> str:
+        """The array of a quiet row."""
+        it, shown, time = row.members, row.hex[:digits], row.time
+        if not (shown.isascii() and shown.isalnum()):
+            return self.text(row, digits)
+        seconds = "null" if time is None else (time - (self.begun or 0)) / SECOND
+        step = self.steps.get(row.kind) or self.quiet_step(row.kind)
+        more = f'"r":{row.receive}'
+        if row.is_data:
+            bits = bits_of(it) if it["more"] or it["qualified"] or it["delivery"] else ""
+            more = f'"s":{it["send"]},{more},{bits}{OCTETS}{row.octets},"c":{row.segments}'
+        if "frame" in it:
+            more += f',"frame":{encoded(it["frame"])}'
+        return f'[{row.packet},{row.side},{step},{seconds},"{shown}",{len(row.hex) // 2},{{{more}}}]'
 
-    def fault(self, text):
+    def quiet_step(self, kind: str) -> str:
+        """The kind of a quiet row and its state, by their places."""
+        self.steps[kind] = self.places(kind, "d1", "d1")
+        return self.steps[kind]
+
+    def more(self, row: Row) -> str:
+        """What a row says besides: its members that are not null, false or empty."""
+        found: dict[str, Any] = {"owed": True} if row.owed else {}
+        for name, value in row.members.items():
+            if (value or value == 0 and value is not False) and name not in APART:
+                found[SHORT.get(name, name)] = value
+        if row.segments is not None:
+            found["c"] = row.segments
+        if row.finding is not None:
+            found["f"] = self.fault(row.finding)
+        return encoded(found) if found else "0"
+
+    def fault(self, finding: dict[str, str]) -> list[int | str]:
         """What is wrong with a row: the place of the finding among all, and its words."""
-        finding = finding_of(text)
         place = self.faults.place(tuple(finding[name] for name in ("code", "name", "then", "clause")))
-        return encoded([place, finding["wrong"]])
+        return [place, finding["wrong"]]

@@ -1,15 +1,18 @@
 """What x25scan says: the objects of a trace, and the explanations of words."""
-import json
+from __future__ import annotations
+
 import os
-import pathlib
 import re
 import subprocess
+from collections.abc import Callable, Iterator
+from typing import Any, BinaryIO
 
-from x25trace_lib.told import Refusal
+from x25tools_lib import json_text
+from x25tools_lib.refusals import PageWhy, Refusal
+from x25tools_lib.scanner import SCANNER
 
-from .told import Why
+from .facts import Facts
 
-PROGRAM = pathlib.Path(__file__).resolve().parents[2] / "bin" / "x25scan"
 # The topics whose words stand in a page, each with what stands in parentheses after a word of it.
 TOPICS = {
     "code": "diagnostic code",
@@ -26,58 +29,64 @@ TOPICS = {
 HEADING = re.compile(r"(\S.*?) \(([^()]*)\): (.*)")
 PARTS_LEFT_OUT = ("Example: ", "See: ")
 REFUSED = 2
-CHUNK = 1 << 18
-# Numbers with a point stay texts: times have more digits than a float.
-read = json.JSONDecoder(parse_float=str).raw_decode
+# The name and the sentences of each word.
+Explained = dict[str, list[Any]]
+# What sees the objects of a trace on their way.
+Watch = Callable[[Iterator[dict[str, Any]]], Iterator[dict[str, Any]]]
 
 
 class Scanner:
     """A program x25scan."""
 
-    def __init__(self, program):
-        self.words = [str(program or PROGRAM)]
+    def __init__(self, program: str | None) -> None:
+        self.words = [str(program or SCANNER)]
+        self.explained_topics: dict[str, Explained] = {}
 
-    def lines(self, trace):
-        """The objects of a trace in an open file, a line each."""
+    def objects(self, trace: BinaryIO) -> Iterator[dict[str, Any]]:
+        """The objects of a trace in an open file."""
         os.lseek(trace.fileno(), 0, os.SEEK_SET)
         words = [*self.words, "--rows"]
-        streams = {"stdin": trace, "stdout": subprocess.PIPE, "stderr": subprocess.PIPE}
-        with subprocess.Popen(words, **streams, bufsize=CHUNK) as running:
+        with subprocess.Popen(words, stdin=trace, stdout=subprocess.PIPE, stderr=subprocess.PIPE) as running:
+            assert running.stdout and running.stderr
             try:
-                yield from map(bytes.decode, running.stdout)
+                yield from json_text.objects(running.stdout)  # type: ignore[arg-type]
                 said = running.stderr.read().decode(errors="replace")
             except BaseException:
                 running.kill()
                 raise
         self.judge(running.returncode, said)
 
-    def tell(self, facts, trace):
-        """Has facts take the objects of a trace."""
+    def report(self, facts: Facts, trace: BinaryIO, watch: Watch | None = None) -> None:
+        """Has facts take the objects of a trace, and a watch see them before."""
         try:
-            facts.take(self.lines(trace))
+            objects = self.objects(trace)
+            facts.take(watch(objects) if watch else objects)
         except (ValueError, TypeError, LookupError) as fault:
             raise OSError(f"{self.words[0]} --rows printed what is no object of this x25scan") from fault
 
-    def judge(self, status, said):
+    def judge(self, status: int, said: str) -> None:
         """Refuses a trace that the program refused."""
         if status in (0, 1):
             return
         lines = [line.removeprefix("x25scan: ").strip() for line in said.splitlines()]
         if status == REFUSED:
-            raise Refusal(Why.TRACE, ": ".join(lines))
+            raise Refusal(PageWhy.TRACE, ": ".join(lines))
         raise OSError(f"{self.words[0]} --rows ended with status {status}: {': '.join(lines)}")
 
-    def explanations(self):
+    def explanations(self) -> dict[str, Explained]:
         """The name and the sentences of each word, by its topic."""
-        return {topic: self.explained(topic) for topic in TOPICS}
+        if not self.explained_topics:
+            self.explained_topics = {topic: self.explained(topic) for topic in TOPICS}
+        return self.explained_topics
 
-    def explained(self, topic):
+    def explained(self, topic: str) -> Explained:
         """The words of a topic. Where the program is built first, standard error says so."""
         words = [*self.words, "--explain", topic]
         done = subprocess.run(words, stdin=subprocess.DEVNULL, stdout=subprocess.PIPE, encoding="utf-8", check=False)
         if done.returncode:
             raise OSError(f"{self.words[0]} --explain ended with status {done.returncode}")
-        found, sentences = {}, []
+        found: Explained = {}
+        sentences: list[str] = []
         for line in done.stdout.splitlines():
             if match := HEADING.fullmatch(line):
                 sentences = []

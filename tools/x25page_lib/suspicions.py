@@ -1,8 +1,11 @@
 """What makes a header doubtful: errors of both sides, those the DCE went on after, and those that only the DCE shows."""
-import json
-from dataclasses import dataclass
+from __future__ import annotations
 
-from .rows import NOTHING, SIDES, TRUE
+from collections.abc import Iterator
+from dataclasses import dataclass
+from typing import Any
+
+from .rows import SIDES, Row
 
 DTE = SIDES.index("T")
 # So many packets of the DCE may be on their way while it does not know of the error yet.
@@ -15,6 +18,9 @@ NUMBERS = {"1": "WIN", "2": "WIN", "39": "SIZE", "36": "SVC", "34": "SVC", "40":
 HIDDEN = {"1": "WIN", "39": "SIZE"}
 LOCAL_ERROR = {"reset_indication": 5, "clear_indication": 19}
 OWED = ("d3", "p7")
+# The numbers of a header by their words; and what stands in a command that reads the same again.
+Numbers = dict[str, str]
+Again = dict[str, str] | str
 
 
 @dataclass
@@ -28,33 +34,35 @@ class Debt:
 
 
 class Debts:
-    """The errors of the DTE that the DCE went on after, and those that it told of and the trace does not show.
+    """The errors of the DTE that the DCE went on after, and those that the DCE names and the trace does not show.
 
     All are of codes that a wrong header gives or hides.
     """
 
-    def __init__(self):
-        self.open = {}
-        self.unpaid = {}
-        self.first = None
-        # Codes of the DTE in each call, and of each code that the DCE told of the first packet and how many they are.
-        self.known, self.unseen = set(), {}
+    def __init__(self) -> None:
+        self.open: dict[int, Debt] = {}
+        self.unpaid: dict[str, int] = {}
+        self.first = 0
+        # Codes of the DTE in each call, and of each code that the DCE named the first packet and how many they are.
+        self.known: set[tuple[int, int | None, str]] = set()
+        self.unseen: dict[str, tuple[int, int]] = {}
 
-    def concerns(self, row):
+    def concerns(self, row: Row) -> bool:
         """Whether a row is to be seen, as few are."""
-        return row.code or row.channel == NOTHING or row.channel in self.open or row.kind in LOCAL_ERROR
+        return bool(row.code) or row.channel is None or row.channel in self.open or row.kind in LOCAL_ERROR
 
-    def see(self, row):
-        if row.channel == NOTHING:
+    def see(self, row: Row) -> None:
+        """Takes a row."""
+        if row.channel is None:
             # A restart pays all debts.
             if row.kind.startswith("restart_") and not row.code:
                 self.open.clear()
             return
         if row.kind in LOCAL_ERROR and row.before not in OWED:
-            self.hear(row)
+            self.named(row, row.channel)
         if row.code in HIDDEN and row.side == DTE:
             self.known.add((row.channel, row.call, row.code))
-        debt, is_owed = self.open.get(row.channel), row.owed == TRUE
+        debt, is_owed = self.open.get(row.channel), row.owed
         if debt is None:
             if is_owed and row.side == DTE and row.code in NUMBERS:
                 self.open[row.channel] = Debt(row.packet, row.code)
@@ -67,42 +75,42 @@ class Debts:
             if debt.sent == ON_THEIR_WAY:
                 self.count(debt)
 
-    def hear(self, row):
+    def named(self, row: Row, channel: int) -> None:
         """The DCE ends something, perhaps for an error of the DTE that no finding is of."""
-        told = json.loads(f"{{{row.members[1:]}}}")
-        cause, diagnostic = told.get("cause"), told.get("diagnostic")
+        cause, diagnostic = row.members.get("cause"), row.members.get("diagnostic")
         if not cause or not diagnostic or cause["value"] != LOCAL_ERROR[row.kind]:
             return
         code = str(diagnostic["value"])
-        if code in HIDDEN and (row.channel, row.call, code) not in self.known:
+        if code in HIDDEN and (channel, row.call, code) not in self.known:
             first, many = self.unseen.get(code, (row.packet, 0))
             self.unseen[code] = first, many + 1
 
-    def count(self, debt):
+    def count(self, debt: Debt) -> None:
+        """Counts an error that the DCE went on after."""
         if debt.sent and not debt.is_counted:
             debt.is_counted = True
             self.unpaid[debt.code] = self.unpaid.get(debt.code, 0) + 1
             self.first = self.first or debt.packet
 
-    def end(self):
+    def end(self) -> None:
         """No indication comes any more."""
         for debt in self.open.values():
             self.count(debt)
         self.open.clear()
 
 
-def number(many, noun):
+def number(many: int, noun: str) -> str:
     """A number with its noun."""
     return f"{many:,} {noun}{'' if many == 1 else 's'}"
 
 
-def words_of(header, name):
+def words_of(header: Numbers, name: str) -> str:
     """A number of the header as it stands there; where SVC is missing, it is OUT."""
     name = "OUT" if name == "SVC" and "SVC" not in header else name
     return f"{name} {header[name]}" if name in header else name
 
 
-def greater(header, name):
+def greater(header: Numbers, name: str) -> list[int]:
     """Values to try in place of one that is too small."""
     value, modulus = int(header.get(name, 0)), int(header.get("MOD", 8))
     if name == "WIN":
@@ -112,14 +120,14 @@ def greater(header, name):
     return []
 
 
-def smaller(header, name):
+def smaller(header: Numbers, name: str) -> list[int]:
     """Values to try in place of one that is too great."""
     value = int(header.get(name, 0))
     found = (2, value - 1, 1) if name == "WIN" else (value // 2, value // 4)
     return [it for it in dict.fromkeys(found) if (1 if name == "WIN" else 16) <= it < value][:2]
 
 
-def of_both_sides(header, codes):
+def of_both_sides(header: Numbers, codes: list[list[Any]]) -> Iterator[tuple[str, str]]:
     """Sentences on codes that both sides have so often that the header may be wrong."""
     for code, name, _, counts, _ in codes:
         if code in NUMBERS and min(counts) >= OFTEN:
@@ -131,12 +139,12 @@ def of_both_sides(header, codes):
             )
 
 
-def of_debts(header, debts):
+def of_debts(debts: Debts) -> Iterator[tuple[str, str]]:
     """The sentence on errors after which the DCE went on."""
     many = sum(debts.unpaid.values())
     if not many:
         return
-    code = max(debts.unpaid, key=debts.unpaid.get)
+    code = max(debts.unpaid, key=lambda it: debts.unpaid[it])
     yield NUMBERS[code], (
         f"After {number(many, 'finding')} of the DTE (the first is packet {debts.first:,}) the DCE did not do what it "
         "had to: it went on as if nothing was wrong. Then the DTE was probably right, and the header is not that of "
@@ -144,7 +152,7 @@ def of_debts(header, debts):
     )
 
 
-def of_unseen(header, debts):
+def of_unseen(header: Numbers, debts: Debts) -> Iterator[tuple[str, str]]:
     """Sentences on errors that only the DCE shows."""
     for code, (first, many) in debts.unseen.items():
         words = words_of(header, HIDDEN[code])
@@ -154,15 +162,15 @@ def of_unseen(header, debts):
         )
 
 
-def trial(again):
+def trial(again: Again) -> str:
     """The command that tries other headers on what is read again."""
     tried = "x25scan --try-headers"
     return f"{tried} {again}" if isinstance(again, str) else f"x25trace {again['all']} | {tried}"
 
 
-def warnings(header, codes, debts):
+def warnings(header: Numbers, codes: list[list[Any]], debts: Debts) -> list[list[Any]]:
     """Each doubt in a sentence, with the number of the header that may be wrong and values to try."""
     debts.end()
-    found = [*of_both_sides(header, codes), *of_debts(header, debts)]
+    found = [*of_both_sides(header, codes), *of_debts(debts)]
     doubts = [[sentence, name, greater(header, name)] for name, sentence in found]
     return doubts + [[sentence, name, smaller(header, name)] for name, sentence in of_unseen(header, debts)]

@@ -1,14 +1,32 @@
 """How facts become text of a page: JSON in which nothing can be read as markup."""
 import json
+from typing import Any
+
+try:
+    from orjson import dumps  # type: ignore[import]
+except ImportError:
+    dumps = None
 
 ESCAPES = (("<", "\\u003c"), (">", "\\u003e"), ("&", "\\u0026"))
 WRITER = json.JSONEncoder(separators=(",", ":"), ensure_ascii=True)
 
 
-def encoded(value):
+def encoded(value: Any) -> str:
     """JSON in ASCII without a letter that means something in HTML."""
-    text = WRITER.encode(value)
+    text = written(value)
     for letter, escape in ESCAPES:
         if letter in text:
             text = text.replace(letter, escape)
     return text
+
+
+def written(value: Any) -> str:
+    """JSON in ASCII, by orjson where it is installed and can, which is faster."""
+    if dumps:
+        try:
+            text: str = dumps(value).decode()
+        except TypeError:
+            return WRITER.encode(value)
+        if text.isascii():
+            return text
+    return WRITER.encode(value)

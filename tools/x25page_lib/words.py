@@ -1,13 +1,14 @@
 """The command line of x25page: its words, and which of them are of captures alone."""
+from __future__ import annotations
+
 import argparse
 import shlex
+from collections.abc import Sequence
 
-from x25trace_lib.told import Why as TraceWhy
-from x25trace_lib.words import Words, header_words, reading_words, side_words
+from x25tools_lib.options import Words, check, header_words, reading_words, side_words
+from x25tools_lib.refusals import PageWhy, Why
 
-from .told import Why
-
-REASONS = ", ".join(why.value for why in (*TraceWhy, *Why))
+REASONS = ", ".join(why.value for why in (*Why, *PageWhy))
 NAMES_OF_PAGES = """\
 Without -o the page is NAME.html in the current folder, for a file NAME or NAME.pcap, and nothing else is written. It is
 one file: a browser shows it from the disk, and it asks no network for anything. It replaces a page of that name, but no
@@ -18,20 +19,28 @@ examples:
   x25page --win 2 --size 128 day.pcap   the same under a header with these numbers
   x25page -o friday.html day.trace      a page of a trace, under another name
   x25page day.pcap0 day.pcap1           the files of a rotated capture, in their order
+  x25page --summary day.pcap            prints text: findings, waits, windows, acknowledgements and use
+  x25page --each captures -o pages      a page for each file in a folder, and pages/index.html
+  x25page --compare mon.pcap tue.pcap   writes mon-to-tue.html: what differs
 
 {NAMES_OF_PAGES}
 
 exit status:
   0   the page is written, and no packet may be missing
   1   the page is written, but the capture is damaged or packets are missing: standard error and the page say which
-  2   there is no page: the reason has a name ({REASONS})
+  2   there is no page, or with --each none of one of the files: the reason has a name ({REASONS})
   3   reading or writing failed
   64  the command line was refused
   130 it was interrupted (SIGINT): the page, if there is one, is of what was read before
 """
 
 
-def parser():
+# The options that are not of captures.
+OF_PAGES = ("page", "scanner", "summary", "is_each", "is_comparison")
+
+
+def parser() -> Words:
+    """The parser of the command line."""
     words = Words(
         prog="x25page",
         description="Writes a page of HTML of a trace, or of the X.25 packets in a capture: who broke the protocol, "
@@ -44,6 +53,14 @@ def parser():
     words.add_argument("captures", metavar="CAPTURE", nargs="+",
                        help="a trace; or a capture, or files of a rotated one in their order; - for standard input")
     words.add_argument("-o", dest="page", metavar="OUT", help="the file of the page, by default NAME.html")
+    words.add_argument("--each", dest="is_each", action="store_true",
+                       help="write a page for each file, also for those in folders that are named, and an index of them, "
+                       "into the folder of -o")
+    words.add_argument("--compare", dest="is_comparison", action="store_true",
+                       help="write a page of what differs between two captures or traces, BEFORE and AFTER")
+    words.add_argument("--summary", action="store_true",
+                       help="print the facts, or with --compare what differs, as text on standard output, and write a page "
+                       "only where -o names one")
     words.add_argument("--scanner", metavar="PROGRAM",
                        help="the x25scan to run, by default bin/x25scan next to this program")
     reading_words(words.add_argument_group("reading of a capture"))
@@ -52,36 +69,52 @@ def parser():
     return words
 
 
-def parsed(arguments):
+def parsed(arguments: Sequence[str]) -> argparse.Namespace:
     """The words of a command line, which may be refused."""
     words = parser().parse_args(arguments)
-    if words.calls is not None and (words.incoming, words.two_way, words.outgoing) != (None, None, None):
-        parser().error("--svc does not go with --in, --two and --out")
-    if words.captures.count("-") > 1:
-        parser().error("standard input (-) can be read once")
+    check(words, parser())
+    words.has_several = words.is_each or words.is_comparison
     if words.page == "-":
         parser().error("the page is a file: -o names it")
-    if words.page is None and words.captures[0] == "-":
+    if words.has_several:
+        check_several(words)
+    elif words.page is None and words.captures[0] == "-" and not words.summary:
         parser().error("standard input has no name for the page: -o gives one")
     return words
 
 
-def of_captures(words):
+def check_several(words: argparse.Namespace) -> None:
+    """Refuses words of several pages that contradict each other."""
+    if words.is_each and words.is_comparison:
+        parser().error("--each and --compare do not go together")
+    if "-" in words.captures:
+        parser().error("--each and --compare read files, not standard input")
+    if words.is_each and words.page is None:
+        parser().error("--each writes into a folder: -o names it")
+    if words.is_each and words.summary:
+        parser().error("--each writes pages, not text: --summary reads one capture or trace, or two with --compare")
+    if words.is_comparison and len(words.captures) != 2:
+        parser().error(f"--compare takes two files, before and after, not {len(words.captures)}")
+
+
+def of_captures(words: argparse.Namespace) -> str | None:
     """An option among the words that is of captures alone, or None."""
     program, given = parser(), vars(words)
     bare = vars(program.parse_args(["-"]))
     for action in program._actions:
-        if action.option_strings and action.dest in given and action.dest not in ("page", "scanner"):
+        if action.option_strings and action.dest in given and action.dest not in OF_PAGES:
             if given[action.dest] != bare[action.dest]:
                 return action.option_strings[0]
     return None
 
 
-def line_with(arguments, *options):
+def line_with(arguments: Sequence[str], *options: str) -> str:
     """The command line that reads the same captures again, without the options of a page and without these others."""
     left_out = ("-o", "--scanner", *options)
     rest, words = [], iter(arguments)
     for word in words:
+        if word == "--summary":
+            continue
         if word in left_out:
             next(words, None)
         elif not word.startswith((*(f"{option}=" for option in left_out), "-o")):

@@ -1,8 +1,8 @@
 """The way from a capture to a trace: a file's frames, what they carry, the packets of it, and their trace.
 
 files       captures, source, pcap, pcapng, snoop, hexdump: from octets to frames
-carriers    links, internet, tunnels, strangers, tcp, xot, lapb: from frames to packets with a side
-the trace   packets, estimate, channels, spool, trace: from packets to rows under a header; live: while frames come
+carriers    links, internet, tunnels, other_ports, tcp, xot, lapb: from frames to packets with a side
+the trace   packets, estimate, channels, halves, spool, trace: from packets to rows under a header; live: while frames come
 comments    the capture again, with what x25scan finds as comments of its frames
-command     the streams, the signals and the exit status; words has the options; told has refusals, reasons and counts
+command     the streams, the signals and the exit status; words has the options. making is what x25page calls
 """

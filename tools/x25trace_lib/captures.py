@@ -1,16 +1,21 @@
 """The files of a capture: how each is opened, what it is by its first octets, and the frames of all in their order."""
+from __future__ import annotations
+
 import contextlib
 import os
-import stat
-import sys
+from collections.abc import Iterator, Sequence
 
+from x25tools_lib.ledger import Ledger, Topic
+from x25tools_lib.refusals import Refusal, Why
+from x25tools_lib.streams import Interrupted, Waiting, is_pipe, open_input, shown_name
+
+from .frames import Frame
 from .hexdump import HexDump, is_dump
 from .pcap import MAGICS, Pcap
 from .pcapng import MAGIC, Pcapng
 from .snoop import MAGIC as SNOOP_MAGIC
 from .snoop import Snoop
-from .source import Interrupted, Source
-from .told import Refusal, Topic, Why
+from .source import Source
 
 LOOK = 1 << 16
 COMPRESSED = {
@@ -35,28 +40,10 @@ OTHER_FORMS = {
 }
 
 
-def said(name):
-    """The words for a file in messages."""
-    return "standard input" if name == "-" else name
+Form = Pcap | Pcapng | Snoop | HexDump
 
 
-def open_capture(name):
-    """The stream of a file, or of standard input."""
-    if name == "-":
-        if sys.stdin is None:
-            raise Refusal(Why.UNREADABLE, "standard input is closed")
-        return sys.stdin.buffer
-    if os.path.isdir(name):
-        raise Refusal(Why.FOLDER, f"{name} is a folder")
-    try:
-        return open(name, "rb")
-    except FileNotFoundError as fault:
-        raise Refusal(Why.ABSENT, f"there is no file {name}") from fault
-    except OSError as fault:
-        raise Refusal(Why.UNREADABLE, f"{name}: {fault.strerror}") from fault
-
-
-def form_of(source, kinds):
+def form_of(source: Source, kinds: dict[int | None, str]) -> type[Form]:
     """The class that reads a file, by what it begins with."""
     start = source.peek(len(MAGIC))
     if start in MAGICS:
@@ -83,34 +70,29 @@ def form_of(source, kinds):
     return HexDump
 
 
-def is_pipe(name):
-    """Whether the octets of a file come as they are written, and but once."""
-    try:
-        mode = os.fstat(sys.stdin.fileno()).st_mode if name == "-" else os.stat(name).st_mode
-    except (OSError, AttributeError):
-        return False
-    return not stat.S_ISREG(mode) and not stat.S_ISDIR(mode)
+BINARY = (*MAGICS, MAGIC, SNOOP_MAGIC, *COMPRESSED, *OTHER_FORMS)
 
 
-def is_same(name, other):
-    """Whether two names are of one file."""
-    try:
-        return os.path.samefile(name, other)
-    except OSError:
-        return False
+def is_trace(start: bytes) -> bool:
+    """Whether what begins so is a trace, good or faulty, and not a capture."""
+    lines = (line for line in start.split(b"\n") if not line.startswith(b"#"))
+    if next(lines, b"").startswith(b"X25 "):
+        return True
+    is_binary = b"\0" in start or start.startswith(BINARY)
+    return bool(start) and not is_binary and not is_dump(start)
 
 
 class Captures:
     """The frames of files, numbered on from each to the next."""
 
-    def __init__(self, names, kinds, ledger, waiting):
+    def __init__(self, names: Sequence[str], kinds: dict[int | None, str], ledger: Ledger, waiting: Waiting) -> None:
         self.names, self.kinds, self.ledger, self.waiting = names, kinds, ledger, waiting
         self.several = len(names) > 1
         self.number = 0
         # The time of the last frame that was read, where the capture says it.
-        self.time = None
+        self.time: int | None = None
 
-    def frames(self):
+    def frames(self) -> Iterator[Frame]:
         """The frames of all files, up to an interruption."""
         try:
             if self.several:
@@ -121,16 +103,16 @@ class Captures:
                 yield from self.frames_of(name)
         except Interrupted:
             words = f"interrupted: the trace is of what was read before, {self.number} frames"
-            self.ledger.tell(Topic.INTERRUPTED, words)
+            self.ledger.report(Topic.INTERRUPTED, words)
 
-    def check(self):
+    def check(self) -> None:
         """Refuses what is no capture before anything is read; a pipe can't be looked at twice."""
         for name in self.names:
             if name != "-" and not is_pipe(name):
-                with open_capture(name) as stream:
-                    form_of(Source(stream, self.waiting, said(name), False), self.kinds)
+                with open_input(name) as stream:
+                    form_of(Source(stream, self.waiting, shown_name(name), False), self.kinds)
 
-    def frames_of(self, name):
+    def frames_of(self, name: str) -> Iterator[Frame]:
         with self.opened(name) as form:
             frame, before = None, self.time
             for frame in form.frames():
@@ -143,13 +125,13 @@ class Captures:
             if frame:
                 self.time = frame.time
 
-    def compare(self, name, time, before):
+    def compare(self, name: str, time: int | None, before: int) -> None:
         """Tells where a file begins before the one before it ends; a recorder without a clock says 0."""
         if time and time < before:
             words = f"{os.path.basename(name)} begins before the file before it ends"
-            self.ledger.tell(Topic.ORDER, f"{words}: give the files in the order of their times")
+            self.ledger.report(Topic.ORDER, f"{words}: give the files in the order of their times, or join them with mergecap")
 
-    def forms(self):
+    def forms(self) -> Iterator[Form]:
         """What reads each file, open while it is asked for; the numbers of its frames go on from the file before."""
         for name in self.names:
             with self.opened(name) as form:
@@ -157,8 +139,8 @@ class Captures:
                 self.number = form.number
 
     @contextlib.contextmanager
-    def opened(self, name):
+    def opened(self, name: str) -> Iterator[Form]:
         """What reads a file."""
-        with open_capture(name) as stream:
-            source = Source(stream, self.waiting, said(name), self.several)
+        with open_input(name) as stream:
+            source = Source(stream, self.waiting, shown_name(name), self.several)
             yield form_of(source, self.kinds)(source, self.ledger, self.number)

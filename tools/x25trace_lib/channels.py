@@ -1,9 +1,15 @@
 """Which channel of the trace an XOT circuit gets: one of its own while there are some, then one that is free again."""
+from __future__ import annotations
+
 import heapq
+from collections.abc import Iterable
 from dataclasses import dataclass
 
-from .packets import Side
-from .told import Reason
+from x25tools_lib.header import Header
+from x25tools_lib.ledger import Ledger, Reason
+from x25tools_lib.sides import Side
+
+from .xot import Circuit
 
 
 @dataclass
@@ -14,13 +20,13 @@ class Range:
     last: int
     following: int
 
-    def fresh(self, taken):
+    def fresh(self, taken: set[int]) -> int | None:
         """The next channel that no circuit had, or None."""
         while self.following <= self.last and self.following in taken:
             self.following += 1
         return self.following if self.following <= self.last else None
 
-    def again(self, free):
+    def again(self, free: list[int]) -> int | None:
         """The channel that was free first, taken from the list, or None."""
         for at, channel in enumerate(free):
             if self.first <= channel <= self.last:
@@ -31,16 +37,17 @@ class Range:
 class Channels:
     """The channels of a trace: which ones circuits had, and which are free again, the longest free one first."""
 
-    def __init__(self, header):
+    def __init__(self, header: Header) -> None:
         self.permanent = Range(1, header.permanent, 1)
         # Calls of the DTE may not use the channels for incoming calls, those of the DCE not those for outgoing ones.
         self.calls = {
             Side.T: Range(header.incoming + 1, header.outgoing, header.incoming + 1),
             Side.N: Range(header.permanent + 1, header.two_way, header.permanent + 1),
         }
-        self.taken, self.free = set(), []
+        self.taken: set[int] = set()
+        self.free: list[int] = []
 
-    def give(self, circuit):
+    def give(self, circuit: Circuit) -> bool:
         """Gives a circuit its channel, 1 to PVC for permanent ones, those behind for calls; whether one was left."""
         places = self.permanent if circuit.permanent else self.calls[circuit.caller or Side.T]
         channel = places.fresh(self.taken) or places.again(self.free)
@@ -50,18 +57,18 @@ class Channels:
             circuit.channel = channel
         return channel is not None
 
-    def release(self, channel):
+    def release(self, channel: int) -> None:
         self.free.append(channel)
 
 
-def assign(circuits, header, ledger):
+def assign(circuits: Iterable[Circuit], header: Header, ledger: Ledger) -> None:
     """Gives all circuits their channels, in the order of the first rows."""
-    channels, running = Channels(header), []
+    channels, running = Channels(header), list[tuple[int, int]]()
     for circuit in sorted(circuits, key=lambda one: one.first_row):
         while running and running[0][0] < circuit.first_row:
             channels.release(heapq.heappop(running)[1])
         if not channels.give(circuit):
             words = f"frame {circuit.frame}: connection {circuit.number} gets no channel, {circuit.rows} packets"
             ledger.damaged(Reason.NO_CHANNEL, words, circuit.rows)
-        elif circuit.is_free:
+        elif circuit.is_free and circuit.channel is not None:
             heapq.heappush(running, (circuit.last_row, circuit.channel))

@@ -1,32 +1,33 @@
 """What x25trace does with its command line: its streams, its signals and its exit status."""
-import errno
+from __future__ import annotations
+
+import argparse
 import gc
 import os
-import pathlib
 import signal
 import sys
-import tempfile
+from collections.abc import Sequence
+
+from x25tools_lib.halves import Halves
+from x25tools_lib.header import Wishes
+from x25tools_lib.ledger import Ledger
+from x25tools_lib.options import Status, chosen
+from x25tools_lib.refusals import Refusal
+from x25tools_lib.streams import Waiting, is_open, is_pipe, mute_errors, title_of
 
 from . import comments
-from .captures import Captures, is_pipe, said
+from .captures import Captures
 from .live import Live
+from .making import file_of, gathered
 from .reading import Reading
-from .source import Waiting
-from .told import Ledger, Refusal
-from .trace import Trace
-from .words import Status, chosen, parsed
+from .words import parsed
 
 
-def say(words):
+def say(words: object) -> None:
     print(f"x25trace: {words}", file=sys.stderr)
 
 
-def title(names):
-    """What the trace says that it is from."""
-    return said(pathlib.PurePath(names[0]).name) if len(names) == 1 else f"{len(names)} captures"
-
-
-def is_live(words, wishes):
+def is_live(words: argparse.Namespace, wishes: Wishes) -> bool:
     """Whether rows can be written as frames come: from a pipe, with all numbers of the header given."""
     if not any(map(is_pipe, words.captures)):
         return False
@@ -36,40 +37,35 @@ def is_live(words, wishes):
     return not missing
 
 
-def write(words, ledger, waiting):
+def write(words: argparse.Namespace, ledger: Ledger, waiting: Waiting) -> None:
     """Reads the captures, and writes their trace or their comments."""
     choices, wishes = chosen(words)
-    captures = Captures(words.captures, choices.kinds, ledger, waiting)
-    reading, name = Reading(ledger, choices), title(words.captures)
-    if words.comments is None and is_live(words, wishes):
+    if words.comments is not None:
+        write_comments(words, ledger, waiting)
+    elif is_live(words, wishes):
         waiting.before = sys.stdout.flush
-        Live(ledger, reading, wishes, words.times).write(captures.frames(), name, sys.stdout)
+        captures = Captures(words.captures, choices.kinds, ledger, waiting)
+        live = Live(ledger, Reading(ledger, choices), wishes, words.times)
+        live.write(captures.frames(), title_of(words.captures), sys.stdout)
     else:
-        trace = Trace(ledger, reading, wishes, words.times)
-        trace.gather(captures.frames())
-        if words.comments is None:
-            trace.write(name, sys.stdout)
-        else:
-            write_comments(trace, words)
+        gathered(words, ledger, waiting, words.times).write(title_of(words.captures), sys.stdout)
     sys.stdout.flush()
 
 
-def write_comments(trace, words):
+def write_comments(words: argparse.Namespace, ledger: Ledger, waiting: Waiting) -> None:
     """Has x25scan read the trace, and writes the captures again with what it says."""
-    # What is damaged was told by the first reading.
+    trace = gathered(words, ledger, waiting, words.times)
+    # The first reading reported what is damaged.
     again = [Captures(words.captures, dict(words.kinds), Ledger(), Waiting()) for _ in range(2)]
     comments.check(again[0])
-    with tempfile.TemporaryFile("w+", encoding="ascii", newline="\n") as file:
-        trace.write(title(words.captures), file)
-        file.flush()
-        file.seek(0)
-        texts = comments.found(file, words.scanner)
+    with file_of(trace, words.captures) as (file, head):
+        texts = comments.found(file, words.scanner, Halves(head))
     with open(words.comments, "wb") as out:
         comments.write(again[1], texts, out)
     say(f"{sum(map(len, texts.values()))} comments, in {len(texts)} frames of {words.comments}")
 
 
-def run(words, waiting):
+def run(words: argparse.Namespace, waiting: Waiting) -> Status:
     """Reads and writes; returns the status."""
     ledger = Ledger(say)
     try:
@@ -84,7 +80,7 @@ def run(words, waiting):
     return Status.INTERRUPTED if waiting.interrupted else status
 
 
-def main(arguments, waiting=None):
+def main(arguments: Sequence[str], waiting: Waiting | None = None) -> Status:
     """Runs in a process whose streams and signals are as they are."""
     words = parsed(arguments)
     try:
@@ -98,21 +94,10 @@ def main(arguments, waiting=None):
         return Status.INTERRUPTED
 
 
-def is_open(descriptor):
-    """Whether a stream can be written, however full the disk is."""
-    try:
-        os.write(descriptor, b"")
-    except OSError as fault:
-        return fault.errno != errno.EBADF
-    return True
-
-
-def program(arguments):
+def program(arguments: Sequence[str]) -> Status:
     """Runs as a program: a closed pipe ends it as it ends other filters, and SIGINT ends the reading."""
     if not is_open(2):
-        # Whoever closed standard error wants to hear nothing; what is opened next must not take its place.
-        os.dup2(os.open(os.devnull, os.O_WRONLY), 2)
-        sys.stderr = open(2, "w", encoding="ascii", errors="replace", closefd=False)
+        mute_errors()
     if not is_open(1):
         say("reading or writing failed: standard output is closed")
         return Status.FAILED

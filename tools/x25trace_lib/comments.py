@@ -1,21 +1,30 @@
 """A capture written again as pcapng, with what x25scan finds in its trace as comments of its frames."""
+from __future__ import annotations
+
 import contextlib
-import pathlib
 import re
 import struct
 import subprocess
 from collections import defaultdict
+from collections.abc import Callable, Generator, Iterable
+from typing import IO, Any, BinaryIO
 
+from x25tools_lib import notes
+from x25tools_lib.halves import Halves
+from x25tools_lib.refusals import Refusal, Why
+from x25tools_lib.scanner import SCANNER
+
+from .captures import Captures
 from .frames import Direction
 from .pcap import Pcap
 from .pcapng import CHECK_LENGTH, FLAGS, TIME_RESOLUTION, Block, Pcapng
 from .snoop import Snoop
-from .told import Refusal, Why
 
-SCANNER = pathlib.Path(__file__).resolve().parents[2] / "bin" / "x25scan"
-OTHER_FRAME = re.compile(r"# (\d+) is of frame (\d+)$")
+# The comments of each frame.
+Comments = dict[int, list[str]]
 FINDING = re.compile(r"#! (F (\d+) .*)")
-CALL = re.compile(r"# (Call \d+, .*\bopened by packet (\d+)\b.*)")
+CALL = re.compile(r"# (Call \d+, \w+ on logical channel (\d+): .*\bopened by packet (\d+)\b.*)")
+LEFT_OUT = "what x25scan finds of it is left out"
 # A comment's length has two octets.
 LONGEST = 60_000
 COMMENT = 1
@@ -26,43 +35,63 @@ FLAGS_OF = {Direction.RECEIVED: 1, Direction.SENT: 2}
 KEPT_AT, OCTETS_AT = 12, 20
 
 
-def found(trace, scanner):
-    """What x25scan says of the frames of a trace in a file: the comments of each, calls with their first one."""
+def found(trace: IO[str], scanner: str | None, halves: Halves) -> Comments:
+    """What x25scan says of the frames of a trace in a file: the comments of each, calls with their first one.
+
+    Of what was recorded in one direction alone there is only that.
+    """
     words = [str(scanner or SCANNER), "--annotate"]
     with subprocess.Popen(words, stdin=trace, stdout=subprocess.PIPE, text=True, encoding="ascii") as running:
-        comments = comments_of(running.stdout)
+        assert running.stdout
+        comments = comments_of(running.stdout, halves)
     if running.returncode not in (0, 1):
         raise OSError(f"{words[0]} --annotate ended with status {running.returncode}")
     return comments
 
 
-def comments_of(lines):
+def comments_of(lines: Iterable[str], halves: Halves) -> Comments:
     """The comments by frame, from the lines of an annotated trace."""
-    frames, comments = {}, defaultdict(list)
+    frames: dict[int, int] = {}
+    comments: Comments = defaultdict(list)
+    first, channel = 0, 0
+
+    def add(row: int, words: str) -> None:
+        comments[frames.get(row, row)].append(f"x25scan: {words}")
+
     for line in lines:
-        if match := OTHER_FRAME.match(line):
-            frames[int(match[1])] = int(match[2])
-        elif match := FINDING.match(line) or CALL.match(line):
-            row = int(match[2])
-            comments[frames.get(row, row)].append(f"x25scan: {match[1]}")
+        if line[0].isdigit():
+            number, _, octets = line.split(" ")
+            first, channel = first or int(number), int(octets[1:4], 16) if len(octets) > 4 else 0
+        elif match := FINDING.match(line):
+            if not halves.side(channel, int(match[2])):
+                add(int(match[2]), match[1])
+        elif match := CALL.match(line):
+            if not halves.side(int(match[2]), int(match[3])):
+                add(int(match[3]), match[1])
+        elif line.startswith("# ") and (pair := notes.frame_of(line[2:].rstrip())):
+            frames[pair[0]] = pair[1]
+    for row, words in halves.sentences(first):
+        add(row, f"{words}: {LEFT_OUT}")
     return comments
 
 
-def block(order, kind, body):
+def block(order: str, kind: int, body: bytes) -> bytes:
+    """A block with its lengths."""
     body += bytes(-len(body) % 4)
     length = struct.pack(order + "I", 12 + len(body))
     return struct.pack(order + "I", kind) + length + body + length
 
 
-def option(order, code, value):
+def option(order: str, code: int, value: bytes) -> bytes:
+    """An option with its length."""
     return struct.pack(order + "HH", code, len(value)) + value + bytes(-len(value) % 4)
 
 
-def comment_options(order, texts):
+def comment_options(order: str, texts: Iterable[str]) -> bytes:
     return b"".join(option(order, COMMENT, text.encode()[:LONGEST]) for text in texts)
 
 
-def end_of_options(order, body, at):
+def end_of_options(order: str, body: bytes, at: int) -> int:
     """Where the options of a block end that begin at a place."""
     while at + 4 <= len(body):
         code, length = struct.unpack_from(order + "HH", body, at)
@@ -73,13 +102,13 @@ def end_of_options(order, body, at):
     return at
 
 
-def enhanced(order, body, kept, length):
+def enhanced(order: str, body: bytes, kept: int, length: int) -> bytes:
     """The body of a simple block as that of an enhanced one, of the first interface and without a time."""
     octets = body[4:4 + kept]
     return struct.pack(order + "IIIII", 0, 0, 0, len(octets), length) + octets
 
 
-def commented(order, body, texts):
+def commented(order: str, body: bytes, texts: Iterable[str]) -> bytes:
     """The body of a block of a frame with comments behind its other options."""
     kept = struct.unpack_from(order + "I", body, KEPT_AT)[0]
     begin = OCTETS_AT + kept + -kept % 4
@@ -87,7 +116,7 @@ def commented(order, body, texts):
     return body[:end_of_options(order, body, begin)] + comment_options(order, texts) + END
 
 
-def whole(order, kind, octets):
+def whole(order: str, kind: int, octets: bytes) -> bytes:
     """The body of a block as it was recorded: a frame that the file ends in keeps what is there of it."""
     length = struct.unpack_from(order + "I", octets, 4)[0]
     body = octets[8:min(len(octets), length - 4)]
@@ -102,11 +131,11 @@ def whole(order, kind, octets):
     return body
 
 
-def section(order):
+def section(order: str) -> bytes:
     return block(order, Block.SECTION, struct.pack(order + "IHHq", BYTE_ORDER_MAGIC, 1, 0, -1))
 
 
-def of_pcapng(form, comments):
+def of_pcapng(form: Pcapng, comments: Comments) -> Generator[bytes, None, None]:
     """The blocks of a pcapng file; before the first one a section's header, where that is damaged."""
     begun = False
     for start, kind, octets in form.blocks():
@@ -127,7 +156,7 @@ def of_pcapng(form, comments):
         yield block(form.order, kind, body)
 
 
-def of_records(form, comments):
+def of_records(form: Pcap | Snoop, comments: Comments) -> Generator[bytes, None, None]:
     """A section with one interface, and an enhanced block for each record of another file."""
     decimals = 9 if form.parts == 1_000_000_000 else 6
     options = option("<", TIME_RESOLUTION, bytes((decimals,)))
@@ -145,19 +174,21 @@ def of_records(form, comments):
         yield block("<", Block.ENHANCED, head + octets + bytes(-len(octets) % 4) + (options and options + END))
 
 
-REWRITERS = {Pcap: of_records, Snoop: of_records, Pcapng: of_pcapng}
+REWRITERS: dict[type[object], Callable[[Any, Comments], Generator[bytes, None, None]]] = {
+    Pcap: of_records, Snoop: of_records, Pcapng: of_pcapng,
+}
 
 
-def check(captures):
+def check(captures: Captures) -> None:
     """Refuses files whose frames have no link type."""
     for form in captures.forms():
         if type(form) not in REWRITERS:
-            raise Refusal(Why.UNKNOWN_FORMAT, f"{form.source.name} says no link type, which pcapng wants")
+            raise Refusal(Why.UNKNOWN_FORMAT, f"{form.source.name} says no link type, which pcapng needs")
         if type(form) is Snoop and not isinstance(form.link, int):
             raise Refusal(Why.UNKNOWN_FORMAT, f"{form.source.name}: pcapng has no number for link type {form.link}")
 
 
-def write(captures, comments, out):
+def write(captures: Captures, comments: Comments, out: BinaryIO) -> None:
     """Writes the files of a capture one after the other, each as a section of its own."""
     for form in captures.forms():
         with contextlib.closing(REWRITERS[type(form)](form, comments)) as blocks:

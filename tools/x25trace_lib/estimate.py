@@ -1,14 +1,18 @@
 """What the header of a trace says, by options or by what was seen."""
+from __future__ import annotations
+
 from dataclasses import dataclass, field
 
-from .packets import MODULI, PACKET_SIZES, SET_UP, WINDOWS, Side, Type, channel_of, facilities_of
-from .told import Refusal, Why
+from x25tools_lib.header import LARGEST_SIZE, LAST_CHANNEL, SMALLEST_SIZE, Header, Wishes
+from x25tools_lib.notes import Estimate
+from x25tools_lib.refusals import Refusal, Why
+from x25tools_lib.sides import Side
+
+from .packets import MODULI, PACKET_SIZES, SET_UP, WINDOWS, Type, channel_of, facilities_of
+from .xot import Circuit
 
 STANDARD_SIZE = 128
 STANDARD_WINDOW = 2
-SMALLEST_SIZE = 16
-LARGEST_SIZE = 4096
-LAST_CHANNEL = 4095
 # RR, RNR and REJ, without their numbers.
 FLOW = frozenset((1, 5, 9))
 
@@ -20,56 +24,27 @@ class Seen:
     And whether data counts now, and which values its call agreed on.
     """
 
-    edges: dict
+    edges: dict[Side, int | None]
     flows: bool = True
-    agreed: set = field(default_factory=set)
-
-
-@dataclass
-class Wishes:
-    """The numbers of the header that options give; None is to be estimated."""
-
-    modulus: int | None = None
-    window: int | None = None
-    size: int | None = None
-    permanent: int | None = None
-    calls: int | None = None
-    incoming: int | None = None
-    two_way: int | None = None
-    outgoing: int | None = None
-    join: bool | None = None
-
-    @property
-    def one_way(self):
-        return not self.incoming is self.two_way is self.outgoing is None
-
-    def missing(self):
-        """The options without which the header is an estimate."""
-        options = {
-            "--mod": self.modulus,
-            "--win": self.window,
-            "--size": self.size,
-            "--pvc": self.permanent,
-            "--svc": self.calls or self.outgoing,
-        }
-        return [option for option, value in options.items() if value is None]
+    agreed: set[int] = field(default_factory=set)
 
 
 class Estimator:
     """Sees each packet once, with the key of its channel."""
 
-    def __init__(self):
-        self.moduli = {8: 0, 128: 0, None: 0}
-        self.seen = {}
+    def __init__(self) -> None:
+        self.moduli: dict[int | None, int] = {8: 0, 128: 0, None: 0}
+        self.seen: dict[int, Seen] = {}
         self.largest = 0
         self.most = 0
         self.restarted = False
-        self.first_is_restart = None
+        self.first_is_restart: bool | None = None
         self.highest = 0
         # Channels of a line with calls, and with data where no call is known of.
-        self.with_calls, self.with_data = set(), set()
+        self.with_calls: set[int] = set()
+        self.with_data: set[int] = set()
 
-    def see(self, key, known, side, octets, line):
+    def see(self, key: int, known: bool, side: Side, octets: bytes, line: bool) -> None:
         """A packet of a channel; known says that its state was known from its beginning."""
         if self.first_is_restart is None:
             self.first_is_restart = line and len(octets) >= 3 and octets[2] == Type.RESTART and not channel_of(octets)
@@ -97,30 +72,30 @@ class Estimator:
         else:
             self.signal(seen, kind, octets)
 
-    def forget(self, circuit):
+    def forget(self, circuit: Circuit) -> None:
         """A circuit has no more packets."""
         self.seen.pop(circuit.number, None)
 
-    def miss(self, key):
+    def miss(self, key: int) -> None:
         """Packets of the channel are missing: what they acknowledged is not known, and data may flow."""
         seen = self.seen.get(key)
         if seen:
             seen.flows = True
             seen.edges = dict.fromkeys(Side)
 
-    def restart(self, kind):
+    def restart(self, kind: int) -> None:
         if kind == Type.RESTART:
             self.restarted = True
             self.seen.clear()
 
-    def line_channel(self, channel, kind):
+    def line_channel(self, channel: int, kind: int) -> None:
         self.highest = max(self.highest, channel)
         if kind in SET_UP:
             self.with_calls.add(channel)
         elif self.restarted:
             self.with_data.add(channel)
 
-    def data(self, seen, side, octets, modulus):
+    def data(self, seen: Seen, side: Side, octets: bytes, modulus: int) -> None:
         size = len(octets) - (3 if modulus == 8 else 4)
         if size < 0 or not seen.flows:
             return
@@ -133,7 +108,7 @@ class Estimator:
             self.most = (send - edge) % modulus + 1
 
     @staticmethod
-    def signal(seen, kind, octets):
+    def signal(seen: Seen, kind: int, octets: bytes) -> None:
         """A packet that begins or ends the flow of data."""
         if kind in (Type.CALL, Type.CLEAR):
             seen.flows = False
@@ -150,59 +125,27 @@ class Estimator:
             seen.edges = dict.fromkeys(Side, 0)
 
     @property
-    def modulus(self):
+    def modulus(self) -> int:
         return 128 if self.moduli[128] > self.moduli[8] else 8
 
     @property
-    def window(self):
+    def window(self) -> int:
         return min(self.most, self.modulus - 1) or STANDARD_WINDOW
 
     @property
-    def size(self):
+    def size(self) -> int:
         if not self.largest:
             return STANDARD_SIZE
         return min(max(SMALLEST_SIZE, 1 << (self.largest - 1).bit_length()), LARGEST_SIZE)
 
     @property
-    def permanent(self):
+    def permanent(self) -> int:
         """The last channel that had data after a restart and no call, below all channels with calls."""
         first_call = min(self.with_calls, default=LAST_CHANNEL + 1)
         return max((channel for channel in self.with_data if channel < first_call), default=0)
 
 
-@dataclass
-class Header:
-    """The numbers of a header, and of each whether an option gave it."""
-
-    modulus: int
-    window: int
-    size: int
-    permanent: int
-    incoming: int
-    two_way: int
-    outgoing: int
-    join: bool
-    second_form: bool
-
-    def line(self):
-        start = f"MOD {self.modulus} WIN {self.window} SIZE {self.size} PVC {self.permanent}"
-        if not self.second_form:
-            return f"X25 1 {start} SVC {self.outgoing}"
-        join = " JOIN" if self.join else ""
-        return f"X25 2 {start} IN {self.incoming} TWO {self.two_way} OUT {self.outgoing}{join}"
-
-    def fault(self):
-        """What x25scan would refuse, or None."""
-        if not 1 <= self.window < self.modulus:
-            return f"WIN {self.window} is not 1 to {self.modulus - 1}"
-        if not 0 <= self.permanent <= self.incoming <= self.two_way <= self.outgoing:
-            return f"PVC {self.permanent}, IN {self.incoming}, TWO {self.two_way}, OUT {self.outgoing} must not fall"
-        if not 1 <= self.outgoing <= LAST_CHANNEL:
-            return f"the last channel, {self.outgoing}, is not 1 to {LAST_CHANNEL}"
-        return None
-
-
-def header_of(wishes, estimator, permanent, highest, join):
+def header_of(wishes: Wishes, estimator: Estimator, permanent: int, highest: int, join: bool) -> Header:
     """The header: options first, then what was seen."""
     join = wishes.join if wishes.join is not None else join
     permanent = wishes.permanent if wishes.permanent is not None else permanent
@@ -222,13 +165,13 @@ def header_of(wishes, estimator, permanent, highest, join):
     )
     if wishes.window is None:
         header.window = min(header.window, header.modulus - 1)
-    if header.fault():
-        raise Refusal(Why.HEADER, header.fault())
+    if fault := header.fault():
+        raise Refusal(Why.HEADER, fault)
     return header
 
 
-def hidden(wishes, header, estimator):
-    """What the estimates of the window and the size hide, or None where both are given or no data told them."""
+def hidden(wishes: Wishes, header: Header, estimator: Estimator) -> str | None:
+    """What the estimates of the window and the size hide, or None where both are given or no data was seen."""
     seen = []
     if wishes.window is None and estimator.most:
         seen.append(f"WIN {header.window}")
@@ -240,9 +183,9 @@ def hidden(wishes, header, estimator):
     return f"{estimates}, so data that broke a smaller value is not found: give --win and --size where you know them"
 
 
-def estimates(wishes, header, estimator):
-    """The words of the numbers that no option gave."""
-    standard = "the standard value, as no data tells"
+def estimates(wishes: Wishes, header: Header, estimator: Estimator) -> list[Estimate]:
+    """The numbers that no option gave."""
+    standard = "the default: no data was seen"
     last = wishes.calls or wishes.outgoing
     words = {
         "MOD": (wishes.modulus, header.modulus, "the general format identifiers"),
@@ -251,4 +194,4 @@ def estimates(wishes, header, estimator):
         "PVC": (wishes.permanent, header.permanent, "channels with data and no call"),
         "OUT" if header.second_form else "SVC": (last, header.outgoing, "the channels used"),
     }
-    return [f"{name} {value} ({why})" for name, (wish, value, why) in words.items() if wish is None]
+    return [Estimate(name, value, why) for name, (wish, value, why) in words.items() if wish is None]

@@ -1,4 +1,6 @@
 """A recorded frame, whatever the file's format."""
+from __future__ import annotations
+
 import enum
 from dataclasses import dataclass
 
@@ -18,8 +20,6 @@ KINDS_OF_PACKET = {
     2: Direction.RECEIVED,
     4: Direction.SENT,
 }
-# The nanoseconds of a second.
-SECOND = 1_000_000_000
 
 
 @dataclass(slots=True)
@@ -27,7 +27,7 @@ class Frame:
     """One frame: its number as Wireshark counts, its link type, what was kept of it and how long it was."""
 
     number: int
-    link: object
+    link: int | str | None
     octets: bytes
     length: int
     direction: Direction
@@ -37,7 +37,7 @@ class Frame:
     # How many tunnels it was taken out of.
     depth: int = 0
 
-    def within(self, begin, end, octets):
+    def within(self, begin: int, end: int, octets: bytes) -> Frame:
         """The frame that octets of a tunnel hold, of which those up to the end may not all be there."""
         return Frame(self.number, self.link, octets[begin:end], end - begin, self.direction, self.interface, self.time,
                      self.depth + 1)

@@ -1,11 +1,16 @@
 """From an Internet packet to its TCP segment: IPv4 and IPv6, extension headers, fragments, tunnels."""
+from __future__ import annotations
+
 import struct
 from collections import OrderedDict
+from collections.abc import Iterable
 from dataclasses import dataclass
 
+from x25tools_lib.ledger import Ledger, Reason, Topic
+
+from .frames import Frame
 from .links import Carried
-from .strangers import Strangers
-from .told import Reason, Topic
+from .other_ports import OtherPorts
 from .tunnels import GRE, IP_IN_IP, IPV6_IN_IP, opened
 
 TCP = 6
@@ -23,6 +28,10 @@ TCP_HEADER = struct.Struct(">2s2sIIBB")
 SYN, FIN, RST, ACK = 2, 1, 4, 16
 
 
+# What the fragments of a datagram have in common: the protocol, the two addresses, and the identification.
+Identity = tuple[int, bytes, bytes, "int | bytes"]
+
+
 @dataclass(slots=True, eq=False)
 class Segment:
     """A TCP segment; its ends are an address and a port each, in octets; missing octets of its payload were cut off."""
@@ -38,7 +47,7 @@ class Segment:
     time: int | None = None
 
 
-def port_of(end):
+def port_of(end: bytes) -> int:
     return int.from_bytes(end[-2:], "big")
 
 
@@ -48,11 +57,11 @@ class Fragments:
     MOST = 64
     LARGEST = 65_535
 
-    def __init__(self, ledger):
+    def __init__(self, ledger: Ledger) -> None:
         self.ledger = ledger
-        self.waiting = OrderedDict()
+        self.waiting: OrderedDict[Identity, tuple[int, dict[int, tuple[bytes, bool]]]] = OrderedDict()
 
-    def add(self, frame, identity, place, octets, last):
+    def add(self, frame: Frame, identity: Identity, place: int, octets: bytes, last: bool) -> bytes | None:
         """The whole datagram's octets once this fragment completes it, else None."""
         _, parts = self.waiting.setdefault(identity, (frame.number, {}))
         parts[place] = (octets, last)
@@ -68,12 +77,12 @@ class Fragments:
             self.give_up_oldest()
         return None
 
-    def give_up_oldest(self):
+    def give_up_oldest(self) -> None:
         _, (frame, parts) = self.waiting.popitem(last=False)
         words = f"frame {frame}: it begins a datagram of which not all fragments are there"
         self.ledger.damaged(Reason.FRAGMENT, words, len(parts))
 
-    def end(self):
+    def end(self) -> None:
         while self.waiting:
             self.give_up_oldest()
 
@@ -81,23 +90,25 @@ class Fragments:
 class Internet:
     """Finds the TCP segments of the ports that are asked for."""
 
-    def __init__(self, ledger, ports):
+    def __init__(self, ledger: Ledger, ports: Iterable[int]) -> None:
         self.ledger = ledger
         self.ports = frozenset(port.to_bytes(2, "big") for port in ports)
         self.fragments = Fragments(ledger)
-        self.strangers = Strangers()
+        self.other_ports = OtherPorts()
 
-    def end(self):
+    def end(self) -> None:
         """The recording has ended."""
         self.fragments.end()
-        for port, many in self.strangers.ports():
+        for port, many in self.other_ports.ports():
             words = f"TCP port {port} looks like XOT, in {many} segments: --port {port} reads it"
-            self.ledger.tell(Topic.PORT, words)
+            self.ledger.report(Topic.PORT, words)
 
-    def bad(self, frame, words):
+    def bad(self, frame: Frame, words: str) -> Segment | None:
+        """No segment: a header is damaged."""
         self.ledger.damaged(Reason.BAD_HEADER, f"frame {frame.number}: {words}")
+        return None
 
-    def segment(self, frame, at):
+    def segment(self, frame: Frame, at: int) -> Segment | None:
         """The segment of an Internet packet, or None, which is counted."""
         octets = frame.octets
         there = len(octets) - at
@@ -110,7 +121,7 @@ class Internet:
             return self.bad(frame, "its Internet header is cut")
         return self.bad(frame, f"its Internet header has version {version}")
 
-    def version_4(self, frame, octets, at):
+    def version_4(self, frame: Frame, octets: bytes, at: int) -> Segment | None:
         first, total, number, place, protocol, source, target = IPV4_HEADER.unpack_from(octets, at)
         header = 4 * (first & 15)
         total = total or frame.length - at
@@ -119,12 +130,12 @@ class Internet:
         begin, end = at + header, at + total
         if place & (MORE | PLACE):
             identity = (protocol, source, target, number)
-            return self.fragment(frame, identity, 8 * (place & PLACE), begin, end, not place & MORE)
+            return self.fragment(frame, identity, (begin, end), 8 * (place & PLACE), not place & MORE)
         if protocol == TCP:
-            return self.tcp(frame, octets, begin, end, source, target)
+            return self.tcp(frame, octets, begin, end, (source, target))
         return self.tunnel(frame, protocol, octets, begin, end)
 
-    def version_6(self, frame, octets, at):
+    def version_6(self, frame: Frame, octets: bytes, at: int) -> Segment | None:
         follows, begin = octets[at + 6], at + 40
         end = begin + (octets[at + 4] << 8 | octets[at + 5] or frame.length - begin)
         ends = octets[at + 8:at + 24], octets[at + 24:at + 40]
@@ -137,15 +148,19 @@ class Internet:
                 place = octets[begin + 2] << 8 | octets[begin + 3]
                 if place & 0xFFF9:
                     identity = (octets[begin], *ends, octets[begin + 4:begin + 8])
-                    return self.fragment(frame, identity, place & 0xFFF8, begin + 8, end, not place & 1)
+                    return self.fragment(frame, identity, (begin + 8, end), place & 0xFFF8, not place & 1)
             follows, begin = octets[begin], begin + size
         if follows == TCP:
-            return self.tcp(frame, octets, begin, end, *ends)
+            return self.tcp(frame, octets, begin, end, ends)
         return self.tunnel(frame, follows, octets, begin, end)
 
-    def fragment(self, frame, identity, place, begin, end, last):
-        """Keeps a fragment; the segment of the datagram that it completes. The identity begins with the protocol."""
+    def fragment(self, frame: Frame, identity: Identity, span: tuple[int, int], place: int, last: bool) -> Segment | None:
+        """Keeps a fragment; the segment of the datagram that it completes.
+
+        The span is where its octets are in the frame, the place where they are in the datagram.
+        """
         protocol, source, target, _ = identity
+        begin, end = span
         if protocol not in KEPT:
             self.ledger.left_out(Reason.OTHER_PROTOCOL)
             return None
@@ -156,10 +171,10 @@ class Internet:
         if whole is None:
             return None
         if protocol == TCP:
-            return self.tcp(frame, whole, 0, len(whole), source, target)
+            return self.tcp(frame, whole, 0, len(whole), (source, target))
         return self.tunnel(frame, protocol, whole, 0, len(whole))
 
-    def tunnel(self, frame, protocol, octets, begin, end):
+    def tunnel(self, frame: Frame, protocol: int, octets: bytes, begin: int, end: int) -> Segment | None:
         """The segment in what a packet of another protocol carries."""
         inner = frame.within(begin, end, octets)
         carried, at = opened(protocol, inner)
@@ -170,7 +185,8 @@ class Internet:
         self.ledger.left_out(Reason.OTHER_PROTOCOL)
         return None
 
-    def tcp(self, frame, octets, begin, end, source, target):
+    def tcp(self, frame: Frame, octets: bytes, begin: int, end: int, ends: tuple[bytes, bytes]) -> Segment | None:
+        """The segment that begins somewhere in octets; None where it is of another port, or damaged."""
         there = len(octets)
         if there < begin + 20 or end < begin + 20:
             return self.bad(frame, "its TCP header is cut")
@@ -179,16 +195,16 @@ class Internet:
         if from_port not in self.ports and to_port not in self.ports:
             self.ledger.left_out(Reason.OTHER_PORT)
             if flags & SYN:
-                self.strangers.servers.add(from_port if flags & ACK else to_port)
+                self.other_ports.servers.add(from_port if flags & ACK else to_port)
             elif octets[payload:payload + 2] == b"\0\0":
-                self.strangers.see(from_port, to_port, octets[payload:end])
+                self.other_ports.see(from_port, to_port, octets[payload:end])
             return None
         if payload > end or size < 0x50:
             return self.bad(frame, f"its TCP header has length {(size >> 4) * 4}")
         return Segment(
             frame.number,
-            source + from_port,
-            target + to_port,
+            ends[0] + from_port,
+            ends[1] + to_port,
             sequence,
             acknowledged if flags & ACK else None,
             flags,

@@ -8,12 +8,18 @@ What the recorder knows of one direction, on the circle of the sequence numbers:
 
 An N(R) of the other side beyond next shows that the receiver took frames that were not recorded.
 """
-import enum
-from dataclasses import dataclass
+from __future__ import annotations
 
-from .frames import Direction
-from .packets import Packet, Side
-from .told import Reason, Topic
+import enum
+from collections.abc import Sequence
+from dataclasses import dataclass, field
+
+from x25tools_lib.choices import SideBy
+from x25tools_lib.ledger import Ledger, Reason, Topic
+from x25tools_lib.sides import Side
+
+from .frames import Direction, Frame
+from .packets import Packet
 
 COMMAND_SIDES = {0x01: Side.T, 0x03: Side.N}
 RESPONSE_SIDES = {0x03: Side.T, 0x01: Side.N}
@@ -37,14 +43,7 @@ COMMANDS = frozenset((Unnumbered.SABM, Unnumbered.SABME, Unnumbered.DISC))
 NAMES = {kind.value: kind.name for kind in Unnumbered}
 
 
-class SideBy(enum.Enum):
-    """What decides the side of a LAPB frame first."""
-
-    ADDRESS = "address"
-    DIRECTION = "direction"
-
-
-def remainder(rest):
+def remainder(rest: int) -> int:
     """A step of the frame check sequence: eight bits by x^16 + x^12 + x^5 + 1, low bit first."""
     for _ in range(8):
         rest = rest >> 1 ^ 0x8408 if rest & 1 else rest >> 1
@@ -54,7 +53,7 @@ def remainder(rest):
 REMAINDERS = [remainder(octet) for octet in range(256)]
 
 
-def is_checked(octets):
+def is_checked(octets: bytes) -> bool:
     """Whether the last two octets are the check sequence of those before."""
     rest = 0xFFFF
     for octet in octets[:-2]:
@@ -62,7 +61,7 @@ def is_checked(octets):
     return len(octets) >= 4 and rest ^ 0xFFFF == int.from_bytes(octets[-2:], "little")
 
 
-def unframe(octets):
+def unframe(octets: bytes) -> bytes | None:
     """What stands between the flags of a frame, without its check sequence, which may end like a flag; None if wrong."""
     octets = octets.lstrip(FLAG)
     while not is_checked(octets):
@@ -73,37 +72,56 @@ def unframe(octets):
 
 
 @dataclass(slots=True)
+class Held:
+    """What an I frame carries: the octets of its packet, None where the recorder cut them."""
+
+    frame: int
+    side: Side
+    octets: bytes | None
+    time: int | None
+
+
+@dataclass(slots=True)
 class Way:
     """One direction of the link: the N(S) that comes next, the last N(R) for it, and the frames held."""
 
     next: int | None = None
     acknowledged: int | None = None
-    held: dict | None = None
+    held: dict[int, Held] = field(default_factory=dict)
+    # Whether a frame of its sender was recorded, and whether some of its I frames surely were not.
+    is_seen: bool = False
+    is_missed: bool = False
+
+    @property
+    def following(self) -> int:
+        """The N(S) that comes next, of a direction whose numbers are known."""
+        assert self.next is not None
+        return self.next
 
 
 class Lapb:
     """One link."""
 
-    def __init__(self, ledger, modulus, side_by, swapped):
+    def __init__(self, ledger: Ledger, modulus: int | None, side_by: SideBy, swapped: bool) -> None:
         self.ledger = ledger
         self.modulus = self.given = modulus
         self.circle = modulus or 8
         self.side_by = side_by
-        # Which side the recording host is: by what is said, or as the addresses of frames with a direction tell.
+        # Which side the recording host is: by the options, or by the addresses of frames with a direction.
         by_direction = side_by is SideBy.DIRECTION
         self.host = Side.N if swapped and by_direction else Side.T
         self.swapped = swapped and not by_direction
         self.host_known = by_direction
         self.contradictions = 0
-        self.ways = {side: Way(held={}) for side in Side}
+        self.ways = {side: Way() for side in Side}
 
-    def directed(self, direction):
-        """The side that sent a frame of a direction, or None where the capture or the host's side does not tell."""
+    def directed(self, direction: Direction) -> Side | None:
+        """The side that sent a frame of a direction, or None where the direction or the host's side is not known."""
         if direction is Direction.UNKNOWN or not self.host_known:
             return None
         return self.host if direction is Direction.SENT else self.host.other
 
-    def side(self, table, address, direction):
+    def side(self, table: dict[int, Side], address: int, direction: Direction) -> Side:
         """The side of a frame that is known for a command or a response."""
         by_address, by_direction = table[address], self.directed(direction)
         self.contradictions += by_direction not in (None, by_address)
@@ -114,10 +132,10 @@ class Lapb:
             self.host_known = True
         return by_address
 
-    def named(self, side):
+    def named(self, side: Side) -> Side:
         return side.other if self.swapped else side
 
-    def take(self, frame, octets, cut):
+    def take(self, frame: Frame, octets: bytes, cut: bool) -> Sequence[Packet]:
         """The packets that a frame of address, control and information gives."""
         wide = self.modulus == 128
         if len(octets) < 2 or wide and octets[1] & 3 != 3 and len(octets) < 3:
@@ -138,19 +156,20 @@ class Lapb:
             return self.supervisory(frame, octets, receive, final)
         send = control >> 1 if wide else control >> 1 & 7
         side = self.side(COMMAND_SIDES, octets[0], frame.direction)
-        before = ()
+        before: Sequence[Packet] = ()
         if receive != self.ways[side.other].acknowledged:
             before = self.acknowledge(frame.number, side.other, receive, True)
-        packet = Packet(frame.number, self.named(side), None if cut else octets[3 if wide else 2:], None, frame.time)
+        packet = Held(frame.number, self.named(side), None if cut else octets[3 if wide else 2:], frame.time)
         packets = self.information(side, send, packet)
         return [*before, *packets] if before else packets
 
-    def unnumbered(self, frame, address, kind):
-        """A frame that sets up the link begins its numbers anew; each such frame is told."""
+    def unnumbered(self, frame: Frame, address: int, kind: int) -> None:
+        """A frame that sets up the link begins its numbers anew; each such frame is reported."""
         if kind not in NAMES:
             return
         side = self.side(COMMAND_SIDES if kind in COMMANDS else RESPONSE_SIDES, address, frame.direction)
-        self.ledger.tell(Topic.LINK_FRAME, f"frame {frame.number}: {NAMES[kind]} of {self.named(side).name}")
+        self.ways[side].is_seen = True
+        self.ledger.report(Topic.LINK_FRAME, f"frame {frame.number}: {NAMES[kind]} of {self.named(side).name}")
         if kind in (Unnumbered.SABM, Unnumbered.SABME) and self.given is None:
             self.modulus = self.circle = 8 if kind == Unnumbered.SABM else 128
         if kind in (Unnumbered.SABM, Unnumbered.SABME, Unnumbered.UA):
@@ -158,14 +177,15 @@ class Lapb:
                 self.drop_held(way)
                 way.next = way.acknowledged = 0
 
-    def supervisory(self, frame, octets, receive, final):
+    def supervisory(self, frame: Frame, octets: bytes, receive: int, final: int) -> Sequence[Packet]:
         """An RR, RNR or REJ. Without a direction it may be a command or a response; then it proves no loss."""
         side = self.directed(frame.direction)
         proves = side is not None
-        if not proves:
+        if side is None:
             if final:
                 return ()
             side = RESPONSE_SIDES[octets[0]]
+        self.ways[side].is_seen = True
         way = self.ways[side.other]
         if octets[1] & 0x0F == REJECT and way.acknowledged is None:
             # What is rejected was sent before, so this N(R) is for frames before the next one.
@@ -173,10 +193,11 @@ class Lapb:
             return ()
         return self.acknowledge(frame.number, side.other, receive, proves)
 
-    def acknowledge(self, number, side, receive, proves):
+    def acknowledge(self, number: int, side: Side, receive: int, proves: bool) -> Sequence[Packet]:
         """Takes an N(R) for the frames of a side; beyond the next one it proves that frames were not recorded."""
         way = self.ways[side]
         if way.next is None:
+            way.is_missed |= way.acknowledged not in (None, receive)
             way.acknowledged = receive
             return ()
         if way.acknowledged is None:
@@ -192,28 +213,30 @@ class Lapb:
             return self.catch_up(number, side, way, receive)
         return ()
 
-    def catch_up(self, number, side, way, receive):
+    def catch_up(self, number: int, side: Side, way: Way, receive: int) -> Sequence[Packet]:
         """Goes on to the frame that the receiver waits for: those held are given out, the others are lost."""
-        lost, packets = 0, []
+        lost, packets = 0, list[Packet]()
         while way.next != receive:
-            packet = way.held.pop(way.next, None)
+            packet = way.held.pop(way.following, None)
             if packet is None:
                 lost += 1
             else:
                 packets += self.given_out(packet)
-            way.next = (way.next + 1) % self.circle
+            way.next = (way.following + 1) % self.circle
         way.acknowledged = receive
         if lost:
+            way.is_missed = True
             words = f"{lost} I frames of {self.named(side).name} before N(S) {receive} were not recorded"
             self.ledger.damaged(Reason.LOST_FRAME, f"frame {number}: {words}, but acknowledged", lost)
         return packets
 
-    def information(self, side, send, packet):
+    def information(self, side: Side, send: int, packet: Held) -> Sequence[Packet]:
         """An I frame: the next one, one that repeats, or one to hold."""
-        way, packets = self.ways[side], ()
-        if way.held and len(way.held) == self.circle - 2 and (send + 1 - way.next) % self.circle == 0:
+        way, packets = self.ways[side], tuple[Packet, ...]()
+        way.is_seen = True
+        if way.held and len(way.held) == self.circle - 2 and (send + 1 - way.following) % self.circle == 0:
             # No window reaches so far: the receiver must have acknowledged the frame that is next.
-            packets = self.catch_up(packet.frame, side, way, send)
+            packets = tuple(self.catch_up(packet.frame, side, way, send))
         if way.next is None or send == way.next:
             # A held one with this number was not taken, so it came again; those behind it may have been.
             if way.held:
@@ -228,32 +251,37 @@ class Lapb:
             self.ledger.left_out(Reason.UNTAKEN_FRAME)
         return packets
 
-    def repeats(self, way, send):
+    def repeats(self, way: Way, send: int) -> bool:
         """Whether N(S) is one that was taken: not acknowledged yet, or just before those, where no window reaches."""
         follows_held = (send - 1) % self.circle in way.held
         if way.acknowledged is None:
-            return not follows_held and (way.next - send) % self.circle <= self.circle // 2
+            return not follows_held and (way.following - send) % self.circle <= self.circle // 2
         from_acknowledged = (send - way.acknowledged) % self.circle
-        if from_acknowledged < (way.next - way.acknowledged) % self.circle:
+        if from_acknowledged < (way.following - way.acknowledged) % self.circle:
             return True
         return not follows_held and from_acknowledged == self.circle - 1
 
-    def drop_held(self, way):
+    def lacks(self, side: Side) -> bool:
+        """Whether frames of a side surely were not recorded, or none were."""
+        way = self.ways[self.named(side)]
+        return way.is_missed or not way.is_seen
+
+    def drop_held(self, way: Way) -> None:
         if way.held:
             self.ledger.left_out(Reason.UNTAKEN_FRAME, len(way.held))
             way.held.clear()
 
-    def given_out(self, packet):
+    def given_out(self, packet: Held) -> Sequence[Packet]:
         """A packet as the receiver took it, none where the recorder cut it."""
         if packet.octets is None:
             words = f"frame {packet.frame}: an I frame of {packet.side.name} that was cut off"
             self.ledger.damaged(Reason.CUT_PACKET, words)
             return ()
-        return (packet,)
+        return (Packet(packet.frame, packet.side, packet.octets, None, packet.time),)
 
-    def end(self):
+    def end(self) -> None:
         for way in self.ways.values():
             self.drop_held(way)
         if self.contradictions:
             words = "LAPB frames whose direction and address octet contradict each other"
-            self.ledger.tell(Topic.DIRECTION, f"{words}: {self.contradictions}")
+            self.ledger.report(Topic.DIRECTION, f"{words}: {self.contradictions}")

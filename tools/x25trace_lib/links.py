@@ -1,8 +1,13 @@
 """What a frame carries, by its link type: an Internet packet, a LAPB frame, or a packet of X.25."""
+from __future__ import annotations
+
 import enum
 import struct
+from collections.abc import Callable
 
-from .frames import KINDS_OF_PACKET, Direction
+from x25tools_lib.choices import KINDS
+
+from .frames import KINDS_OF_PACKET, Direction, Frame
 
 UNIT = struct.Struct(">H")
 VLAN_TAGS = frozenset((0x8100, 0x88A8, 0x9100))
@@ -23,6 +28,9 @@ class Carried(enum.Enum):
     __hash__ = object.__hash__
 
 
+# What a link header carries, and where that begins.
+Found = tuple[Carried, int]
+Opener = Callable[[Frame], Found]
 # Protocols of Ethernet and cooked captures: IPv4, IPv6, X.25, LAPB on a Linux HDLC device.
 PROTOCOLS = {0x0800: Carried.IP, 0x86DD: Carried.IP, 0x0805: Carried.DEVICE, 0x0019: Carried.LAPB}
 LAPB_OVER_ETHERNET = 0x6000
@@ -35,7 +43,7 @@ IPV4 = (Carried.IP, 14)
 DEEPEST = 8
 
 
-def by_protocol(frame, protocol, at):
+def by_protocol(frame: Frame, protocol: int, at: int) -> Found:
     """What an Ethernet type carries."""
     if protocol in PROTOCOLS:
         return PROTOCOLS[protocol], at
@@ -51,7 +59,7 @@ def by_protocol(frame, protocol, at):
     return Carried.OTHER, at
 
 
-def lapb_over_ethernet(frame, at):
+def lapb_over_ethernet(frame: Frame, at: int) -> Found:
     """LAPB over Ethernet has its length before it, the low octet first."""
     if len(frame.octets) < at + 2:
         return Carried.BROKEN, at
@@ -62,7 +70,7 @@ def lapb_over_ethernet(frame, at):
     return Carried.LAPB, at + 2
 
 
-def typed(frame, at):
+def typed(frame: Frame, at: int) -> Found:
     """What comes after addresses or tags: an Ethernet type, before it perhaps VLAN tags."""
     octets = frame.octets
     while True:
@@ -74,12 +82,12 @@ def typed(frame, at):
         at += 4
 
 
-def ethernet(frame):
+def ethernet(frame: Frame) -> Found:
     # Most frames hold IPv4, with nothing before it.
     return IPV4 if frame.octets[12:14] == b"\x08\0" else typed(frame, 12)
 
 
-def mpls(frame, at):
+def mpls(frame: Frame, at: int) -> Found:
     """What comes after labels: IPv4, IPv6, or Ethernet with a control word before it."""
     octets = frame.octets
     while len(octets) >= at + 5:
@@ -97,7 +105,7 @@ def mpls(frame, at):
     return Carried.BROKEN, at
 
 
-def by_ppp(frame, at):
+def by_ppp(frame: Frame, at: int) -> Found:
     """What a protocol of PPP carries."""
     if len(frame.octets) < at + 2:
         return Carried.BROKEN, at
@@ -107,7 +115,7 @@ def by_ppp(frame, at):
     return PPP_PROTOCOLS.get(protocol, Carried.OTHER), at + 2
 
 
-def cooked(frame, kind_at, protocol_at, size):
+def cooked(frame: Frame, kind_at: int, protocol_at: int, size: int) -> Found:
     """A Linux cooked header, with its packet type and its protocol somewhere."""
     if len(frame.octets) < size:
         return Carried.BROKEN, 0
@@ -115,24 +123,24 @@ def cooked(frame, kind_at, protocol_at, size):
     return by_protocol(frame, UNIT.unpack_from(frame.octets, protocol_at)[0], size)
 
 
-def cooked_1(frame):
+def cooked_1(frame: Frame) -> Found:
     return cooked(frame, 1, 14, 16)
 
 
-def cooked_2(frame):
+def cooked_2(frame: Frame) -> Found:
     return cooked(frame, 10, 0, 20)
 
 
-def raw_ip(frame):
+def raw_ip(frame: Frame) -> Found:
     return Carried.IP, 0
 
 
-def loopback(frame):
+def loopback(frame: Frame) -> Found:
     """A BSD loopback: an address family of four octets, whose numbers differ, then IPv4 or IPv6."""
     return Carried.IP, 4
 
 
-def cisco(frame):
+def cisco(frame: Frame) -> Found:
     """Cisco's HDLC has an address of its own (0F or 8F) and a protocol; other addresses are LAPB's."""
     octets = frame.octets
     if len(octets) < 2:
@@ -142,7 +150,7 @@ def cisco(frame):
     return Carried.LAPB, 0
 
 
-def ppp(frame):
+def ppp(frame: Frame) -> Found:
     """PPP, with or without its address and control octets; the addresses 01 and 03 are LAPB's."""
     octets = frame.octets
     if octets[:1] in (b"\x01", b"\x03"):
@@ -150,7 +158,7 @@ def ppp(frame):
     return by_ppp(frame, 2 if octets[:2] == b"\xff\x03" else 0)
 
 
-def directed(frame, carried):
+def directed(frame: Frame, carried: Carried) -> Found:
     """A first octet that is 0 for a frame received, else not."""
     if not frame.octets:
         return Carried.BROKEN, 0
@@ -158,27 +166,27 @@ def directed(frame, carried):
     return carried, 1
 
 
-def lapb_directed(frame):
+def lapb_directed(frame: Frame) -> Found:
     return directed(frame, Carried.LAPB)
 
 
-def x25_directed(frame):
+def x25_directed(frame: Frame) -> Found:
     return directed(frame, Carried.X25)
 
 
-def lapb(frame):
+def lapb(frame: Frame) -> Found:
     return Carried.LAPB, 0
 
 
-def hdlc(frame):
+def hdlc(frame: Frame) -> Found:
     return Carried.HDLC, 0
 
 
-def x25(frame):
+def x25(frame: Frame) -> Found:
     return Carried.X25, 0
 
 
-LINKS = {
+LINKS: dict[int | str | None, Opener] = {
     0: loopback,
     1: ethernet,
     9: ppp,
@@ -195,15 +203,7 @@ LINKS = {
     276: cooked_2,
 }
 
-# The words of --as.
-KINDS = {
-    "ethernet": ethernet,
-    "sll": cooked_1,
-    "sll2": cooked_2,
-    "ip": raw_ip,
-    "lapb": lapb,
-    "lapb-dir": lapb_directed,
-    "hdlc": hdlc,
-    "x25": x25,
-    "x25-dir": x25_directed,
-}
+# What reads the frames of each kind, in the order of the kinds.
+OPENERS: dict[str, Opener] = dict(
+    zip(KINDS, (ethernet, cooked_1, cooked_2, raw_ip, lapb, lapb_directed, hdlc, x25, x25_directed), strict=True)
+)

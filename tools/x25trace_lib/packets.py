@@ -1,27 +1,18 @@
 """A packet of X.25 with its frame and side, and what is read of its octets."""
+from __future__ import annotations
+
 import enum
 import ipaddress
 from dataclasses import dataclass
+from typing import TYPE_CHECKING
+
+from x25tools_lib.sides import Side
+
+if TYPE_CHECKING:
+    from .xot import Circuit
 
 # What a row of a trace takes.
 LONGEST = 4200
-
-
-class Side(enum.Enum):
-    """The DTE or the DCE."""
-
-    T = "T"
-    N = "N"
-
-    # An enumeration hashes and reads its members' values in Python, which is slow for what is done with each packet.
-    __hash__ = object.__hash__
-
-    def __init__(self, letter):
-        self.letter = letter
-        self.other = None
-
-
-Side.T.other, Side.N.other = Side.N, Side.T
 
 
 class Type(enum.IntEnum):
@@ -55,13 +46,13 @@ class Packet:
     frame: int
     side: Side
     octets: bytes
-    circuit: object = None
+    circuit: Circuit | None = None
     time: int | None = None
     # Whether packets of the circuit before it are missing.
     misses: bool = False
 
 
-def channel_of(octets):
+def channel_of(octets: bytes) -> int:
     return (octets[0] & 15) << 8 | octets[1]
 
 
@@ -69,14 +60,14 @@ def channel_of(octets):
 MODULI = {0x10: 8, 0x20: 128}
 
 
-def modulus_of(octets):
+def modulus_of(octets: bytes) -> int | None:
     """What the general format identifier says: 8, 128, or None."""
     return MODULI.get(octets[0] & 0x30)
 
 
-def facilities_of(octets):
+def facilities_of(octets: bytes) -> set[int]:
     """The codes of a call packet's facilities up to a marker; none where its A bit is 1 or its blocks are cut."""
-    codes = set()
+    codes: set[int] = set()
     if octets[0] & 0x80 or len(octets) < 4:
         return codes
     digits = (octets[3] >> 4) + (octets[3] & 15)
@@ -97,6 +88,6 @@ def facilities_of(octets):
     return codes
 
 
-def address_text(end):
+def address_text(end: bytes) -> str:
     """The address of a connection's end."""
     return str(ipaddress.ip_address(end[:-2]))

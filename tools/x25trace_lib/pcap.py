@@ -2,11 +2,18 @@
 
 After a damaged record the next one is sought.
 """
+from __future__ import annotations
+
 import re
 import struct
+from collections.abc import Iterable, Iterator, Sequence
 
-from .frames import KINDS_OF_PACKET, SECOND, Direction, Frame
-from .told import Reason, Refusal, Why
+from x25tools_lib.ledger import Ledger, Reason
+from x25tools_lib.notes import SECOND
+from x25tools_lib.refusals import Refusal, Why
+
+from .frames import KINDS_OF_PACKET, Direction, Frame
+from .source import Source
 
 FILE_HEADER = 24
 # How long a record's header may be. The first one is that of the form; the others are those of old forms, whose magic
@@ -14,7 +21,7 @@ FILE_HEADER = 24
 RECORD_HEADERS = (16, 24, 20)
 MODIFIED_HEADERS = (24, 28)
 NANOSECOND_HEADERS = (16,)
-# The modified forms have the interface, the protocol and the kind of a packet after the usual header.
+# The modified forms have the interface, the protocol and the kind of a packet after the header that all forms have.
 KIND_AT = 22
 # The magic number as it stands in the file: byte order, the parts of a second, and the sizes of a record's header.
 MAGICS = {
@@ -33,7 +40,7 @@ WINDOW = 1 << 20
 class Pcap:
     """The records of one pcap file; the number is that of the last frame, at first that of the file before."""
 
-    def __init__(self, source, ledger, number):
+    def __init__(self, source: Source, ledger: Ledger, number: int) -> None:
         self.source, self.ledger, self.number = source, ledger, number
         order, self.parts, sizes = MAGICS[source.peek(4)]
         self.highest = 0 if order == ">" else 3
@@ -49,9 +56,9 @@ class Pcap:
         self.seconds = None
         self.header_size = self.fitting(sizes)
         # The octets of the last frame and its length on the line, with its frame check sequence.
-        self.recorded = None
+        self.recorded = b"", 0
 
-    def fitting(self, sizes):
+    def fitting(self, sizes: Sequence[int]) -> int:
         """The first size of a record's header by which the first records follow each other, else that of the form."""
         if not self.source.can_wait:
             return sizes[0]
@@ -61,7 +68,7 @@ class Pcap:
                 return self.header_size
         return sizes[0]
 
-    def frames(self):
+    def frames(self) -> Iterator[Frame]:
         read, unpack, largest = self.source.read, self.record.unpack_from, self.largest
         size, nanoseconds = self.header_size, SECOND // self.parts
         while True:
@@ -90,15 +97,15 @@ class Pcap:
                 direction = KINDS_OF_PACKET.get(header[KIND_AT], direction)
             yield Frame(self.number, self.link, octets, length, direction, 0, seconds * SECOND + part * nanoseconds)
 
-    def damage(self, start, words):
+    def damage(self, start: int, words: str) -> None:
         self.ledger.damaged(Reason.BAD_FILE, f"{self.source.place(start)}: {words}")
 
-    def end_inside(self, header):
+    def end_inside(self, header: bytes) -> None:
         if header:
             start = self.source.offset - len(header)
             self.damage(start, f"the file ends inside of a record's header, {len(header)} octets are left out")
 
-    def seek(self, what):
+    def seek(self, what: str) -> None:
         """Goes to the next place where records may begin again, and reports how far it was."""
         start = self.source.offset
         while True:
@@ -113,11 +120,11 @@ class Pcap:
         passed = self.source.offset - start
         self.damage(start, f"{what} cannot be: {passed} octets are left out, frame numbers go on after them")
 
-    def next_record(self, window):
+    def next_record(self, window: bytes) -> int | None:
         """Where in a window two records follow each other, or one that ends with the file."""
         return next((at for at in self.places(window) if self.is_record(window, at)), None)
 
-    def is_record(self, window, at):
+    def is_record(self, window: bytes, at: int) -> bool:
         """Whether a record is here, and after it another one or the end of the file."""
         kept = self.plausible(window, at)
         if kept is None:
@@ -125,7 +132,7 @@ class Pcap:
         after = at + self.header_size + kept
         return after == len(window) < WINDOW or self.plausible(window, after) is not None
 
-    def places(self, window):
+    def places(self, window: bytes) -> Iterable[int]:
         """Where a record may begin: anywhere, or where the highest octet of its seconds is near the last record's."""
         if self.seconds is None:
             return range(1, len(window))
@@ -133,7 +140,7 @@ class Pcap:
         octets = re.compile(b"[" + b"".join(re.escape(bytes((octet,))) for octet in near) + b"]", re.DOTALL)
         return (match.start() - self.highest for match in octets.finditer(window, self.highest + 1))
 
-    def plausible(self, window, at):
+    def plausible(self, window: bytes, at: int) -> int | None:
         """How many octets the record keeps that may begin here, or None."""
         if at + self.header_size > len(window):
             return None

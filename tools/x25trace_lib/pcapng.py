@@ -1,10 +1,17 @@
 """Frames of a pcapng file: sections of either byte order, interfaces, and the three blocks that hold frames."""
+from __future__ import annotations
+
 import enum
 import struct
+from collections.abc import Callable, Iterator
 from dataclasses import dataclass
 
-from .frames import SECOND, Direction, Frame
-from .told import Reason, Refusal, Why
+from x25tools_lib.ledger import Ledger, Reason
+from x25tools_lib.notes import SECOND
+from x25tools_lib.refusals import Refusal, Why
+
+from .frames import Direction, Frame
+from .source import Source
 
 MAGIC = b"\x0a\x0d\x0d\x0a"
 ORDERS = {b"\x1a\x2b\x3c\x4d": ">", b"\x4d\x3c\x2b\x1a": "<"}
@@ -49,7 +56,7 @@ class Interface:
     units: int = 1_000_000
     offset: int = 0
 
-    def time(self, high, low):
+    def time(self, high: int, low: int) -> int:
         """The nanoseconds of a timestamp."""
         return self.offset * SECOND + (high << 32 | low) * SECOND // self.units
 
@@ -57,25 +64,25 @@ class Interface:
 class Pcapng:
     """The blocks of one pcapng file; the number is that of the last frame, at first that of the file before."""
 
-    def __init__(self, source, ledger, number):
+    def __init__(self, source: Source, ledger: Ledger, number: int) -> None:
         self.source, self.ledger, self.number = source, ledger, number
         if source.peek(SMALLEST)[8:] not in ORDERS:
             raise Refusal(Why.UNKNOWN_FORMAT, f"{source.name}: the section header at offset 0 has no byte-order magic")
         self.order = "<"
-        self.interfaces = []
+        self.interfaces: list[Interface] = []
         self.first_interface = 0
 
-    def frames(self):
+    def frames(self) -> Iterator[Frame]:
         for start, kind, octets in self.blocks():
             frame = self.frame_of(kind, start, self.body(octets))
             if frame:
                 yield frame
 
-    def body(self, octets):
+    def body(self, octets: bytes) -> bytes:
         """What is there of a block's body."""
         return octets[8:min(len(octets), self.word(octets, 4) - 4)]
 
-    def blocks(self):
+    def blocks(self) -> Iterator[tuple[int, int, bytes]]:
         """Each block that can be walked over: its offset, its type and its octets, which may end early."""
         while True:
             start = self.source.offset
@@ -95,31 +102,32 @@ class Pcapng:
                 self.damage(start, f"the file ends after {len(octets)} of the block's {length} octets")
             yield start, kind, octets
 
-    def word(self, octets, at):
-        return struct.unpack_from(self.order + "I", octets, at)[0]
+    def word(self, octets: bytes, at: int) -> int:
+        return int(struct.unpack_from(self.order + "I", octets, at)[0])
 
-    def damage(self, start, words):
+    def damage(self, start: int, words: str) -> None:
         self.ledger.damaged(Reason.BAD_FILE, f"{self.source.place(start)}: {words}")
 
-    def measure(self, head):
+    def measure(self, head: bytes) -> tuple[int, int]:
         """Type and length of a block; a section's byte order holds from its own header on."""
         if head[:4] == MAGIC and head[8:12] in ORDERS:
             self.order = ORDERS[head[8:12]]
-        return struct.unpack_from(self.order + "II", head)
+        kind, length = struct.unpack_from(self.order + "II", head)
+        return kind, length
 
     @staticmethod
-    def fault(kind, length):
+    def fault(kind: int, length: int) -> str | None:
         """What forbids to walk over a block, or None."""
         if length < SMALLEST or length % 4 or length > LARGEST:
             return f"a block of type {kind} and {length} octets"
         return None
 
-    def end_inside(self, start, head):
+    def end_inside(self, start: int, head: bytes) -> None:
         if head:
             self.source.read(len(head))
             self.damage(start, f"the file ends inside of a block's head, {len(head)} octets are left out")
 
-    def seek(self, start, what):
+    def seek(self, start: int, what: str) -> None:
         """Goes to the next place with a whole block, and reports how far it was."""
         while True:
             window = self.source.peek(WINDOW)
@@ -133,7 +141,7 @@ class Pcapng:
         passed = self.source.offset - start
         self.damage(start, f"{what} cannot be: {passed} octets are left out, frame numbers go on after them")
 
-    def stands(self, window, at):
+    def stands(self, window: bytes, at: int) -> bool:
         """Whether a block of a known type, with two equal lengths, is here."""
         order = self.order
         if window[at:at + 4] == MAGIC:
@@ -144,7 +152,7 @@ class Pcapng:
             return False
         return window[at + 4:at + 8] == window[end - 4:end]
 
-    def frame_of(self, kind, start, body):
+    def frame_of(self, kind: int, start: int, body: bytes) -> Frame | None:
         """The frame that a block holds, or None for a block without."""
         if kind == Block.SECTION:
             self.first_interface += len(self.interfaces)
@@ -160,7 +168,7 @@ class Pcapng:
             self.ledger.left_out(Reason.OTHER_BLOCK)
         return None
 
-    def describe(self, body):
+    def describe(self, body: bytes) -> None:
         interface = Interface(*struct.unpack_from(self.order + "H2xI", body))
         for code, value in self.options(body, 8):
             if code == CHECK_LENGTH and value:
@@ -171,7 +179,7 @@ class Pcapng:
                 interface.offset = struct.unpack(self.order + "q", value)[0]
         self.interfaces.append(interface)
 
-    def options(self, body, at):
+    def options(self, body: bytes, at: int) -> Iterator[tuple[int, bytes]]:
         """The options of a block, code and value."""
         while at + 4 <= len(body):
             code, length = struct.unpack_from(self.order + "HH", body, at)
@@ -180,7 +188,7 @@ class Pcapng:
             yield code, body[at + 4:at + 4 + length]
             at += 4 + length + -length % 4
 
-    def framed(self, read, start, body):
+    def framed(self, read: Reader, start: int, body: bytes) -> Frame | None:
         try:
             which, at, kept, length, stamp = read(self, body)
         except struct.error:
@@ -201,24 +209,27 @@ class Pcapng:
         time = interface.time(*stamp) if stamp else None
         return Frame(self.number, interface.link, octets, length, direction, self.first_interface + which, time)
 
-    def direction(self, body, at):
+    def direction(self, body: bytes, at: int) -> Direction:
         for code, value in self.options(body, at):
             if code == FLAGS and len(value) == 4:
                 return DIRECTIONS[self.word(value, 0) & 3]
         return Direction.UNKNOWN
 
-    def enhanced(self, body):
+    def enhanced(self, body: bytes) -> Placed:
         which, high, low, kept, length = struct.unpack_from(self.order + "IIIII", body)
         return which, 20, kept, length, (high, low)
 
-    def obsolete(self, body):
+    def obsolete(self, body: bytes) -> Placed:
         which, high, low, kept, length = struct.unpack_from(self.order + "H2xIIII", body)
         return which, 20, kept, length, (high, low)
 
-    def simple(self, body):
+    def simple(self, body: bytes) -> Placed:
         length = self.word(body, 0)
         snap = self.interfaces[0].snap if self.interfaces else 0
         return 0, 4, min(length, snap or length), length, None
 
 
-READERS = {Block.ENHANCED: Pcapng.enhanced, Block.PACKET: Pcapng.obsolete, Block.SIMPLE: Pcapng.simple}
+# The interface of a frame, where its octets begin, how many were kept and how many there were, and its timestamp.
+Placed = tuple[int, int, int, int, "tuple[int, int] | None"]
+Reader = Callable[[Pcapng, bytes], Placed]
+READERS: dict[int, Reader] = {Block.ENHANCED: Pcapng.enhanced, Block.PACKET: Pcapng.obsolete, Block.SIMPLE: Pcapng.simple}

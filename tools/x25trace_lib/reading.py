@@ -1,27 +1,19 @@
 """From the frames of a capture to its packets, whatever carries them."""
-import enum
-from dataclasses import dataclass, field
+from __future__ import annotations
 
-from .frames import Direction
+from collections.abc import Iterable, Iterator, Sequence
+
+from x25tools_lib.choices import Carrier, Choices
+from x25tools_lib.ledger import Ledger, Reason, Topic
+from x25tools_lib.refusals import Refusal, Why
+from x25tools_lib.sides import Side
+
+from .frames import Direction, Frame
 from .internet import Internet
-from .lapb import Lapb, SideBy, unframe
-from .links import KINDS, LINKS, Carried
-from .packets import Packet, Side
-from .told import Reason, Refusal, Topic, Why
+from .lapb import Lapb, unframe
+from .links import LINKS, OPENERS, Carried, Found, Opener
+from .packets import Packet
 from .xot import Xot
-
-XOT_PORT = 1998
-
-
-class Carrier(enum.Enum):
-    """What carries packets; a trace is of one."""
-
-    XOT = "xot"
-    LAPB = "lapb"
-    X25 = "x25"
-
-    __hash__ = object.__hash__
-
 
 CARRIERS = {
     Carried.IP: Carrier.XOT,
@@ -32,36 +24,21 @@ CARRIERS = {
 }
 
 
-@dataclass
-class Choices:
-    """How a capture is to be read."""
-
-    kinds: dict = field(default_factory=dict)
-    ports: list = field(default_factory=lambda: [XOT_PORT])
-    dte: bytes | None = None
-    only: Carrier | None = None
-    interfaces: frozenset = frozenset()
-    senders: dict = field(default_factory=dict)
-    swapped: bool = False
-    side_by: SideBy = SideBy.ADDRESS
-    link_modulus: int | None = None
-
-
 class Reading:
     """The packets of a capture, each with what carried it."""
 
-    def __init__(self, ledger, choices):
+    def __init__(self, ledger: Ledger, choices: Choices) -> None:
         self.ledger, self.choices = ledger, choices
         self.internet = Internet(ledger, choices.ports)
         self.xot = Xot(ledger, choices.ports, choices.dte, choices.swapped)
         self.lapb = Lapb(ledger, choices.link_modulus, choices.side_by, choices.swapped)
         self.frames = 0
-        self.openers = dict(LINKS)
-        self.openers.update({link: KINDS[kind] for link, kind in choices.kinds.items() if link is not None})
-        self.other = KINDS.get(choices.kinds.get(None))
-        self.unknown_links = set()
+        self.openers: dict[int | str | None, Opener] = dict(LINKS)
+        self.openers.update({link: OPENERS[kind] for link, kind in choices.kinds.items() if link is not None})
+        self.other = OPENERS.get(choices.kinds.get(None, ""))
+        self.unknown_links: set[int | str | None] = set()
 
-    def packets(self, frames):
+    def packets(self, frames: Iterable[Frame]) -> Iterator[tuple[Carrier, Packet]]:
         """Pairs of a carrier and a packet."""
         wanted, only, openers = self.choices.interfaces, self.choices.only, self.openers
         segment_of, take = self.internet.segment, self.xot.take
@@ -93,37 +70,38 @@ class Reading:
             yield Carrier.XOT, packet
         self.lapb.end()
 
-    def no_packet(self):
+    def no_packet(self) -> Refusal:
         """The refusal of a capture that has no packet."""
         kinds = " and ".join(sorted(set(self.choices.kinds.values())))
         hint = f", with frames read as {kinds}: another KIND of --as may be right" if kinds else ""
         return Refusal(Why.NO_PACKET, f"no packet of X.25 in {self.frames} frames{hint}")
 
-    def unknown(self, frame):
+    def unknown(self, frame: Frame) -> Found:
         """What a frame of an unknown link type holds."""
         if frame.link not in self.unknown_links:
             self.unknown_links.add(frame.link)
             option = f"--as {frame.link}=KIND" if isinstance(frame.link, int) else "--as KIND"
             words = f"frame {frame.number}: link type {frame.link} is not known; {option}"
-            self.ledger.tell(Topic.UNKNOWN_LINK, words)
+            self.ledger.report(Topic.UNKNOWN_LINK, words)
         return Carried.UNKNOWN, 0
 
-    def not_carried(self, frame, carried):
+    def not_carried(self, frame: Frame, carried: Carried) -> None:
         if carried is Carried.BROKEN:
             self.ledger.damaged(Reason.BAD_HEADER, f"frame {frame.number}: its link header is cut")
         else:
             self.ledger.left_out(Reason.UNKNOWN_LINK if carried is Carried.UNKNOWN else Reason.OTHER_PROTOCOL)
 
-    def from_link(self, frame, carried, at):
+    def from_link(self, frame: Frame, carried: Carried, at: int) -> Sequence[Packet]:
         octets, cut = frame.octets[at:], len(frame.octets) < frame.length
         if carried is Carried.HDLC:
-            octets = None if cut else unframe(octets)
-            if octets is None:
+            unframed = None if cut else unframe(octets)
+            if unframed is None:
                 self.ledger.damaged(Reason.BAD_FCS, f"frame {frame.number}: its frame check sequence is wrong")
                 return ()
+            octets = unframed
         return self.lapb.take(frame, octets, cut)
 
-    def from_packet(self, frame, carried, at):
+    def from_packet(self, frame: Frame, carried: Carried, at: int) -> Sequence[Packet]:
         """A packet without a link header; before one of a Linux device an octet says what it is."""
         octets = frame.octets
         if carried is Carried.DEVICE and len(octets) > at and octets[at] < 4:
@@ -140,7 +118,7 @@ class Reading:
             return ()
         return (Packet(frame.number, side, octets[at:], None, frame.time),)
 
-    def side(self, frame):
+    def side(self, frame: Frame) -> Side | None:
         """The host that recorded is the DTE; or the interface says which side sends on it."""
         if frame.interface in self.choices.senders:
             return self.choices.senders[frame.interface]

@@ -1,8 +1,15 @@
 """Frames of a snoop file (RFC 1761)."""
-import struct
+from __future__ import annotations
 
-from .frames import SECOND, Direction, Frame
-from .told import Reason, Refusal, Why
+import struct
+from collections.abc import Iterator
+
+from x25tools_lib.ledger import Ledger, Reason
+from x25tools_lib.notes import SECOND
+from x25tools_lib.refusals import Refusal, Why
+
+from .frames import Direction, Frame
+from .source import Source
 
 MAGIC = b"snoop\0\0\0"
 FILE_HEADER = struct.Struct(">8xII")
@@ -16,7 +23,7 @@ LINKS = {0: 1, 4: 1}
 class Snoop:
     """The records of one snoop file; the number is that of the last frame, at first that of the file before."""
 
-    def __init__(self, source, ledger, number):
+    def __init__(self, source: Source, ledger: Ledger, number: int) -> None:
         self.source, self.ledger, self.number = source, ledger, number
         header = source.read(FILE_HEADER.size)
         if len(header) < FILE_HEADER.size:
@@ -27,9 +34,9 @@ class Snoop:
         self.link = LINKS.get(link, f"{link} of snoop")
         self.snap, self.check, self.parts = LARGEST, 0, 1_000_000
         # The octets of the last frame and its length on the line.
-        self.recorded = None
+        self.recorded = b"", 0
 
-    def frames(self):
+    def frames(self) -> Iterator[Frame]:
         while True:
             start = self.source.offset
             header = self.source.read(RECORD.size)
@@ -48,7 +55,8 @@ class Snoop:
                 self.damage(start, words)
             self.recorded = octets, max(length, kept)
             time = seconds * SECOND + part * (SECOND // self.parts)
-            yield Frame(self.number, self.link, *self.recorded, Direction.UNKNOWN, 0, time)
+            octets, length = self.recorded
+            yield Frame(self.number, self.link, octets, length, Direction.UNKNOWN, 0, time)
 
-    def damage(self, start, words):
+    def damage(self, start: int, words: str) -> None:
         self.ledger.damaged(Reason.BAD_FILE, f"{self.source.place(start)}: {words}")

@@ -1,68 +1,39 @@
 """The octets of a file or a pipe, with the offset of what comes next; what was looked at is read again."""
+from __future__ import annotations
 
-CHUNK = 1 << 18
+
+from collections.abc import Iterator
+from typing import BinaryIO
+
+from x25tools_lib.streams import CHUNK, Waiting
+
 LONGEST_LINE = 1 << 20
-
-
-class Interrupted(Exception):
-    """The reading is to end here."""
-
-
-def nothing():
-    """What is done before waiting, unless something else is asked for."""
-
-
-class Waiting:
-    """Where octets are waited for: what is done before, and how SIGINT ends it: at once, else before more are read."""
-
-    def __init__(self):
-        self.before = nothing
-        self.interrupted = self.inside = False
-
-    def interrupt(self, _number, _frame):
-        """The handler of the signal; a second one ends the program."""
-        if self.interrupted:
-            raise KeyboardInterrupt
-        self.interrupted = True
-        if self.inside:
-            raise Interrupted
-
-    def octets(self, stream):
-        """The octets that come next, as soon as there are any; none at the end."""
-        self.before()
-        self.inside = True
-        try:
-            if self.interrupted:
-                raise Interrupted
-            return stream.read1(CHUNK)
-        finally:
-            self.inside = False
 
 
 class Source:
     """A stream, and what was taken from it: ahead has the octets, of which those before at were read."""
 
-    def __init__(self, stream, waiting, name, several):
+    def __init__(self, stream: BinaryIO, waiting: Waiting, name: str, several: bool) -> None:
         self.stream, self.waiting, self.name, self.several = stream, waiting, name, several
         # The octets that came and are not dropped yet, where they begin in the file, and how many of them were read.
         self.ahead = b""
         self.begun = self.at = 0
 
     @property
-    def can_wait(self):
+    def can_wait(self) -> bool:
         """Whether more octets may be looked at than what comes next: those of a file are all there."""
         return self.stream.seekable()
 
     @property
-    def offset(self):
+    def offset(self) -> int:
         """Where in the file the next octet is."""
         return self.begun + self.at
 
-    def place(self, offset):
+    def place(self, offset: int) -> str:
         """The words for an offset, with the name of the file where there are several."""
         return f"{self.name}, offset {offset}" if self.several else f"offset {offset}"
 
-    def fill(self, many):
+    def fill(self, many: int) -> None:
         """Takes octets from the stream until so many are ahead, or it ends."""
         parts = [self.ahead[self.at:]]
         there = len(parts[0])
@@ -72,7 +43,7 @@ class Source:
         self.begun += self.at
         self.ahead, self.at = b"".join(parts), 0
 
-    def read(self, many):
+    def read(self, many: int) -> bytes:
         """The next octets; fewer where the file ends."""
         octets = self.ahead[self.at:self.at + many]
         if len(octets) < many:
@@ -81,17 +52,17 @@ class Source:
         self.at += len(octets)
         return octets
 
-    def unread(self, octets):
+    def unread(self, octets: bytes) -> None:
         """Puts back what was read last."""
         self.at -= len(octets)
 
-    def peek(self, many):
+    def peek(self, many: int) -> bytes:
         """What read would give, without reading it."""
         if len(self.ahead) - self.at < many:
             self.fill(many)
         return self.ahead[self.at:self.at + many]
 
-    def skip(self, many):
+    def skip(self, many: int) -> int:
         """Reads over octets, in pieces; returns how many there were."""
         skipped = 0
         while skipped < many:
@@ -101,7 +72,7 @@ class Source:
             skipped += len(octets)
         return skipped
 
-    def lines(self):
+    def lines(self) -> Iterator[tuple[int, bytes]]:
         """The lines of the rest, without their ends, each with its offset."""
         while rest := self.read(self.line_length()):
             at = self.offset - len(rest)
@@ -109,7 +80,7 @@ class Source:
                 yield at, line.rstrip(b"\r\n")
                 at += len(line)
 
-    def line_length(self):
+    def line_length(self) -> int:
         """How many octets there are up to the next line feed, or to the end; a line without one is cut."""
         seen = 0
         while True:

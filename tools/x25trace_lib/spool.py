@@ -1,32 +1,25 @@
 """The rows and comments of a trace: how they are written, and where they wait for a header that is not known yet."""
-import tempfile
+from __future__ import annotations
 
-from .frames import SECOND
+import tempfile
+from collections.abc import Iterator, Sequence
+
+from x25tools_lib.notes import MOST_CIRCUITS, Circuit, comment, frame_text, time_line
+
+from . import xot
+from .packets import Packet
 
 LAST_NUMBER = 999_999_999
-LONGEST_COMMENT = 8_000
-
-
-def comment(words):
-    """A comment line: printable ASCII, far below the longest line."""
-    return "# " + "".join(letter if " " <= letter <= "~" else "?" for letter in words[:LONGEST_COMMENT]) + "\n"
-
-
-def time_line(time):
-    """The comment with the time of a row, in seconds with as many decimals as they need."""
-    seconds, part = divmod(abs(time), SECOND)
-    decimals = f".{part:09}".rstrip("0") if part else ""
-    return f"#@ {'-' if time < 0 else ''}{seconds}{decimals}\n"
 
 
 class Rows:
-    """Numbers rows: by their frames, or on from the row before where a number was had, or frames are too many."""
+    """Numbers rows: by their frames, or on from the row before where that number is taken, or frames are too many."""
 
-    def __init__(self, by_frames=True):
+    def __init__(self, by_frames: bool = True) -> None:
         self.by_frames = by_frames
         self.number = 0
 
-    def row(self, frame, words, time):
+    def row(self, frame: int, words: str, time: int | None) -> str:
         """The line of a row, after comments with its time and with the frame that its number does not say.
 
         The words are those after the number.
@@ -35,7 +28,7 @@ class Rows:
         line = f"{number} {words}"
         if time is not None:
             line = time_line(time) + line
-        return line if number == frame else f"# {number} is of frame {frame}\n{line}"
+        return line if number == frame else comment(frame_text(number, frame)) + line
 
 
 class Spool:
@@ -43,47 +36,51 @@ class Spool:
 
     MOST_LINES = 1000
 
-    def __init__(self, times=False, last_number=LAST_NUMBER):
+    def __init__(self, has_times: bool = False, last_number: int = LAST_NUMBER) -> None:
         self.file = tempfile.TemporaryFile("w+", encoding="ascii", newline="\n", buffering=1 << 16)
-        self.lines = []
+        self.lines: list[str] = []
         self.rows = 0
-        self.times, self.last_number = times, last_number
+        self.has_times, self.last_number = has_times, last_number
         self.number = 0
+        # The first circuits of the rows that were written.
+        self.circuits: list[Circuit] = []
 
-    def tell(self, words):
+    def note(self, words: str) -> None:
+        """Keeps a comment."""
         self.lines.append(comment(words))
 
-    def add(self, packet, circuit):
+    def add(self, packet: Packet, circuit: int) -> None:
         """Keeps a row: its circuit, 0 on a line, perhaps its time, its frame, and what stands behind its number."""
         self.rows += 1
         frame, lines = packet.frame, self.lines
         self.number = frame if frame > self.number else self.number + 1
-        if self.times and packet.time is not None:
-            circuit = f"{circuit}@{packet.time}"
-        lines.append(f"{circuit} {frame} {packet.side.letter} {packet.octets.hex().upper() or '-'}\n")
+        key = f"{circuit}@{packet.time}" if self.has_times and packet.time is not None else str(circuit)
+        lines.append(f"{key} {frame} {packet.side.letter} {packet.octets.hex().upper() or '-'}\n")
         if len(lines) > self.MOST_LINES:
             self.write()
 
-    def write(self):
+    def write(self) -> None:
         self.file.write("".join(self.lines))
         self.lines.clear()
 
     @property
-    def by_frames(self):
+    def by_frames(self) -> bool:
         """Whether frame numbers can number the rows, or there are too many."""
         return self.number <= self.last_number
 
-    def replay(self, circuits):
+    def replay(self, circuits: Sequence[xot.Circuit]) -> Iterator[str]:
         """The text of the trace behind its header, in parts."""
         self.write()
         self.file.seek(0)
-        row, channels, lines = Rows(self.by_frames).row, {"0": None}, []
+        rows, lines = Rows(self.by_frames), list[str]()
+        row, channels = rows.row, dict[str, int | None]({"0": None})
         for line in self.file:
             if line[0] == "#":
                 lines.append(line)
                 continue
             key, frame, words = line.split(" ", 2)
-            which, _, time = key.partition("@") if self.times else (key, "", "")
+            which, _, time = key.partition("@") if self.has_times else (key, "", "")
+            circuit = None
             if which not in channels:
                 circuit = circuits[int(which) - 1]
                 channels[which] = circuit.channel
@@ -95,15 +92,22 @@ class Spool:
                     continue
                 words = on_channel(words, channel)
             lines.append(row(int(frame), words, int(time) if time else None))
+            if circuit:
+                self.keep(circuit, rows.number)
             if len(lines) > self.MOST_LINES:
                 yield "".join(lines)
                 lines.clear()
         yield "".join(lines)
 
-    def close(self):
+    def keep(self, circuit: xot.Circuit, row: int) -> None:
+        """Keeps what a circuit is that begins with a row."""
+        if circuit.channel is not None and len(self.circuits) < MOST_CIRCUITS:
+            self.circuits.append(Circuit(row, circuit.channel, circuit.shown_words()))
+
+    def close(self) -> None:
         self.file.close()
 
 
-def on_channel(words, channel):
+def on_channel(words: str, channel: int) -> str:
     """The side and the octets of a row with another logical channel; the general format identifier stays."""
     return f"{words[:3]}{channel:03X}{words[6:]}" if len(words) > 6 else words

@@ -9,11 +9,14 @@ A segment waits while octets before it are missing, and also while it acknowledg
 were not delivered yet: its sender had them, so what it sends may answer them. Missing octets are given up once the
 other side has acknowledged them and more segments wait than a recorder puts out of order.
 """
+from __future__ import annotations
+
 import bisect
 from dataclasses import dataclass
 
-from .internet import FIN, RST, SYN
-from .told import Reason
+from x25tools_lib.ledger import Ledger, Reason
+
+from .internet import FIN, RST, SYN, Segment
 
 CIRCLE = 1 << 32
 HALF = 1 << 31
@@ -31,7 +34,7 @@ PATIENCE_ONE_WAY = 64
 FARTHEST = 1 << 24
 
 
-def ahead(number, other):
+def ahead(number: int, other: int) -> int:
     """How far a sequence number is ahead of another one, on the circle of 2^32."""
     return (number - other + HALF) % CIRCLE - HALF
 
@@ -56,39 +59,50 @@ class Gap:
     how: str
 
 
+Event = Chunk | Gap
+
+
 class Stream:
     """One direction: the next sequence number, what was acknowledged of it, and the segments that wait."""
 
     __slots__ = ("first", "next", "acknowledged", "held", "ended")
 
-    def __init__(self):
-        self.first = self.next = self.acknowledged = None
-        self.held = []
+    def __init__(self) -> None:
+        self.first: int | None = None
+        self.next: int | None = None
+        self.acknowledged: int | None = None
+        self.held: list[Segment] = []
         self.ended = False
 
-    def hold(self, segment):
+    @property
+    def following(self) -> int:
+        """The next sequence number, of a stream whose beginning is known."""
+        assert self.next is not None
+        return self.next
+
+    def hold(self, segment: Segment) -> None:
         """Keeps a segment in the order of the sequence numbers."""
-        bisect.insort(self.held, segment, key=lambda other: ahead(other.sequence, self.next))
+        bisect.insort(self.held, segment, key=lambda other: ahead(other.sequence, self.following))
 
 
 class Budget:
     """What all connections together keep waiting."""
 
-    def __init__(self):
+    def __init__(self) -> None:
         self.used = 0
 
 
 class Connection:
     """Two ends and the stream from each: index 0 is the one that opened, as far as that is known."""
 
-    def __init__(self, ledger, budget, ends):
+    def __init__(self, ledger: Ledger, budget: Budget, ends: tuple[bytes, bytes]) -> None:
         self.ledger, self.budget, self.ends = ledger, budget, ends
         self.streams = (Stream(), Stream())
         self.cost = 0
         self.leaving = [False, False]
         self.over = False
 
-    def begin(self, index, segment):
+    def begin(self, index: int, segment: Segment) -> None:
         """Takes the sequence number of an opening segment."""
         stream = self.streams[index]
         if stream.next is None:
@@ -98,7 +112,11 @@ class Connection:
             self.streams[1 - index].next = segment.acknowledged
         segment.sequence = (segment.sequence + 1) % CIRCLE
 
-    def takes(self, index, segment):
+    def was_seen(self, index: int) -> bool:
+        """Whether a segment of an end was recorded: one that began its direction, or acknowledged the other one."""
+        return self.streams[index].first is not None or self.streams[1 - index].acknowledged is not None
+
+    def takes(self, index: int, segment: Segment) -> bool:
         """Takes a segment of octets that simply follows all that both sides sent, as most do; others are to be fed."""
         stream, other, payload = self.streams[index], self.streams[1 - index], segment.payload
         if segment.sequence != stream.next or segment.acknowledged != other.next or not payload:
@@ -106,12 +124,12 @@ class Connection:
         if self.cost or segment.flags & ENDS or segment.missing:
             return False
         other.acknowledged = segment.acknowledged
-        stream.next = (stream.next + len(payload)) % CIRCLE
+        stream.next = (segment.sequence + len(payload)) % CIRCLE
         return True
 
-    def feed(self, index, segment):
+    def feed(self, index: int, segment: Segment) -> list[Event]:
         """The chunks and gaps that a segment completes, in order."""
-        stream, events, payload = self.streams[index], [], segment.payload
+        stream, events, payload = self.streams[index], list[Event](), segment.payload
         if segment.flags & SYN:
             self.begin(index, segment)
         if segment.acknowledged is not None:
@@ -128,7 +146,7 @@ class Connection:
             stream.next = segment.sequence
         if not self.cost and segment.sequence == stream.next and self.answers(index, segment):
             self.deliver(index, segment, events)
-        elif ahead(segment.sequence + len(payload) + segment.missing + fin, stream.next) <= 0:
+        elif ahead(segment.sequence + len(payload) + segment.missing + fin, stream.following) <= 0:
             self.ledger.left_out(Reason.REPEATED_OCTETS)
         else:
             self.keep(stream, segment)
@@ -137,20 +155,23 @@ class Connection:
                 self.judge(events)
         return events
 
-    def keep(self, stream, segment):
+    def keep(self, stream: Stream, segment: Segment) -> None:
+        """Has a segment wait."""
         stream.hold(segment)
         self.charge(len(segment.payload) + SEGMENT_COST)
 
-    def take_back(self, stream):
+    def take_back(self, stream: Stream) -> Segment:
+        """The first segment that waits, which waits no longer."""
         segment = stream.held.pop(0)
         self.charge(-len(segment.payload) - SEGMENT_COST)
         return segment
 
-    def charge(self, cost):
+    def charge(self, cost: int) -> None:
+        """Adds to what all connections keep waiting."""
         self.cost += cost
         self.budget.used += cost
 
-    def answers(self, index, segment):
+    def answers(self, index: int, segment: Segment) -> bool:
         """Whether all that a segment acknowledges was delivered."""
         other = self.streams[1 - index].next
         if other is None or segment.acknowledged is None:
@@ -158,23 +179,23 @@ class Connection:
         beyond = (segment.acknowledged - other) % CIRCLE
         return beyond == 0 or beyond > FARTHEST
 
-    def pump(self, events):
+    def pump(self, events: list[Event]) -> None:
         """Delivers what waits no longer, the lower frame first."""
         while True:
             ready = []
             for index, stream in enumerate(self.streams):
                 head = next(iter(stream.held), None)
-                if head and ahead(head.sequence, stream.next) <= 0 and self.answers(index, head):
+                if head and ahead(head.sequence, stream.following) <= 0 and self.answers(index, head):
                     ready.append((head.frame, index))
             if not ready:
                 return
             _, index = min(ready)
             self.deliver(index, self.take_back(self.streams[index]), events)
 
-    def deliver(self, index, segment, events):
+    def deliver(self, index: int, segment: Segment, events: list[Event]) -> None:
         """Adds the octets of a segment that were not delivered before, and takes its end."""
         stream, payload = self.streams[index], segment.payload
-        old = ahead(stream.next, segment.sequence)
+        old = ahead(stream.following, segment.sequence)
         past, fin = len(payload) + segment.missing, segment.flags & FIN
         if old and past + fin <= old:
             self.ledger.left_out(Reason.REPEATED_OCTETS)
@@ -186,11 +207,11 @@ class Connection:
         if segment.missing and past > old:
             events.append(Gap(index, segment.frame, past - max(old, len(payload)), "were cut off"))
         if fin and not stream.ended:
-            stream.next = (stream.next + 1) % CIRCLE
+            stream.next = (stream.following + 1) % CIRCLE
             stream.ended = True
             self.over = self.streams[1 - index].ended
 
-    def give_up(self):
+    def give_up(self) -> None:
         """Counts what waits as left out."""
         for stream in self.streams:
             self.ledger.left_out(Reason.AFTER_BREAK, len(stream.held))
@@ -198,14 +219,14 @@ class Connection:
         self.budget.used -= self.cost
         self.cost = 0
 
-    def judge(self, events):
+    def judge(self, events: list[Event]) -> None:
         """Gives up octets that will not come, as long as something waits for them."""
         # Both ends had all when they said their last word.
         ended = all(self.leaving) and self.acknowledged_all()
         while self.cost and (ended or self.is_overdue()):
             self.lose(events)
 
-    def acknowledged_all(self):
+    def acknowledged_all(self) -> bool:
         """Whether the last octet that waits was acknowledged, in both directions."""
         return all(
             not stream.held
@@ -214,7 +235,7 @@ class Connection:
             for stream in self.streams
         )
 
-    def is_overdue(self):
+    def is_overdue(self) -> bool:
         """Whether more waits than may, or for octets that are surely in no later segment."""
         if self.cost > MOST_OF_ONE or self.budget.used > MOST_OF_ALL:
             return True
@@ -223,35 +244,35 @@ class Connection:
         stream = self.streams[index]
         if stream.acknowledged is None:
             return many > PATIENCE_ONE_WAY
-        return many > PATIENCE and ahead(stream.acknowledged, stream.next) > 0
+        return many > PATIENCE and ahead(stream.acknowledged, stream.following) > 0
 
-    def missing(self):
+    def missing(self) -> tuple[int, int, int]:
         """The first octets that something waits for: their direction, how many they are, and the frame that waits."""
         _, index = min((stream.held[0].frame, index) for index, stream in enumerate(self.streams) if stream.held)
         head, other = self.streams[index].held[0], self.streams[1 - index]
-        many = ahead(head.sequence, self.streams[index].next)
+        many = ahead(head.sequence, self.streams[index].following)
         if many > 0:
             return index, many, head.frame
-        many = ahead(head.acknowledged, other.next)
+        many = ahead(head.acknowledged or 0, other.following)
         if other.held:
-            many = min(many, ahead(other.held[0].sequence, other.next))
+            many = min(many, ahead(other.held[0].sequence, other.following))
         return 1 - index, many, head.frame
 
-    def lose(self, events):
+    def lose(self, events: list[Event]) -> None:
         """Gives up the first octets that something waits for."""
         index, many, frame = self.missing()
         stream = self.streams[index]
         if many > 0:
             events.append(Gap(index, frame, many, "before it were not recorded"))
-            stream.next = (stream.next + many) % CIRCLE
+            stream.next = (stream.following + many) % CIRCLE
         else:
             # Each direction acknowledges what comes next in the other one.
             self.deliver(index, self.take_back(stream), events)
         self.pump(events)
 
-    def flush(self):
+    def flush(self) -> list[Event]:
         """What still waits, with its gaps: no more segments come."""
-        events = []
+        events: list[Event] = []
         while self.cost:
             self.lose(events)
         return events

@@ -1,12 +1,25 @@
 """The trace of a capture: its packets are spooled and seen, then the header, the rows and the counts are written."""
+from __future__ import annotations
+
 from collections import Counter
+from collections.abc import Iterable, Iterator
+from typing import IO
+
+from x25tools_lib import notes
+from x25tools_lib.choices import Carrier
+from x25tools_lib.header import LAST_CHANNEL, Header, Wishes
+from x25tools_lib.ledger import Ledger, Reason
+from x25tools_lib.notes import Head, comment
+from x25tools_lib.refusals import Refusal, Why
+from x25tools_lib.sides import Side
 
 from .channels import assign
-from .estimate import LAST_CHANNEL, Estimator, estimates, header_of, hidden
+from .estimate import Estimator, estimates, header_of, hidden
+from .frames import Frame
+from .halves import halves_of
 from .packets import LONGEST, channel_of
-from .reading import Carrier
-from .spool import Spool, comment
-from .told import Reason, Refusal, Why
+from .reading import Reading
+from .spool import Spool
 
 LARGEST_TEXT = 1 << 30
 
@@ -14,17 +27,18 @@ LARGEST_TEXT = 1 << 30
 class Trace:
     """What is gathered of a capture until its trace can be written."""
 
-    def __init__(self, ledger, reading, wishes, times):
+    def __init__(self, ledger: Ledger, reading: Reading, wishes: Wishes, has_times: bool) -> None:
         self.ledger, self.reading, self.wishes = ledger, reading, wishes
-        self.spool = Spool(times)
+        self.spool = Spool(has_times)
         self.estimator = Estimator()
         reading.xot.on_end = self.estimator.forget
-        self.carriers = Counter()
-        ledger.keep = self.spool.tell
+        self.carriers: Counter[Carrier] = Counter()
+        self.sides: set[Side] = set()
+        ledger.keep = self.spool.note
 
-    def gather(self, frames):
+    def gather(self, frames: Iterable[Frame]) -> None:
         """Takes all packets of the frames."""
-        see, add, carriers = self.estimator.see, self.spool.add, self.carriers
+        see, add, carriers, sides = self.estimator.see, self.spool.add, self.carriers, self.sides
         for carrier, packet in self.reading.packets(frames):
             octets, circuit = packet.octets, packet.circuit
             if len(octets) > LONGEST:
@@ -33,10 +47,13 @@ class Trace:
                 continue
             carriers[carrier] += 1
             if circuit is None:
+                sides.add(packet.side)
                 key = channel_of(octets) if len(octets) >= 2 else 0
                 see(key, False, packet.side, octets, True)
                 add(packet, 0)
                 continue
+            if not circuit.both and packet.side is not circuit.side:
+                circuit.see(packet.side)
             if packet.misses:
                 self.estimator.miss(circuit.number)
             see(circuit.number, circuit.from_opening, packet.side, octets, False)
@@ -46,13 +63,13 @@ class Trace:
             if circuit.rows == 1:
                 circuit.first_row = circuit.last_row
 
-    def header(self):
+    def header(self) -> Header:
         """The header; XOT circuits get their channels by it."""
         if not self.carriers:
             raise self.reading.no_packet()
         if len(self.carriers) > 1:
             words = " and ".join(f"{many} packets in {carrier.value}" for carrier, many in self.carriers.items())
-            raise Refusal(Why.MIXED, f"{words}; a trace is of one interface: --only tells which")
+            raise Refusal(Why.MIXED, f"{words}; a trace is of one interface: --only says which")
         if Carrier.XOT not in self.carriers:
             estimator = self.estimator
             join = not estimator.first_is_restart
@@ -66,23 +83,24 @@ class Trace:
         assign(used, header, self.ledger)
         return header
 
-    def parts(self, name):
-        """The text of the trace, in parts."""
+    def head(self, name: str) -> Head:
+        """What the trace says before its rows."""
         header = self.header()
-        yield comment(f"from {name} by x25trace, {self.reading.frames} frames; a row has the number of its frame")
-        guesses = estimates(self.wishes, header, self.estimator)
-        if guesses:
-            yield comment("estimated from what was seen: " + ", ".join(guesses))
-        words = hidden(self.wishes, header, self.estimator)
-        if words:
+        head = Head(header.line(), estimates=estimates(self.wishes, header, self.estimator))
+        head.comments.append(f"from {name} by x25trace, {self.reading.frames} frames; a row has the number of its frame")
+        if head.estimates:
+            head.comments.append(notes.estimates_text(head.estimates))
+        if words := hidden(self.wishes, header, self.estimator):
             self.ledger.say(words)
-            yield comment(words)
-        yield from map(comment, self.doubts(header))
-        yield header.line() + "\n"
-        yield from self.spool.replay(self.reading.xot.circuits)
-        yield from map(comment, self.ledger.lines())
+            head.comments.append(words)
+        head.comments += self.doubts(header)
+        carrier, = self.carriers
+        head.halves = halves_of(self.reading, carrier, self.sides)
+        head.comments += [it.text for it in head.halves]
+        self.ledger.lack(head.halves)
+        return head
 
-    def doubts(self, header):
+    def doubts(self, header: Header) -> Iterator[str]:
         """What a reader of the header should know."""
         moduli = self.estimator.moduli
         strange = sum(moduli.values()) - moduli[header.modulus]
@@ -91,13 +109,21 @@ class Trace:
         if not self.spool.by_frames:
             yield "the frames are too many to number the rows by them, which count from 1"
 
-    def write(self, name, out):
-        """Writes the trace; returns how many bytes it has."""
-        size = 0
-        for part in self.parts(name):
+    def parts(self, head: Head) -> Iterator[str]:
+        """The text of the trace, in parts."""
+        yield from map(comment, head.comments)
+        yield head.header + "\n"
+        yield from self.spool.replay(self.reading.xot.circuits)
+        yield from map(comment, self.ledger.lines())
+
+    def write(self, name: str, out: IO[str]) -> Head:
+        """Writes the trace; returns what it says besides its rows."""
+        head, size = self.head(name), 0
+        for part in self.parts(head):
             size += len(part)
             out.write(part)
         if size > LARGEST_TEXT:
             words = f"the trace has {size} bytes, and x25scan reads {LARGEST_TEXT}: split the capture"
             self.ledger.damaged(Reason.LARGE_TEXT, words)
-        return size
+        head.circuits = self.spool.circuits
+        return head

@@ -1,5 +1,8 @@
 """Tunnels in Internet packets: IP in IP, GRE and VXLAN; each says what its octets carry, as a link header does."""
-from .links import DEEPEST, Carried, by_protocol, typed
+from __future__ import annotations
+
+from .frames import Frame
+from .links import DEEPEST, Carried, Found, by_protocol, typed
 
 IP_IN_IP = 4
 IPV6_IN_IP = 41
@@ -12,11 +15,11 @@ ETHERNET_IN_GRE = 0x6558
 CHECKSUM, ROUTING, KEY, SEQUENCE = 0x80, 0x40, 0x20, 0x10
 
 
-def ip(frame):
+def ip(frame: Frame) -> Found:
     return Carried.IP, 0
 
 
-def gre(frame):
+def gre(frame: Frame) -> Found:
     """GRE of version 0: fields by its flags, then what its protocol says, perhaps a whole Ethernet frame."""
     octets = frame.octets
     if len(octets) < 4:
@@ -28,7 +31,7 @@ def gre(frame):
     return typed(frame, at + 12) if protocol == ETHERNET_IN_GRE else by_protocol(frame, protocol, at)
 
 
-def vxlan(frame):
+def vxlan(frame: Frame) -> Found:
     """UDP to a port of VXLAN: eight octets of each header, then an Ethernet frame."""
     octets = frame.octets
     if len(octets) < 16 or octets[2] << 8 | octets[3] not in VXLAN_PORTS or not octets[8] & 8:
@@ -39,7 +42,7 @@ def vxlan(frame):
 OPENERS = {IP_IN_IP: ip, IPV6_IN_IP: ip, GRE: gre, UDP: vxlan}
 
 
-def opened(protocol, frame):
+def opened(protocol: int, frame: Frame) -> Found:
     """What an Internet packet of a protocol carries as a tunnel: as of a link header, OTHER where it is none."""
     opener = OPENERS.get(protocol)
     if opener is None or frame.depth > DEEPEST:

@@ -1,18 +1,23 @@
 """XOT: packets of X.25 in TCP connections, one connection a circuit."""
+from __future__ import annotations
+
 import heapq
 import struct
 from collections import deque
+from collections.abc import Callable, Iterable, Iterator
 from dataclasses import dataclass, field
 
-from .internet import RST, SYN, port_of
-from .packets import LONGEST, Packet, Side, Type, address_text, channel_of, modulus_of
-from .tcp import Budget, Chunk, Connection, ahead
-from .told import Reason, Topic
+from x25tools_lib.ledger import Ledger, Reason, Topic
+from x25tools_lib.notes import circuit_text
+from x25tools_lib.sides import Side
+
+from .internet import RST, SYN, Segment, port_of
+from .packets import LONGEST, Packet, Type, address_text, channel_of, modulus_of
+from .tcp import Budget, Chunk, Connection, Event, Gap, ahead
 
 HEAD = struct.Struct(">HH")
 PVC_SETUP = 0xF5
 MOST_OVER = 1000
-NOTHING = (None, 0, None)
 LINE_TYPES = frozenset((Type.RESTART, Type.RESTART_CONFIRM, Type.DIAGNOSTIC, Type.REGISTRATION, Type.REGISTERED))
 CALL_TYPES = frozenset((Type.CALL, Type.CLEAR, Type.CLEAR_CONFIRM))
 
@@ -22,8 +27,8 @@ class Circuit:
     """What one connection is in the trace. The first end is the one that opened it."""
 
     number: int
-    ends: tuple
-    sides: tuple
+    ends: tuple[bytes, bytes]
+    sides: tuple[Side, Side]
     frame: int
     from_opening: bool
     permanent: bool = False
@@ -40,9 +45,13 @@ class Circuit:
     last_row: int = 0
     channel: int | None = None
     again: bool = False
-    rests: list = field(default_factory=lambda: [b"", b""])
-    synchronised: list = field(default_factory=lambda: [True, True])
+    rests: list[bytes] = field(default_factory=lambda: [b"", b""])
+    synchronised: list[bool] = field(default_factory=lambda: [True, True])
     has_gaps: bool = False
+    # The side of its last packet, whether both sides have some, and from which end something surely is missing.
+    side: Side | None = None
+    both: bool = False
+    lacks: list[bool] = field(default_factory=lambda: [False, False])
     # Whether a gap comes before the next packet.
     misses: bool = False
     # Whether its packets are left out from here on: where it broke, and where its connection ended.
@@ -50,32 +59,45 @@ class Circuit:
     broken: bool = False
     ended: bool = False
 
-    def who(self):
+    def who(self) -> str:
+        """The two ends with their sides."""
         ends = [f"{address_text(end)} port {port_of(end)} ({side.name})" for end, side in zip(self.ends, self.sides)]
         return " and ".join(ends)
 
-    def shown_words(self):
+    def shown_words(self) -> str:
         """What stands before the first row."""
         again = ", which another one had before" if self.again else ""
         line = "" if self.line_channel is None else f", logical channel {self.line_channel} in the capture"
-        return f"connection {self.number} is channel {self.channel}{again}: {self.who()}{line}"
+        return circuit_text(self.number, self.channel, f"{again}: {self.who()}{line}")
 
     @property
-    def is_free(self):
+    def is_free(self) -> bool:
         """Whether its channel is surely in p1: its call was cleared, that was confirmed, and no error came after it."""
         return self.confirmed and not self.spoiled and not self.permanent
 
-    def end_words(self):
-        """What is told where the connection ends without a confirmed clear, or None."""
+    def see(self, side: Side) -> None:
+        """Takes a packet of another side than the last one."""
+        self.both = self.side is not None
+        self.side = side
+
+    @property
+    def is_half(self) -> bool:
+        """Whether it has packets of one side alone, and something of the other side is missing."""
+        return self.side is not None and not self.both and self.lacks[self.sides.index(self.side.other)]
+
+    def end_words(self) -> str | None:
+        """What is said where the connection ends without a confirmed clear, or None."""
+        if self.is_half:
+            return None
         if self.permanent:
             return "the connection of a permanent circuit ends"
         if self.called and self.cleared_by is None:
             return "it ends without a clear"
-        if self.called and not self.confirmed:
+        if self.called and self.cleared_by and not self.confirmed:
             return f"it ends before the clear of {self.cleared_by.name} was confirmed"
         return None
 
-    def step(self, side, kind, length):
+    def step(self, side: Side, kind: int, length: int) -> None:
         """Follows the call by the packets that open and end it."""
         # What the DTE sends after the clear, and a clear without a cause, are errors that leave p1 or do not reach it.
         self.spoiled |= self.confirmed and side is Side.T and kind != Type.CALL or kind == Type.CLEAR and length < 4
@@ -89,7 +111,7 @@ class Circuit:
             self.confirmed = True
 
 
-def begins(octets, circuit):
+def begins(octets: bytes, circuit: Circuit) -> bool | None:
     """Whether a segment begins with an XOT header and a packet of a circuit; None where more octets are needed."""
     if not b"\0\0".startswith(octets[:2]):
         return False
@@ -109,55 +131,62 @@ def begins(octets, circuit):
     return True
 
 
+# A connection, which of its ends a segment is from, and its circuit.
+Entry = tuple[Connection, int, Circuit]
+
+
 class Xot:
     """All connections of a capture, and the packets that they carry."""
 
-    def __init__(self, ledger, ports, dte, swapped):
+    def __init__(self, ledger: Ledger, ports: Iterable[int], dte: bytes | None, swapped: bool) -> None:
         self.ledger, self.ports, self.dte = ledger, frozenset(ports), dte
         self.sides = (Side.N, Side.T) if swapped else (Side.T, Side.N)
         self.budget = Budget()
-        self.circuits = []
-        self.table = {}
+        self.circuits: list[Circuit] = []
+        self.table: dict[tuple[bytes, bytes], Entry] = {}
         # Connections that are over stay in the table for a while: their last segments may be repeated.
-        self.over = deque()
-        # The circuits of connections that ended with the last segment, and who hears of them with the next one: by
+        self.over: deque[Connection] = deque()
+        # The circuits of connections that ended with the last segment, which on_end is called for with the next one: by
         # then their packets were taken.
-        self.ending = []
-        self.on_end = None
+        self.ending: list[Circuit] = []
+        self.on_end: Callable[[Circuit], object] | None = None
 
-    def take(self, segment):
+    def take(self, segment: Segment) -> Iterable[Packet]:
         """The packets that a segment completes; they are to be taken before the next segment."""
         while self.ending:
-            self.on_end(self.ending.pop())
+            circuit = self.ending.pop()
+            if self.on_end:
+                self.on_end(circuit)
         if self.dte is not None and self.dte not in (segment.source[:-2], segment.target[:-2]):
             self.ledger.left_out(Reason.OTHER_HOST)
             return ()
-        connection, index, circuit = self.table.get((segment.source, segment.target), NOTHING)
-        if segment.flags & SYN and not (connection and self.goes_on(connection, index, segment)):
-            return self.begin(connection, circuit, segment)
-        if connection is None:
+        entry = self.table.get((segment.source, segment.target))
+        if segment.flags & SYN and not (entry and self.goes_on(entry[0], entry[1], segment)):
+            return self.begin(entry, segment)
+        if entry is None:
             if segment.flags & RST or not segment.payload and not segment.missing:
                 self.ledger.left_out(Reason.NO_OCTETS)
                 return ()
-            connection, index, circuit = self.open(segment, False)
+            entry = self.open(segment, False)
+        connection, index, circuit = entry
         if not circuit.left and connection.takes(index, segment):
             return self.packets(circuit, Chunk(index, segment.frame, segment.payload, segment.time))
         return self.feed(connection, index, circuit, segment)
 
-    def begin(self, connection, circuit, segment):
+    def begin(self, before: Entry | None, segment: Segment) -> Iterator[Packet]:
         """A new connection, after what waits in the one before it on the same ports."""
-        if connection:
-            yield from self.finish(connection, circuit, segment.frame)
+        if before:
+            yield from self.finish(before[0], before[2], segment.frame)
         yield from self.feed(*self.open(segment, True), segment)
 
-    def goes_on(self, connection, index, segment):
+    def goes_on(self, connection: Connection, index: int, segment: Segment) -> bool:
         """Whether an opening segment belongs to a connection that is there: its second one, or one repeated."""
         first = connection.streams[index].first
         if first is not None:
             return first == segment.sequence
         return segment.acknowledged is not None and not connection.over
 
-    def open(self, segment, syn):
+    def open(self, segment: Segment, syn: bool) -> Entry:
         """Begins a connection; the one who opened it is the sender of the first SYN, else who has no XOT port."""
         answered = syn and segment.acknowledged is not None
         from_server = not syn and port_of(segment.source) in self.ports and port_of(segment.target) not in self.ports
@@ -169,7 +198,7 @@ class Xot:
         self.table[ends[::-1]] = (connection, 1, circuit)
         return connection, index, circuit
 
-    def circuit(self, ends, frame, syn):
+    def circuit(self, ends: tuple[bytes, bytes], frame: int, syn: bool) -> Circuit:
         """The circuit of a connection; its DTE is the host that was asked for, else the one that opened it."""
         sides = self.sides if self.dte in (None, ends[0][:-2]) else self.sides[::-1]
         circuit = Circuit(len(self.circuits) + 1, ends, sides, frame, syn)
@@ -178,20 +207,21 @@ class Xot:
         self.circuits.append(circuit)
         return circuit
 
-    def feed(self, connection, index, circuit, segment):
+    def feed(self, connection: Connection, index: int, circuit: Circuit, segment: Segment) -> Iterator[Packet]:
+        """The packets of what a segment completes."""
+        events: Iterable[Event] = ()
         if circuit.left:
             self.pass_over(connection, index, segment)
-            events = ()
         else:
             events = connection.feed(index, segment)
         if segment.flags & RST or connection.over:
             return self.read_to_the_end(connection, circuit, events, segment.frame)
         return self.read(connection, circuit, events)
 
-    def read(self, connection, circuit, events):
-        """The packets of chunks, up to a break of the circuit; what is told of a gap comes before those after it."""
+    def read(self, connection: Connection, circuit: Circuit, events: Iterable[Event]) -> Iterator[Packet]:
+        """The packets of chunks, up to a break of the circuit; what is said of a gap comes before those after it."""
         for event in events:
-            if type(event) is Chunk:
+            if isinstance(event, Chunk):
                 yield from self.packets(circuit, event)
             else:
                 self.lose(circuit, event)
@@ -199,11 +229,11 @@ class Xot:
                 connection.give_up()
                 return
 
-    def read_to_the_end(self, connection, circuit, events, frame):
+    def read_to_the_end(self, connection: Connection, circuit: Circuit, events: Iterable[Event], frame: int) -> Iterator[Packet]:
         yield from self.read(connection, circuit, events)
         yield from self.finish(connection, circuit, frame)
 
-    def pass_over(self, connection, index, segment):
+    def pass_over(self, connection: Connection, index: int, segment: Segment) -> None:
         """Counts a segment of which nothing is read any more."""
         end = len(segment.payload) + segment.missing
         following = connection.streams[index].next
@@ -214,18 +244,18 @@ class Xot:
         else:
             self.ledger.left_out(Reason.AFTER_BREAK)
 
-    def lose(self, circuit, gap):
+    def lose(self, circuit: Circuit, gap: Gap) -> None:
         """A gap: what was read of a packet is dropped, and the next one is sought at the beginnings of segments."""
         rest = circuit.rests[gap.index]
         circuit.rests[gap.index] = b""
         circuit.synchronised[gap.index] = False
-        circuit.has_gaps = circuit.misses = True
+        circuit.has_gaps = circuit.misses = circuit.lacks[gap.index] = True
         self.ledger.left_out(Reason.LOST_OCTETS, gap.octets)
         self.ledger.left_out(Reason.PASSED_OCTETS, len(rest))
         words = f"frame {gap.frame}: connection {circuit.number}: {gap.octets} octets"
         self.ledger.damaged(Reason.GAP, f"{words} of {circuit.sides[gap.index].name} {gap.how}")
 
-    def finish(self, connection, circuit, frame):
+    def finish(self, connection: Connection, circuit: Circuit, frame: int) -> Iterator[Packet]:
         """Tells how a connection ended, after the packets that waited."""
         if circuit.ended:
             return
@@ -233,30 +263,32 @@ class Xot:
         circuit.left = circuit.ended = True
         words = circuit.end_words()
         if words and not circuit.broken:
-            self.ledger.tell(Topic.CONNECTION, f"frame {frame}: connection {circuit.number}: {words}")
-        circuit.rests = circuit.synchronised = None
+            self.ledger.report(Topic.CONNECTION, f"frame {frame}: connection {circuit.number}: {words}")
+        circuit.rests, circuit.synchronised = [], []
         self.over.append(connection)
         if len(self.over) > MOST_OVER:
             self.forget(self.over.popleft())
         if self.on_end:
             self.ending.append(circuit)
 
-    def forget(self, connection):
+    def forget(self, connection: Connection) -> None:
         """Takes a connection from the table, unless its ports are used again."""
         for ends in (connection.ends, connection.ends[::-1]):
-            if self.table.get(ends, (None,))[0] is connection:
+            if (entry := self.table.get(ends)) and entry[0] is connection:
                 del self.table[ends]
 
-    def close(self, connection, circuit):
+    def close(self, connection: Connection, circuit: Circuit) -> Iterator[Packet]:
         """The packets that still waited."""
         yield from self.read(connection, circuit, connection.flush())
+        for index in range(len(circuit.lacks)):
+            circuit.lacks[index] |= not connection.was_seen(index)
         for index, rest in enumerate(circuit.rests):
             if rest and not circuit.broken:
                 side = circuit.sides[index].name
                 words = f"connection {circuit.number} ends after {len(rest)} octets of a packet of {side}"
                 self.ledger.damaged(Reason.CUT_XOT, words)
 
-    def end(self):
+    def end(self) -> Iterable[Packet]:
         """The packets that waited when the recording ended, as their frames come."""
         left = [
             self.close(connection, circuit)
@@ -265,9 +297,9 @@ class Xot:
         ]
         return heapq.merge(*left, key=lambda packet: packet.frame)
 
-    def packets(self, circuit, chunk):
+    def packets(self, circuit: Circuit, chunk: Chunk) -> list[Packet]:
         """The packets that end in a chunk."""
-        index, octets, packets = chunk.index, chunk.octets, []
+        index, octets, packets = chunk.index, chunk.octets, list[Packet]()
         if circuit.rests[index]:
             octets = circuit.rests[index] + octets
         if not circuit.synchronised[index] and not self.is_found(circuit, chunk, octets):
@@ -288,7 +320,7 @@ class Xot:
         circuit.rests[index] = octets[at:] if at < size else b""
         return packets
 
-    def is_found(self, circuit, chunk, octets):
+    def is_found(self, circuit: Circuit, chunk: Chunk, octets: bytes) -> bool | None:
         """Seeks a packet where a segment begins; one that says too little waits for the next."""
         found = begins(octets, circuit)
         if found is False and octets is not chunk.octets:
@@ -305,7 +337,7 @@ class Xot:
             self.ledger.left_out(Reason.PASSED_OCTETS, len(octets))
         return found
 
-    def leave(self, circuit, chunk, version, many):
+    def leave(self, circuit: Circuit, chunk: Chunk, version: int, many: int) -> None:
         """A header of another version: a wrong place, where that was sought, else no XOT."""
         circuit.rests[chunk.index] = b""
         words = f"frame {chunk.frame}: connection {circuit.number}: an XOT header of version {version}"
@@ -317,7 +349,7 @@ class Xot:
         circuit.left = circuit.broken = True
         self.ledger.damaged(Reason.NOT_XOT, f"{words}; it is left out from here on")
 
-    def packet(self, circuit, chunk, side, octets):
+    def packet(self, circuit: Circuit, chunk: Chunk, side: Side, octets: bytes) -> Packet | None:
         """A packet of a circuit, or None for one that is left out."""
         if len(octets) >= 3:
             kind, line_channel = octets[2], (octets[0] & 15) << 8 | octets[1]
@@ -328,7 +360,7 @@ class Xot:
         misses, circuit.misses = circuit.misses, False
         return Packet(chunk.frame, side, octets, circuit, chunk.time, misses)
 
-    def follow(self, circuit, frame, side, octets):
+    def follow(self, circuit: Circuit, frame: int, side: Side, octets: bytes) -> bool:
         """Follows the circuit by a packet other than data and RR in their place; whether it is one of the circuit."""
         kind, line_channel = octets[2], channel_of(octets)
         if kind == PVC_SETUP and not circuit.called:
@@ -346,17 +378,18 @@ class Xot:
             circuit.modulus = modulus_of(octets)
         return True
 
-    def set_up(self, circuit, frame, side):
+    def set_up(self, circuit: Circuit, frame: int, side: Side) -> None:
         """An XOT packet that sets up a permanent circuit is none of X.25."""
         circuit.permanent = True
         self.ledger.left_out(Reason.PVC_SETUP)
         words = f"{side.name} sets up a permanent circuit"
-        self.ledger.tell(Topic.PVC_SETUP, f"frame {frame}: connection {circuit.number}: {words}")
+        self.ledger.report(Topic.PVC_SETUP, f"frame {frame}: connection {circuit.number}: {words}")
 
-    def other_channel(self, circuit, frame, line_channel):
+    def other_channel(self, circuit: Circuit, frame: int, line_channel: int) -> None:
+        """Takes the logical channel of a packet that is not that of the one before it."""
         if circuit.line_channel is None:
             circuit.line_channel = line_channel
         else:
             words = f"logical channel {line_channel} after {circuit.last_line_channel}; a connection has one circuit"
-            self.ledger.tell(Topic.CHANNEL, f"frame {frame}: connection {circuit.number}: {words}")
+            self.ledger.report(Topic.CHANNEL, f"frame {frame}: connection {circuit.number}: {words}")
         circuit.last_line_channel = line_channel

@@ -25,6 +25,7 @@ use Rattle.trace_text.specs.ObserverAnswers.{IsReportOf}
 use Rattle.trace_text.proofs.EndLemmas.{one_line, one_kind, fault-last, head-sound, rows-all}
 use Rattle.annotated_trace.proofs.PrintLemmas.{some_same}
 use Rattle.line_model.proofs.DeviceLemmas.{with_more-append}
+use Rattle.line_model.specs.packets.Says.{items_of}
 
 -- ---- the same lines
 
@@ -132,7 +133,7 @@ end_refused x y Write e h = sym e ∙ h
 end_refused x y _ e h = absurd h
 
 sums_of : (x : List ℕ) (r : Report) → IsReportOf x r → r.summary ≡ trace_summary x
-sums_of x r h = ap (λ (s : Report). s.summary) h.report ∙ ap (λ o. elim o as (λ _. Summary) [ None ↦ no_summary | Some i ↦ (report_of i (rows x)).summary ]) (sym h.header)
+sums_of x r h = ap (λ (s : Report). s.summary) h.report ∙ ap (λ o. elim o as (λ _. Summary) [ None ↦ no_summary | Some i ↦ (report_of i (items_of i (rows x))).summary ]) (sym h.header)
 
 no_last : (x : List ℕ) → begun_line x ≡ [] → lines_of x ≡ ended_lines x
 no_last x h = ap (λ b. ended_lines x ++ line_or_none b) h ∙ append-nil (ended_lines x)
@@ -193,7 +194,7 @@ same_report x r some e h =
     let sound : fault x ≡ None = sym e ∙ h.sound in
     let header : head x ≡ head y = head-sound x sound ∙ ap head_of (sym (same_lines x some)) ∙ sym (head-sound y h.sound) in
     let rs : rows x ≡ rows y = rows-all x sound ∙ ap rows_in (sym (same_lines x some)) ∙ sym (rows-all y h.sound) in
-    record { sound = sound; interface = h.interface; header = header ∙ h.header; report = h.report ∙ ap (report_of h.interface) (sym rs) }
+    record { sound = sound; interface = h.interface; header = header ∙ h.header; report = h.report ∙ ap (λ rows. report_of h.interface (items_of h.interface rows)) (sym rs) }
 
 same_printed : (F : List Line → List ℕ → Type 0) (C : Report → List ℕ → Type 0) (x : List ℕ) (before after : Option (List ℕ)) (sums : Summary) → 0 < length (begun_line x) → fault (x ++ 10 ∷ []) ≡ fault x → IsPrinted F C (x ++ 10 ∷ []) before after sums → IsPrinted F C x before after sums
 same_printed F C x before after sums some e p =

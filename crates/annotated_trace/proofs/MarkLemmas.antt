@@ -11,6 +11,7 @@ use Rattle.annotated_trace.specs.declared.rows.Rows.TheVariants.{All}
 use Rattle.annotated_trace.specs.Laws.{MarksLaw}
 use Rattle.annotated_trace.proofs.SameReport.{annotation_lines, lines_are}
 use Rattle.trace_text.proofs.EndLemmas.{head-sound, rows-all}
+use Rattle.line_model.specs.packets.Says.{items_of}
 
 pub both_marks : (f g : List Finding) (m n : List Line) → AreMarksOf f m → AreMarksOf g n → AreMarksOf (f ++ g) (m ++ n)
 both_marks [] g [] n h k = k
@@ -54,10 +55,10 @@ nothing_found : found_in [] ≡ []
 unfolding head_of
 nothing_found = refl
 
-pub found_whole : (source : List ℕ) (i : Interface) → fault source ≡ None → head source ≡ Some i → found_in (lines_of source) ≡ (report_of i (rows source)).findings
+pub found_whole : (source : List ℕ) (i : Interface) → fault source ≡ None → head source ≡ Some i → found_in (lines_of source) ≡ (report_of i (items_of i (rows source))).findings
 found_whole source i sound h =
-    ap (λ o. elim o as (λ _. List Finding) [ None ↦ [] | Some j ↦ (report_of j (rows_in (lines_of source))).findings ]) (sym (head-sound source sound) ∙ h)
-    ∙ ap (λ rs. (report_of i rs).findings) (sym (rows-all source sound))
+    ap (λ o. elim o as (λ _. List Finding) [ None ↦ [] | Some j ↦ (report_of j (items_of j (rows_in (lines_of source)))).findings ]) (sym (head-sound source sound) ∙ h)
+    ∙ ap (λ rs. (report_of i (items_of i rs)).findings) (sym (rows-all source sound))
 
 pub marked : MarksLaw
 marked source bytes i sound h none a =
@@ -67,6 +68,6 @@ marked source bytes i sound h none a =
     let all = come [] l.annotated l.marked (ap marks_in l.bare ∙ none) in
     let marks : marks_in (lines_of bytes) ≡ marks_in (all_lines l.annotated) =
     ap marks_in lines ∙ marks_in-append (all_lines l.annotated) a.closing ∙ ap (λ xs. marks_in (all_lines l.annotated) ++ xs) a.unmarked ∙ append-nil (marks_in (all_lines l.annotated)) in
-    let findings : all.findings ≡ (report_of i (rows source)).findings =
+    let findings : all.findings ≡ (report_of i (items_of i (rows source))).findings =
     ap (λ xs. xs ++ all.findings) (sym nothing_found) ∙ sym all.came ∙ ap found_in l.bare ∙ found_whole source i sound h in
     subst (λ fs. AreMarksOf fs (marks_in (lines_of bytes))) findings (subst (AreMarksOf all.findings) (sym marks) all.marks)

@@ -17,6 +17,7 @@ use Rattle.line_model.proofs.FinalFaults.{both_none}
 use Rattle.trace_text.proofs.FeedLemmas.{map_none}
 use Rattle.trace_text.proofs.EndLemmas.{rows-all, head-sound, some_content as none_missing}
 use Rattle.trace_text.proofs.RefusalLemmas.{content_of-append}
+use Rattle.line_model.specs.packets.Says.{items_of}
 
 -- ---- lines of which none is too long, and none breaks a rule on its contents
 
@@ -190,7 +191,7 @@ says_the_same source bytes ls sound h few =
       sound = still;
       header = header;
       same_rows = same;
-      report = ap (λ o. elim o as (λ _. List ℕ) [ None ↦ [] | Some i ↦ report i (rows bytes) ]) header ∙ ap (λ rs. elim (head source) as (λ _. List ℕ) [ None ↦ [] | Some i ↦ report i rs ]) same;
+      report = ap (λ o. elim o as (λ _. List ℕ) [ None ↦ [] | Some i ↦ report i (items_of i (rows bytes)) ]) header ∙ ap (λ rs. elim (head source) as (λ _. List ℕ) [ None ↦ [] | Some i ↦ report i (items_of i rs) ]) same;
     }
 
 pub reported : ReportLaw

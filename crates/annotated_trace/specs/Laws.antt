@@ -7,6 +7,7 @@ use Rattle.line_model.specs.declared.interface.Interface.{Interface}
 use Rattle.annotated_trace.specs.Annotation.{AreMarksOf, IsAnnotation, marks_in}
 use Rattle.annotated_trace.specs.declared.rows.Rows.{Rows}
 use Rattle.annotated_trace.specs.declared.rows.Rows.TheVariants.{All}
+use Rattle.line_model.specs.packets.Says.{items_of}
 
 -- a text without a fault has the header and the rows of another, and so its report
 pub record SaysTheSame (source bytes : List ℕ) : Type 0 where
@@ -22,4 +23,4 @@ ReportLaw = (choice : Rows) (source bytes : List ℕ) → fault source ≡ None 
 -- the marks of an annotation are those of the report's findings, in their order; those aside that the text had before
 abbrev pub MarksLaw : Type 0
 MarksLaw = (source bytes : List ℕ) (i : Interface) → fault source ≡ None → head source ≡ Some i → marks_in (lines_of source) ≡ [] → IsAnnotation All source bytes
-    → AreMarksOf (report_of i (rows source)).findings (marks_in (lines_of bytes))
+    → AreMarksOf (report_of i (items_of i (rows source))).findings (marks_in (lines_of bytes))

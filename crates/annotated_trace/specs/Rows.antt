@@ -1,14 +1,14 @@
 -- Which rows of a trace are described.
 use Rattle.std.specs.Prelude.{ℕ, Bool, true, false, ◌==◌, ◌&&◌, ◌||◌, not, is_none, List, [], ◌∷◌, ◌++◌, Option, None, Some, if◌then◌else◌}
 use Rattle.std.specs.List.{enumerate_from, list_any}
-use Rattle.line_model.specs.basics.Records.{CallRecord, Row}
+use Rattle.line_model.specs.basics.Records.{CallRecord, Item, Row}
 use Rattle.line_model.specs.declared.interface.Interface.{Interface}
 use Rattle.line_model.specs.declared.packet.Packet.{Packet}
 use Rattle.line_model.specs.declared.packet.Packet.TheVariants.{Channel}
 use Rattle.line_model.specs.observer.Calls.{calls_of}
 use Rattle.line_model.specs.observer.Machine.{routed, walk}
 use Rattle.line_model.specs.observer.Observer.{events, start, x25}
-use Rattle.line_model.specs.packets.Classes.{packet_of}
+use Rattle.line_model.specs.packets.Says.{item_of, items_of}
 use Rattle.line_model.specs.text.RowLine.{row_of}
 use Rattle.line_model.specs.text.Text.{Line, has_header, head_of, is_comment, rows_in}
 use Rattle.annotated_trace.specs.declared.rows.Rows.{Rows}
@@ -28,7 +28,7 @@ is_of_call_on None n e before after = false
 is_of_call_on (Some k) n e before after = has_open n e k before || has_open n e k after
 
 -- whether a row, after others, is one of the rows of the call of a number in the report
-abbrev pub is_of_call : Interface → (before : List Row) → Row → (number : ℕ) → Bool
+abbrev pub is_of_call : Interface → (before : List Item) → Item → (number : ℕ) → Bool
 is_of_call i before r n =
     is_of_call_on (routed (x25 i) (walk (x25 i) (start i) before).line r) n (walk (x25 i) (start i) before).epoch (calls_of (events i before)) (calls_of (events i (before ++ r ∷ [])))
 
@@ -54,8 +54,8 @@ chooses (Chosen channel None) packet of_call = names_asked channel packet
 chooses (Chosen channel (Some n)) packet of_call = names_asked channel packet && of_call
 
 -- whether a row, after others, is described
-abbrev pub is_chosen : Rows → Interface → (before : List Row) → Row → Bool
-is_chosen rows i before r = chooses rows (packet_of i r.octets) (is_of_call i before r (asked_call rows))
+abbrev pub is_chosen : Rows → Interface → (before : List Item) → Item → Bool
+is_chosen rows i before r = chooses rows r.packet (is_of_call i before r (asked_call rows))
 
 -- the row that a line writes after others, if it writes one
 abbrev pub row_written : (before : List Line) → Line → Option Row
@@ -63,7 +63,7 @@ row_written before l = if has_header before && not (is_comment l) then row_of l 
 
 -- whether that row is described
 abbrev pub is_chosen_if : Rows → Option Interface → (before : List Row) → Option Row → Bool
-is_chosen_if rows (Some i) before (Some r) = is_chosen rows i before r
+is_chosen_if rows (Some i) before (Some r) = is_chosen rows i (items_of i before) (item_of i r)
 is_chosen_if rows _ before _ = false
 
 -- whether the line after others writes a row that is described

@@ -1,5 +1,6 @@
 -- The entries of the tables, and the packets that they stand for.
-use Rattle.std.proofs.Common.{◌≡◌, ℕ, Bool, true, refl, List}
+use Rattle.std.proofs.Common.{◌≡◌, ℕ, Bool, true, refl}
+use Rattle.line_model.specs.basics.Records.{Item}
 use Rattle.line_model.specs.declared.interface.Interface.{Interface}
 use Rattle.line_model.specs.declared.packet.Class.{Class}
 use Rattle.line_model.specs.declared.state.Side.{Side}
@@ -27,14 +28,14 @@ fits p x s w k =
     (every_flag (λ p. every (λ x. every (λ s. every (λ w. every (λ k. table_fits p x s w k) classes) flags) states) sides) all_fit p) x) s) w) k
 
 -- every other entry does nothing
-pub nothing_by : (i : Interface) (n : ℕ) (x : Side) (s : StateName) (a : Action) (xs : List ℕ) (c : Channel) →
+pub nothing_by : (i : Interface) (n : ℕ) (s : StateName) (a : Action) (r : Item) (c : Channel) →
     ((t : StateName) → a ≡ Move t → ⊥) → (a ≡ Normal → ⊥) → ((m : ℕ) → a ≡ Error m → ⊥) → (a ≡ Ends → ⊥) →
-    report_nothing c ≡ entry_step i n x (record { state = s; entry = a }) xs c
-nothing_by i n x s (Move t) xs c m o e f = absurd (m t refl)
-nothing_by i n x s Normal xs c m o e f = absurd (o refl)
-nothing_by i n x s (Error k) xs c m o e f = absurd (e k refl)
-nothing_by i n x s Discard xs c m o e f = refl
-nothing_by i n x s Pass xs c m o e f = refl
-nothing_by i n x s Ends xs c m o e f = absurd (f refl)
-nothing_by i n x s Below xs c m o e f = refl
-nothing_by i n x s ToChannel xs c m o e f = refl
+    report_nothing c ≡ entry_step i n (record { state = s; entry = a }) r c
+nothing_by i n s (Move t) r c m o e f = absurd (m t refl)
+nothing_by i n s Normal r c m o e f = absurd (o refl)
+nothing_by i n s (Error k) r c m o e f = absurd (e k refl)
+nothing_by i n s Discard r c m o e f = refl
+nothing_by i n s Pass r c m o e f = refl
+nothing_by i n s Ends r c m o e f = absurd (f refl)
+nothing_by i n s Below r c m o e f = refl
+nothing_by i n s ToChannel r c m o e f = refl

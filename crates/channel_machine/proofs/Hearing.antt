@@ -5,14 +5,18 @@ use Rattle.line_model.specs.declared.diagnostic.TheConstants.{INCONSISTENT_Q_BIT
 use Rattle.line_model.specs.declared.interface.Interface.{Interface}
 use Rattle.line_model.specs.declared.state.Side.{Side}
 use Rattle.line_model.specs.declared.state.Side.TheVariants.{T, N}
+use Rattle.line_model.specs.declared.state.StateName.{StateName}
 use Rattle.line_model.specs.declared.event.Event.{Event}
 use Rattle.line_model.specs.channels.Channels.{Channel, AcceptedData, of_side, with_side}
 use Rattle.line_model.specs.channels.FlowControl.{Counts, sent_by, count_data}
 use Rattle.line_model.specs.channels.Sequences.{is_alike, begun, is_category_a, sequence_octets}
 use Rattle.line_model.specs.packets.Formats.{window_in_force, size_in_force, is_pad_call}
-use Rattle.line_model.specs.channels.ChannelStep.{counts_of, data_counted, data_alike, hearing, completed_message, told_after}
+use Rattle.line_model.specs.channels.ChannelStep.{counts_of, data_counted, data_alike, failing, hearing, completed_message, told_after}
 use Rattle.data_transfer.specs.FlowResidues.{FlowResidues, Stands, Answers}
 use Rattle.data_transfer.specs.Assembler as assembly
+use Rattle.data_transfer.specs.Assembly.{is_like}
+use Rattle.data_transfer.specs.Sequences.{Assembly}
+use Rattle.data_transfer.proofs.Packets.{alike_is}
 use Rattle.channel_machine.specs.declared.events.EventOrigin.{EventOrigin}
 use Rattle.channel_machine.specs.Events.{Reports}
 use Rattle.channel_machine.specs.Messages.{SettingsStand}
@@ -40,20 +44,25 @@ pub refused : (U : Type 0) (e : ℕ) (i : Interface) (s : EventOrigin) (t : Tran
 refused U e i s t new before x p r c answer =
     ((λ q. ap (λ a. data_counted i x q p a c) (answered_err U e t.flow new r answer).0), refl, refl)
 
+-- the Q bit of the sequence begun, as it is kept
+pub alike_of : (a : Assembly) (x : Side) (p : AcceptedData) (hs : List AcceptedData) → assembly.StandsFor a hs → is_alike p (assembly.begun_by a x hs) ≡ is_like (assembly.begun_on a x).qualified p.qualified
+alike_of a T p hs stands = alike_is a.of_t.qualified (begun a.of_t.size T hs) p stands.of_t.qualified
+alike_of a N p hs stands = alike_is a.of_n.qualified (begun a.of_n.size N hs) p stands.of_n.qualified
+
 -- another Q bit
-pub mixed : {U : Type 0} (u : U) (i : Interface) (s : EventOrigin) (t new : Transfer) (flow : FlowResidues) (before after : List Event) (x : Side) (p : AcceptedData) (r : Result Counts ℕ) (c : Channel) →
-    StandsFor i t c → Answers (Ok u) t.flow flow r → is_alike p (assembly.begun_by t.assembler x c.heard) ≡ false → new ≡ t → after ≡ before →
-    IsHeard (Some INCONSISTENT_Q_BIT_SETTING) i s t new before after x p r c
-mixed u i s t new flow before after x p r c stands answer other same none =
+pub unlike : {U : Type 0} (u : U) (i : Interface) (t : Transfer) (flow : FlowResidues) (x : Side) (p : AcceptedData) (r : Result Counts ℕ) (c : Channel) →
+    StandsFor i t c → Answers (Ok u) t.flow flow r → is_alike p (assembly.begun_by t.assembler x c.heard) ≡ false →
+    (q : StateName) → data_counted i x q p r c ≡ failing x q INCONSISTENT_Q_BIT_SETTING c
+unlike u i t flow x p r c stands answer other =
     let (v, is, _) = answered_ok u t.flow flow r answer in
-    let unlike : is_alike p (begun (size_in_force i c x) x c.heard) ≡ false = subst (λ n. is_alike p (begun n x c.heard) ≡ false) (size_is i t c x stands) other in
-    ((λ q. ap (λ a. data_counted i x q p a c) is ∙ ap (λ b. data_alike i x q p v b c) unlike), same, none)
+    let apart : is_alike p (begun (size_in_force i c x) x c.heard) ≡ false = subst (λ n. is_alike p (begun n x c.heard) ≡ false) (size_is i t c x stands) other in
+    λ q. ap (λ a. data_counted i x q p a c) is ∙ ap (λ b. data_alike i x q p v b c) apart
 
 -- a channel after a packet without fault
 settled : (i : Interface) (t new : Transfer) (c : Channel) (x : Side) (p : AcceptedData) (v : Counts) (m : Option (List ℕ)) → StandsFor i t c → p.side ≡ x →
     v.sent ≡ with_side x (of_side x (sent_by c.heard) + 1) (sent_by c.heard) → v.unconfirmed ≡ c.unconfirmed → Stands new.flow v →
     new.flow.modulus ≡ t.flow.modulus → new.flow.windows ≡ t.flow.windows →
-    assembly.Follows new.assembler (c.heard ++ p ∷ []) → assembly.sizes new.assembler ≡ assembly.sizes t.assembler →
+    assembly.StandsFor new.assembler (c.heard ++ p ∷ []) → assembly.sizes new.assembler ≡ assembly.sizes t.assembler →
     SettingsStand new.settings (told_after x c.told m) → StandsFor i new (hearing x p v m c).after
 settled i t new c x p v m stands side_is sent_is unconfirmed_is flow modulus windows sequences sizes settings = record {
   flow = subst (λ s. Stands new.flow (record { sent = s; acknowledged = v.acknowledged; unconfirmed = c.unconfirmed })) (sent_is ∙ sent_more x c.heard p side_is)
@@ -89,11 +98,6 @@ pub without_q : (a b : Bool) → b ≡ false → (a && b) ≡ false
 without_q true b h = h
 without_q false b h = refl
 
--- a message has Q 1
-pub second_of : (a b : Bool) → (a && b) ≡ true → b ≡ true
-second_of true b h = h
-second_of false b h = cc
-
 pub going_is : (i : Interface) (t : Transfer) (c : Channel) (x : Side) (p : AcceptedData) → StandsFor i t c →
     is_category_a (of_side x (assembly.sizes t.assembler)) p ≡ true → completed_message i x c p ≡ None
 going_is i t c x p stands a =
@@ -113,20 +117,29 @@ told_is i t c x p stands h a =
     ∙ ap (λ n. Some (sequence_octets (begun n x c.heard ++ p ∷ []))) (sym (size_is i t c x stands))
 
 -- a packet without fault, which completes a message or not
-pub accepted : {U : Type 0} (u : U) (i : Interface) (s : EventOrigin) (t new : Transfer) (before after : List Event) (c : Channel) (x : Side) (sn rn : ℕ) (p : AcceptedData) (m : Option (List ℕ)) →
+pub accepted : {U : Type 0} (u : U) (i : Interface) (t new : Transfer) (c : Channel) (x : Side) (sn rn : ℕ) (p : AcceptedData) (m : Option (List ℕ)) →
     StandsFor i t c → p.side ≡ x → Answers (Ok u) t.flow new.flow (counted_in_force i x sn rn c) →
     is_alike p (assembly.begun_by t.assembler x c.heard) ≡ true → completed_message i x c p ≡ m →
     new.flow.modulus ≡ t.flow.modulus → new.flow.windows ≡ t.flow.windows →
-    assembly.Follows new.assembler (c.heard ++ p ∷ []) → assembly.sizes new.assembler ≡ assembly.sizes t.assembler → SettingsStand new.settings (told_after x c.told m) →
-    ((v : Counts) → Reports s before after (hearing x p v m c).reported) → IsHeard None i s t new before after x p (counted_in_force i x sn rn c) c
-accepted u i s t new before after c x sn rn p m stands side_is answer alike completes modulus windows sequences sizes settings events =
+    assembly.StandsFor new.assembler (c.heard ++ p ∷ []) → assembly.sizes new.assembler ≡ assembly.sizes t.assembler → SettingsStand new.settings (told_after x c.told m) →
+    (v : Counts) × ((q : StateName) → data_counted i x q p (counted_in_force i x sn rn c) c ≡ hearing x p v m c) × StandsFor i new (hearing x p v m c).after
+accepted u i t new c x sn rn p m stands side_is answer alike completes modulus windows sequences sizes settings =
     let r : Result Counts ℕ = counted_in_force i x sn rn c in
     let (v, is, flow) = answered_ok u t.flow new.flow r answer in
     let like : is_alike p (begun (size_in_force i c x) x c.heard) ≡ true = subst (λ n. is_alike p (begun n x c.heard) ≡ true) (size_is i t c x stands) alike in
     let keeps = data_counts i.modulus (window_in_force i c x) (counts_of c) v x sn rn is in (
       v,
-      m,
       (λ q. ap (λ a. data_counted i x q p a c) is ∙ ap (λ b. data_alike i x q p v b c) like ∙ ap (λ o. hearing x p v o c) completes),
       settled i t new c x p v m stands side_is keeps.0 keeps.1 flow modulus windows sequences sizes settings,
-      events v,
     )
+
+-- the same with its events
+pub heard : {U : Type 0} (u : U) (i : Interface) (s : EventOrigin) (t new : Transfer) (before after : List Event) (c : Channel) (x : Side) (sn rn : ℕ) (p : AcceptedData) (m : Option (List ℕ)) →
+    StandsFor i t c → p.side ≡ x → Answers (Ok u) t.flow new.flow (counted_in_force i x sn rn c) →
+    is_alike p (assembly.begun_by t.assembler x c.heard) ≡ true → completed_message i x c p ≡ m →
+    new.flow.modulus ≡ t.flow.modulus → new.flow.windows ≡ t.flow.windows →
+    assembly.StandsFor new.assembler (c.heard ++ p ∷ []) → assembly.sizes new.assembler ≡ assembly.sizes t.assembler → SettingsStand new.settings (told_after x c.told m) →
+    ((v : Counts) → Reports s before after (hearing x p v m c).reported) → IsHeard None i s t new before after x p (counted_in_force i x sn rn c) c
+heard u i s t new before after c x sn rn p m stands side_is answer alike completes modulus windows sequences sizes settings events =
+    let (v, is, after_it) = accepted u i t new c x sn rn p m stands side_is answer alike completes modulus windows sequences sizes settings in
+    (v, m, is, after_it, events v)

@@ -14,6 +14,7 @@ pub mod Entries
 pub mod Reached
 pub mod Usable
 pub mod PackedLemmas
-pub mod UsualLemmas
+pub mod CommonRows
 pub mod Changes
-pub mod Reading
+pub mod SaidData
+pub mod CallFaults

@@ -7,7 +7,7 @@ use Rattle.data_transfer.specs.Packed.{Packed}
 use Rattle.channel_machine.specs.declared.terms.Values.{Values}
 use Rattle.channel_machine.specs.Terms.{AreUsable}
 use Rattle.channel_machine.specs.Status.{CountsAlone, Status, view_of}
-use Rattle.std.specs.Prelude.{◌&&◌, cond, Option, Some, None}
+use Rattle.std.specs.Prelude.{◌&&◌, cond, Some, None}
 use Rattle.channel_run.specs.StatusWord.{state_by, state_in, owed_in, pad_call_in, fast_in, view_in}
 use Rattle.channel_machine.specs.declared.terms.Opened.{Opened}
 use Rattle.channel_machine.specs.TermsStand.{is_fast, is_pad}

@@ -1,10 +1,10 @@
 -- A channel stays one that was heard from its beginning.
 use Rattle.std.proofs.Common.{◌≡◌, ℕ, Bool, true, false, true≢false, refl, sym, ◌∙◌, ap, subst, List, Option, Some, None, Result, Ok, Err}
-use Rattle.std.specs.Prelude.{IfNone, is_some, not, ◌&&◌, ◌||◌, unwrap_or}
+use Rattle.std.specs.Prelude.{IfNone, is_some, not, ◌&&◌, ◌||◌}
 use Rattle.line_model.specs.declared.diagnostic.TheConstants.{INCONSISTENT_Q_BIT_SETTING}
 use Rattle.line_model.specs.declared.interface.Interface.{Interface}
 use Rattle.line_model.specs.declared.packet.Class.{Class}
-use Rattle.line_model.specs.declared.packet.Class.TheVariants.{Short, WrongFormat, Unassigned, Restart, RestartConfirm, Diagnostic, Registration, TwoOctets, RestartHere, Call, Accepted, Clear, ClearConfirm, Interrupt, InterruptConfirm, Reset, ResetConfirm, Data, Rr, Rnr, Rej, Undefined}
+use Rattle.line_model.specs.declared.packet.Class.TheVariants.{Data}
 use Rattle.line_model.specs.declared.packet.DataHeader.{DataHeader}
 use Rattle.line_model.specs.declared.event.How.{How}
 use Rattle.line_model.specs.declared.event.How as how
@@ -16,18 +16,18 @@ use Rattle.line_model.specs.channels.Verdicts.{CallChange}
 use Rattle.line_model.specs.channels.Verdicts.CallChange.{Opens, GoesUp, Ends, Keeps}
 use Rattle.line_model.specs.declared.table.Action.{Action}
 use Rattle.line_model.specs.declared.table.Action.TheVariants.{Move, Normal, Error, Discard, Pass, Ends as EndsIndication, Below, ToChannel}
-use Rattle.line_model.specs.basics.Records.{Row}
+use Rattle.line_model.specs.basics.Records.{Item}
 use Rattle.line_model.specs.channels.Channels.{Channel, Opening, AcceptedData, fresh, fresh_state, is_joined, is_permanent, channel_in}
 use Rattle.line_model.specs.channels.FlowControl.{Counts}
-use Rattle.line_model.specs.packets.Classes.{class_of, data_header}
+use Rattle.line_model.specs.packets.Classes.{packet_class}
+use Rattle.line_model.specs.packets.Says.{header_in}
 use Rattle.line_model.specs.packets.Formats.{packet_fault}
 use Rattle.line_model.specs.channels.Sequences.{is_alike, begun}
 use Rattle.line_model.specs.packets.Formats.{size_in_force, window_in_force}
-use Rattle.line_model.specs.channels.FlowControl.{count_data, count_receive, count_interrupt, count_confirm}
+use Rattle.line_model.specs.channels.FlowControl.{count_data}
 use Rattle.line_model.specs.channels.ChannelStep.{judged, verdict, verdict_step, channel_step, changing, entering, ending, ending_open, failing, after_error, transferring, data_step, data_counted, data_alike, counting, counts_of, heard_of, call_change, state_named}
 use Rattle.channel_machine.specs.Reached.{IsReached, IsUnanswered, is_from, is_waiting}
 use Rattle.channel_machine.specs.Entries.{is_entry}
-use Rattle.line_model.specs.packets.Classes.{receive_number}
 use Rattle.channel_machine.proofs.Entries.{fits}
 use Rattle.channel_machine.proofs.Calls.{bare_after}
 
@@ -129,55 +129,34 @@ counted_by : (i : Interface) (x : Side) (s : StateName) (p : AcceptedData) (a : 
 counted_by i x s p (Err n) c r = failed x s n c r
 counted_by i x s p (Ok v) c r = alike_by i x s p v (is_alike p (begun (size_in_force i c x) x c.heard)) c r
 
-data_by : (i : Interface) (x : Side) (s : StateName) (xs : List ℕ) (h : Option DataHeader) (c : Channel) → IsReached c → IsReached (data_step i x s xs h c).after
-data_by i x s xs None c r = r
-data_by i x s xs (Some h) c r =
-    counted_by i x s (heard_of i x xs h) (count_data i.modulus (window_in_force i c x) (counts_of c) x h.send h.receive) c r
+data_by : (i : Interface) (s : StateName) (r : Item) (h : Option DataHeader) (c : Channel) → IsReached c → IsReached (data_step i s r h c).after
+data_by i s r None c h = h
+data_by i s r (Some d) c h =
+    counted_by i r.side s (heard_of i r d) (count_data i.modulus (window_in_force i c r.side) (counts_of c) r.side d.send d.receive) c h
 
-transferred : (i : Interface) (x : Side) (s : StateName) (k : Class) (xs : List ℕ) (c : Channel) → IsReached c → IsReached (transferring i x s k xs c).after
-transferred i x s Short xs c r = counts_alone x s (count_receive i.modulus (counts_of c) x (unwrap_or (receive_number i xs) 0)) c r
-transferred i x s WrongFormat xs c r = counts_alone x s (count_receive i.modulus (counts_of c) x (unwrap_or (receive_number i xs) 0)) c r
-transferred i x s Unassigned xs c r = counts_alone x s (count_receive i.modulus (counts_of c) x (unwrap_or (receive_number i xs) 0)) c r
-transferred i x s Restart xs c r = counts_alone x s (count_receive i.modulus (counts_of c) x (unwrap_or (receive_number i xs) 0)) c r
-transferred i x s RestartConfirm xs c r = counts_alone x s (count_receive i.modulus (counts_of c) x (unwrap_or (receive_number i xs) 0)) c r
-transferred i x s Diagnostic xs c r = counts_alone x s (count_receive i.modulus (counts_of c) x (unwrap_or (receive_number i xs) 0)) c r
-transferred i x s Registration xs c r = counts_alone x s (count_receive i.modulus (counts_of c) x (unwrap_or (receive_number i xs) 0)) c r
-transferred i x s TwoOctets xs c r = counts_alone x s (count_receive i.modulus (counts_of c) x (unwrap_or (receive_number i xs) 0)) c r
-transferred i x s RestartHere xs c r = counts_alone x s (count_receive i.modulus (counts_of c) x (unwrap_or (receive_number i xs) 0)) c r
-transferred i x s Call xs c r = counts_alone x s (count_receive i.modulus (counts_of c) x (unwrap_or (receive_number i xs) 0)) c r
-transferred i x s Accepted xs c r = counts_alone x s (count_receive i.modulus (counts_of c) x (unwrap_or (receive_number i xs) 0)) c r
-transferred i x s Clear xs c r = counts_alone x s (count_receive i.modulus (counts_of c) x (unwrap_or (receive_number i xs) 0)) c r
-transferred i x s ClearConfirm xs c r = counts_alone x s (count_receive i.modulus (counts_of c) x (unwrap_or (receive_number i xs) 0)) c r
-transferred i x s Interrupt xs c r = counts_alone x s (count_interrupt (counts_of c) x) c r
-transferred i x s InterruptConfirm xs c r = counts_alone x s (count_confirm (counts_of c) x) c r
-transferred i x s Reset xs c r = counts_alone x s (count_receive i.modulus (counts_of c) x (unwrap_or (receive_number i xs) 0)) c r
-transferred i x s ResetConfirm xs c r = counts_alone x s (count_receive i.modulus (counts_of c) x (unwrap_or (receive_number i xs) 0)) c r
-transferred i x s Data xs c r = data_by i x s xs (data_header i xs) c r
-transferred i x s Rr xs c r = counts_alone x s (count_receive i.modulus (counts_of c) x (unwrap_or (receive_number i xs) 0)) c r
-transferred i x s Rnr xs c r = counts_alone x s (count_receive i.modulus (counts_of c) x (unwrap_or (receive_number i xs) 0)) c r
-transferred i x s Rej xs c r = counts_alone x s (count_receive i.modulus (counts_of c) x (unwrap_or (receive_number i xs) 0)) c r
-transferred i x s Undefined xs c r = counts_alone x s (count_receive i.modulus (counts_of c) x (unwrap_or (receive_number i xs) 0)) c r
+transferred : (i : Interface) (s : StateName) (k : Class) (r : Item) (c : Channel) → IsReached c → IsReached (transferring i s k r c).after
+transferred i s Data r c h = data_by i s r (header_in r.packet) c h
+transferred i s k r c h = counts_alone r.side s _ c h
 
-by_entry : (i : Interface) (x : Side) (s : StateName) (k : Class) (xs : List ℕ) (a : Action) (f : Option ℕ) (c : Channel) → is_entry a x k c.state ≡ true → IsReached c →
-    IsReached (verdict_step i x s k xs (verdict (record { state = s; entry = a }) f) c).after
-by_entry i x s k xs (Move t) None c e r = moved (call_change x k t) t xs c e r
-by_entry i x s k xs (Move t) (Some n) c e r = failed x s n c r
-by_entry i x s k xs Normal None c e r = transferred i x s k xs c r
-by_entry i x s k xs Normal (Some n) c e r = failed x s n c r
-by_entry i x s k xs (Error n) f c e r = failed x s n c r
-by_entry i x s k xs EndsIndication f c e r = same c (record c { owed = false }) refl refl refl r
-by_entry i x s k xs Discard f c e r = r
-by_entry i x s k xs Pass f c e r = r
-by_entry i x s k xs Below f c e r = r
-by_entry i x s k xs ToChannel f c e r = r
+by_entry : (i : Interface) (s : StateName) (r : Item) (a : Action) (f : Option ℕ) (c : Channel) → is_entry a r.side (packet_class r.packet) c.state ≡ true → IsReached c →
+    IsReached (verdict_step i s r (verdict (record { state = s; entry = a }) f) c).after
+by_entry i s r (Move t) None c e h = moved (call_change r.side (packet_class r.packet) t) t r.octets c e h
+by_entry i s r (Move t) (Some n) c e h = failed r.side s n c h
+by_entry i s r Normal None c e h = transferred i s (packet_class r.packet) r c h
+by_entry i s r Normal (Some n) c e h = failed r.side s n c h
+by_entry i s r (Error n) f c e h = failed r.side s n c h
+by_entry i s r EndsIndication f c e h = same c (record c { owed = false }) refl refl refl h
+by_entry i s r Discard f c e h = h
+by_entry i s r Pass f c e h = h
+by_entry i s r Below f c e h = h
+by_entry i s r ToChannel f c e h = h
 
 -- a row
-pub reached_step : (i : Interface) (n : ℕ) (c : Channel) (r : Row) → IsReached c → IsReached (channel_step i n c r).after
+pub reached_step : (i : Interface) (n : ℕ) (c : Channel) (r : Item) → IsReached c → IsReached (channel_step i n c r).after
 reached_step i n c r reached =
-    let k : Class = class_of i r.octets in
+    let k : Class = packet_class r.packet in
     let j = judged (is_permanent i n) r.side c.state c.owed k in
-    let f : Option ℕ = packet_fault i n c r.side k r.octets in
-    by_entry i r.side j.state k r.octets j.entry f c (fits (is_permanent i n) r.side c.state c.owed k) reached
+    by_entry i j.state r j.entry (packet_fault i n c r) c (fits (is_permanent i n) r.side c.state c.owed k) reached
 
 -- a fresh channel
 pub reached_fresh : (i : Interface) (e n : ℕ) → IsReached (fresh i e n)

@@ -1,7 +1,10 @@
 -- A channel, and what it stands for (X.25 Annexes B and C).
-use Rattle.std.specs.Prelude.{ℕ, Bool, ◌≡◌, List, Result, IfOk, IfErr, OnErr}
+use Rattle.std.specs.Prelude.{ℕ, Bool, false, ◌≡◌, List, ◌++◌, map, Option, None, Result, Ok, Err, IfOk, IfErr, OnErr}
 use Rattle.line_model.specs.declared.interface.Interface.{Interface}
 use Rattle.line_model.specs.declared.state.ChannelState.{ChannelState}
+use Rattle.line_model.specs.declared.state.ChannelState.TheVariants.{Transfer}
+use Rattle.line_model.specs.declared.state.DState.TheVariants.{D1}
+use Rattle.line_model.specs.declared.state.Side.{Side}
 use Rattle.line_model.specs.declared.event.Event.{Event}
 use Rattle.line_model.specs.declared.fault.Fault.{Fault}
 use Rattle.line_model.specs.declared.fault.Fault.TheVariants.{Memory}
@@ -10,10 +13,11 @@ use Rattle.line_model.specs.channels.Channels.{Channel}
 use Rattle.data_transfer.specs.Sequences.{Assembly}
 use Rattle.channel_machine.specs.declared.messages.BothSettings.{BothSettings}
 use Rattle.channel_machine.specs.declared.events.EventOrigin.{EventOrigin}
-use Rattle.channel_machine.specs.Events.{Reports}
+use Rattle.channel_machine.specs.Events.{Reports, data_of, event_at}
 use Rattle.channel_machine.specs.TermsStand.{Agreed, TermsStand}
 use Rattle.channel_machine.specs.Reached.{IsReached}
-use Rattle.channel_machine.specs.Transfers.{Transfer, StandsFor}
+use Rattle.channel_machine.specs.Transfers as transfers
+use Rattle.channel_machine.specs.Transfers.{StandsFor}
 use Rattle.channel_machine.specs.Status.{Status}
 
 -- what the code keeps of a channel
@@ -22,7 +26,7 @@ pub record Known : Type 0 where
   pub state : ChannelState
   pub owed : Bool
   pub terms : Agreed
-  pub transfer : Transfer
+  pub transfer : transfers.Transfer
 
 -- the same, from its status and what stands beside it
 abbrev pub known : (channel : ℕ) → Status → Assembly → BothSettings → Known
@@ -59,6 +63,23 @@ pub record Does (s : EventOrigin) (old new : Known) (before after : List Event) 
   pub channel : new.channel ≡ old.channel
   pub stands : Stands new o.after
   pub reports : Reports s before after o.reported
+
+-- the same where the event of an accepted data packet is kept out of the list
+pub record DoesApart (s : EventOrigin) (x : Side) (old new : Known) (before after : List Event) (accepted : Option ℕ) (o : Outcome) : Type 0 where
+  pub interface : new.terms.interface ≡ old.terms.interface
+  pub channel : new.channel ≡ old.channel
+  pub stands : Stands new o.after
+  pub reports : after ++ map (event_at s) (data_of x accepted) ≡ before ++ map (event_at s) o.reported
+
+-- a step whose events are all listed
+abbrev pub listed : {U : Type 0} → Result U Fault → Result (Option ℕ) Fault
+listed (Ok u) = Ok None
+listed (Err e) = Err e
+
+-- in d1, where no indication is owed
+pub record IsOpen (p : Known) : Type 0 where
+  pub state : p.state ≡ Transfer D1
+  pub unowed : p.owed ≡ false
 
 -- the same of a function that may want memory, on each channel that it stands for
 abbrev pub Comes : {U : Type 0} → Result U Fault → EventOrigin → (old new : Known) → (before after : List Event) → (Channel → Outcome) → Type 0

@@ -1,17 +1,26 @@
 -- What an entry of the state tables has a channel do with a packet.
-use Rattle.std.specs.Prelude.{ℕ, Bool, true, List}
+use Rattle.std.specs.Prelude.{ℕ, Bool, true, false}
 use Rattle.line_model.specs.declared.interface.Interface.{Interface}
 use Rattle.line_model.specs.declared.packet.Class.{Class}
+use Rattle.line_model.specs.declared.packet.Class.TheVariants.{Data, Interrupt, InterruptConfirm, Rr, Rnr}
 use Rattle.line_model.specs.declared.state.ChannelState.{ChannelState}
 use Rattle.line_model.specs.declared.state.Side.{Side}
 use Rattle.line_model.specs.declared.table.Action.{Action}
 use Rattle.line_model.specs.declared.table.Action.TheVariants.{Move, Normal}
-use Rattle.line_model.specs.packets.Classes.{class_of}
+use Rattle.line_model.specs.basics.Records.{Item}
 use Rattle.line_model.specs.packets.Formats.{packet_fault}
 use Rattle.line_model.specs.channels.Channels.{Channel}
 use Rattle.line_model.specs.channels.ChannelStep.{Judged, Outcome, call_change, verdict, verdict_step}
-use Rattle.packet_decode.specs.Transfers.{is_transfer}
 use Rattle.channel_machine.specs.Reached.{is_from}
+
+-- the packets of data transfer
+abbrev pub is_transfer : Class → Bool
+is_transfer Data = true
+is_transfer Interrupt = true
+is_transfer InterruptConfirm = true
+is_transfer Rr = true
+is_transfer Rnr = true
+is_transfer _ = false
 
 -- whether the tables can have an entry for a packet in a state: only a packet of data transfer is normal, and a move
 -- comes from where it changes the call so
@@ -21,7 +30,5 @@ is_entry (Move to) x k s = is_from (call_change x k to) to s
 is_entry _ x k s = true
 
 -- what a packet does to its channel by an entry
-abbrev pub entry_step : Interface → (channel : ℕ) → Side → Judged → List ℕ → Channel → Outcome
-entry_step i n x j xs c =
-    let k : Class = class_of i xs in
-    verdict_step i x j.state k xs (verdict j (packet_fault i n c x k xs)) c
+abbrev pub entry_step : Interface → (channel : ℕ) → Judged → Item → Channel → Outcome
+entry_step i n j r c = verdict_step i j.state r (verdict j (packet_fault i n c r)) c

@@ -1,4 +1,6 @@
 pub mod Sizes
+pub mod Lengths
+pub mod Contents
 pub mod Terms
 pub mod TermsStand
 pub mod Agreed
@@ -8,7 +10,6 @@ pub mod Transfers
 pub mod Status
 pub mod Reached
 pub mod PackedStatus
-pub mod Usual
 pub mod Channels
 pub mod Moves
 pub mod Entries

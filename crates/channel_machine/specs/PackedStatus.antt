@@ -1,5 +1,5 @@
 -- The status of a channel in a word (profile).
-use Rattle.std.specs.Prelude.{ℕ, Bool, cond, ◌==◌, ◌-◌, ◌*◌, ◌/◌, ◌%◌, ◌^◌, Option, Some, None}
+use Rattle.std.specs.Prelude.{ℕ, cond, ◌==◌, ◌-◌, ◌*◌, ◌/◌, ◌%◌, ◌^◌, Option, Some, None}
 use Rattle.line_model.specs.declared.interface.Interface.{Interface}
 use Rattle.data_transfer.specs.Packed.{Packed}
 use Rattle.channel_run.specs.StatusWord.{state_in, owed_in}

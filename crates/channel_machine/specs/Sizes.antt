@@ -1,6 +1,6 @@
--- How long user data can be.
+-- How long packets of data transfer can be.
 use Rattle.std.specs.Prelude.{ℕ}
 
--- no packet size is greater
-abbrev pub largest_size : ℕ
-largest_size = 65535
+-- no packet of data transfer without fault of format is longer
+abbrev pub largest_length : ℕ
+largest_length = 65539

@@ -1,5 +1,5 @@
 -- The data transfer part of a channel, and what it stands for (X.25 clause 4).
-use Rattle.std.specs.Prelude.{ℕ, false, ◌≡◌, List, [], Option, Some, None, Result, Ok, Err}
+use Rattle.std.specs.Prelude.{ℕ, ◌≡◌, List, length, Option, Some, None, Result, Ok, Err}
 use Rattle.line_model.specs.declared.state.Side.{Side}
 use Rattle.line_model.specs.declared.state.Side.TheVariants.{T, N}
 use Rattle.line_model.specs.declared.state.StateName.{StateName}
@@ -29,17 +29,9 @@ pub record StandsFor (i : Interface) (t : Transfer) (c : Channel) : Type 0 where
   pub flow : Stands t.flow (counts_of c)
   pub modulus : t.flow.modulus ≡ i.modulus
   pub windows : t.flow.windows ≡ record { of_t = window_in_force i c T; of_n = window_in_force i c N }
-  pub sequences : assembly.Follows t.assembler c.heard
+  pub sequences : assembly.StandsFor t.assembler c.heard
   pub sizes : assembly.sizes t.assembler ≡ record { of_t = size_in_force i c T; of_n = size_in_force i c N }
   pub settings : SettingsStand t.settings c.told
-
--- a channel where nothing was heard yet (X.25 clause 4.4.3)
-abbrev pub silent : Channel → Channel
-silent c = record c {
-  heard = [];
-  acknowledged = record { of_t = 0; of_n = 0 };
-  unconfirmed = record { of_t = false; of_n = false };
-}
 
 -- what the counts answer to a data packet of a side, in the window in force (X.25 clause 4.4.1)
 abbrev pub counted_in_force : Interface → Side → (send receive : ℕ) → Channel → Result Counts ℕ
@@ -47,7 +39,14 @@ counted_in_force i x s n c = count_data i.modulus (window_in_force i c x) (count
 
 -- the data packet of a header
 abbrev pub packet : Side → DataHeader → List ℕ → AcceptedData
-packet x h octets = record { side = x; qualified = h.qualified; more = h.more; delivery = h.delivery; octets = octets }
+packet x h octets = record {
+  side = x;
+  qualified = h.qualified;
+  more = h.more;
+  delivery = h.delivery;
+  length = length octets;
+  octets = octets;
+}
 
 -- what a data packet does, by the answer of its counts: a fault is told and changes nothing
 abbrev pub IsHeard : Option ℕ → Interface → EventOrigin → (old new : Transfer) → (before after : List Event) →
@@ -57,6 +56,12 @@ IsHeard (Some n) i s old new before after x p r c =
 IsHeard None i s old new before after x p r c =
     (v : Counts) × (m : Option (List ℕ)) × ((t : StateName) → data_counted i x t p r c ≡ hearing x p v m c)
     × StandsFor i new (hearing x p v m c).after × Reports s before after (hearing x p v m c).reported
+
+-- what a data packet does that completes no message, by the answer of its counts: a fault changes nothing
+abbrev pub IsAccepted : {U : Type 0} → Result U ℕ → Interface → (old new : Transfer) → Side → AcceptedData → Result Counts ℕ → Channel → Type 0
+IsAccepted (Err n) i old new x p r c = ((t : StateName) → data_counted i x t p r c ≡ failing x t n c) × (new ≡ old)
+IsAccepted (Ok u) i old new x p r c =
+    (v : Counts) × ((t : StateName) → data_counted i x t p r c ≡ hearing x p v None c) × StandsFor i new (hearing x p v None c).after
 
 -- what a packet that changes the counts alone does, by the answer of the counts
 abbrev pub IsCounted : {U : Type 0} → Result U ℕ → Interface → (old new : Transfer) → Result Counts ℕ → Channel → Type 0

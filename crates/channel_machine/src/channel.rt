@@ -47,7 +47,6 @@ impl<A: Allocator, S: StatusStore> Model for StatusChannel<A, S> {
 
 impl<A: Allocator + Clone, S: StatusStore> StatusChannel<A, S> {
     /// Enters a state under some terms.
-    #[tactic(auto, using(data_transfer::proofs::Sides::follows_of))]
     pub(crate) fn enter(&mut self, to: StateName, owed: bool, terms: &Terms)
         ensures interface { self.new.terms.interface ≡ terms.now.interface }
         ensures channel { self.new.channel ≡ self.old.channel }

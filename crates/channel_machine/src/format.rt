@@ -1,76 +1,168 @@
 //! What is read of the packets of a channel, and their first faults (X.25 clause 5).
 
-ghost use Rattle.std.specs.Prelude.{◌≡◌, true, IfOk};
+ghost use Rattle.std.specs.Prelude.{◌≡◌, ◌≤◌, ℕ, List, false, unwrap_or, IfOk, IfNone};
 ghost use Rattle.std.specs.Result.{result_err};
+ghost use Rattle.line_model.specs.basics.Bounds.{IsSaid};
 ghost use Rattle.line_model.specs.channels.Channels.{Channel};
-ghost use Rattle.line_model.specs.packets.Classes.{class_of, packet_of};
-ghost use Rattle.line_model.specs.packets.Formats.{direction_fault, packet_fault};
-ghost use Rattle.packet_decode.specs.Contents.{AreInForce, AreOf, AreUsable};
-ghost use Rattle.packet_decode.specs.Transfers.{AreTransferOf, IsShort, is_transfer};
+ghost use Rattle.line_model.specs.packets.Classes.{packet_class};
+ghost use Rattle.line_model.specs.packets.Formats.{direction_fault, format_fault, packet_fault};
+ghost use Rattle.line_model.specs.packets.Says.{header_in, receive_in};
 ghost use Rattle.channel_machine.specs.Channels.{Stands};
-ghost use Rattle.channel_machine.specs.Sizes.{largest_size};
+ghost use Rattle.channel_machine.specs.Contents.{AreOf, AreUsable, is_call};
+ghost use Rattle.channel_machine.specs.Lengths.{outside, too_long, too_short};
+ghost use Rattle.channel_machine.specs.Sizes.{largest_length};
 
 use crate::channel::StatusChannel;
 use crate::status::StatusStore;
 use crate::terms::was_fast;
-use line_model::diagnostic::CALL_ON_ONE_WAY_LOGICAL_CHANNEL;
-use line_model::packet::{Class, Packet};
+use line_model::diagnostic::{CALL_ON_ONE_WAY_LOGICAL_CHANNEL, PACKET_TOO_LONG, PACKET_TOO_SHORT};
+use line_model::items::ItemRef;
+use line_model::packet::{Class, DataHeader, Packet, PacketKind};
 use line_model::state::Side;
-use packet_decode::contents::{Contents, InForce, read_contents};
-use packet_decode::transfer::{TransferContents, read_transfer};
+use packet_decode::decode::header_length;
+use packet_decode::fields::{CallFields, call_fields};
 use std::alloc::Allocator;
 
+/// What a packet without fault of format says beside its class and its length.
+#[derive(Drop)]
+pub(crate) enum Contents<'a> {
+    /// The fields of a call request or incoming call.
+    Call(CallFields<'a>),
+    /// The fields of a call accepted or connected.
+    Accepted(CallFields<'a>),
+    /// A packet of which no more is read.
+    Other,
+}
+
+/// The header of a data packet, `None` where it is cut and for every other packet.
+pub(crate) fn header_of(packet: &Packet) -> Option<DataHeader>
+    ensures { result ≡ header_in packet.now }
+{
+    match packet {
+        Packet::Channel {
+            kind: PacketKind::Data(header),
+            ..
+        } => *header,
+        _ => None,
+    }
+}
+
+/// P(R) of RR and RNR, 0 where it is cut and for every other packet.
+pub(crate) fn receive_of(packet: &Packet) -> u8
+    ensures { result ≡ unwrap_or (receive_in packet.now) 0 }
+{
+    match packet {
+        Packet::Channel {
+            kind: PacketKind::Rr(Some(receive)),
+            ..
+        } => *receive,
+        Packet::Channel {
+            kind: PacketKind::Rnr(Some(receive)),
+            ..
+        } => *receive,
+        _ => 0,
+    }
+}
+
+/// The fault of a packet that is shorter than it may be.
+fn at_least(least: usize, length: usize) -> Option<u8>
+    ensures { result ≡ too_short least length }
+{
+    if length < least {
+        return Some(PACKET_TOO_SHORT);
+    }
+    None
+}
+
+/// The fault of a packet that is longer than it may be.
+fn at_most(most: usize, length: usize) -> Option<u8>
+    ensures { result ≡ too_long most length }
+{
+    if length > most {
+        return Some(PACKET_TOO_LONG);
+    }
+    None
+}
+
+/// The fault of a packet that is shorter or longer than it may be.
+fn between(least: usize, most: usize, length: usize) -> Option<u8>
+    ensures fault { result ≡ outside least most length }
+    ensures within { IfNone result (length ≤ most) }
+{
+    if length < least {
+        return Some(PACKET_TOO_SHORT);
+    }
+    if length > most {
+        return Some(PACKET_TOO_LONG);
+    }
+    None
+}
+
 impl<A: Allocator + Clone, S: StatusStore> StatusChannel<A, S> {
-    /// What a packet says, or its first fault: a call against the direction of its channel (profile), or a fault of its
-    /// format.
-    pub(crate) fn read<'a>(
-        &self,
-        side: Side,
-        packet: &Packet,
-        octets: &'a [u8],
-    ) -> Result<Contents<'a>, u8>
-        requires packet { packet.now ≡ packet_of self.now.terms.interface octets.now }
+    /// What a packet says that moves its channel, or its first fault: a call against the direction of its channel
+    /// (profile), or a fault of its format.
+    pub(crate) fn read<'a>(&self, item: &ItemRef<'a>) -> Result<Contents<'a>, u8>
+        requires said { IsSaid self.now.terms.interface item.now }
         ensures fault { (c : Channel) → Stands self.now c
-            → result_err result ≡ packet_fault self.now.terms.interface self.now.channel c side
-            (class_of self.now.terms.interface octets.now) octets.now }
-        ensures contents { IfOk result (λ r. AreOf r self.now.terms.interface octets.now) }
-        ensures usable { IfOk result (λ r. AreUsable r self.now.terms.interface largest_size) }
+            → result_err result ≡ packet_fault self.now.terms.interface self.now.channel c item.now }
+        ensures contents { IfOk result (λ r. AreOf r item.now) }
+        ensures usable { IfOk result (λ r. AreUsable r self.now.terms.interface) }
     {
-        match self.direction_fault(side, packet.class()) {
+        let class = item.packet.class();
+        match self.direction_fault(item.side, class) {
             Some(code) => Err(code),
-            None => {
-                read_contents(
-                    &self.status.interface(),
-                    packet,
-                    octets,
-                    self.in_force(side),
-                )
-            }
+            None => self.read_format(class, item),
         }
     }
 
-    /// What a packet of data transfer says, or the first fault of its format. No direction is against it.
-    #[inline(always)]
-    pub(crate) fn read_transfer<'a>(
-        &self,
-        side: Side,
-        packet: &Packet,
-        octets: &'a [u8],
-    ) -> Result<TransferContents<'a>, u8>
-        requires packet { packet.now ≡ packet_of self.now.terms.interface octets.now }
-        requires transfer { is_transfer (class_of self.now.terms.interface octets.now) ≡ true }
+    /// What a packet of a class says, or the first fault of its format.
+    fn read_format<'a>(&self, class: Class, item: &ItemRef<'a>) -> Result<Contents<'a>, u8>
+        requires said { IsSaid self.now.terms.interface item.now }
+        requires class { class ≡ packet_class item.now.packet }
         ensures fault { (c : Channel) → Stands self.now c
-            → result_err result ≡ packet_fault self.now.terms.interface self.now.channel c side
-            (class_of self.now.terms.interface octets.now) octets.now }
-        ensures contents { IfOk result (λ r. AreTransferOf r self.now.terms.interface octets.now) }
-        ensures usable { IfOk result (λ r. IsShort r largest_size) }
+            → result_err result ≡ format_fault self.now.terms.interface c item.now.side class
+            item.now.length item.now.octets }
+        ensures contents { IfOk result (λ r. AreOf r item.now) }
+        ensures usable { IfOk result (λ r. AreUsable r self.now.terms.interface) }
     {
-        read_transfer(
-            &self.status.interface(),
-            packet,
-            octets,
-            self.status.size(side),
-        )
+        match class {
+            Class::Call => match call_fields(&self.status.interface(), item.octets, false) {
+                Ok(fields) => Ok(Contents::Call(fields)),
+                Err(code) => Err(code),
+            },
+            Class::Accepted => {
+                let fast = was_fast(self.status.call());
+                match call_fields(&self.status.interface(), item.octets, fast) {
+                    Ok(fields) => Ok(Contents::Accepted(fields)),
+                    Err(code) => Err(code),
+                }
+            }
+            _ => match self.length_fault(item.side, class, item.length) {
+                Some(code) => Err(code),
+                None => Ok(Contents::Other),
+            },
+        }
+    }
+
+    /// The first fault of a length, for the class of a packet that is none of a call, with the packet size in force for
+    /// the side that sent it.
+    pub(crate) fn length_fault(&self, side: Side, class: Class, length: usize) -> Option<u8>
+        ensures fault { (c : Channel) (xs : List ℕ) → Stands self.now c → is_call class ≡ false
+            → result ≡ format_fault self.now.terms.interface c side class length xs }
+        ensures short { IfNone result (class ≡ Class.Data → length ≤ largest_length) }
+    {
+        let header = header_length(&self.status.interface());
+        match class {
+            Class::Clear => at_least(4, length),
+            Class::Reset => between(4, 5, length),
+            Class::ResetConfirm => at_most(3, length),
+            Class::InterruptConfirm => at_most(3, length),
+            Class::Interrupt => between(4, 35, length),
+            Class::Rr => between(header, header, length),
+            Class::Rnr => between(header, header, length),
+            Class::Data => between(header, header + usize::from(self.status.size(side)), length),
+            _ => None,
+        }
     }
 
     /// The fault of a call against the direction of a one-way channel.
@@ -86,18 +178,6 @@ impl<A: Allocator + Clone, S: StatusStore> StatusChannel<A, S> {
                 }
             }
             _ => None,
-        }
-    }
-
-    /// What is in force for the packets of a side.
-    #[tactic(auto, using(crate::proofs::InForce::size_stands, crate::proofs::InForce::fast_stands))]
-    fn in_force(&self, side: Side) -> InForce
-        ensures { (c : Channel) → Stands self.now c
-            → AreInForce self.now.terms.interface c side result }
-    {
-        InForce {
-            fast: was_fast(self.status.call()),
-            size: self.status.size(side),
         }
     }
 }

@@ -1,13 +1,11 @@
 //! Where a packet stands in the state tables.
 
 ghost use Rattle.std.specs.Prelude.{◌≡◌};
-ghost use Rattle.std.specs.Bool.{OnTrue};
 ghost use Rattle.line_model.specs.channels.Tables.{action};
 ghost use Rattle.line_model.specs.channels.ChannelStep.{judged, joining, is_reset, is_call_or_clear};
-ghost use Rattle.channel_machine.specs.Usual.{IsUsual};
 
 use line_model::packet::Class;
-use line_model::state::{ChannelState, DState, Side, StateName};
+use line_model::state::{ChannelState, Side, StateName};
 use line_model::table::{Action, table_n, table_t};
 
 /// The entry of a side's table.
@@ -32,9 +30,6 @@ pub(crate) fn judged(
     ensures { record { state = result.0; entry = result.1 }
         ≡ judged permanent side state owed class }
 {
-    if !owed && is_usual(state, class) {
-        return (StateName::D1, Action::Normal);
-    }
     match state {
         ChannelState::Setup(state) => (state.name(), entry(side, state.name(), owed, class)),
         ChannelState::Transfer(state) => {
@@ -55,16 +50,6 @@ pub(crate) fn judged(
                 joining(is_call_or_clear(class), StateName::P1, in_p1)
             }
         }
-    }
-}
-
-/// Whether a packet is data or RR in d1, as most are: both sides' tables have the same entry for it.
-pub(crate) fn is_usual(state: ChannelState, class: Class) -> bool
-    ensures { OnTrue result (IsUsual state class) }
-{
-    match state {
-        ChannelState::Transfer(DState::D1) => matches!(class, Class::Data | Class::Rr),
-        _ => false,
     }
 }
 

@@ -4,17 +4,17 @@ ghost use Rattle.channel_machine.specs.Channels.{StandsForReached, interface_of,
 
 use crate::channel::StatusChannel;
 use crate::events::EventOrigin;
-use crate::messages::BothSettings;
+use crate::messages::{BothSettings, data_packet};
 use crate::status::StatusStore;
-use crate::terms::{Terms, is_pad_call, was_fast};
-use channel_run::run::{Channel, Usual, View};
+use crate::terms::Terms;
+use channel_run::run::Channel;
 use data_transfer::assembler::Assembler;
 use data_transfer::packed::FlowWord;
 use line_model::event::Event;
 use line_model::fault::Fault;
 use line_model::interface::Interface;
 use line_model::items::ItemRef;
-use line_model::state::{ChannelState, Side};
+use line_model::state::ChannelState;
 use std::alloc::Allocator;
 
 impl<A: Allocator + Clone, S: StatusStore + Drop> Channel<A> for StatusChannel<A, S> {
@@ -24,7 +24,6 @@ impl<A: Allocator + Clone, S: StatusStore + Drop> Channel<A> for StatusChannel<A
 
     ghost stands_for = { StandsForReached };
 
-    #[tactic(auto, using(data_transfer::proofs::Sides::follows_of))]
     fn fresh(alloc: A, interface: &Interface, channel: u16, epoch: u32) -> Self {
         let terms = Terms::new(*interface);
         StatusChannel {
@@ -44,18 +43,6 @@ impl<A: Allocator + Clone, S: StatusStore + Drop> Channel<A> for StatusChannel<A
         self.status.state()
     }
 
-    fn view(&self) -> View {
-        View {
-            state: self.status.state(),
-            owed: self.status.is_owed(),
-            pad_call: is_pad_call(self.status.call()),
-            fast: was_fast(self.status.call()),
-            size_t: self.status.size(Side::T),
-            size_n: self.status.size(Side::N),
-            flow: self.status.flow(),
-        }
-    }
-
     fn word(&self) -> FlowWord {
         self.status.word()
     }
@@ -70,15 +57,34 @@ impl<A: Allocator + Clone, S: StatusStore + Drop> Channel<A> for StatusChannel<A
         item: &ItemRef<'_>,
         events: &mut Vec<Event, A>,
     ) -> Result<(), Fault> {
+        events.reserve(1)?;
+        match self.advance(epoch, item, events) {
+            Ok(Some(octets)) => {
+                events.push_reserved(Event {
+                    epoch,
+                    channel: self.channel,
+                    packet: item.number,
+                    what: data_packet(item.side, octets),
+                });
+                Ok(())
+            }
+            Ok(None) => Ok(()),
+            Err(fault) => Err(fault),
+        }
+    }
+
+    #[inline(always)]
+    fn advance(
+        &mut self,
+        epoch: u32,
+        item: &ItemRef<'_>,
+        events: &mut Vec<Event, A>,
+    ) -> Result<Option<u32>, Fault> {
         let origin = EventOrigin {
             epoch,
             channel: self.channel,
             packet: item.number,
         };
-        self.handle(origin, item.side, &item.packet, item.octets, events)
-    }
-
-    fn step_usual(&mut self, item: &ItemRef<'_>) -> Option<Usual> {
-        self.handle_usual(item.side, &item.packet, item.octets)
+        self.handle(origin, item, events)
     }
 }

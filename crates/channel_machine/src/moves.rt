@@ -7,20 +7,21 @@ ghost use Rattle.line_model.specs.channels.ChannelStep.{entering, changing, call
 ghost use Rattle.line_model.specs.channels.Verdicts.CallChange.{Opens, GoesUp};
 ghost use Rattle.packet_decode.specs.Shown.{shown, IsUsable};
 ghost use Rattle.channel_machine.specs.Reached.{IsUnanswered};
-ghost use Rattle.packet_decode.specs.Contents.{AreOf, AreUsable};
-ghost use Rattle.line_model.specs.packets.Classes.{class_of};
+ghost use Rattle.channel_machine.specs.Contents.{AreOf, AreUsable};
+ghost use Rattle.line_model.specs.basics.Records.{Item};
+ghost use Rattle.line_model.specs.packets.Classes.{packet_class};
 ghost use Rattle.line_model.specs.declared.interface.Interface.{Interface};
 ghost use Rattle.channel_machine.specs.Channels.{Stands, Does, IsUnchanged, IsMemory};
 ghost use Rattle.channel_machine.specs.Moves.{IsChange, TakesUsable, leaving};
 
 use crate::channel::StatusChannel;
 use crate::events::EventOrigin;
+use crate::format::Contents;
 use crate::status::StatusStore;
 use crate::terms::Terms;
 use line_model::event::{Event, How, What};
 use line_model::fault::Fault;
 use line_model::state::{Side, StateName};
-use packet_decode::contents::Contents;
 use packet_decode::fields::CallFields;
 use std::alloc::Allocator;
 
@@ -43,9 +44,9 @@ pub(crate) fn change_of<'a, 'o>(
     contents: &'a Contents<'o>,
     to: StateName,
 ) -> Change<'a, 'o>
-    ensures change { (i : Interface) (xs : List ℕ) → AreOf contents.now i xs
-        → IsChange result (call_change side (class_of i xs) to) xs }
-    ensures usable { (i : Interface) (n : ℕ) → AreUsable contents.now i n → TakesUsable result i }
+    ensures change { (item : Item) → AreOf contents.now item
+        → IsChange result (call_change side (packet_class item.packet) to) item.octets }
+    ensures usable { (i : Interface) → AreUsable contents.now i → TakesUsable result i }
 {
     match contents {
         Contents::Call(fields) => match side {
@@ -59,7 +60,7 @@ pub(crate) fn change_of<'a, 'o>(
             StateName::P4 => Change::GoesUp(fields),
             _ => leaving(to),
         },
-        _ => leaving(to),
+        Contents::Other => leaving(to),
     }
 }
 

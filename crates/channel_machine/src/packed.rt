@@ -40,14 +40,17 @@ impl StatusStore for PackedStatus {
         }
     }
 
+    #[inline(always)]
     fn interface(&self) -> Interface {
         self.interface
     }
 
+    #[inline(always)]
     fn state(&self) -> ChannelState {
         state_in(self.word.owner_bits())
     }
 
+    #[inline(always)]
     fn is_owed(&self) -> bool {
         bit(self.word.owner_bits(), 5)
     }
@@ -74,14 +77,11 @@ impl StatusStore for PackedStatus {
         call_in(self.word.owner_bits())
     }
 
-    fn flow(&self) -> Flow {
-        self.word.flow()
-    }
-
     fn word(&self) -> FlowWord {
         self.word
     }
 
+    #[inline(always)]
     fn size(&self, side: Side) -> u16 {
         match side {
             Side::T => power((self.word.owner_bits() >> 10) % 16),
@@ -98,8 +98,12 @@ impl StatusStore for PackedStatus {
         }
     }
 
+    #[inline(always)]
     fn ack(&mut self, side: Side, receive: u8) -> Result<(), u8> {
-        self.word.ack(side, receive)
+        match side {
+            Side::T => self.word.ack(Side::T, receive),
+            Side::N => self.word.ack(Side::N, receive),
+        }
     }
 
     fn interrupt(&mut self, side: Side) -> Result<(), u8> {

@@ -59,10 +59,6 @@ impl StatusStore for PlainStatus {
         self.terms.call
     }
 
-    fn flow(&self) -> Flow {
-        self.flow
-    }
-
     fn word(&self) -> FlowWord {
         let state = state_bits(false, self.state);
         FlowWord::new(&self.flow, owner_bits_of(state, self.owed, &self.terms))

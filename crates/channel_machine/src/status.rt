@@ -10,7 +10,6 @@ ghost use Rattle.channel_machine.specs.Agreed.{agreed_of};
 ghost use Rattle.channel_machine.specs.TermsStand.{size_of};
 
 use crate::terms::{Opened, Terms};
-use data_transfer::flow::Flow;
 use data_transfer::packed::FlowWord;
 use line_model::interface::Interface;
 use line_model::state::{ChannelState, Side};
@@ -48,10 +47,6 @@ pub trait StatusStore: Copy {
     /// The call that is open.
     fn call(&self) -> Option<Opened>
         ensures { result ≡ (status self.now).terms.call };
-
-    /// The windows and interrupts.
-    fn flow(&self) -> Flow
-        ensures { result ≡ (status self.now).flow };
 
     /// What is known of the channel, in one word.
     fn word(&self) -> FlowWord

@@ -1,52 +1,118 @@
-//! What a packet does to its channel.
+//! What a row does to its channel by the state tables.
 
-ghost use Rattle.std.specs.Prelude.{◌≡◌, ◌≤◌, length, drop, true, Some, ℕ, List, IfOk};
+ghost use Rattle.std.specs.Prelude.{◌≡◌, ◌≤◌, true, false, Some, IfOk};
+ghost use Rattle.line_model.specs.basics.Bounds.{IsSaid};
+ghost use Rattle.line_model.specs.basics.Records.{Item};
 ghost use Rattle.line_model.specs.channels.Channels.{Channel, is_permanent};
 ghost use Rattle.line_model.specs.channels.FlowControl.{count_confirm, count_interrupt, count_receive};
-ghost use Rattle.line_model.specs.packets.Classes.{class_of, packet_of, data_header, header_length};
-ghost use Rattle.line_model.specs.channels.ChannelStep.{call_change, channel_step, counting, counts_of, judged, moving, transferring};
+ghost use Rattle.line_model.specs.packets.Classes.{packet_class};
+ghost use Rattle.line_model.specs.packets.Says.{header_in};
+ghost use Rattle.line_model.specs.channels.ChannelStep.{call_change, channel_step, counting, counts_of, data_step, judged, moving, transferring};
 ghost use Rattle.line_model.specs.declared.table.Action.TheVariants.{Move, Normal};
-ghost use Rattle.packet_decode.specs.Contents.{AreOf, AreUsable};
-ghost use Rattle.packet_decode.specs.Transfers.{AreTransferOf, IsShort, is_transfer};
+ghost use Rattle.packet_decode.specs.SaidData.{IsSaidData};
 ghost use Rattle.channel_machine.specs.Channels.{Stands, Does, Comes, IsUnchanged, IsMemory};
+ghost use Rattle.channel_machine.specs.Contents.{AreOf, AreUsable};
 ghost use Rattle.channel_machine.specs.Reached.{IsReached, is_from};
-ghost use Rattle.channel_machine.specs.Entries.{entry_step, is_entry};
-ghost use Rattle.channel_machine.specs.Sizes.{largest_size};
+ghost use Rattle.channel_machine.specs.Entries.{entry_step, is_entry, is_transfer};
+ghost use Rattle.channel_machine.specs.Sizes.{largest_length};
 
 use crate::channel::StatusChannel;
 use crate::events::{EventOrigin, Judgement};
+use crate::format::{Contents, header_of, receive_of};
 use crate::judging::judged;
+use crate::messages::data_packet;
 use crate::moves::{Change, change_of};
 use crate::status::StatusStore;
 use line_model::event::Event;
 use line_model::fault::Fault;
-use line_model::packet::{Class, DataHeader, Packet};
+use line_model::items::ItemRef;
+use line_model::packet::{Class, DataHeader};
 use line_model::state::{Side, StateName};
 use line_model::table::Action;
-use packet_decode::contents::Contents;
-use packet_decode::transfer::TransferContents;
+use packet_decode::decode::header_length;
 use std::alloc::Allocator;
 
 impl<A: Allocator + Clone, S: StatusStore> StatusChannel<A, S> {
-    /// Takes a data packet without fault of format.
+    /// Accepts or refuses a data packet without fault of format.
     fn handle_data(
         &mut self,
         judgement: &Judgement,
-        header: &DataHeader,
-        user_data: &[u8],
+        item: &ItemRef<'_>,
         events: &mut Vec<Event, A>,
     ) -> Result<(), Fault>
-        requires short { length user_data.now ≤ largest_size }
-        ensures does { (xs : List ℕ) → data_header self.old.terms.interface xs ≡ Some header.now
-            → user_data.now ≡ drop (header_length self.old.terms.interface) xs
-            → Comes result judgement.now.origin self.old self.new events.old.items events.new.items
-            (transferring self.old.terms.interface judgement.now.side judgement.now.state Class.Data xs) }
+        requires side { judgement.now.side ≡ item.now.side }
+        requires said { IsSaid self.old.terms.interface item.now }
+        requires class { packet_class item.now.packet ≡ Class.Data }
+        requires short { item.now.length ≤ largest_length }
+        ensures does { Comes result judgement.now.origin self.old self.new
+            events.old.items events.new.items
+            (data_step self.old.terms.interface judgement.now.state item.now
+            (header_in item.now.packet)) }
         ensures unchanged { IsUnchanged result self.old self.new events.old.items events.new.items }
         ensures memory { IsMemory result }
     {
+        let Some(header) = header_of(&item.packet) else {
+            return Ok(());
+        };
+        if header.qualified {
+            self.handle_qualified(judgement, &header, item, events)
+        } else {
+            self.list_unqualified(judgement, &header, item, events)
+        }
+    }
+
+    /// Accepts or refuses a data packet with Q 1 without fault of format.
+    fn handle_qualified(
+        &mut self,
+        judgement: &Judgement,
+        header: &DataHeader,
+        item: &ItemRef<'_>,
+        events: &mut Vec<Event, A>,
+    ) -> Result<(), Fault>
+        requires side { judgement.now.side ≡ item.now.side }
+        requires said { IsSaidData self.old.terms.interface item.now header.now }
+        requires qualified { header.now.qualified ≡ true }
+        requires short { item.now.length ≤ largest_length }
+        ensures does { Comes result judgement.now.origin self.old self.new
+            events.old.items events.new.items
+            (data_step self.old.terms.interface judgement.now.state item.now (Some header.now)) }
+        ensures unchanged { IsUnchanged result self.old self.new events.old.items events.new.items }
+        ensures memory { IsMemory result }
+    {
+        let user_data = &item.octets[header_length(&self.status.interface())..];
         match self.accept_data(judgement.origin, judgement.side, header, user_data, events)? {
             Some(code) => self.fail(judgement, code, events),
             None => Ok(()),
+        }
+    }
+
+    /// Accepts or refuses a data packet with Q 0 without fault of format, and lists its event.
+    fn list_unqualified(
+        &mut self,
+        judgement: &Judgement,
+        header: &DataHeader,
+        item: &ItemRef<'_>,
+        events: &mut Vec<Event, A>,
+    ) -> Result<(), Fault>
+        requires side { judgement.now.side ≡ item.now.side }
+        requires said { IsSaidData self.old.terms.interface item.now header.now }
+        requires unqualified { header.now.qualified ≡ false }
+        requires short { item.now.length ≤ largest_length }
+        ensures does { Comes result judgement.now.origin self.old self.new
+            events.old.items events.new.items
+            (data_step self.old.terms.interface judgement.now.state item.now (Some header.now)) }
+        ensures unchanged { IsUnchanged result self.old self.new events.old.items events.new.items }
+        ensures memory { IsMemory result }
+    {
+        let length = item.length - header_length(&self.status.interface());
+        events.reserve(1)?;
+        match self.accept_unqualified(judgement.side, header, length) {
+            Ok(()) => {
+                let what = data_packet(judgement.side, length as u32);
+                events.push_reserved(judgement.origin.event(what));
+                Ok(())
+            }
+            Err(code) => self.fail(judgement, code, events),
         }
     }
 
@@ -89,7 +155,8 @@ impl<A: Allocator + Clone, S: StatusStore> StatusChannel<A, S> {
     }
 
     /// Takes the P(R) of a packet without fault of format.
-    fn handle_ready(
+    #[inline(always)]
+    pub(crate) fn handle_ready(
         &mut self,
         judgement: &Judgement,
         receive: u8,
@@ -117,13 +184,12 @@ impl<A: Allocator + Clone, S: StatusStore> StatusChannel<A, S> {
         contents: &Contents<'_>,
         events: &mut Vec<Event, A>,
     ) -> Result<(), Fault>
-        requires usable { AreUsable contents.now self.old.terms.interface largest_size }
-        ensures does { (c : Channel) (xs : List ℕ)
-            → AreOf contents.now self.old.terms.interface xs → IsReached c
-            → is_from (call_change judgement.now.side (class_of self.old.terms.interface xs) to) to
+        requires usable { AreUsable contents.now self.old.terms.interface }
+        ensures does { (c : Channel) (r : Item) → AreOf contents.now r → IsReached c
+            → is_from (call_change judgement.now.side (packet_class r.packet) to) to
             c.state ≡ true → Stands self.old c → IfOk result (λ _.
             Does judgement.now.origin self.old self.new events.old.items events.new.items
-            (moving judgement.now.side (class_of self.old.terms.interface xs) xs to c)) }
+            (moving judgement.now.side (packet_class r.packet) r.octets to c)) }
         ensures unchanged { IsUnchanged result self.old self.new events.old.items events.new.items }
         ensures memory { IsMemory result }
     {
@@ -149,49 +215,49 @@ impl<A: Allocator + Clone, S: StatusStore> StatusChannel<A, S> {
         &mut self,
         judgement: &Judgement,
         to: StateName,
-        packet: &Packet,
-        octets: &[u8],
+        item: &ItemRef<'_>,
         events: &mut Vec<Event, A>,
     ) -> Result<(), Fault>
-        requires packet { packet.now ≡ packet_of self.old.terms.interface octets.now }
+        requires side { judgement.now.side ≡ item.now.side }
+        requires said { IsSaid self.old.terms.interface item.now }
         ensures does { (c : Channel) → IsReached c
-            → is_from (call_change judgement.now.side (class_of self.old.terms.interface octets.now) to)
+            → is_from (call_change judgement.now.side (packet_class item.now.packet) to)
             to c.state ≡ true → Stands self.old c → IfOk result (λ _.
             Does judgement.now.origin self.old self.new events.old.items events.new.items
-            (entry_step self.old.terms.interface self.old.channel judgement.now.side
-            (record { state = judgement.now.state; entry = Move to }) octets.now c)) }
+            (entry_step self.old.terms.interface self.old.channel
+            (record { state = judgement.now.state; entry = Move to }) item.now c)) }
         ensures unchanged { IsUnchanged result self.old self.new events.old.items events.new.items }
         ensures memory { IsMemory result }
     {
-        match self.read(judgement.side, packet, octets) {
+        match self.read(item) {
             Ok(contents) => self.go(judgement, to, &contents, events),
             Err(code) => self.fail(judgement, code, events),
         }
     }
 
-    /// Takes a packet of data transfer without fault of format.
-    #[tactic(auto, using(crate::proofs::Reading::ready_is))]
+    /// Takes a packet of data transfer of a class without fault of format.
     fn carry(
         &mut self,
         judgement: &Judgement,
-        contents: TransferContents<'_>,
+        class: Class,
+        item: &ItemRef<'_>,
         events: &mut Vec<Event, A>,
     ) -> Result<(), Fault>
-        requires short { IsShort contents largest_size }
-        ensures does { (xs : List ℕ) → AreTransferOf contents.entry self.old.terms.interface xs
-            → Comes result judgement.now.origin self.old self.new events.old.items events.new.items
-            (transferring self.old.terms.interface judgement.now.side judgement.now.state
-            (class_of self.old.terms.interface xs) xs) }
+        requires side { judgement.now.side ≡ item.now.side }
+        requires said { IsSaid self.old.terms.interface item.now }
+        requires class { class ≡ packet_class item.now.packet }
+        requires short { class ≡ Class.Data → item.now.length ≤ largest_length }
+        ensures does { Comes result judgement.now.origin self.old self.new
+            events.old.items events.new.items
+            (transferring self.old.terms.interface judgement.now.state class item.now) }
         ensures unchanged { IsUnchanged result self.old self.new events.old.items events.new.items }
         ensures memory { IsMemory result }
     {
-        match contents {
-            TransferContents::Data { header, user_data } => {
-                self.handle_data(judgement, &header, user_data, events)
-            }
-            TransferContents::Receive(receive) => self.handle_ready(judgement, receive, events),
-            TransferContents::Interrupt => self.handle_interrupt(judgement, events),
-            TransferContents::InterruptConfirm => self.handle_confirmation(judgement, events),
+        match class {
+            Class::Data => self.handle_data(judgement, item, events),
+            Class::Interrupt => self.handle_interrupt(judgement, events),
+            Class::InterruptConfirm => self.handle_confirmation(judgement, events),
+            _ => self.handle_ready(judgement, receive_of(&item.packet), events),
         }
     }
 
@@ -199,22 +265,23 @@ impl<A: Allocator + Clone, S: StatusStore> StatusChannel<A, S> {
     fn handle_transfer(
         &mut self,
         judgement: &Judgement,
-        packet: &Packet,
-        octets: &[u8],
+        item: &ItemRef<'_>,
         events: &mut Vec<Event, A>,
     ) -> Result<(), Fault>
-        requires packet { packet.now ≡ packet_of self.old.terms.interface octets.now }
-        requires transfer { is_transfer (class_of self.old.terms.interface octets.now) ≡ true }
+        requires side { judgement.now.side ≡ item.now.side }
+        requires said { IsSaid self.old.terms.interface item.now }
+        requires transfer { is_transfer (packet_class item.now.packet) ≡ true }
         ensures does { Comes result judgement.now.origin self.old self.new
             events.old.items events.new.items
-            (entry_step self.old.terms.interface self.old.channel judgement.now.side
-            (record { state = judgement.now.state; entry = Normal }) octets.now) }
+            (entry_step self.old.terms.interface self.old.channel
+            (record { state = judgement.now.state; entry = Normal }) item.now) }
         ensures unchanged { IsUnchanged result self.old self.new events.old.items events.new.items }
         ensures memory { IsMemory result }
     {
-        match self.read_transfer(judgement.side, packet, octets) {
-            Ok(contents) => self.carry(judgement, contents, events),
-            Err(code) => self.fail(judgement, code, events),
+        let class = item.packet.class();
+        match self.length_fault(judgement.side, class, item.length) {
+            Some(code) => self.fail(judgement, code, events),
+            None => self.carry(judgement, class, item, events),
         }
     }
 
@@ -240,23 +307,23 @@ impl<A: Allocator + Clone, S: StatusStore> StatusChannel<A, S> {
         &mut self,
         judgement: &Judgement,
         entry: Action,
-        packet: &Packet,
-        octets: &[u8],
+        item: &ItemRef<'_>,
         events: &mut Vec<Event, A>,
     ) -> Result<(), Fault>
-        requires packet { packet.now ≡ packet_of self.old.terms.interface octets.now }
-        requires fits { is_entry entry judgement.now.side (class_of self.old.terms.interface octets.now)
+        requires side { judgement.now.side ≡ item.now.side }
+        requires said { IsSaid self.old.terms.interface item.now }
+        requires fits { is_entry entry judgement.now.side (packet_class item.now.packet)
             self.old.state ≡ true }
         ensures does { (c : Channel) → IsReached c → Stands self.old c → IfOk result (λ _.
             Does judgement.now.origin self.old self.new events.old.items events.new.items
-            (entry_step self.old.terms.interface self.old.channel judgement.now.side
-            (record { state = judgement.now.state; entry = entry }) octets.now c)) }
+            (entry_step self.old.terms.interface self.old.channel
+            (record { state = judgement.now.state; entry = entry }) item.now c)) }
         ensures unchanged { IsUnchanged result self.old self.new events.old.items events.new.items }
         ensures memory { IsMemory result }
     {
         match entry {
-            Action::Move(to) => self.handle_move(judgement, to, packet, octets, events),
-            Action::Normal => self.handle_transfer(judgement, packet, octets, events),
+            Action::Move(to) => self.handle_move(judgement, to, item, events),
+            Action::Normal => self.handle_transfer(judgement, item, events),
             Action::Error(code) => self.fail(judgement, code, events),
             Action::Ends => {
                 self.status.settle();
@@ -266,34 +333,27 @@ impl<A: Allocator + Clone, S: StatusStore> StatusChannel<A, S> {
         }
     }
 
-    /// Takes the octets of a packet of a side.
-    pub(crate) fn handle(
+    /// Steps the channel by what a row says, by the state tables, and appends the events of the row.
+    #[inline(never)]
+    pub(crate) fn handle_by_table(
         &mut self,
         origin: EventOrigin,
-        side: Side,
-        packet: &Packet,
-        octets: &[u8],
+        item: &ItemRef<'_>,
         events: &mut Vec<Event, A>,
     ) -> Result<(), Fault>
-        requires packet { packet.now ≡ packet_of self.old.terms.interface octets.now }
+        requires said { IsSaid self.old.terms.interface item.now }
         ensures does { (c : Channel) → IsReached c → Stands self.old c
             → IfOk result (λ _. Does origin self.old self.new events.old.items events.new.items
-            (channel_step self.old.terms.interface self.old.channel c
-            (record { number = origin.packet; side = side; octets = octets.now }))) }
+            (channel_step self.old.terms.interface self.old.channel c item.now)) }
         ensures unchanged { IsUnchanged result self.old self.new events.old.items events.new.items }
         ensures memory { IsMemory result }
     {
-        let (state, entry) = self.judge(side, packet.class());
-        self.act(
-            &Judgement {
-                origin,
-                side,
-                state,
-            },
-            entry,
-            packet,
-            octets,
-            events,
-        )
+        let (state, entry) = self.judge(item.side, item.packet.class());
+        let judgement = Judgement {
+            origin,
+            side: item.side,
+            state,
+        };
+        self.act(&judgement, entry, item, events)
     }
 }

@@ -1,10 +1,11 @@
 //! A data packet on a channel: its numbers, the sequence that it belongs to, and the message that it may complete.
 
-ghost use Rattle.std.specs.Prelude.{◌≡◌, ◌≤◌, ◌&&◌, length, IfOk, OnSome};
+ghost use Rattle.std.specs.Prelude.{◌≡◌, ◌≤◌, ◌&&◌, length, false, IfOk, OnErr, OnSome};
 ghost use Rattle.line_model.specs.channels.Channels.{Channel};
-ghost use Rattle.channel_machine.specs.Transfers.{IsHeard, counted_in_force, packet};
+ghost use Rattle.data_transfer.specs.Assembly.{unqualified};
+ghost use Rattle.channel_machine.specs.Transfers.{IsAccepted, IsHeard, counted_in_force, packet};
 ghost use Rattle.channel_machine.specs.Channels.{Stands, IsUnchanged, IsMemory};
-ghost use Rattle.channel_machine.specs.Sizes.{largest_size};
+ghost use Rattle.channel_machine.specs.Sizes.{largest_length};
 
 use crate::channel::StatusChannel;
 use crate::events::EventOrigin;
@@ -20,7 +21,7 @@ use line_model::state::Side;
 use std::alloc::Allocator;
 
 impl<A: Allocator + Clone, S: StatusStore> StatusChannel<A, S> {
-    /// Accepts a data packet of a side, or returns its fault: that of its numbers, or of its Q bit.
+    /// Accepts a data packet of a side with its octets, or returns its fault: that of its numbers, or of its Q bit.
     pub(crate) fn accept_data(
         &mut self,
         origin: EventOrigin,
@@ -29,7 +30,7 @@ impl<A: Allocator + Clone, S: StatusStore> StatusChannel<A, S> {
         user_data: &[u8],
         events: &mut Vec<Event, A>,
     ) -> Result<Option<u8>, Fault>
-        requires short { length user_data.now ≤ largest_size }
+        requires short { length user_data.now ≤ largest_length }
         ensures rest { self.new ≡ record self.old { transfer = self.new.transfer } }
         ensures heard { (c : Channel) → Stands self.old c
             → IfOk result (λ o. IsHeard o self.old.terms.interface origin self.old.transfer
@@ -74,6 +75,38 @@ impl<A: Allocator + Clone, S: StatusStore> StatusChannel<A, S> {
                 Ok(None)
             }
         }
+    }
+
+    /// Accepts a data packet of a side with Q 0, of which it needs the header and how many octets of user data there are;
+    /// or returns its fault: that of its numbers, or of the Q bit of the sequence begun. It takes no memory.
+    #[inline(always)]
+    pub(crate) fn accept_unqualified(
+        &mut self,
+        side: Side,
+        header: &DataHeader,
+        length: usize,
+    ) -> Result<(), u8>
+        requires unqualified { header.now.qualified ≡ false }
+        ensures rest { self.new ≡ record self.old { transfer = self.new.transfer } }
+        ensures accepted { (c : Channel) → Stands self.old c
+            → IsAccepted result self.old.terms.interface self.old.transfer self.new.transfer side
+            (unqualified side header.now.more header.now.delivery length)
+            (counted_in_force self.old.terms.interface side header.now.send
+            header.now.receive c) c }
+        ensures faulted { OnErr result (self.new ≡ self.old) }
+    {
+        let is_alike = self.assembler.is_unqualified(side);
+        let mut status = self.status;
+        if let Err(code) = status.data(side, header.send, header.receive) {
+            return Err(code);
+        }
+        if !is_alike {
+            return Err(INCONSISTENT_Q_BIT_SETTING);
+        }
+        self.status = status;
+        self.assembler
+            .put_unqualified(side, header.more, header.delivery, length);
+        Ok(())
     }
 }
 

@@ -20,7 +20,7 @@ use Rattle.line_model.specs.declared.event.What.TheVariants.{Data as DataHeard}
 use Rattle.line_model.specs.declared.finding.Xcode.{Xcode}
 use Rattle.line_model.specs.declared.finding.Xcode.TheVariants.{X3}
 use Rattle.line_model.specs.declared.event.Event.{Event}
-use Rattle.line_model.specs.basics.Records.{Row, Item, Piece}
+use Rattle.line_model.specs.basics.Records.{Item, Piece}
 use Rattle.line_model.specs.observer.MachineEvents.{stamp}
 use Rattle.line_model.specs.pieces.Pieces.{piece_value}
 use Rattle.line_model.specs.observer.Observer.{x25, event_of, restart_end_if}
@@ -32,7 +32,8 @@ use Rattle.line_model.specs.channels.Channels.{Channel, fresh, is_open, Accepted
 use Rattle.line_model.specs.channels.FlowControl.{Counts, count_data}
 use Rattle.line_model.specs.channels.Sequences.{begun, is_alike}
 use Rattle.line_model.specs.packets.Formats.{packet_fault, size_in_force, window_in_force}
-use Rattle.line_model.specs.packets.Classes.{class_of, data_header}
+use Rattle.line_model.specs.packets.Classes.{packet_class}
+use Rattle.line_model.specs.packets.Says.{header_in}
 use Rattle.line_model.specs.channels.ChannelStep.{heard_of, completed_message, call_change, judged, verdict, ending_open, after_error, failing, changing, entering, telling, option_found, data_alike, data_counted, data_step, counting, transferring, verdict_step, channel_step, counts_of}
 use Rattle.line_model.proofs.EventWeights.{total, total-append, heard_by, weight}
 
@@ -95,7 +96,7 @@ telling_data x p told None = omega arith
 telling_data x p told (Some m) =
     let f = message_fault x told m in
     let later : List What = settings_after f x m in
-    let parts = total-append (heard_by once) (option_to_list (option_found x f)) (DataHeard x (length p.octets) ∷ later) in
+    let parts = total-append (heard_by once) (option_to_list (option_found x f)) (DataHeard x p.length ∷ later) in
     let front = found_none x f in
     let behind = after_none f x m in
     omega arith
@@ -108,52 +109,51 @@ counted_data : (i : Interface) (x : Side) (s : StateName) (p : AcceptedData) (r 
 counted_data i x s p (Err n) c = let none = failing_none x s n c in omega arith
 counted_data i x s p (Ok v) c = alike_data i x s p v (is_alike p (begun (size_in_force i c x) x c.heard)) c
 
-step_data : (i : Interface) (x : Side) (s : StateName) (xs : List ℕ) (h : Option DataHeader) (c : Channel) → packets_told (data_step i x s xs h c).reported ≤ 1
-step_data i x s xs None c = omega arith
-step_data i x s xs (Some h) c =
-    counted_data i x s (heard_of i x xs h) (count_data i.modulus (window_in_force i c x) (counts_of c) x h.send h.receive) c
+step_data : (i : Interface) (s : StateName) (r : Item) (h : Option DataHeader) (c : Channel) → packets_told (data_step i s r h c).reported ≤ 1
+step_data i s r None c = omega arith
+step_data i s r (Some h) c =
+    counted_data i r.side s (heard_of i r h) (count_data i.modulus (window_in_force i c r.side) (counts_of c) r.side h.send h.receive) c
 
 counting_data : (x : Side) (s : StateName) (r : Result Counts ℕ) (c : Channel) → packets_told (counting x s r c).reported ≤ 1
 counting_data x s (Err m) c = let none = failing_none x s m c in omega arith
 counting_data x s (Ok v) c = omega arith
 
-transferring_data : (i : Interface) (x : Side) (s : StateName) (k : Class) (xs : List ℕ) (c : Channel) → packets_told (transferring i x s k xs c).reported ≤ 1
-transferring_data i x s Data xs c = step_data i x s xs (data_header i xs) c
-transferring_data i x s k xs c = counting_data x s _ c
+transferring_data : (i : Interface) (s : StateName) (k : Class) (r : Item) (c : Channel) → packets_told (transferring i s k r c).reported ≤ 1
+transferring_data i s Data r c = step_data i s r (header_in r.packet) c
+transferring_data i s k r c = counting_data r.side s _ c
 
-verdict_data : (i : Interface) (x : Side) (s : StateName) (k : Class) (xs : List ℕ) (v : Verdict) (c : Channel) → packets_told (verdict_step i x s k xs v c).reported ≤ 1
-verdict_data i x s k xs (Fails t n) c = let none = failing_none x t n c in omega arith
-verdict_data i x s k xs (Moves t) c = let none = changing_none xs (call_change x k t) (entering t false c) in omega arith
-verdict_data i x s k xs Transfers c = transferring_data i x s k xs c
-verdict_data i x s k xs EndsOwed c = omega arith
-verdict_data i x s k xs Nothing c = omega arith
+verdict_data : (i : Interface) (s : StateName) (r : Item) (v : Verdict) (c : Channel) → packets_told (verdict_step i s r v c).reported ≤ 1
+verdict_data i s r (Fails t n) c = let none = failing_none r.side t n c in omega arith
+verdict_data i s r (Moves t) c = let none = changing_none r.octets (call_change r.side (packet_class r.packet) t) (entering t false c) in omega arith
+verdict_data i s r Transfers c = transferring_data i s (packet_class r.packet) r c
+verdict_data i s r EndsOwed c = omega arith
+verdict_data i s r Nothing c = omega arith
 
-row_data : (i : Interface) (k : ℕ) (c : Channel) (r : Row) → packets_told (channel_step i k c r).reported ≤ 1
+row_data : (i : Interface) (k : ℕ) (c : Channel) (r : Item) → packets_told (channel_step i k c r).reported ≤ 1
 row_data i k c r =
-    let j = judged (is_permanent i k) r.side c.state c.owed (class_of i r.octets) in
-    verdict_data i r.side j.state (class_of i r.octets) r.octets (verdict j (packet_fault i k c r.side (class_of i r.octets) r.octets)) c
+    let j = judged (is_permanent i k) r.side c.state c.owed (packet_class r.packet) in
+    verdict_data i j.state r (verdict j (packet_fault i k c r)) c
 
 -- ---- the rows of a piece
 
-stamp_packets : (e : ℕ) (k : Option ℕ) (r : Row) (ws : List What) → weight (heard_by once) (map event_of (stamp e k r ws)) ≡ packets_told ws
+stamp_packets : (e : ℕ) (k : Option ℕ) (r : Item) (ws : List What) → weight (heard_by once) (map event_of (stamp e k r ws)) ≡ packets_told ws
 stamp_packets e k r [] = refl
 stamp_packets e k r (w ∷ ws) = let more = stamp_packets e k r ws in omega arith
 
-end_packets : (e : ℕ) (k : Option ℕ) (r : Row) (b : Bool) → weight (heard_by once) (map event_of (stamp e k r (restart_end_if b))) ≡ 0
+end_packets : (e : ℕ) (k : Option ℕ) (r : Item) (b : Bool) → weight (heard_by once) (map event_of (stamp e k r (restart_end_if b))) ≡ 0
 end_packets e k r true = refl
 end_packets e k r false = refl
 
-few_packets : (i : Interface) (e k : ℕ) (c : Channel) (items : List Item) (end : Option Row)
-    → weight (heard_by once) (map event_of (piece_value (x25 i) e k c (map (λ i. i.row) items) end)) ≤ length items
+few_packets : (i : Interface) (e k : ℕ) (c : Channel) (items : List Item) (end : Option Item)
+    → weight (heard_by once) (map event_of (piece_value (x25 i) e k c items end)) ≤ length items
 few_packets i e k c [] None = omega arith
 few_packets i e k c [] (Some r) = let none = end_packets e (Some k) r (is_open c) in omega arith
-few_packets i e k c (item ∷ items) end =
-    let r = item.row in
+few_packets i e k c (r ∷ items) end =
     let ws : List What = (channel_step i k c r).reported in
     let d : Channel = (channel_step i k c r).after in
     let parts =
-    ap (weight (heard_by once)) (map-append event_of (stamp e (Some k) r ws) (piece_value (x25 i) e k d (map (λ i. i.row) items) end))
-    ∙ total-append (λ v. heard_by once v.what) (map event_of (stamp e (Some k) r ws)) (map event_of (piece_value (x25 i) e k d (map (λ i. i.row) items) end)) in
+    ap (weight (heard_by once)) (map-append event_of (stamp e (Some k) r ws) (piece_value (x25 i) e k d items end))
+    ∙ total-append (λ v. heard_by once v.what) (map event_of (stamp e (Some k) r ws)) (map event_of (piece_value (x25 i) e k d items end)) in
     let own = stamp_packets e (Some k) r ws in
     let few = row_data i k c r in
     let more = few_packets i e k d items end in

@@ -16,7 +16,7 @@ use Rattle.line_model.specs.declared.event.What.TheVariants.{Found, Data}
 use Rattle.line_model.specs.declared.event.Event.{Event}
 use Rattle.line_model.specs.declared.finding.Finding.{Finding}
 use Rattle.line_model.specs.declared.state.Side.{Side}
-use Rattle.line_model.specs.basics.Records.{Row, Item, Piece}
+use Rattle.line_model.specs.basics.Records.{Item, Piece}
 use Rattle.line_model.specs.basics.Bounds.{IsPiece, IsItem, all_octets}
 use Rattle.line_model.specs.channels.Channels.{Channel, fresh, is_open}
 use Rattle.line_model.specs.channels.ChannelStep.{channel_step}
@@ -33,65 +33,61 @@ use Rattle.line_model.proofs.ValueBounds.{value_bounds}
 use Rattle.line_model.proofs.OneFinding.{founds, step_one}
 use Rattle.call_accounts.specs.Counted.{IsCountable}
 use Rattle.call_accounts.specs.SoFar.{IsOf}
-use Rattle.channel_run.specs.Run.{row_events, end_events, usual_events}
-use Rattle.channel_run.specs.declared.run.Usual.{Usual}
+use Rattle.channel_run.specs.Run.{data_events, row_events, end_events}
 use Rattle.channel_run.specs.Tally.{IsWithin}
 use Rattle.channel_run.specs.Live.{channel_after, channel_so_far, so_far, with_item}
 use Rattle.channel_run.proofs.DataCounts.{piece_packets}
 use Rattle.call_accounts.proofs.CountedLemmas.{sum-more}
 use Rattle.call_accounts.proofs.PlaceLemmas.{countable_before}
 
-abbrev rows_of : List Item → List Row
-rows_of items = map (λ i. i.row) items
-
 -- the events of rows, and of a row behind them
 rows_more : (i : Interface) (e k : ℕ) (c : Channel) (items : List Item) (item : Item)
-    → map event_of (piece_value (x25 i) e k c (rows_of (items ++ item ∷ [])) None) ≡ map event_of (piece_value (x25 i) e k c (rows_of items) None) ++ row_events i e k (channel_after i k c items) item.row
-rows_more i e k c [] item = ap (map event_of) (append-nil (stamp e (Some k) item.row (channel_step i k c item.row).reported))
+    → map event_of (piece_value (x25 i) e k c (items ++ item ∷ []) None) ≡ map event_of (piece_value (x25 i) e k c items None) ++ row_events i e k (channel_after i k c items) item
+rows_more i e k c [] item = ap (map event_of) (append-nil (stamp e (Some k) item (channel_step i k c item).reported))
 rows_more i e k c (x ∷ items) item =
-    let d : Channel = (channel_step i k c x.row).after in
-    let told : List Event = row_events i e k c x.row in
-    map-append event_of (stamp e (Some k) x.row (channel_step i k c x.row).reported) (piece_value (x25 i) e k d (rows_of (items ++ item ∷ [])) None)
+    let d : Channel = (channel_step i k c x).after in
+    let told : List Event = row_events i e k c x in
+    map-append event_of (stamp e (Some k) x (channel_step i k c x).reported) (piece_value (x25 i) e k d (items ++ item ∷ []) None)
     ∙ ap (λ l. told ++ l) (rows_more i e k d items item)
-    ∙ sym (append_assoc told (map event_of (piece_value (x25 i) e k d (rows_of items) None)) (row_events i e k (channel_after i k d items) item.row))
-    ∙ ap (λ l. l ++ row_events i e k (channel_after i k d items) item.row)
-    (sym (map-append event_of (stamp e (Some k) x.row (channel_step i k c x.row).reported) (piece_value (x25 i) e k d (rows_of items) None)))
+    ∙ sym (append_assoc told (map event_of (piece_value (x25 i) e k d items None)) (row_events i e k (channel_after i k d items) item))
+    ∙ ap (λ l. l ++ row_events i e k (channel_after i k d items) item)
+    (sym (map-append event_of (stamp e (Some k) x (channel_step i k c x).reported) (piece_value (x25 i) e k d items None)))
 
 rows_end : (i : Interface) (e k : ℕ) (c : Channel) (items : List Item) (end : Option ℕ)
-    → map event_of (piece_value (x25 i) e k c (rows_of items) (option_map row_numbered end)) ≡ map event_of (piece_value (x25 i) e k c (rows_of items) None) ++ end_events e k end (is_open (channel_after i k c items))
+    → map event_of (piece_value (x25 i) e k c items (option_map row_numbered end)) ≡ map event_of (piece_value (x25 i) e k c items None) ++ end_events e k end (is_open (channel_after i k c items))
 rows_end i e k c [] None = refl
 rows_end i e k c [] (Some n) = refl
 rows_end i e k c (x ∷ items) end =
-    let d : Channel = (channel_step i k c x.row).after in
-    let told : List Event = row_events i e k c x.row in
-    map-append event_of (stamp e (Some k) x.row (channel_step i k c x.row).reported) (piece_value (x25 i) e k d (rows_of items) (option_map row_numbered end))
+    let d : Channel = (channel_step i k c x).after in
+    let told : List Event = row_events i e k c x in
+    map-append event_of (stamp e (Some k) x (channel_step i k c x).reported) (piece_value (x25 i) e k d items (option_map row_numbered end))
     ∙ ap (λ l. told ++ l) (rows_end i e k d items end)
-    ∙ sym (append_assoc told (map event_of (piece_value (x25 i) e k d (rows_of items) None)) (end_events e k end (is_open (channel_after i k d items))))
+    ∙ sym (append_assoc told (map event_of (piece_value (x25 i) e k d items None)) (end_events e k end (is_open (channel_after i k d items))))
     ∙ ap (λ l. l ++ end_events e k end (is_open (channel_after i k d items)))
-    (sym (map-append event_of (stamp e (Some k) x.row (channel_step i k c x.row).reported) (piece_value (x25 i) e k d (rows_of items) None)))
+    (sym (map-append event_of (stamp e (Some k) x (channel_step i k c x).reported) (piece_value (x25 i) e k d items None)))
 
-pub piece_more : (p : Piece) (item : Item) → piece_events (so_far (with_item p item)) ≡ piece_events (so_far p) ++ row_events p.interface p.epoch p.channel (channel_so_far p) item.row
+pub piece_more : (p : Piece) (item : Item) → piece_events (so_far (with_item p item)) ≡ piece_events (so_far p) ++ row_events p.interface p.epoch p.channel (channel_so_far p) item
 piece_more p item = rows_more p.interface p.epoch p.channel (fresh p.interface p.epoch p.channel) p.items item
 
 pub piece_ended : (p : Piece) (end : Option ℕ) → piece_events (record p { end = end }) ≡ piece_events (so_far p) ++ end_events p.epoch p.channel end (is_open (channel_so_far p))
 piece_ended p end = rows_end p.interface p.epoch p.channel (fresh p.interface p.epoch p.channel) p.items end
 
-pub channel_more : (i : Interface) (k : ℕ) (c : Channel) (items : List Item) (item : Item) → channel_after i k c (items ++ item ∷ []) ≡ (channel_step i k (channel_after i k c items) item.row).after
+pub channel_more : (i : Interface) (k : ℕ) (c : Channel) (items : List Item) (item : Item) → channel_after i k c (items ++ item ∷ []) ≡ (channel_step i k (channel_after i k c items) item).after
 channel_more i k c [] item = refl
-channel_more i k c (x ∷ items) item = channel_more i k (channel_step i k c x.row).after items item
+channel_more i k c (x ∷ items) item = channel_more i k (channel_step i k c x).after items item
 
 -- ---- events of one channel in one epoch
 
-stamp_of : (e k : ℕ) (r : Row) (ws : List What) → AllByRecursion (IsOf e k) (map event_of (stamp e (Some k) r ws))
+stamp_of : (e k : ℕ) (r : Item) (ws : List What) → AllByRecursion (IsOf e k) (map event_of (stamp e (Some k) r ws))
 stamp_of e k r [] = tt
 stamp_of e k r (w ∷ ws) = ((refl, refl), stamp_of e k r ws)
 
-pub row_of_channel : (i : Interface) (e k : ℕ) (c : Channel) (r : Row) → AllByRecursion (IsOf e k) (row_events i e k c r)
+pub row_of_channel : (i : Interface) (e k : ℕ) (c : Channel) (r : Item) → AllByRecursion (IsOf e k) (row_events i e k c r)
 row_of_channel i e k c r = stamp_of e k r (channel_step i k c r).reported
 
 -- ---- at most one finding
 
-few_findings : (e : ℕ) (k : Option ℕ) (r : Row) (ws : List What) → length (findings_of (map event_of (stamp e k r ws))) ≡ founds ws
+few_findings : (e : ℕ) (k : Option ℕ) (r : Item) (ws : List What) → length (findings_of (map event_of (stamp e k r ws))) ≡ founds ws
 few_findings e k r [] = refl
 few_findings e k r (w ∷ ws) = at w (few_findings e k r ws)
   where
@@ -104,18 +100,19 @@ first_alone [] h = refl
 first_alone (f ∷ []) h = refl
 first_alone (f ∷ g ∷ fs) h = absurd (omega arith)
 
-pub one_finding : (i : Interface) (e k : ℕ) (c : Channel) (r : Row) (es : List Event) (found : Option Finding) → es ≡ row_events i e k c r → found ≡ slice_get (findings_of es) 0 → option_to_list found ≡ findings_of (row_events i e k c r)
+pub one_finding : (i : Interface) (e k : ℕ) (c : Channel) (r : Item) (es : List Event) (found : Option Finding) → es ≡ row_events i e k c r → found ≡ slice_get (findings_of es) 0 → option_to_list found ≡ findings_of (row_events i e k c r)
 one_finding i e k c r es found is first =
     let one = step_one i k c r in
     let same = few_findings e (Some k) r (channel_step i k c r).reported in
     ap option_to_list (first ∙ ap (λ l. slice_get (findings_of l) 0) is) ∙ first_alone (findings_of (row_events i e k c r)) (omega arith)
 
--- ---- the events of a usual row
+-- ---- the events of a row, under the channel's own names
 
-pub usual_told : {i i' : Interface} {e e' k k' : ℕ} (c : Channel) (r : Row) (u : Usual)
-    → row_events i e k c r ≡ usual_events e k r u → i ≡ i' → e ≡ e' → k ≡ k' → row_events i' e' k' c r ≡ usual_events e' k' r u
-usual_told c r u told interface epoch number =
-    sym (λ j. row_events (interface j) (epoch j) (number j) c r) ∙ told ∙ (λ j. usual_events (epoch j) (number j) r u)
+-- It takes the equalities one by one, so that a wrong one is refused before any event is computed.
+pub events_are : {i i' : Interface} {e e' k k' : ℕ} (none es : List Event) (c : Channel) (r : Item) (n : Option ℕ)
+    → es ++ data_events e k r n ≡ none ++ row_events i e k c r → none ≡ [] → i ≡ i' → e ≡ e' → k ≡ k' → es ++ data_events e' k' r n ≡ row_events i' e' k' c r
+events_are none es c r n is is_none interface epoch number =
+    sym (λ j. es ++ data_events (epoch j) (number j) r n) ∙ is ∙ (λ j. is_none j ++ row_events (interface j) (epoch j) (number j) c r)
 
 -- ---- bounds
 
@@ -249,14 +246,12 @@ piece_part i k items n h =
     let parts = take-append-drop n items in
     record {
       few_rows = omega (arith, ap length parts, length-append (take n items) (drop n items), h.few_rows);
-      few_octets = omega (arith, ap all_octets parts, sum_by-append (λ (x : Item). length x.row.octets) (take n items) (drop n items), h.few_octets);
+      few_octets = omega (arith, ap all_octets parts, sum_by-append (λ (x : Item). x.length) (take n items) (drop n items), h.few_octets);
       packets = All-take (IsItem i k) n items h.packets;
     }
 
 -- a row that comes behind the first rows of a piece may come there
-pub next_item : (i : Interface) (k : ℕ) (items front left rest : List Item) (next item : Item) → IsPiece i k items → items ≡ front ++ left → left ≡ next ∷ rest → item ≡ next → IsPiece i k (front ++ item ∷ [])
-next_item i k items front left rest next item h all first same =
+pub next_item : (i : Interface) (k : ℕ) (items front left rest : List Item) (next : Item) → IsPiece i k items → items ≡ front ++ left → left ≡ next ∷ rest → IsPiece i k (front ++ next ∷ [])
+next_item i k items front left rest next h all first =
     let more : items ≡ (front ++ next ∷ []) ++ rest = all ∙ ap (λ l. front ++ l) first ∙ sym (append_assoc front (next ∷ []) rest) in
-    let part : IsPiece i k (front ++ next ∷ []) =
-    subst (IsPiece i k) (ap (take (length (front ++ next ∷ []))) more ∙ take-append_seam (front ++ next ∷ []) rest) (piece_part i k items (length (front ++ next ∷ [])) h) in
-    subst (λ x. IsPiece i k (front ++ x ∷ [])) (sym same) part
+    subst (IsPiece i k) (ap (take (length (front ++ next ∷ []))) more ∙ take-append_seam (front ++ next ∷ []) rest) (piece_part i k items (length (front ++ next ∷ [])) h)

@@ -12,7 +12,7 @@ use Rattle.channel_run.specs.declared.live.LiveChannel.{LiveChannel}
 -- a channel after some rows
 abbrev pub channel_after : Interface → (channel : ℕ) → Channel → List Item → Channel
 channel_after i k c [] = c
-channel_after i k c (x ∷ xs) = channel_after i k (channel_step i k c x.row).after xs
+channel_after i k c (x ∷ xs) = channel_after i k (channel_step i k c x).after xs
 
 -- the channel of a piece after its rows
 abbrev pub channel_so_far : Piece → Channel

@@ -3,23 +3,21 @@ use Rattle.std.specs.Prelude.{ℕ, Bool, List, [], ◌∷◌, Option, Some, None
 use Rattle.line_model.specs.declared.interface.Interface.{Interface}
 use Rattle.line_model.specs.declared.event.Event.{Event}
 use Rattle.line_model.specs.declared.event.What.TheVariants as what
-use Rattle.line_model.specs.basics.Records.{Row}
+use Rattle.line_model.specs.basics.Records.{Item}
 use Rattle.line_model.specs.channels.Channels.{Channel}
 use Rattle.line_model.specs.channels.ChannelStep.{channel_step}
 use Rattle.line_model.specs.observer.MachineEvents.{stamp}
 use Rattle.line_model.specs.observer.Observer.{event_of, restart_end_if}
 use Rattle.line_model.specs.pieces.Plans.{row_numbered}
-use Rattle.channel_run.specs.declared.run.Usual.{Usual}
-use Rattle.channel_run.specs.declared.run.Usual.TheVariants.{Data, Ready}
 
 -- the events of a row on a channel in an epoch
-abbrev pub row_events : Interface → (epoch channel : ℕ) → Channel → Row → List Event
+abbrev pub row_events : Interface → (epoch channel : ℕ) → Channel → Item → List Event
 row_events i e k c r = map event_of (stamp e (Some k) r (channel_step i k c r).reported)
 
--- the events of a row that is as most are
-abbrev pub usual_events : (epoch channel : ℕ) → Row → Usual → List Event
-usual_events e k r (Data n) = record { epoch = e; channel = k; packet = r.number; what = what.Data r.side n } ∷ []
-usual_events e k r Ready = []
+-- the event of a data packet that was accepted, by its octets of user data, if there is such a packet
+abbrev pub data_events : (epoch channel : ℕ) → Item → Option ℕ → List Event
+data_events e k r (Some n) = record { epoch = e; channel = k; packet = r.number; what = what.Data r.side n } ∷ []
+data_events e k r None = []
 
 -- the events with which a restart ends the epoch of a channel, by the number of its row
 abbrev pub end_events : (epoch channel : ℕ) → (end : Option ℕ) → (open_call : Bool) → List Event

@@ -1,6 +1,6 @@
 //! A channel that takes its rows as they come, and tells at any time what its piece is worth so far.
 
-ghost use Rattle.std.specs.Prelude.{◌≡◌, ℕ, List, [], ◌∷◌, ◌++◌, None, option_to_list, IfOk, IfErr, IfNone, IfSome, OnOk};
+ghost use Rattle.std.specs.Prelude.{◌≡◌, ℕ, List, [], ◌∷◌, ◌++◌, None, option_to_list, IfOk, IfErr, OnOk, OnSome};
 ghost use Rattle.line_model.specs.declared.fault.Fault.TheVariants.{Memory};
 ghost use Rattle.line_model.specs.basics.Records.{Piece};
 ghost use Rattle.line_model.specs.basics.Bounds.{IsPiece};
@@ -8,11 +8,13 @@ ghost use Rattle.line_model.specs.pieces.Plans.{piece_events, value};
 ghost use Rattle.line_model.specs.observer.Report.{findings_of};
 ghost use Rattle.channel_run.specs.Tally.{Counts};
 ghost use Rattle.channel_run.specs.Live.{StandsFor, channel_so_far, so_far, with_item};
-ghost use Rattle.channel_run.specs.Run.{row_events, usual_events};
+ghost use Rattle.channel_run.specs.Run.{data_events, row_events};
 ghost use Rattle.channel_run.specs.StatusWord.{view_in};
+ghost use Rattle.channel_run.specs.Taken.{data_in, finding_in};
 ghost use Rattle.channel_run.specs.Views.{IsViewOf};
 
-use crate::run::{Channel, Usual, View};
+use crate::run::{Channel, View};
+use crate::status_word::view_in;
 use crate::tally::Tally;
 use data_transfer::packed::FlowWord;
 use line_model::event::{Event, How, What};
@@ -22,6 +24,15 @@ use line_model::interface::Interface;
 use line_model::items::ItemRef;
 use line_model::piece::PieceReport;
 use std::alloc::Allocator;
+
+/// What a row did to its channel.
+#[derive(Clone, Copy)]
+pub enum Taken {
+    /// The row's one event: a data packet with Q 0 was accepted, with so many octets of user data.
+    Data(u32),
+    /// The events of the row are listed, and this is the finding among them.
+    Listed(Option<Finding>),
+}
 
 /// One logical channel in one epoch: its machine, and what is counted of its rows so far. It keeps no row.
 #[derive(Drop)]
@@ -49,14 +60,11 @@ impl<A: Allocator + Clone, C: Channel<A>> LiveChannel<A, C> {
         })
     }
 
-    /// Takes the next row with its packet, and answers the finding on it, if there is one. The caller lends the list
-    /// `events`, which holds the events of the row afterwards and nothing else. It answers `Memory` alone; then it
-    /// stands for nothing any more.
-    pub fn take(
-        &mut self,
-        item: &ItemRef<'_>,
-        events: &mut Vec<Event, A>,
-    ) -> Result<Option<Finding>, Fault>
+    /// Takes the next row by what it says. The caller lends the list `events`: with `Taken::Data` it is empty afterwards,
+    /// since that says the row's one event, and with `Taken::Listed` it holds the events of the row and nothing else.
+    /// Fails only when memory is refused; drop the channel then.
+    #[inline(always)]
+    pub fn take(&mut self, item: &ItemRef<'_>, events: &mut Vec<Event, A>) -> Result<Taken, Fault>
         requires room { (p : Piece) × StandsFor C.interface_of C.number_of C.stands_for self.old p
             × IsPiece p.interface p.channel (p.items ++ item.now ∷ []) }
         ensures stands { (p : Piece) → StandsFor C.interface_of C.number_of C.stands_for self.old p
@@ -64,41 +72,24 @@ impl<A: Allocator + Clone, C: Channel<A>> LiveChannel<A, C> {
             → OnOk result (StandsFor C.interface_of C.number_of C.stands_for self.new
             (with_item p item.now)) }
         ensures events { (p : Piece) → StandsFor C.interface_of C.number_of C.stands_for self.old p
-            → OnOk result (events.new.items ≡ row_events p.interface p.epoch p.channel
-            (channel_so_far p) item.now.row) }
+            → IfOk result (λ taken. events.new.items ++ data_events p.epoch p.channel item.now (data_in taken)
+            ≡ row_events p.interface p.epoch p.channel (channel_so_far p) item.now) }
+        ensures apart { IfOk result (λ taken. OnSome (data_in taken) (events.new.items ≡ [])) }
         ensures finding { (p : Piece) → StandsFor C.interface_of C.number_of C.stands_for self.old p
-            → IfOk result (λ found. option_to_list found
-            ≡ findings_of (row_events p.interface p.epoch p.channel (channel_so_far p)
-            item.now.row)) }
+            → IfOk result (λ taken. option_to_list (finding_in taken)
+            ≡ findings_of (row_events p.interface p.epoch p.channel (channel_so_far p) item.now)) }
         ensures memory { IfErr result (λ fault. fault ≡ Memory) }
     {
         events.clear();
-        self.machine.step(self.epoch, item, events)?;
-        let found = self.tally.record_all(events.as_slice())?;
-        Ok(found)
-    }
-
-    /// Takes the next row as `take` does, if it is as most are (`Channel::step_usual`), and answers what it is: its
-    /// events are known by that. It takes no memory. `None`: the row is for `take`, and nothing has changed.
-    pub fn take_usual(&mut self, item: &ItemRef<'_>) -> Option<Usual>
-        requires room { (p : Piece) × StandsFor C.interface_of C.number_of C.stands_for self.old p
-            × IsPiece p.interface p.channel (p.items ++ item.now ∷ []) }
-        ensures stands { (p : Piece) → StandsFor C.interface_of C.number_of C.stands_for self.old p
-            → IsPiece p.interface p.channel (p.items ++ item.now ∷ [])
-            → IfSome result (λ _. StandsFor C.interface_of C.number_of C.stands_for self.new
-            (with_item p item.now)) }
-        ensures events { (p : Piece) → StandsFor C.interface_of C.number_of C.stands_for self.old p
-            → IfSome result (λ usual. row_events p.interface p.epoch p.channel (channel_so_far p)
-            item.now.row ≡ usual_events p.epoch p.channel item.now.row usual) }
-        ensures unchanged { IfNone result (self.new ≡ self.old) }
-    {
-        match self.machine.step_usual(item) {
-            Some(Usual::Data(octets)) => {
+        match self.machine.advance(self.epoch, item, events)? {
+            Some(octets) => {
                 self.tally.add_data(item.side, octets);
-                Some(Usual::Data(octets))
+                Ok(Taken::Data(octets))
             }
-            Some(Usual::Ready) => Some(Usual::Ready),
-            None => None,
+            None => {
+                let finding = self.tally.record_all(events.as_slice())?;
+                Ok(Taken::Listed(finding))
+            }
         }
     }
 
@@ -107,7 +98,7 @@ impl<A: Allocator + Clone, C: Channel<A>> LiveChannel<A, C> {
         ensures { (p : Piece) → StandsFor C.interface_of C.number_of C.stands_for self.now p
             → IsViewOf p.interface (channel_so_far p) result }
     {
-        self.machine.view()
+        view_in(&self.machine.word())
     }
 
     /// The same in one word, which `status_word::view_in` reads.

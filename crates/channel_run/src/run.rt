@@ -1,13 +1,13 @@
 //! The run of a piece: any machine of one logical channel, over the rows of the piece.
 
-ghost use Rattle.std.specs.Prelude.{◌≡◌, ◌≤◌, ◌^◌, ◌++◌, ℕ, length, IfOk, IfErr, IfNone, IfSome, OnErr};
+ghost use Rattle.std.specs.Prelude.{◌≡◌, ◌++◌, ℕ, IfOk, IfErr, OnErr, OnSome};
 ghost use Rattle.line_model.specs.declared.fault.Fault.TheVariants.{Memory};
 ghost use Rattle.line_model.specs.channels.Channels as channels;
 ghost use Rattle.line_model.specs.channels.Channels.{fresh, is_open};
 ghost use Rattle.line_model.specs.channels.ChannelStep.{channel_step};
 ghost use Rattle.line_model.specs.basics.Bounds.{IsItem};
 ghost use Rattle.line_model.specs.pieces.Plans as plans;
-ghost use Rattle.channel_run.specs.Run.{row_events, usual_events};
+ghost use Rattle.channel_run.specs.Run.{data_events, row_events};
 ghost use Rattle.channel_run.specs.StatusWord.{view_in};
 ghost use Rattle.channel_run.specs.Views.{IsViewOf};
 
@@ -41,15 +41,6 @@ pub struct View {
     pub flow: Flow,
 }
 
-/// What most packets are in d1, where nothing is wrong with them.
-#[derive(Clone, Copy)]
-pub enum Usual {
-    /// Data with Q 0 that was counted, with so many octets of user data.
-    Data(u32),
-    /// A receive ready.
-    Ready,
-}
-
 /// One logical channel of an interface: from its packets to events (X.25 Annexes B and C, clauses 4 to 6). What it
 /// keeps is its own affair: contracts see the channel of the definitions that it stands for.
 pub trait Channel<A: Allocator>: Drop {
@@ -75,11 +66,6 @@ pub trait Channel<A: Allocator>: Drop {
     fn state(&self) -> ChannelState
         ensures { (c : channels.Channel) → stands_for self.now c → result ≡ c.state };
 
-    /// What is known of the channel.
-    fn view(&self) -> View
-        ensures { (c : channels.Channel) → stands_for self.now c
-            → IsViewOf (interface_of self.now) c result };
-
     /// What is known of the channel, in one word, which `status_word::view_in` reads.
     fn word(&self) -> FlowWord
         ensures { (c : channels.Channel) → stands_for self.now c
@@ -89,8 +75,8 @@ pub trait Channel<A: Allocator>: Drop {
     fn is_open(&self) -> bool
         ensures { (c : channels.Channel) → stands_for self.now c → result ≡ is_open c };
 
-    /// Takes a row of the channel with its packet, and adds the events of an epoch. It answers `Memory` alone, and then
-    /// nothing has changed.
+    /// Steps the channel by what a row says, and appends the events of the row in an epoch. Fails only when memory is
+    /// refused, and nothing has changed then.
     fn step(
         &mut self,
         epoch: u32,
@@ -104,33 +90,42 @@ pub trait Channel<A: Allocator>: Drop {
             → IfOk result (λ _. number_of self.new ≡ number_of self.old) }
         ensures stands { (c : channels.Channel) → stands_for self.old c
             → IfOk result (λ _. stands_for self.new
-            (channel_step (interface_of self.old) (number_of self.old) c item.now.row).after) }
+            (channel_step (interface_of self.old) (number_of self.old) c item.now).after) }
         ensures events { (c : channels.Channel) → stands_for self.old c
             → IfOk result (λ _. events.new.items ≡ events.old.items
-            ++ row_events (interface_of self.old) epoch (number_of self.old) c item.now.row) }
+            ++ row_events (interface_of self.old) epoch (number_of self.old) c item.now) }
         ensures unchanged { OnErr result ((self.new ≡ self.old)
             × (events.new.items ≡ events.old.items)) }
         ensures memory { IfErr result (λ fault. fault ≡ Memory) };
 
-    /// Takes a row of the channel as `step` does, if it is as most are: data with Q 0 or a receive ready in d1, with
-    /// which nothing is wrong. It takes no memory. `None`: the row is for `step`, and nothing has changed.
-    fn step_usual(&mut self, item: &ItemRef<'_>) -> Option<Usual>
+    /// Steps the channel as `step` does, but keeps the event of an accepted data packet with Q 0 out of the list: it
+    /// returns that packet's octets of user data instead, and leaves the list as it was. Fails only when memory is
+    /// refused, and nothing has changed then.
+    fn advance(
+        &mut self,
+        epoch: u32,
+        item: &ItemRef<'_>,
+        events: &mut Vec<Event, A>,
+    ) -> Result<Option<u32>, Fault>
         requires item { IsItem (interface_of self.old) (number_of self.old) item.now }
         ensures interface { (c : channels.Channel) → stands_for self.old c
-            → IfSome result (λ _. interface_of self.new ≡ interface_of self.old) }
+            → IfOk result (λ _. interface_of self.new ≡ interface_of self.old) }
         ensures number { (c : channels.Channel) → stands_for self.old c
-            → IfSome result (λ _. number_of self.new ≡ number_of self.old) }
+            → IfOk result (λ _. number_of self.new ≡ number_of self.old) }
         ensures stands { (c : channels.Channel) → stands_for self.old c
-            → IfSome result (λ _. stands_for self.new
-            (channel_step (interface_of self.old) (number_of self.old) c item.now.row).after) }
-        ensures events { (c : channels.Channel) (epoch : ℕ) → stands_for self.old c
-            → IfSome result (λ usual. row_events (interface_of self.old) epoch (number_of self.old) c
-            item.now.row ≡ usual_events epoch (number_of self.old) item.now.row usual) }
-        ensures unchanged { IfNone result (self.new ≡ self.old) };
+            → IfOk result (λ _. stands_for self.new
+            (channel_step (interface_of self.old) (number_of self.old) c item.now).after) }
+        ensures events { (c : channels.Channel) → stands_for self.old c
+            → IfOk result (λ accepted. events.new.items ++ data_events epoch (number_of self.old) item.now accepted
+            ≡ events.old.items ++ row_events (interface_of self.old) epoch (number_of self.old) c item.now) }
+        ensures apart { IfOk result (λ accepted. OnSome accepted (events.new ≡ events.old)) }
+        ensures unchanged { OnErr result ((self.new ≡ self.old)
+            × (events.new.items ≡ events.old.items)) }
+        ensures memory { IfErr result (λ fault. fault ≡ Memory) };
 }
 
-/// What a piece is worth: the findings and calls of its rows on a fresh channel, and the octets and segments of its data
-/// packets. A call that is open where a restart ends the epoch ends with it. It answers `Memory` alone.
+/// Returns the result of a piece: the findings and calls of its rows on a fresh channel, and the octets and segments of
+/// its data packets. A call that is open where a restart ends the epoch ends with it. Fails only when memory is refused.
 pub fn run_piece<A: Allocator + Clone, C: Channel<A>>(
     alloc: A,
     piece: &Piece<A>,
@@ -144,11 +139,8 @@ pub fn run_piece<A: Allocator + Clone, C: Channel<A>>(
         piece.channel,
         piece.epoch,
     )?;
-    let mut events = Vec::new(alloc.clone()?);
-    let mut octets = Vec::new(alloc);
+    let mut events = Vec::new(alloc);
     for item in piece.items.iter() {
-        item.unfold(&mut octets)?;
-        let item = item.with_octets(&octets);
         live.take(&item, &mut events)?;
     }
     let report = live.end(piece.id, piece.end)?;

@@ -1,8 +1,11 @@
 -- What the status says of a report that is told as JSON lines.
-use Rattle.std.proofs.Common.{◌≡◌, ◌<◌, ℕ, zero, suc, Bool, true, false, List, [], Option, Some, Result, Ok, Err, refl, subst, sym, arith}
+use Rattle.std.proofs.Common.{◌≡◌, ◌∙◌, ap, ◌<◌, ℕ, zero, suc, Bool, true, false, List, [], Option, Some, Result, Ok, Err, refl, subst, sym, arith}
 use Rattle.line_model.specs.declared.fault.Fault.{Fault}
 use Rattle.line_model.specs.declared.fault.Fault.TheVariants.{Write}
-use Rattle.command_line.specs.Program.{IsScanned, IsScannedAsJson, IsStatus, IsFollowStatus}
+use Rattle.line_model.specs.basics.Device.{with_more}
+use Rattle.line_model.specs.traces.Traces.{trace_report}
+use Rattle.json_lines.specs.Json.{json_text}
+use Rattle.command_line.specs.Program.{IsReportStatus, IsScanned, IsScannedAsJson, IsStatus, IsFollowStatus}
 
 -- what a scan says, by whether it follows
 pub scanned_by : (well : Type 0) (followed : Bool) (text : List ℕ) (left asked before after : Option (List ℕ)) (status : ℕ) →
@@ -37,3 +40,13 @@ pub told_back : (followed : Bool) (text : List ℕ) (left asked before taken aft
 told_back followed text left asked before taken after failed failures was status same well told =
     subst (λ f. IsScannedAsJson followed text left asked before after (f ≡ was) status) (sym well)
     (subst (λ t. IsScannedAsJson followed text left asked before t (failed ≡ was) status) (sym same) told)
+
+-- the objects of a report that was taken
+pub reported_json : (lines : List ℕ) (before after : Option (List ℕ)) (status : ℕ) → IsReportStatus false (Some []) (Some lines) status → after ≡ with_more before (json_text lines) → IsReportStatus true before after status
+reported_json lines before after status r taken = record {
+  reported = λ few.
+      let report = r.reported few in
+      let same : lines ≡ trace_report report.text = let e = report.taken in cc in
+      record { text = report.text; sound = report.sound; taken = taken ∙ ap (λ t. with_more before (json_text t)) same; counted = report.counted };
+  range = r.range;
+}

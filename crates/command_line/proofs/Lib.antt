@@ -1,5 +1,6 @@
 mod WorkedWords
 pub mod ChannelLemmas
+pub mod FaultLemmas
 pub mod JsonLemmas
 pub mod PastedLemmas
 pub mod StatusLemmas

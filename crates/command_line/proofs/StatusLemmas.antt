@@ -1,11 +1,11 @@
 -- The exit status of a scan.
-use Rattle.std.proofs.Common.{◌≡◌, ◌∙◌, sym, ap, refl, subst, inl, inr, ◌⊎◌, ℕ, zero, suc, ◌<◌, List, ◌++◌, Option, None, arith, append-nil, cond, ◌==◌}
+use Rattle.std.proofs.Common.{◌≡◌, ◌∙◌, sym, ap, refl, subst, inl, inr, ◌⊎◌, ℕ, zero, suc, ◌<◌, Bool, false, List, ◌++◌, Option, None, arith, append-nil, cond, ◌==◌}
 use Rattle.std.proofs.lemmas.Bool.Decides.{nat_tests}
 use Rattle.line_model.specs.text.Text.{fault}
 use Rattle.line_model.specs.declared.totals.Summary.{Summary}
 use Rattle.line_model.specs.declared.fault.Fault.{Fault}
 use Rattle.line_model.specs.declared.fault.Fault.TheVariants.{Memory, Trace, Read, Write, Start, Double, Stranger, Missing}
-use Rattle.command_line.specs.Program.{IsCutShort, IsFollowStatus, IsStatus, fault_status, summary_status}
+use Rattle.command_line.specs.Program.{IsCutShort, IsFollowStatus, IsReportStatus, IsStatus, fault_status, summary_status}
 use Rattle.trace_text.specs.Sources.{IsRefusedBy}
 use Rattle.trace_scan.specs.Readings.{IsRefusal}
 use Rattle.live_report.specs.Reports.{IsReported, IsTaken}
@@ -76,7 +76,7 @@ status_range _ status s = omega (arith, s)
 
 -- ---- a trace that was followed
 
-small : (n status : ℕ) → status ≡ cond {A = ℕ} (n == 0) 0 1 → status < 2
+pub small : (n status : ℕ) → status ≡ cond {A = ℕ} (n == 0) 0 1 → status < 2
 small zero status s = omega (arith, s)
 small (suc m) status s = omega (arith, s, some_status m)
 
@@ -118,3 +118,20 @@ refused_follow text left asked before after well Start status r told failed s = 
 refused_follow text left asked before after well (Double i) status r told failed s = other_follow text left asked before after well (Double i) status s s r told failed
 refused_follow text left asked before after well (Stranger i) status r told failed s = other_follow text left asked before after well (Stranger i) status s s r told failed
 refused_follow text left asked before after well (Missing i) status r told failed s = other_follow text left asked before after well (Missing i) status s s r told failed
+
+-- ---- whatever the source shows
+
+-- a report was taken
+pub reported_any : (before after : Option (List ℕ)) (sums : Summary) (status : ℕ) → ((text : List ℕ) × IsReported text before after sums) → status ≡ summary_status sums → IsReportStatus false before after status
+reported_any before after sums status of s =
+    let few = small sums.findings status s in
+    record { reported = λ e. record { text = of.0; sound = of.1.sound; taken = of.1.taken; counted = s ∙ ap summary_status of.1.counted }; range = omega (arith, few) }
+
+-- another fault than the text's
+pub other_any : (json : Bool) (before after : Option (List ℕ)) (status : ℕ) → status ≡ 3 → IsReportStatus json before after status
+other_any json before after status s = record { reported = λ e. absurd (omega (arith, e, s)); range = omega (arith, s) }
+
+-- a refusal
+pub refused_any : (json : Bool) (before after : Option (List ℕ)) (f : Fault) (status : ℕ) → status ≡ fault_status f → IsReportStatus json before after status
+refused_any json before after (Trace line kind) status s = record { reported = λ e. absurd (omega (arith, e, s)); range = omega (arith, s) }
+refused_any json before after _ status s = other_any json before after status s

@@ -3,6 +3,7 @@ pub mod Options
 pub mod Notes
 pub mod Pasted
 pub mod Explaining
+pub mod Faults
 pub mod Program
 pub mod Printing
 pub mod Trying

@@ -4,6 +4,7 @@ use Rattle.clap.specs.Words.{IsAmong, Kinds}
 use Rattle.clap.specs.declared.error.kind.ErrorKind.{ErrorKind}
 use Rattle.clap.specs.declared.error.kind.ErrorKind.TheVariants.{DisplayHelp, DisplayVersion, OutOfMemory}
 use Rattle.line_model.specs.basics.Device.{with_more}
+use Rattle.line_model.specs.basics.Written.{HasFront}
 use Rattle.line_model.specs.text.Text.{fault}
 use Rattle.line_model.specs.declared.fault.Kind.{Kind}
 use Rattle.line_model.specs.declared.fault.Fault.{Fault}
@@ -15,6 +16,7 @@ use Rattle.live_report.specs.Reports.{IsReported}
 use Rattle.trace_scan.specs.Follow.{IsFollowRefusal, IsToldOf}
 use Rattle.json_lines.specs.Json.{json_text}
 use Rattle.line_model.specs.traces.Traces.{trace_report, trace_summary}
+use Rattle.command_line.specs.declared.help.TheConstants.{HELP, VERSION}
 
 -- 0 without findings, else 1
 abbrev pub summary_status : Summary → ℕ
@@ -32,9 +34,22 @@ words_status DisplayHelp = 0
 words_status DisplayVersion = 0
 words_status _ = 64
 
--- the status of words with these kinds of error, or memory ran out; 0 does not say that the sink took the help
-abbrev pub IsWordsStatus : Kinds → ℕ → Type 0
-IsWordsStatus kinds status = (status ≡ 3) ⊎ ((kind : ErrorKind) × IsAmong kind kinds × (status ≡ words_status kind))
+-- the text that words ask for in place of a scan: the help, or the version
+abbrev pub asked_text : ErrorKind → Option (List ℕ)
+asked_text DisplayHelp = Some HELP.now
+asked_text DisplayVersion = Some VERSION.now
+asked_text _ = None
+
+-- a sink took all of the text that was asked for, or it failed and took a first part of it; where none was asked for it is as it was
+abbrev pub IsAskedTextTaken : (text : Option (List ℕ)) → (before after : Option (List ℕ)) → (well : Type 0) → Type 0
+IsAskedTextTaken None before after well = after ≡ before
+IsAskedTextTaken (Some text) before after well = HasFront before after text × (well → after ≡ with_more before text)
+
+-- what words with these kinds of error get: the status, and the text that they ask for; or memory ran out
+abbrev pub IsWordsAnswer : Kinds → (before after : Option (List ℕ)) → (well : Type 0) → (status : ℕ) → Type 0
+IsWordsAnswer kinds before after well status =
+    ((status ≡ 3) × (after ≡ before))
+    ⊎ ((kind : ErrorKind) × IsAmong kind kinds × (status ≡ words_status kind) × IsAskedTextTaken (asked_text kind) before after well)
 
 -- a text is refused by a faulty line
 pub record IsFaulty (text : List ℕ) (left asked : Option (List ℕ)) : Type 0 where
@@ -123,6 +138,23 @@ IsTold true followed text left asked before after well status = IsScannedAsJson 
 abbrev pub TellsOf : (json followed : Bool) → (trace left asked before after : Option (List ℕ)) → (well : Type 0) → (status : ℕ) → Type 0
 TellsOf json followed trace left asked before after well status =
     (text : List ℕ) → trace ≡ Some text → IsTold json followed text left asked before after well status
+
+-- the report of a text, or the objects of its lines
+abbrev pub report_in : (json : Bool) → (text : List ℕ) → List ℕ
+report_in false text = trace_report text
+report_in true text = json_text (trace_report text)
+
+-- a sink took the report of some text without a fault, and the status is that of its sums
+pub record HasReport (json : Bool) (before after : Option (List ℕ)) (status : ℕ) : Type 0 where
+  pub text : List ℕ
+  pub sound : fault text ≡ None
+  pub taken : after ≡ with_more before (report_in json text)
+  pub counted : status ≡ summary_status (trace_summary text)
+
+-- what the status says where a report was asked for, whatever the source shows: one below 2 is that of a report that was taken
+pub record IsReportStatus (json : Bool) (before after : Option (List ℕ)) (status : ℕ) : Type 0 where
+  pub reported : status < 2 → HasReport json before after status
+  pub range : status < 4
 
 -- the trace that is read: that of its name, or standard input
 abbrev pub trace_of : (name : Option (List ℕ)) → (standard : Option (List ℕ)) → (named : List ℕ → Option (List ℕ)) → Option (List ℕ)

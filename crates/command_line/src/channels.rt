@@ -5,7 +5,7 @@ ghost use Rattle.command_line.specs.Channels.{last_of};
 ghost use Rattle.trace_text.specs.StandsFor.{IsTextFault};
 
 use line_model::fault::Fault;
-use line_model::row::Row;
+use line_model::row::ReadRow;
 use line_model::state::Side;
 use std::alloc::Global;
 use trace_text::lines::Lines;
@@ -17,9 +17,10 @@ pub fn last_channel(alloc: Global, bytes: &[u8], are_all: bool) -> Result<Option
     ensures kinds { IfErr result IsTextFault }
 {
     let mut lines = Lines::new(alloc);
-    let mut row = Row {
+    let mut row = ReadRow {
         number: 0,
         side: Side::T,
+        length: 0,
         octets: Vec::new(alloc),
     };
     lines.next_row(bytes, &mut row)?;

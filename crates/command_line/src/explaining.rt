@@ -69,7 +69,7 @@ fn print_answer<K: Output, E: Sink>(alloc: Global, text: &str, sink: &mut K, err
 {
     match write_all(sink, text.as_bytes()) {
         Ok(()) => 0,
-        Err(fault) => refuse_write(alloc, sink, errors, fault),
+        Err(_) => refuse_write(alloc, sink, errors),
     }
 }
 
@@ -99,6 +99,6 @@ pub fn explain_word<K: Output, E: Sink>(
     match answer(alloc, word) {
         Ok(Some(text)) => print_answer(alloc, text.as_str(), sink, errors),
         Ok(None) => refuse_word(alloc, word, errors),
-        Err(_) => refuse(alloc, errors, Fault::Memory),
+        Err(_) => refuse(errors, Fault::Memory),
     }
 }

@@ -1,14 +1,33 @@
-//! The texts of the program's help and of its version, from which the manual page is made too.
+//! The texts of the program's help and of its version, of which the manual page and the completions are made too.
 
 /// The version of the program, and the logic that proved it, whose identity `rt version` prints last.
-pub const VERSION: &str = "1.0.0\nproved with Rattle, logic dac8208d650f15bf";
+pub const VERSION: &str = "x25scan 1.0.0\nproved with Rattle, logic dac8208d650f15bf\n";
 
-/// What the program does.
-pub const ABOUT: &str =
-    "Reports what an observer of an X.25 interface finds in a trace: which side broke the protocol, the calls, the settings of their PADs, the accounts and the sums";
+/// What the program does, its words with examples, the exit statuses, and the documents.
+pub const HELP: &str = "\
+Reports what an observer of an X.25 interface finds in a trace: which side broke the protocol, the calls, the settings of their PADs, the accounts and the sums
 
-/// Examples, the exit statuses, and the documents.
-pub const AFTER_HELP: &str = "\
+Usage: x25scan [OPTIONS] [FILE]
+
+Arguments:
+  [FILE]  The trace; - or no file is standard input
+
+Options:
+      --workers <N>       Scan with this many worker threads, 1 to 64 (default: 4)
+      --alone             Scan in one thread, which is quicker than workers where most packets are data
+      --follow            Print each finding as soon as its packet is known, in one thread
+      --json              Print the report as JSON lines, an object for each line
+      --annotate          Print the trace again, with comments that say what its rows are and did
+      --rows              Print a JSON object for each row, and then those of the report
+      --channel <N>       Annotate only the rows of this logical channel; with --rows, print only those
+      --call <N>          Annotate only the rows of this call of the report; with --rows, print only those
+      --try-headers       Print how many findings each window and packet size gives, best first
+      --progress          Print each second on standard error how far the reading is
+      --notes             Print on standard error how much data was not counted, and why, in one thread
+      --explain [<WORD>]  Explain a word or a line that is printed, or list all words, and scan nothing
+  -h, --help              Print help
+  -V, --version           Print the version, and the kit that proved the program
+
 Examples:
   x25scan day.trace                     print the report of a trace
   x25scan --alone < day.trace           read standard input, in one thread
@@ -30,4 +49,5 @@ Exit status:
   64  the command line is wrong
 
 /usr/share/doc/x25scan/REPORT.md describes the lines of the report, TRACE.md the text of a
-trace, and CODES.md all that --explain prints.";
+trace, and CODES.md all that --explain prints.
+";

@@ -1,7 +1,8 @@
 //! The scan whose report is printed as JSON lines.
 
-ghost use Rattle.std.specs.Prelude.{◌≡◌, ℕ, ◌<◌, ◌≤◌, ◌+◌, ◌^◌, List, Some};
-ghost use Rattle.command_line.specs.Program.{IsScannedAsJson};
+ghost use Rattle.std.specs.Prelude.{◌≡◌, ℕ, ◌<◌, ◌≤◌, ◌+◌, ◌^◌, List, Some, true};
+ghost use Rattle.command_line.specs.Faults.{SaysFault};
+ghost use Rattle.command_line.specs.Program.{IsReportStatus, IsScannedAsJson};
 
 use crate::options::Options;
 use crate::program::{Host, OTHER_FAULT, scan};
@@ -31,6 +32,9 @@ fn scan_to<'a, S: Input, K: Output, E: Sink, R: Threads + Wait + Clock + Sync, B
     ensures told { (text : List ℕ) → S.left source.old ≡ Some text
         → IsScannedAsJson options.entry.follow text (S.left source.new) (S.before source.new) B.before.0
         (K.taken result.0.now) (K.failures result.0.now ≡ B.before.1) result.1 }
+    ensures reported { IsReportStatus true B.before.0 (K.taken result.0.now) result.1 }
+    ensures said { result.1 ≡ 2 → SaysFault (S.left source.old) (S.left source.new) (S.before source.new)
+        (E.taken errors.old) (E.taken errors.new) (E.failures errors.new ≡ E.failures errors.old) }
     ensures range { result.1 < 4 }
     ensures asked { S.calls source.new ≤ S.calls source.old + (2 ^ 30 + 1) }
 {
@@ -42,8 +46,8 @@ fn scan_to<'a, S: Input, K: Output, E: Sink, R: Threads + Wait + Clock + Sync, B
         Ok(()) => (lent.give_back(), scanned),
         // The scan has printed that its sink failed.
         Err(_) if scanned == OTHER_FAULT => (lent.give_back(), scanned),
-        Err(fault) => {
-            let status = refuse_write(alloc, &lent, errors, fault);
+        Err(_) => {
+            let status = refuse_write(alloc, &lent, errors);
             (lent.give_back(), status)
         }
     }
@@ -60,6 +64,9 @@ pub(crate) fn scan_json<S: Input, K: Output, E: Sink, R: Threads + Wait + Clock 
     ensures told { (text : List ℕ) → S.left source.old ≡ Some text
         → IsScannedAsJson options.entry.follow text (S.left source.new) (S.before source.new) (K.taken sink.old)
         (K.taken sink.new) (K.failures sink.new ≡ K.failures sink.old) result }
+    ensures reported { IsReportStatus true (K.taken sink.old) (K.taken sink.new) result }
+    ensures said { result ≡ 2 → SaysFault (S.left source.old) (S.left source.new) (S.before source.new)
+        (E.taken errors.old) (E.taken errors.new) (E.failures errors.new ≡ E.failures errors.old) }
     ensures range { result < 4 }
     ensures asked { S.calls source.new ≤ S.calls source.old + (2 ^ 30 + 1) }
 {

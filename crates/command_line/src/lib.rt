@@ -5,6 +5,7 @@
 pub mod annotated_scan;
 mod channels;
 mod explaining;
+mod faults;
 mod help;
 mod json;
 mod notes;

@@ -21,6 +21,7 @@ pub fn open_trace<S: Input, E: Sink>(
     ensures refused { OnErr result (source.new ≡ source.old) }
     ensures status { IfErr result (λ status. status ≡ 3) }
     ensures calls { S.calls source.new ≡ S.calls source.old }
+    ensures silent { OnOk result (errors.new ≡ errors.old) }
 {
     let Some(name) = name else {
         return Ok(());

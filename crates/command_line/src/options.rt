@@ -4,7 +4,7 @@ ghost use Rattle.std.specs.Prelude.{◌≡◌, ◌≤◌, IfOk, MatchOption, cod
 ghost use Rattle.clap.specs.Words.{FailsBy, app_of, first_value, found_of, rule_of};
 ghost use Rattle.command_line.specs.Options.{AreAskedRows, AskFor, HasNumber, HasWorkers, alone, annotates, as_json, asked_word, asked_workers, asks_notes, call_rule, channel_rule, command, explain_rule, flag_rule, follows, has_comments, is_given, named_by, named_trace, prints_rows, shows_progress, trace_rule, tries_headers, versioned, with_asking, with_scanning, with_writing, words_fault, workers_rule};
 
-use crate::help::{ABOUT, AFTER_HELP, VERSION};
+use crate::help::VERSION;
 use annotated_trace::rows::Rows;
 use clap::{Arg, ArgAction, ArgMatches, Command, Error, value_parser};
 use std::alloc::{AllocError, Global};
@@ -71,20 +71,16 @@ fn workers<'a>(alloc: Global) -> Arg<'a>
     Arg::new(alloc, "workers")
         .long("workers")
         .value_name("N")
-        .help("Scan with this many worker threads, 1 to 64 (default: 4)")
         .action(ArgAction::Set)
         .value_parser(value_parser!(u8).range(1..=64))
 }
 
 /// A flag of this name.
-fn flag<'a>(alloc: Global, name: &'a str, help: &'a str) -> Arg<'a>
+fn flag<'a>(alloc: Global, name: &'a str) -> Arg<'a>
     ensures rule { rule_of result ≡ flag_rule name.entry.now }
     ensures local { result.global ≡ false }
 {
-    Arg::new(alloc, name)
-        .long(name)
-        .help(help)
-        .action(ArgAction::SetTrue)
+    Arg::new(alloc, name).long(name).action(ArgAction::SetTrue)
 }
 
 /// The option that asks for the explanation of a word, or for the list of all words where none follows it.
@@ -95,7 +91,6 @@ fn explain<'a>(alloc: Global) -> Arg<'a>
     Arg::new(alloc, "explain")
         .long("explain")
         .value_name("WORD")
-        .help("Explain a word or a line that is printed, or list all words, and scan nothing")
         .action(ArgAction::Set)
         .num_args(0..=1)
         .default_missing_value("")
@@ -109,7 +104,6 @@ fn channel<'a>(alloc: Global) -> Arg<'a>
     Arg::new(alloc, "channel")
         .long("channel")
         .value_name("N")
-        .help("Annotate only the rows of this logical channel; with --rows, print only those")
         .action(ArgAction::Set)
         .value_parser(value_parser!(u16).range(1..=4095))
 }
@@ -122,7 +116,6 @@ fn call<'a>(alloc: Global) -> Arg<'a>
     Arg::new(alloc, "call")
         .long("call")
         .value_name("N")
-        .help("Annotate only the rows of this call of the report; with --rows, print only those")
         .action(ArgAction::Set)
         .value_parser(value_parser!(u32).range(1..=999_999_999))
 }
@@ -134,7 +127,6 @@ fn trace<'a>(alloc: Global) -> Arg<'a>
 {
     Arg::new(alloc, "trace")
         .value_name("FILE")
-        .help("The trace; - or no file is standard input")
         .action(ArgAction::Set)
 }
 
@@ -144,16 +136,8 @@ fn with_scanning<'a>(alloc: Global, command: Command<'a>) -> Result<Command<'a>,
 {
     command
         .arg(workers(alloc))?
-        .arg(flag(
-            alloc,
-            "alone",
-            "Scan in one thread, which is quicker than workers where most packets are data",
-        ))?
-        .arg(flag(
-            alloc,
-            "follow",
-            "Print each finding as soon as its packet is known, in one thread",
-        ))
+        .arg(flag(alloc, "alone"))?
+        .arg(flag(alloc, "follow"))
 }
 
 /// Adds the options that say what is written, and of which rows.
@@ -161,28 +145,12 @@ fn with_writing<'a>(alloc: Global, command: Command<'a>) -> Result<Command<'a>, 
     ensures { IfOk result (λ after. app_of after ≡ with_writing (app_of command.entry)) }
 {
     command
-        .arg(flag(
-            alloc,
-            "json",
-            "Print the report as JSON lines, an object for each line",
-        ))?
-        .arg(flag(
-            alloc,
-            "annotate",
-            "Print the trace again, with comments that say what its rows are and did",
-        ))?
-        .arg(flag(
-            alloc,
-            "rows",
-            "Print a JSON object for each row, and then those of the report",
-        ))?
+        .arg(flag(alloc, "json"))?
+        .arg(flag(alloc, "annotate"))?
+        .arg(flag(alloc, "rows"))?
         .arg(channel(alloc))?
         .arg(call(alloc))?
-        .arg(flag(
-            alloc,
-            "try-headers",
-            "Print how many findings each window and packet size gives, best first",
-        ))
+        .arg(flag(alloc, "try-headers"))
 }
 
 /// Adds the options that ask for more, and the name of the trace.
@@ -190,31 +158,21 @@ fn with_asking<'a>(alloc: Global, command: Command<'a>) -> Result<Command<'a>, A
     ensures { IfOk result (λ after. app_of after ≡ with_asking (app_of command.entry)) }
 {
     command
-        .arg(flag(
-            alloc,
-            "progress",
-            "Print each second on standard error how far the reading is",
-        ))?
-        .arg(flag(
-            alloc,
-            "notes",
-            "Print on standard error how much data was not counted, and why, in one thread",
-        ))?
+        .arg(flag(alloc, "progress"))?
+        .arg(flag(alloc, "notes"))?
         .arg(explain(alloc))?
         .arg(trace(alloc))
 }
 
-/// The program with its version, without options.
+/// The program with a version, without options. `clap` reads the words; what help and the version print is in
+/// `crate::help`.
 fn plain<'a>(alloc: Global) -> Command<'a>
     ensures { app_of result ≡ versioned }
 {
-    Command::new(alloc, "x25scan")
-        .version(VERSION)
-        .about(ABOUT)
-        .after_help(AFTER_HELP)
+    Command::new(alloc, "x25scan").version(VERSION)
 }
 
-/// The command as its reader is told it.
+/// The command, as the words are read.
 fn command<'a>(alloc: Global) -> Result<Command<'a>, AllocError>
     ensures { IfOk result (λ after. app_of after ≡ command) }
 {

@@ -4,13 +4,15 @@ ghost use Rattle.std.specs.Prelude.{◌≡◌, ◌≢◌, ℕ, ◌<◌, ◌≤�
 ghost use Rattle.clap.specs.Words.{kind_of};
 ghost use Rattle.command_line.specs.Options.{AreAskedRows, annotates, as_json, asked_word, follows, has_comments, named_trace, prints_rows, tries_headers, words_fault};
 ghost use Rattle.command_line.specs.Explaining.{IsAnswered};
+ghost use Rattle.command_line.specs.Faults.{SaysFault};
 ghost use Rattle.command_line.specs.Notes.{notes_refused, refused_in};
 ghost use Rattle.annotated_trace.specs.declared.rows.Rows.{Rows as AnyRows};
 ghost use Rattle.command_line.specs.Printing.{IsAnnotateAnswer, IsPrintAnswer, IsRefused, IsRowsAnswer, is_refused, printing_of};
 ghost use Rattle.command_line.specs.Trying.{IsTryAnswer, cannot_try};
-ghost use Rattle.command_line.specs.Program.{IsFollowStatus, IsStatus, IsUnread, IsWordsStatus, TellsOf, fault_status, summary_status, trace_of, words_status};
+ghost use Rattle.command_line.specs.Program.{IsAskedTextTaken, IsFollowStatus, IsReportStatus, IsStatus, IsUnread, IsWordsAnswer, TellsOf, asked_text, fault_status, summary_status, trace_of, words_status};
 
 use crate::explaining::explain_word;
+use crate::help::{HELP, VERSION};
 use crate::json::scan_json;
 use crate::notes::{print_note, refuse_notes, refuses_notes};
 use crate::opening::open_trace;
@@ -101,6 +103,9 @@ fn run_alone<S: Input, K: Output, E: Sink>(
     ensures status { (text : List ℕ) → S.left source.old ≡ Some text
         → IsStatus text (S.left source.new) (S.before source.new) (K.taken sink.old) (K.taken sink.new)
         (K.failures sink.new ≡ K.failures sink.old) result }
+    ensures reported { IsReportStatus false (K.taken sink.old) (K.taken sink.new) result }
+    ensures said { result ≡ 2 → SaysFault (S.left source.old) (S.left source.new) (S.before source.new)
+        (E.taken errors.old) (E.taken errors.new) (E.failures errors.new ≡ E.failures errors.old) }
     ensures range { result < 4 }
     ensures asked { S.calls source.new ≤ S.calls source.old + (2 ^ 30 + 1) }
 {
@@ -125,6 +130,9 @@ fn run_follow<S: Input, K: Output, E: Sink>(
     ensures status { (text : List ℕ) → S.left source.old ≡ Some text
         → IsFollowStatus text (S.left source.new) (S.before source.new) (K.taken sink.old) (K.taken sink.new)
         (K.failures sink.new ≡ K.failures sink.old) result }
+    ensures reported { IsReportStatus false (K.taken sink.old) (K.taken sink.new) result }
+    ensures said { result ≡ 2 → SaysFault (S.left source.old) (S.left source.new) (S.before source.new)
+        (E.taken errors.old) (E.taken errors.new) (E.failures errors.new ≡ E.failures errors.old) }
     ensures range { result < 4 }
     ensures asked { S.calls source.new ≤ S.calls source.old + (2 ^ 30 + 1) }
 {
@@ -150,6 +158,9 @@ fn run_with<S: Input, K: Output, E: Sink, R: Threads + Wait + Clock + Sync>(
     ensures status { (text : List ℕ) → S.left source.old ≡ Some text
         → IsStatus text (S.left source.new) (S.before source.new) (K.taken sink.old) (K.taken sink.new)
         (K.failures sink.new ≡ K.failures sink.old) result }
+    ensures reported { IsReportStatus false (K.taken sink.old) (K.taken sink.new) result }
+    ensures said { result ≡ 2 → SaysFault (S.left source.old) (S.left source.new) (S.before source.new)
+        (E.taken errors.old) (E.taken errors.new) (E.failures errors.new ≡ E.failures errors.old) }
     ensures range { result < 4 }
     ensures asked { S.calls source.new ≤ S.calls source.old + (2 ^ 30 + 1) }
 {
@@ -201,6 +212,9 @@ pub(crate) fn scan<S: Input, K: Output, E: Sink, R: Threads + Wait + Clock + Syn
     ensures followed { options.entry.follow ≡ true → (text : List ℕ) → S.left source.old ≡ Some text
         → IsFollowStatus text (S.left source.new) (S.before source.new) (K.taken sink.old) (K.taken sink.new)
         (K.failures sink.new ≡ K.failures sink.old) result }
+    ensures reported { IsReportStatus false (K.taken sink.old) (K.taken sink.new) result }
+    ensures said { result ≡ 2 → SaysFault (S.left source.old) (S.left source.new) (S.before source.new)
+        (E.taken errors.old) (E.taken errors.new) (E.failures errors.new ≡ E.failures errors.old) }
     ensures range { result < 4 }
     ensures asked { S.calls source.new ≤ S.calls source.old + (2 ^ 30 + 1) }
 {
@@ -225,6 +239,9 @@ fn scan_in_form<S: Input, K: Output, E: Sink, R: Threads + Wait + Clock + Sync>(
 ) -> u8
     ensures told { TellsOf options.entry.json options.entry.follow (S.left source.old) (S.left source.new) (S.before source.new)
         (K.taken sink.old) (K.taken sink.new) (K.failures sink.new ≡ K.failures sink.old) result }
+    ensures reported { IsReportStatus options.entry.json (K.taken sink.old) (K.taken sink.new) result }
+    ensures said { result ≡ 2 → SaysFault (S.left source.old) (S.left source.new) (S.before source.new)
+        (E.taken errors.old) (E.taken errors.new) (E.failures errors.new ≡ E.failures errors.old) }
     ensures range { result < 4 }
     ensures asked { S.calls source.new ≤ S.calls source.old + (2 ^ 30 + 1) }
 {
@@ -248,6 +265,11 @@ fn scan_trace<S: Input, K: Output, E: Sink, R: Threads + Wait + Clock + Sync>(
         IsUnread source.old source.new sink.old sink.new result
         ⊎ TellsOf options.entry.json options.entry.follow trace (S.left source.new) (S.before source.new)
         (K.taken sink.old) (K.taken sink.new) (K.failures sink.new ≡ K.failures sink.old) result }
+    ensures reported { IsReportStatus options.entry.json (K.taken sink.old) (K.taken sink.new) result }
+    ensures said { let name = option_map (λ name. name.now) options.entry.trace in
+        let trace = trace_of name (S.left source.old) (S.named source.old) in
+        result ≡ 2 → SaysFault trace (S.left source.new) (S.before source.new)
+        (E.taken errors.old) (E.taken errors.new) (E.failures errors.new ≡ E.failures errors.old) }
     ensures range { result < 4 }
     ensures asked { S.calls source.new ≤ S.calls source.old + (2 ^ 30 + 1) }
 {
@@ -295,6 +317,17 @@ fn run<S: Input, K: Output, E: Sink, R: Threads + Wait + Clock + Sync>(
         → IsUnread source.old source.new sink.old sink.new result
         ⊎ TellsOf options.entry.json options.entry.follow trace (S.left source.new) (S.before source.new)
         (K.taken sink.old) (K.taken sink.new) (K.failures sink.new ≡ K.failures sink.old) result }
+    ensures reported { option_map (λ word. word.now) options.entry.explain ≡ None
+        → options.entry.try_headers ≡ false → refused_in options.entry ≡ false
+        → printing_of options.entry.rows options.entry.annotate ≡ None
+        → IsReportStatus options.entry.json (K.taken sink.old) (K.taken sink.new) result }
+    ensures said { let name = option_map (λ name. name.now) options.entry.trace in
+        let trace = trace_of name (S.left source.old) (S.named source.old) in
+        option_map (λ word. word.now) options.entry.explain ≡ None → options.entry.try_headers ≡ false
+        → refused_in options.entry ≡ false
+        → printing_of options.entry.rows options.entry.annotate ≡ None
+        → result ≡ 2 → SaysFault trace (S.left source.new) (S.before source.new)
+        (E.taken errors.old) (E.taken errors.new) (E.failures errors.new ≡ E.failures errors.old) }
     ensures printed { let name = option_map (λ name. name.now) options.entry.trace in
         let trace = trace_of name (S.left source.old) (S.named source.old) in
         option_map (λ word. word.now) options.entry.explain ≡ None → options.entry.try_headers ≡ false
@@ -339,35 +372,45 @@ fn run<S: Input, K: Output, E: Sink, R: Threads + Wait + Clock + Sync>(
     }
 }
 
-/// Writes help or the version, which was asked for, and returns the exit status. That the sink does not take it is no fault
-/// of the words.
-fn print_asked<K: Sink, E: Sink>(alloc: Global, error: &Error, sink: &mut K, errors: &mut E) -> u8
-    ensures { (result ≡ 0) ⊎ (result ≡ 3) }
+/// The text that words ask for in place of a scan: the help, or the version.
+fn asked_text(kind: ErrorKind) -> Option<&'static str>
+    ensures { option_map (λ text. text.now) result ≡ asked_text kind }
 {
-    match format!(in alloc; "{error}") {
-        Ok(text) => {
-            let _ = write_all(sink, text.as_bytes());
-            0
-        }
-        Err(_) => refuse(alloc, errors, Fault::Memory),
+    match kind {
+        ErrorKind::DisplayHelp => Some(HELP),
+        ErrorKind::DisplayVersion => Some(VERSION),
+        _ => None,
     }
 }
 
-/// Help and the version go to the sink, and usage to the errors.
-fn refuse_words<K: Output, E: Sink>(alloc: Global, error: Error, sink: &mut K, errors: &mut E) -> u8
-    ensures status { (result ≡ 3) ⊎ (result ≡ words_status (kind_of error)) }
-    ensures unwritten { words_status (kind_of error) ≢ 0 → sink.new ≡ sink.old }
-    ensures usage { result ≡ 64 → sink.new ≡ sink.old }
+/// Prints what is wrong with the words, or that memory ran out, and returns the exit status.
+fn refuse_wrong<E: Sink>(alloc: Global, error: &Error, errors: &mut E) -> u8
+    requires { asked_text (kind_of error.now) ≡ None }
+    ensures { result ≡ words_status (kind_of error.now) }
 {
     match error.kind() {
-        ErrorKind::OutOfMemory => refuse(alloc, errors, Fault::Memory),
-        ErrorKind::DisplayHelp | ErrorKind::DisplayVersion => {
-            print_asked(alloc, &error, sink, errors)
-        }
+        ErrorKind::OutOfMemory => refuse(errors, Fault::Memory),
         _ => {
-            print_words_fault(alloc, errors, &error);
+            print_words_fault(alloc, errors, error);
             USAGE
         }
+    }
+}
+
+/// Help and the version go to the sink, and what is wrong with the words to the errors. That the sink does not take the help
+/// is no fault of the words.
+fn refuse_words<K: Output, E: Sink>(alloc: Global, error: Error, sink: &mut K, errors: &mut E) -> u8
+    ensures status { result ≡ words_status (kind_of error) }
+    ensures printed { IsAskedTextTaken (asked_text (kind_of error)) (K.taken sink.old) (K.taken sink.new)
+        (K.failures sink.new ≡ K.failures sink.old) }
+    ensures unwritten { words_status (kind_of error) ≢ 0 → sink.new ≡ sink.old }
+{
+    match asked_text(error.kind()) {
+        Some(text) => {
+            let _ = write_all(sink, text.as_bytes());
+            0
+        }
+        None => refuse_wrong(alloc, &error, errors),
     }
 }
 
@@ -393,6 +436,21 @@ pub fn program<S: Input, K: Output, E: Sink, R: Threads + Wait + Clock + Sync>(
         → IsUnread source.old source.new sink.old sink.new result
         ⊎ TellsOf (as_json asked) (follows asked) trace (S.left source.new) (S.before source.new)
         (K.taken sink.old) (K.taken sink.new) (K.failures sink.new ≡ K.failures sink.old) result }
+    // Where they ask so, whatever the source shows: status 0 or 1 says that the sink took the report of some text without a
+    // fault, or its objects, and is that of its findings. No status is above 3.
+    ensures reported { let asked = map (λ word. word.now) words.now in
+        words_fault asked ≡ [] → asked_word asked ≡ None → tries_headers asked ≡ false
+        → annotates asked ≡ false → prints_rows asked ≡ false
+        → notes_refused asked ≡ false
+        → IsReportStatus (as_json asked) (K.taken sink.old) (K.taken sink.new) result }
+    // Status 2 says that the errors took the line of the trace's fault first, or that they failed.
+    ensures said { let asked = map (λ word. word.now) words.now in
+        let trace = trace_of (named_trace asked) (S.left source.old) (S.named source.old) in
+        words_fault asked ≡ [] → asked_word asked ≡ None → tries_headers asked ≡ false
+        → annotates asked ≡ false → prints_rows asked ≡ false
+        → notes_refused asked ≡ false
+        → result ≡ 2 → SaysFault trace (S.left source.new) (S.before source.new)
+        (E.taken errors.old) (E.taken errors.new) (E.failures errors.new ≡ E.failures errors.old) }
     // Where they ask for an annotation, of each row or of exactly those that they choose, the sink took one of that trace,
     // or it was refused. Where they ask for JSON with it, they are refused.
     ensures annotated { let asked = map (λ word. word.now) words.now in
@@ -439,10 +497,12 @@ pub fn program<S: Input, K: Output, E: Sink, R: Threads + Wait + Clock + Sync>(
         → IsUnread source.old source.new sink.old sink.new result
         ⊎ ((source.new ≡ source.old)
         × IsAnswered word (K.taken sink.old) (K.taken sink.new) result) }
-    // Where the words are wrong the source is not asked, and help and the version alone go to the sink.
+    // Where the words are wrong, or ask for help or the version, the source is not asked. The sink took the text of the help or
+    // of the version where that was asked for, or it failed and took a first part of it.
     ensures usage { let asked = map (λ word. word.now) words.now in
         words_fault asked ≢ []
-        → (source.new ≡ source.old) × IsWordsStatus (words_fault asked) result }
+        → (source.new ≡ source.old) × IsWordsAnswer (words_fault asked) (K.taken sink.old) (K.taken sink.new)
+        (K.failures sink.new ≡ K.failures sink.old) result }
     ensures unwritten { result ≡ 64 → sink.new ≡ sink.old }
     ensures asked { S.calls source.new ≤ S.calls source.old + (2 ^ 30 + 1) }
 {

@@ -2,9 +2,11 @@
 //! wrong with a faulty line of the trace, or what the system says of a read or a write that failed. A message that standard
 //! error does not take is lost.
 
-ghost use Rattle.std.specs.Prelude.{◌≡◌};
+ghost use Rattle.std.specs.Prelude.{◌≡◌, ◌≢◌, ◌≤◌};
+ghost use Rattle.command_line.specs.Faults.{Grows, IsSaid, fault_line};
 ghost use Rattle.command_line.specs.Program.{fault_status};
 
+use crate::faults::print_fault;
 use crate::program::{OTHER_FAULT, fault_status};
 use explanations::advice::advice;
 use line_model::device::Sink;
@@ -16,21 +18,26 @@ use std::io::ErrorKind;
 use streams::input::{Input, OpenRefusal};
 use streams::output::Output;
 
-/// Prints a fault.
-fn print_fault<E: Sink>(alloc: Global, errors: &mut E, fault: Fault) {
-    if let Ok(text) = format!(in alloc; "x25scan: {fault}\n") {
-        let _ = write_all(errors, text.as_bytes());
-    }
+/// Prints a text. What standard error does not take of it is lost.
+fn print_text<E: Sink>(errors: &mut E, text: &[u8])
+    ensures more { Grows (E.taken errors.old) (E.taken errors.new) }
+    ensures rising { E.failures errors.old ≤ E.failures errors.new }
+{
+    let _ = write_all(errors, text);
 }
 
 /// Prints the second line of a message, which begins with the name of the trace where it has one.
-fn print_more<E: Sink>(alloc: Global, errors: &mut E, name: Option<&str>, more: &str) {
+fn print_more<E: Sink>(alloc: Global, errors: &mut E, name: Option<&str>, more: &str)
+    ensures more { Grows (E.taken errors.old) (E.taken errors.new) }
+    ensures rising { E.failures errors.old ≤ E.failures errors.new }
+{
     let line = match name {
         Some(name) => format!(in alloc; "  {name}: {more}\n"),
         None => format!(in alloc; "  {more}\n"),
     };
-    if let Ok(line) = line {
-        let _ = write_all(errors, line.as_bytes());
+    match line {
+        Ok(line) => print_text(errors, line.as_bytes()),
+        Err(_) => {}
     }
 }
 
@@ -40,29 +47,40 @@ fn print_reason<E: Sink>(
     errors: &mut E,
     name: Option<&str>,
     reason: Option<io::Error>,
-) {
-    if let Some(reason) = reason {
-        if let Ok(reason) = format!(in alloc; "{reason}") {
-            print_more(alloc, errors, name, &reason);
-        }
+)
+    ensures more { Grows (E.taken errors.old) (E.taken errors.new) }
+    ensures rising { E.failures errors.old ≤ E.failures errors.new }
+{
+    let Some(reason) = reason else {
+        return;
+    };
+    match format!(in alloc; "{reason}") {
+        Ok(reason) => print_more(alloc, errors, name, &reason),
+        Err(_) => {}
     }
 }
 
 /// Prints what is wrong with a faulty line of the trace.
-fn print_advice<S: Input, E: Sink>(alloc: Global, source: &S, errors: &mut E, kind: Kind) {
+fn print_advice<S: Input, E: Sink>(alloc: Global, source: &S, errors: &mut E, kind: Kind)
+    ensures more { Grows (E.taken errors.old) (E.taken errors.new) }
+    ensures rising { E.failures errors.old ≤ E.failures errors.new }
+{
     let Ok(last) = source.last_text(alloc) else {
         return;
     };
-    if let Ok(sentence) = advice(alloc, kind, last.text.as_slice(), last.is_whole) {
-        print_more(alloc, errors, source.name(), &sentence);
+    match advice(alloc, kind, last.text.as_slice(), last.is_whole) {
+        Ok(sentence) => print_more(alloc, errors, source.name(), &sentence),
+        Err(_) => {}
     }
 }
 
 /// Prints a fault, and returns the exit status.
-pub fn refuse<E: Sink>(alloc: Global, errors: &mut E, fault: Fault) -> u8
-    ensures { result ≡ fault_status fault }
+pub fn refuse<E: Sink>(errors: &mut E, fault: Fault) -> u8
+    ensures status { result ≡ fault_status fault }
+    ensures said { IsSaid (fault_line fault) (E.taken errors.old) (E.taken errors.new)
+        (E.failures errors.new ≡ E.failures errors.old) }
 {
-    print_fault(alloc, errors, fault);
+    let _ = print_fault(errors, fault);
     fault_status(fault)
 }
 
@@ -75,27 +93,49 @@ fn lost_its_reader<K: Output>(sink: &K) -> bool {
 }
 
 /// Prints that the sink failed, and what the system says of it. Prints nothing where its reader went away, since that one
-/// wants no more.
+/// needs no more.
 fn print_write<K: Output, E: Sink>(alloc: Global, sink: &K, errors: &mut E) {
     if lost_its_reader(sink) {
         return;
     }
-    print_fault(alloc, errors, Fault::Write);
-    print_reason(alloc, errors, None, sink.failure());
+    match print_fault(errors, Fault::Write) {
+        Ok(()) => print_reason(alloc, errors, None, sink.failure()),
+        Err(_) => {}
+    }
 }
 
 /// Prints why a text was not written whole, and returns the exit status.
-pub fn refuse_write<K: Output, E: Sink>(alloc: Global, sink: &K, errors: &mut E, fault: Fault) -> u8
-    ensures { result ≡ fault_status fault }
+pub fn refuse_write<K: Output, E: Sink>(alloc: Global, sink: &K, errors: &mut E) -> u8
+    ensures { result ≡ 3 }
 {
-    match fault {
-        Fault::Write => print_write(alloc, sink, errors),
-        _ => print_fault(alloc, errors, fault),
-    }
-    fault_status(fault)
+    print_write(alloc, sink, errors);
+    OTHER_FAULT
 }
 
-/// Prints why a scan gave up, and returns the exit status.
+/// Prints the second line of a fault of reading, where there is one.
+fn print_second<S: Input, E: Sink>(alloc: Global, source: &S, errors: &mut E, fault: Fault)
+    ensures more { Grows (E.taken errors.old) (E.taken errors.new) }
+    ensures rising { E.failures errors.old ≤ E.failures errors.new }
+{
+    match fault {
+        Fault::Trace(_, kind) => print_advice(alloc, source, errors, kind),
+        Fault::Read => print_reason(alloc, errors, source.name(), source.failure()),
+        _ => {}
+    }
+}
+
+/// Prints a fault, and its second line.
+fn print_lines<S: Input, E: Sink>(alloc: Global, source: &S, errors: &mut E, fault: Fault)
+    ensures { IsSaid (fault_line fault) (E.taken errors.old) (E.taken errors.new)
+        (E.failures errors.new ≡ E.failures errors.old) }
+{
+    match print_fault(errors, fault) {
+        Ok(()) => print_second(alloc, source, errors, fault),
+        Err(_) => {}
+    }
+}
+
+/// Prints why a scan gave up, and returns the exit status. Where its sink did not fail, the line of the fault comes first.
 pub fn refuse_scan<S: Input, K: Output, E: Sink>(
     alloc: Global,
     source: &S,
@@ -103,15 +143,18 @@ pub fn refuse_scan<S: Input, K: Output, E: Sink>(
     errors: &mut E,
     fault: Fault,
 ) -> u8
-    ensures { result ≡ fault_status fault }
+    ensures status { result ≡ fault_status fault }
+    ensures said { fault ≢ Fault.Write
+        → IsSaid (fault_line fault) (E.taken errors.old) (E.taken errors.new)
+        (E.failures errors.new ≡ E.failures errors.old) }
 {
-    let status = refuse_write(alloc, sink, errors, fault);
     match fault {
-        Fault::Trace(_, kind) => print_advice(alloc, source, errors, kind),
-        Fault::Read => print_reason(alloc, errors, source.name(), source.failure()),
-        _ => {}
+        Fault::Write => refuse_write(alloc, sink, errors),
+        _ => {
+            print_lines(alloc, source, errors, fault);
+            fault_status(fault)
+        }
     }
-    status
 }
 
 /// Prints why a trace could not be opened, and returns the exit status.

@@ -2,9 +2,10 @@
 use Rattle.std.proofs.Common.{◌≡◌, ℕ, zero, suc, Bool, true, false, refl, arith, sym, ◌∙◌, ap, subst, List, [], ◌∷◌, ◌++◌, length, take, append-nil, append_assoc}
 use Rattle.std.specs.Prelude.{◌-◌, ◌&&◌, Option, Some, None}
 use Rattle.std.specs.List.{list_all}
+use Rattle.line_model.specs.declared.state.Side.{Side}
 use Rattle.line_model.specs.channels.Channels.{AcceptedData}
 use Rattle.line_model.specs.channels.Sequences.{sequence_octets, eq_bool, is_alike}
-use Rattle.data_transfer.specs.Assembly.{Holds, HoldsQualified, AllHaveQ, kept_octets, is_like, with_more}
+use Rattle.data_transfer.specs.Assembly.{Holds, AllHaveQ, kept_octets, is_like, unqualified, with_more}
 use Rattle.data_transfer.specs.Sequences.{SequenceView}
 
 -- the front of two lists
@@ -68,35 +69,19 @@ holds_more old new gs h holds like q_is octets_is = record {
 pub octets_more : (old : SequenceView) (gs : List AcceptedData) (h : AcceptedData) → Holds old gs → with_more old.octets h.octets ≡ kept_octets (gs ++ h ∷ [])
 octets_more old gs h holds = kept_more gs h old.octets holds.octets
 
--- what holds of packets holds too where octets may be left out
-pub without_octets : (b : SequenceView) (gs : List AcceptedData) → Holds b gs → HoldsQualified b gs
-without_octets b gs holds = record { octets = λ e. holds.octets; qualified = holds.qualified }
-
--- a packet with Q 1 more, where octets of packets with Q 0 were left out
-pub octets_qualified : (old : SequenceView) (gs : List AcceptedData) (h : AcceptedData) → HoldsQualified old gs → is_like old.qualified h.qualified ≡ true →
-    h.qualified ≡ true → with_more old.octets h.octets ≡ kept_octets (gs ++ h ∷ [])
-octets_qualified old gs h holds like q = kept_more gs h old.octets (holds.octets (ap (λ b. is_like old.qualified b) (sym q) ∙ like))
-
-pub qualified_holds_more : (old new : SequenceView) (gs : List AcceptedData) (h : AcceptedData) → HoldsQualified old gs → is_like old.qualified h.qualified ≡ true →
-    new.qualified ≡ Some h.qualified → new.octets ≡ with_more old.octets h.octets → HoldsQualified new (gs ++ h ∷ [])
-qualified_holds_more old new gs h holds like q_is octets_is = record {
-  octets = λ e. octets_is ∙ octets_qualified old gs h holds like (is_true h.qualified (ap (λ o. is_like o true) (sym q_is) ∙ e));
-  qualified = subst (λ o. AllHaveQ o (gs ++ h ∷ [])) (sym q_is) (qualified_more old.qualified gs h holds.qualified like);
-}
+-- a packet with Q 0 more, which is known by its length
+pub unqualified_holds_more : (old new : SequenceView) (gs : List AcceptedData) (x : Side) (m d : Bool) (n : ℕ) → Holds old gs → is_like old.qualified false ≡ true →
+    new.qualified ≡ Some false → new.octets ≡ old.octets → Holds new (gs ++ unqualified x m d n ∷ [])
+unqualified_holds_more old new gs x m d n holds like q_is octets_is =
+    holds_more old new gs (unqualified x m d n) holds like q_is (octets_is ∙ sym (no_more old.octets))
   where
-    is_true : (q : Bool) → eq_bool q true ≡ true → q ≡ true
-    is_true true e = refl
-    is_true false e = cc
+    taken : (n : ℕ) (ys : List ℕ) → ys ≡ [] → take n ys ≡ []
+    taken zero ys e = at ys e
+      where
+        at : (ys : List ℕ) → ys ≡ [] → take 0 ys ≡ []
+        at [] e = refl
+        at (y ∷ ys) e = cc
+    taken (suc n) ys e = ap (λ l. take (suc n) l) e
 
--- a packet with Q 0 more, whose octets are left out
-pub unqualified_holds_more : (old new : SequenceView) (gs : List AcceptedData) (h : AcceptedData) → HoldsQualified old gs → h.qualified ≡ false →
-    is_like old.qualified false ≡ true → new.qualified ≡ Some false → HoldsQualified new (gs ++ h ∷ [])
-unqualified_holds_more old new gs h holds q like q_is =
-    let like_h : is_like old.qualified h.qualified ≡ true = ap (λ b. is_like old.qualified b) q ∙ like in
-    record {
-      octets = λ e. no_message new.octets (kept_octets (gs ++ h ∷ [])) (sym (ap (λ o. is_like o true) q_is) ∙ e);
-      qualified = subst (λ o. AllHaveQ o (gs ++ h ∷ [])) (ap (λ b. Some b) q ∙ sym q_is) (qualified_more old.qualified gs h holds.qualified like_h);
-    }
-  where
-    no_message : (xs ys : List ℕ) → false ≡ true → xs ≡ ys
-    no_message xs ys e = cc
+    no_more : (xs : List ℕ) → with_more xs [] ≡ xs
+    no_more xs = ap (λ l. xs ++ l) (taken (1025 - length xs) [] refl) ∙ append-nil xs

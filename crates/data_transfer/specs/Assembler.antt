@@ -4,7 +4,7 @@ use Rattle.line_model.specs.declared.state.Side.{Side}
 use Rattle.line_model.specs.declared.state.Side.TheVariants.{T, N}
 use Rattle.line_model.specs.channels.Channels.{AcceptedData, Sides, of_side}
 use Rattle.line_model.specs.channels.Sequences.{begun, is_category_a, is_alike}
-use Rattle.data_transfer.specs.Assembly.{Holds, HoldsQualified, kept_octets}
+use Rattle.data_transfer.specs.Assembly.{Holds, kept_octets}
 use Rattle.data_transfer.specs.Sequences.{Assembly, SequenceView}
 use Rattle.data_transfer.specs.UserOctets.{octets_in}
 use Rattle.data_transfer.specs.declared.sequence.Put.{Put}
@@ -18,11 +18,6 @@ sizes a = record { of_t = a.of_t.size; of_n = a.of_n.size }
 pub record StandsFor (a : Assembly) (hs : List AcceptedData) : Type 0 where
   pub of_t : Holds a.of_t (begun a.of_t.size T hs)
   pub of_n : Holds a.of_n (begun a.of_n.size N hs)
-
--- the same where octets of packets with Q 0 were left out
-pub record Follows (a : Assembly) (hs : List AcceptedData) : Type 0 where
-  pub of_t : HoldsQualified a.of_t (begun a.of_t.size T hs)
-  pub of_n : HoldsQualified a.of_n (begun a.of_n.size N hs)
 
 -- the packets that a side has begun
 abbrev pub begun_by : Assembly → Side → List AcceptedData → List AcceptedData
@@ -42,16 +37,6 @@ IsPut (Complete s) old new x h hs =
     × (s.side ≡ x) × (s.qualified ≡ h.qualified) × (octets_in s.octets ≡ kept_octets (begun_by old x hs ++ h ∷ []))
 IsPut Mixed old new x h hs = (is_alike h (begun_by old x hs) ≡ false) × (new ≡ old)
 
--- what a packet does to an assembler where octets of packets with Q 0 were left out
-abbrev pub IsPutFollowed : {A : Type 0} → Put A → (old new : Assembly) → Side → AcceptedData → List AcceptedData → Type 0
-IsPutFollowed Going old new x h hs =
-    (is_alike h (begun_by old x hs) ≡ true) × (is_category_a (of_side x (sizes old)) h ≡ true) × Follows new (hs ++ h ∷ [])
-IsPutFollowed (Complete s) old new x h hs =
-    (is_alike h (begun_by old x hs) ≡ true) × (is_category_a (of_side x (sizes old)) h ≡ false) × Follows new (hs ++ h ∷ [])
-    × (s.side ≡ x) × (s.qualified ≡ h.qualified)
-    × (h.qualified ≡ true → octets_in s.octets ≡ kept_octets (begun_by old x hs ++ h ∷ []))
-IsPutFollowed Mixed old new x h hs = (is_alike h (begun_by old x hs) ≡ false) × (new ≡ old)
-
 -- what a packet with Q 0 does to an assembler, where its side has begun no sequence with Q 1
 abbrev pub IsPutUnqualified : (old new : Assembly) → Side → AcceptedData → List AcceptedData → Type 0
-IsPutUnqualified old new x h hs = (is_alike h (begun_by old x hs) ≡ true) × Follows new (hs ++ h ∷ [])
+IsPutUnqualified old new x h hs = (is_alike h (begun_by old x hs) ≡ true) × StandsFor new (hs ++ h ∷ [])

@@ -1,9 +1,9 @@
 -- What is kept of the packets that a side has begun, and what a packet does to it (X.25 clause 4.3.5).
-use Rattle.std.specs.Prelude.{ℕ, Bool, true, false, ◌≡◌, List, [], ◌∷◌, ◌++◌, ◌-◌, length, take, Option, Some, None}
+use Rattle.std.specs.Prelude.{ℕ, Bool, true, false, ◌≡◌, List, [], ◌++◌, ◌-◌, length, take, Option, Some, None}
 use Rattle.std.specs.List.{list_all}
 use Rattle.line_model.specs.declared.state.Side.{Side}
 use Rattle.line_model.specs.channels.Channels.{AcceptedData}
-use Rattle.line_model.specs.channels.Sequences.{is_category_a, eq_bool, is_alike, sequence_octets}
+use Rattle.line_model.specs.channels.Sequences.{is_category_a, eq_bool, sequence_octets}
 use Rattle.data_transfer.specs.declared.sequence.DataField.{DataField}
 use Rattle.data_transfer.specs.Sequences.{SequenceView}
 use Rattle.data_transfer.specs.UserOctets.{octets_in}
@@ -12,7 +12,18 @@ use Rattle.data_transfer.specs.declared.sequence.Put.TheVariants.{Going, Complet
 
 -- the data packet of a side
 abbrev pub heard : Side → DataField → AcceptedData
-heard x f = record { side = x; qualified = f.qualified; more = f.more; delivery = f.delivery; octets = f.octets.now }
+heard x f = record {
+  side = x;
+  qualified = f.qualified;
+  more = f.more;
+  delivery = f.delivery;
+  length = length f.octets.now;
+  octets = f.octets.now;
+}
+
+-- a data packet of a side with Q 0, which is known by its length
+abbrev pub unqualified : Side → (more delivery : Bool) → (length : ℕ) → AcceptedData
+unqualified x m d n = record { side = x; qualified = false; more = m; delivery = d; length = n; octets = [] }
 
 -- the octets of packets that are kept: the first 1,025 (profile)
 abbrev pub kept_octets : List AcceptedData → List ℕ
@@ -37,11 +48,6 @@ pub record Holds (b : SequenceView) (gs : List AcceptedData) : Type 0 where
   pub octets : b.octets ≡ kept_octets gs
   pub qualified : AllHaveQ b.qualified gs
 
--- the same where octets of packets with Q 0 were left out: the Q bit, and the octets where a packet with Q 1 may come
-pub record HoldsQualified (b : SequenceView) (gs : List AcceptedData) : Type 0 where
-  pub octets : is_like b.qualified true ≡ true → b.octets ≡ kept_octets gs
-  pub qualified : AllHaveQ b.qualified gs
-
 -- what a packet does to what is kept of its side
 abbrev pub IsPutOn : {A : Type 0} → Put A → (old new : SequenceView) → Side → AcceptedData → Type 0
 IsPutOn Going old new x h =
@@ -52,7 +58,7 @@ IsPutOn (Complete s) old new x h =
     × (s.side ≡ x) × (s.qualified ≡ h.qualified) × (octets_in s.octets ≡ with_more old.octets h.octets)
 IsPutOn Mixed old new x h = (is_like old.qualified h.qualified ≡ false) × (new ≡ old)
 
--- what a packet with Q 0 does, whose octets are left out: its sequence goes on, or ends
+-- what a packet with Q 0 does, which is known by its length: its sequence goes on, or ends
 abbrev pub IsUnqualifiedOn : (goes_on : Bool) → (old new : SequenceView) → AcceptedData → Type 0
 IsUnqualifiedOn true old new h = (is_category_a old.size h ≡ true) × (new.qualified ≡ Some false) × (new.octets ≡ old.octets)
 IsUnqualifiedOn false old new h = (is_category_a old.size h ≡ false) × Holds new []

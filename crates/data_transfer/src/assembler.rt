@@ -3,8 +3,8 @@
 ghost use Rattle.std.specs.Prelude.{◌≡◌, true, false, List, [], IfOk, IfErr, OnErr};
 ghost use Rattle.line_model.specs.channels.Channels.{AcceptedData};
 ghost use Rattle.line_model.specs.declared.fault.Fault.TheVariants.{Memory};
-ghost use Rattle.data_transfer.specs.Assembly.{heard, is_like, OnMixed};
-ghost use Rattle.data_transfer.specs.Assembler.{StandsFor, Follows, IsPut, IsPutFollowed, IsPutUnqualified, begun_on, sizes};
+ghost use Rattle.data_transfer.specs.Assembly.{heard, unqualified, is_like, OnMixed};
+ghost use Rattle.data_transfer.specs.Assembler.{StandsFor, IsPut, IsPutUnqualified, begun_on, sizes};
 
 use crate::begun::Begun;
 use crate::sequence::{DataField, Put};
@@ -46,12 +46,10 @@ impl<A: Allocator + Clone> Assembler<A> {
     /// Takes a data packet of a side, whose numbers are valid. A packet with another Q bit than those begun, and a
     /// refusal for memory, change nothing. A complete sequence has the octets of the packets that came by this call,
     /// the first 1,025.
-    #[tactic(auto, using(crate::proofs::Sides::put_t, crate::proofs::Sides::put_n, crate::proofs::Sides::put_followed_t, crate::proofs::Sides::put_followed_n))]
+    #[tactic(auto, using(crate::proofs::Sides::put_t, crate::proofs::Sides::put_n))]
     pub fn put<'a>(&mut self, side: Side, field: &DataField<'a>) -> Result<Put<'a, A>, Fault>
         ensures put { (hs : List AcceptedData) → StandsFor self.old hs
             → IfOk result (λ p. IsPut p self.old self.new side (heard side field.now) hs) }
-        ensures follows { (hs : List AcceptedData) → Follows self.old hs
-            → IfOk result (λ p. IsPutFollowed p self.old self.new side (heard side field.now) hs) }
         ensures sizes { sizes self.new ≡ sizes self.old }
         ensures mixed { IfOk result (λ p. OnMixed p (self.new ≡ self.old)) }
         ensures unchanged { OnErr result (self.new ≡ self.old) }
@@ -64,6 +62,7 @@ impl<A: Allocator + Clone> Assembler<A> {
     }
 
     /// Whether a side has begun no sequence with Q 1, so that a packet with Q 0 may come.
+    #[inline(always)]
     pub fn is_unqualified(&self, side: Side) -> bool
         ensures { result ≡ is_like (begun_on self.now side).qualified false }
     {
@@ -73,19 +72,19 @@ impl<A: Allocator + Clone> Assembler<A> {
         }
     }
 
-    /// Takes a data packet of a side with Q 0, whose numbers are valid, where the side has begun no sequence with Q 1.
-    /// It leaves its octets out, and takes no memory.
+    /// Accepts a data packet of a side with Q 0 by its M bit, its D bit and how many octets of user data it has, where
+    /// its numbers are valid and the side has begun no sequence with Q 1. It takes no memory.
     #[tactic(auto, using(crate::proofs::Sides::unqualified_t, crate::proofs::Sides::unqualified_n))]
-    pub fn put_unqualified(&mut self, side: Side, field: &DataField<'_>)
-        requires unqualified { field.now.qualified ≡ false }
-        requires alike { is_like (begun_on self.old side).qualified false ≡ true }
-        ensures put { (hs : List AcceptedData) → Follows self.old hs
-            → IsPutUnqualified self.old self.new side (heard side field.now) hs }
+    #[inline(always)]
+    pub fn put_unqualified(&mut self, side: Side, more: bool, delivery: bool, length: usize)
+        requires { is_like (begun_on self.old side).qualified false ≡ true }
+        ensures put { (hs : List AcceptedData) → StandsFor self.old hs
+            → IsPutUnqualified self.old self.new side (unqualified side more delivery length) hs }
         ensures sizes { sizes self.new ≡ sizes self.old }
     {
         match side {
-            Side::T => self.of_t.put_unqualified(field),
-            Side::N => self.of_n.put_unqualified(field),
+            Side::T => self.of_t.put_unqualified(more, delivery, length),
+            Side::N => self.of_n.put_unqualified(more, delivery, length),
         };
     }
 

@@ -4,7 +4,7 @@ ghost use Rattle.std.specs.Prelude.{◌≡◌, ◌≤◌, [], IfOk, IfErr, OnOk,
 ghost use Rattle.line_model.specs.declared.fault.Fault.TheVariants.{Memory};
 ghost use Rattle.line_model.specs.declared.state.Side.{Side as AnySide};
 
-use crate::sequence::{DataField, KEPT, Put, Sequence, UserData};
+use crate::sequence::{DataField, KEPT, Put, Sequence, UserData, is_category_a};
 use line_model::fault::Fault;
 use line_model::state::Side;
 use std::alloc::Allocator;
@@ -59,7 +59,7 @@ impl<A: Allocator> KeptOctets<A> {
 }
 
 impl<A: Allocator + Clone> Begun<A> {
-    ghost use Rattle.data_transfer.specs.Assembly.{Holds, IsPutOn, IsUnqualifiedOn, OnMixed, heard, is_like, with_more};
+    ghost use Rattle.data_transfer.specs.Assembly.{Holds, IsPutOn, IsUnqualifiedOn, OnMixed, heard, is_like, unqualified, with_more};
     ghost use Rattle.data_transfer.specs.UserOctets.{octets_in};
 
     /// Nothing is begun.
@@ -95,7 +95,7 @@ impl<A: Allocator + Clone> Begun<A> {
         if !self.is_alike(field.qualified) {
             return Ok(Put::Mixed);
         }
-        if field.is_category_a(self.size) {
+        if is_category_a(self.size, field.more, field.delivery, field.octets.len()) {
             self.join(alloc, field)?;
             return Ok(Put::Going);
         }
@@ -107,15 +107,15 @@ impl<A: Allocator + Clone> Begun<A> {
         }))
     }
 
-    /// Takes the next packet of the side, which has Q 0, without its octets, and answers whether more of its sequence
-    /// follows.
-    pub(crate) fn put_unqualified(&mut self, field: &DataField<'_>) -> bool
+    /// Accepts the next packet of the side, which has Q 0, by its length. Returns whether more of its sequence follows.
+    #[inline(always)]
+    pub(crate) fn put_unqualified(&mut self, more: bool, delivery: bool, length: usize) -> bool
         requires alike { is_like self.old.qualified false ≡ true }
         ensures put { (side : AnySide)
-            → IsUnqualifiedOn result self.old self.new (heard side field.now) }
+            → IsUnqualifiedOn result self.old self.new (unqualified side more delivery length) }
         ensures size { self.new.size ≡ self.old.size }
     {
-        if field.is_category_a(self.size) {
+        if is_category_a(self.size, more, delivery, length) {
             self.join_unqualified();
             return true;
         }
@@ -124,6 +124,7 @@ impl<A: Allocator + Clone> Begun<A> {
     }
 
     /// Whether a Q bit is that of the packets begun.
+    #[inline(always)]
     pub(crate) fn is_alike(&self, qualified: bool) -> bool
         ensures { result ≡ is_like self.now.qualified qualified }
     {
@@ -133,7 +134,7 @@ impl<A: Allocator + Clone> Begun<A> {
         }
     }
 
-    /// Counts a packet with Q 0 among those begun, without its octets.
+    /// Counts a packet with Q 0 among those begun, which have no octets.
     fn join_unqualified(&mut self)
         requires { is_like self.old.qualified false ≡ true }
         ensures size { self.new.size ≡ self.old.size }

@@ -1,6 +1,6 @@
 //! Data packets, and the sequences that they complete.
 
-ghost use Rattle.std.specs.Prelude.{◌≡◌};
+ghost use Rattle.std.specs.Prelude.{◌≡◌, ◌==◌, ◌&&◌, not};
 
 use line_model::state::Side;
 use std::alloc::{Allocator, Global};
@@ -21,17 +21,12 @@ pub struct DataField<'a> {
     pub octets: &'a [u8],
 }
 
-impl DataField<'_> {
-    ghost use Rattle.line_model.specs.channels.Sequences.{is_category_a};
-    ghost use Rattle.line_model.specs.declared.state.Side.{Side};
-    ghost use Rattle.data_transfer.specs.Assembly.{heard};
-
-    /// Whether more of the sequence follows: M 1, D 0 and the full size in force, category A (X.25 clause 4.3.4).
-    pub(crate) fn is_category_a(&self, size: u16) -> bool
-        ensures { (x : Side) → result ≡ is_category_a size (heard x self.now) }
-    {
-        self.more && !self.delivery && self.octets.len() == usize::from(size)
-    }
+/// Whether more of the sequence follows: M 1, D 0 and the full size in force, category A (X.25 clause 4.3.4).
+#[inline(always)]
+pub(crate) fn is_category_a(size: u16, more: bool, delivery: bool, length: usize) -> bool
+    ensures { result ≡ (more && not delivery && (length == size)) }
+{
+    more && !delivery && length == usize::from(size)
 }
 
 /// The octets of a sequence, its first 1,025.

@@ -10,7 +10,8 @@ use Rattle.line_model.specs.basics.Records.{Row}
 use Rattle.line_model.specs.observer.Calls.{calls_of}
 use Rattle.line_model.specs.observer.Machine.{routed}
 use Rattle.line_model.specs.observer.Observer.{events, x25}
-use Rattle.line_model.specs.packets.Classes.{packet_of}
+use Rattle.line_model.specs.packets.Says.{item_of, items_of}
+use Rattle.line_model.proofs.Saying.{items_more}
 use Rattle.line_model.specs.text.RowLine.{row_of}
 use Rattle.line_model.specs.text.Text.{Line, content_of, has_header, head_in, head_of, is_comment, is_some_line, rows_in}
 use Rattle.line_model.proofs.LineLemmas.{content-line, head-comment, head-later, no_content, rows_in-comment, rows_in-first}
@@ -93,12 +94,16 @@ pub one_written : (rows : List Row) (o : Option Row) → length (rows ++ option_
 one_written rows None h = absurd (h (ap (λ l. length l) (append-nil rows)))
 one_written rows (Some r) h = (r, refl)
 
+-- what the rows of a text say, with the row of the line after others
+pub items_written : (i : Interface) (rows before : List Row) (r : Row) → rows ≡ before ++ r ∷ [] → items_of i rows ≡ items_of i before ++ item_of i r ∷ []
+items_written i rows before r same = ap (items_of i) same ∙ items_more i before (r ∷ [])
+
 -- ---- what is answered
 
 pub told_none : (rows : Rows) (i : Option Interface) (before : List Row) (o : Option Row) → o ≡ None → None ≡ told_where rows i before o
 told_none rows i before o e = ap (told_where rows i before) (sym e)
 
-pub told_some : (rows : Rows) (head : Option Interface) (i : Interface) (before : List Row) (o : Option Row) (r : Row) (told : Bool) → head ≡ Some i → o ≡ Some r → told ≡ is_chosen rows i before r → Some told ≡ told_where rows head before o
+pub told_some : (rows : Rows) (head : Option Interface) (i : Interface) (before : List Row) (o : Option Row) (r : Row) (told : Bool) → head ≡ Some i → o ≡ Some r → told ≡ is_chosen rows i (items_of i before) (item_of i r) → Some told ≡ told_where rows head before o
 told_some rows head i before o r told h e is = ap (λ b. Some b) is ∙ sym (λ t. told_where rows (h t) before (e t))
 
 -- what is said where nothing is told of
@@ -152,5 +157,5 @@ chosen_same before l c h none =
     record {
       packets = h.packets ∙ ap (λ rs. length rs) (sym same);
       number = h.number;
-      call = λ i head. subst (λ rs. Follows i rs c.call) (sym same) (h.call i (head_kept before l i head));
+      call = λ i head. subst (λ rs. Follows i (items_of i rs) c.call) (sym same) (h.call i (head_kept before l i head));
     }

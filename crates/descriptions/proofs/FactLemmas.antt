@@ -2,7 +2,7 @@
 use Rattle.std.proofs.Common.{◌≡◌, ◌∙◌, sym, ap, subst, refl, ℕ, ◌+◌, ◌<◌, List, [], ◌∷◌, ◌++◌, take, drop, length, get_or, Option, Some, None, Bool, cond, true, false, true≢false}
 use Rattle.std.proofs.lemmas.List.{take_more, take-append-drop}
 use Rattle.std.proofs.lemmas.List.Elements.{filter_map-append}
-use Rattle.line_model.specs.basics.Records.{Row}
+use Rattle.line_model.specs.basics.Records.{Item}
 use Rattle.line_model.specs.channels.Channels.{Channel}
 use Rattle.line_model.specs.channels.RestartMachine.{LineState}
 use Rattle.line_model.specs.declared.event.Event.{Event}
@@ -13,7 +13,6 @@ use Rattle.line_model.specs.declared.interface.Interface.{Interface}
 use Rattle.line_model.specs.observer.Calls.{all_lengths, segments_of}
 use Rattle.line_model.specs.observer.Machine.{Observer, routed}
 use Rattle.line_model.specs.observer.Observer.{x25}
-use Rattle.line_model.specs.packets.Classes.{packet_of}
 use Rattle.channel_run.specs.Run.{row_events}
 use Rattle.restart_epochs.specs.Cutting.{observer}
 use Rattle.live_report.specs.LastRows.{IsLastRow}
@@ -59,7 +58,7 @@ pub none_next : (es : List Event) (i : ℕ) (e : Event) → i < length es → e 
 none_next es i e lt is other none = lengths_next es i e lt is ∙ (λ t. none t ++ other_lengths e e.what refl other t)
 
 -- the events of the logical channel that takes a row
-pub events_are : (i : Interface) (o : Observer LineState Channel) (r : Row) (channel taker : Option ℕ) (told events : List Event) → channel ≡ taker → ((k : ℕ) → channel ≡ Some k → events ≡ told) → (channel ≡ None → events ≡ [])
+pub events_are : (i : Interface) (o : Observer LineState Channel) (r : Item) (channel taker : Option ℕ) (told events : List Event) → channel ≡ taker → ((k : ℕ) → channel ≡ Some k → events ≡ told) → (channel ≡ None → events ≡ [])
     → ((k : ℕ) → channel ≡ Some k → told ≡ row_events i o.epoch k (o.states k) r) → events ≡ events_at i taker o r
 events_are i o r channel None told events is taken untaken came = untaken is
 events_are i o r channel (Some k) told events is taken untaken came = taken k is ∙ came k is
@@ -69,7 +68,7 @@ events_are i o r channel (Some k) told events is taken untaken came = taken k is
 counted_on : (c : Channel) (es : List Event) → counts_data es ≡ true → None ≡ reason_on c es
 counted_on c es h = ap (λ b. cond b None (cond (has_finding es) (Some Finding) (Some (reason_of_state c.state c.owed)))) (sym h)
 
-counted_by : (i : Interface) (o : Observer LineState Channel) (r : Row) (events : List Event) (taker : Option ℕ) → (taker ≡ None → events ≡ [])
+counted_by : (i : Interface) (o : Observer LineState Channel) (r : Item) (events : List Event) (taker : Option ℕ) → (taker ≡ None → events ≡ [])
     → ((k : ℕ) → taker ≡ Some k → events ≡ row_events i o.epoch k (o.states k) r) → counts_data events ≡ true → None ≡ reason_by i taker o r
 counted_by i o r events None untaken came counts = absurd (true≢false (sym counts ∙ ap counts_data (untaken refl)))
 counted_by i o r events (Some k) untaken came counts = counted_on (o.states k) events counts ∙ ap (reason_on (o.states k)) (came k refl)
@@ -78,9 +77,9 @@ none_if : (b : Bool) (why : Option Reason) → None ≡ why → None ≡ cond b 
 none_if true why h = h
 none_if false why h = refl
 
-pub counted_reason : (i : Interface) (earlier : List Row) (r : Row) (last : LastRow) (events : List Event) → IsLastRow i earlier r last events → (last.channel ≡ None → events ≡ [])
+pub counted_reason : (i : Interface) (earlier : List Item) (r : Item) (last : LastRow) (events : List Event) → IsLastRow i earlier r last events → (last.channel ≡ None → events ≡ [])
     → counts_data events ≡ true → None ≡ reason_at i (observer i earlier) r
 counted_reason i earlier r last events l untaken counts =
     let o = observer i earlier in
     let taker = routed (x25 i) o.line r in
-    none_if (is_data (packet_of i r.octets)) (reason_by i taker o r) (counted_by i o r events taker (λ e. untaken (l.channel ∙ e)) (λ k e. l.came k (l.channel ∙ e)) counts)
+    none_if (is_data (r.packet)) (reason_by i taker o r) (counted_by i o r events taker (λ e. untaken (l.channel ∙ e)) (λ k e. l.came k (l.channel ∙ e)) counts)

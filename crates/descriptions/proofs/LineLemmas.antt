@@ -7,7 +7,7 @@ use Rattle.std.specs.Str.Parse.{AllDigits}
 use Rattle.std.proofs.lemmas.Fmt.{digits_decimal}
 use Rattle.std.proofs.lemmas.List.Folds.{list_any-append}
 use Rattle.std.proofs.lemmas.Str.Parse.{numerals_by_value, tells_digits}
-use Rattle.line_model.specs.basics.Records.{Row}
+use Rattle.line_model.specs.basics.Records.{Item}
 use Rattle.line_model.specs.declared.event.Event.{Event}
 use Rattle.line_model.specs.declared.finding.Finding.{Finding}
 use Rattle.line_model.specs.declared.interface.Interface.{Interface}
@@ -22,7 +22,6 @@ use Rattle.line_model.specs.observer.Calls.{all_lengths, segments_of}
 use Rattle.line_model.specs.observer.Machine.{Observer, routed}
 use Rattle.line_model.specs.observer.Observer.{x25}
 use Rattle.line_model.specs.observer.Report.{report_of}
-use Rattle.line_model.specs.packets.Classes.{packet_of}
 use Rattle.line_model.specs.text.Text.{Line, ended_lines, is_lf}
 use Rattle.restart_epochs.specs.Cutting.{observer}
 use Rattle.live_report.specs.LastRows.{IsKnown, IsLastRow}
@@ -183,7 +182,7 @@ said_on last (packet.Channel k kind) q h =
     (ap (λ x. x.number) e, ap (λ x. x.side) e, ap (λ x. Some x.channel) e)
 said_on last p q h = absurd (let bad : None ≡ Some q = h in cc)
 
-pub usual_object : (i : Interface) (earlier : List Row) (r : Row) (last : LastRow) (events : List Event) (q : QuietRow) (bytes : List ℕ) → IsLastRow i earlier r last events → quiet_of last ≡ Some q
+pub usual_object : (i : Interface) (earlier : List Item) (r : Item) (last : LastRow) (events : List Event) (q : QuietRow) (bytes : List ℕ) → IsLastRow i earlier r last events → quiet_of last ≡ Some q
     → IsUsualObject q events bytes → IsRowObject i earlier r bytes
 usual_object i earlier r last events q bytes l quiet line =
     let o : Observer LineState Channel = observer i earlier in
@@ -202,11 +201,11 @@ usual_object i earlier r last events q bytes l quiet line =
     let end : codes "d1" ≡ state_at taker after = sym (settled_word last.after then) ∙ known_after ∙ ap (λ k. state_at k after) l.channel in
     let number : q.number ≡ r.number = sym said.0 ∙ l.number in
     let side : q.side ≡ r.side = sym said.1 ∙ l.side in
-    let channel : Some q.channel ≡ named_channel (packet_of i r.octets) = sym said.2 ∙ ap named_channel l.packet in
+    let channel : Some q.channel ≡ named_channel r.packet = sym said.2 ∙ ap named_channel l.packet in
     let came : events ≡ events_at i taker o r = l.came on.0 on.1 ∙ ap (λ k. events_at i k o r) (sym on.1 ∙ l.channel) in
-    let members : state_members (record { number = q.number; side = q.side; octets = [] }) (Some q.channel) (codes "d1") (codes "d1")
-    ≡ state_members r (named_channel (packet_of i r.octets)) (state_at taker o) (state_at taker after) =
-    (λ t. state_members (record { number = number t; side = side t; octets = [] }) (channel t) (before t) (end t)) in
+    let members : state_members q.number q.side (Some q.channel) (codes "d1") (codes "d1")
+    ≡ state_members r.number r.side (named_channel r.packet) (state_at taker o) (state_at taker after) =
+    (λ t. state_members (number t) (side t) (channel t) (before t) (end t)) in
     let head : usual_head q (all_lengths events) ≡ row_head i earlier r None =
     (λ t. members t ++ (counted_word (all_lengths (came t)) ++ (codes ",\"finding\":" ++ finding_word None))) in
     record {
@@ -217,10 +216,10 @@ usual_object i earlier r last events q bytes l quiet line =
       written = line.written ∙ ap (λ xs. xs ++ (line.rest ++ codes "}\n")) head;
     }
 
-pub told_object : (told : Bool) (i : Interface) (earlier : List Row) (r : Row) (bytes : List ℕ) → told ≡ true → IsRowObject i earlier r bytes → IsObjectWhere told i earlier r bytes
+pub told_object : (told : Bool) (i : Interface) (earlier : List Item) (r : Item) (bytes : List ℕ) → told ≡ true → IsRowObject i earlier r bytes → IsObjectWhere told i earlier r bytes
 told_object told i earlier r bytes is h = subst (λ b. IsObjectWhere b i earlier r bytes) (sym is) h
 
-pub lent_object : {X : Type 0} (f : X → List ℕ) (o : Option X) (told : Bool) (i : Interface) (earlier : List Row) (r : Row) (last : LastRow) (events : List Event) (q : QuietRow) (digits : List ℕ) → told ≡ true
+pub lent_object : {X : Type 0} (f : X → List ℕ) (o : Option X) (told : Bool) (i : Interface) (earlier : List Item) (r : Item) (last : LastRow) (events : List Event) (q : QuietRow) (digits : List ℕ) → told ≡ true
     → IsLastRow i earlier r last events → quiet_of last ≡ Some q → IsOneLine digits → IfSome o (λ x. IsOneLine digits → IsUsualObject q events (f x)) → IfSome o (λ x. IsObjectWhere told i earlier r (f x))
 lent_object f None told i earlier r last events q digits is l quiet one h = tt
 lent_object f (Some x) told i earlier r last events q digits is l quiet one h = told_object told i earlier r (f x) is (usual_object i earlier r last events q (f x) l quiet (h one))

@@ -4,7 +4,7 @@ use Rattle.std.specs.Prelude.{codes, MatchOption}
 use Rattle.std.specs.List.{flat_map}
 use Rattle.std.proofs.lemmas.Grind.{flat_map-append}
 use Rattle.std.proofs.lemmas.List.{map-append, take_more}
-use Rattle.line_model.specs.basics.Records.{Row}
+use Rattle.line_model.specs.basics.Records.{Item, Row}
 use Rattle.line_model.specs.declared.event.Event.{Event}
 use Rattle.line_model.specs.declared.interface.Interface.{Interface}
 use Rattle.line_model.specs.channels.Channels.{Channel}
@@ -13,7 +13,7 @@ use Rattle.line_model.specs.observer.Machine.{Observer, routed}
 use Rattle.line_model.specs.observer.Observer.{x25}
 use Rattle.line_model.specs.observer.Calls.{all_lengths}
 use Rattle.line_model.specs.observer.Report.{state_word}
-use Rattle.line_model.specs.packets.Classes.{packet_of}
+use Rattle.line_model.specs.packets.Says.{item_of, items_of}
 use Rattle.restart_epochs.specs.Cutting.{observer}
 use Rattle.live_report.specs.LastRows.{IsKnown, IsLastRow}
 use Rattle.live_report.specs.declared.last_row.Known.{Known}
@@ -54,8 +54,8 @@ four_parts : (out a b c d : List ℕ) → (((out ++ a) ++ b) ++ c) ++ d ≡ out 
 four_parts out a b c d =
     append_assoc ((out ++ a) ++ b) c d ∙ append_assoc (out ++ a) b (c ++ d) ∙ append_assoc out a (b ++ (c ++ d))
 
-pub head_put : (i : Interface) (earlier : List Row) (r : Row) (facts : RowFacts) (out o1 o2 o3 o4 : List ℕ) → AreFactsOf i earlier r facts
-    → o1 ≡ out ++ state_members r (named_channel facts.last.now.packet) (known_word facts.last.now.before) (known_word facts.last.now.after)
+pub head_put : (i : Interface) (earlier : List Item) (r : Item) (facts : RowFacts) (out o1 o2 o3 o4 : List ℕ) → AreFactsOf i earlier r facts
+    → o1 ≡ out ++ state_members r.number r.side (named_channel facts.last.now.packet) (known_word facts.last.now.before) (known_word facts.last.now.after)
     → o2 ≡ o1 ++ counted_word (all_lengths (events_at i (routed (x25 i) (observer i earlier).line r) (observer i earlier) r))
     → o3 ≡ o2 ++ codes ",\"finding\":" → o4 ≡ o3 ++ finding_word facts.last.now.finding → o4 ≡ out ++ row_head i earlier r facts.last.now.finding
 head_put i earlier r facts out o1 o2 o3 o4 h e1 e2 e3 e4 =
@@ -63,15 +63,15 @@ head_put i earlier r facts out o1 o2 o3 o4 h e1 e2 e3 e4 =
     let counted : List ℕ = counted_word (all_lengths (events_at i taker (observer i earlier) r)) in
     let before : known_word facts.last.now.before ≡ state_at taker (observer i earlier) = known_is i taker (observer i earlier) facts.last.now.before h.before in
     let after : known_word facts.last.now.after ≡ state_at taker (observer i (earlier ++ r ∷ [])) = known_is i taker (observer i (earlier ++ r ∷ [])) facts.last.now.after h.after in
-    let members : state_members r (named_channel facts.last.now.packet) (known_word facts.last.now.before) (known_word facts.last.now.after)
-    ≡ state_members r (named_channel (packet_of i r.octets)) (state_at taker (observer i earlier)) (state_at taker (observer i (earlier ++ r ∷ []))) =
-    (λ t. state_members r (named_channel (h.packet t)) (before t) (after t)) in
+    let members : state_members r.number r.side (named_channel facts.last.now.packet) (known_word facts.last.now.before) (known_word facts.last.now.after)
+    ≡ state_members r.number r.side (named_channel r.packet) (state_at taker (observer i earlier)) (state_at taker (observer i (earlier ++ r ∷ []))) =
+    (λ t. state_members r.number r.side (named_channel (h.packet t)) (before t) (after t)) in
     e4 ∙ ap (λ xs. xs ++ finding_word facts.last.now.finding) (e3 ∙ ap (λ xs. xs ++ codes ",\"finding\":") (e2 ∙ ap (λ xs. xs ++ counted) (e1 ∙ ap (λ xs. out ++ xs) members)))
-    ∙ four_parts out (state_members r (named_channel (packet_of i r.octets)) (state_at taker (observer i earlier)) (state_at taker (observer i (earlier ++ r ∷ [])))) counted (codes ",\"finding\":") (finding_word facts.last.now.finding)
+    ∙ four_parts out (state_members r.number r.side (named_channel r.packet) (state_at taker (observer i earlier)) (state_at taker (observer i (earlier ++ r ∷ [])))) counted (codes ",\"finding\":") (finding_word facts.last.now.finding)
 
 -- ---- an object
 
-pub object_put : (i : Interface) (earlier : List Row) (r : Row) (facts : RowFacts) (members out o1 o2 o3 : List ℕ) → AreFactsOf i earlier r facts
+pub object_put : (i : Interface) (earlier : List Item) (r : Item) (facts : RowFacts) (members out o1 o2 o3 : List ℕ) → AreFactsOf i earlier r facts
     → o1 ≡ out ++ row_head i earlier r facts.last.now.finding → o2 ≡ o1 ++ plain members → o3 ≡ o2 ++ codes "}\n" → HasAppended (IsRowObject i earlier r) out o3
 object_put i earlier r facts members out o1 o2 o3 h e1 e2 e3 = record {
   bytes = row_head i earlier r facts.last.now.finding ++ (plain members ++ codes "}\n");
@@ -91,14 +91,14 @@ nothing_put rows (Some i) earlier None out e = record { bytes = []; appended = s
 nothing_put rows head earlier (Some r) out e = absurd (let bad : None ≡ Some (is_chosen_if rows head earlier (Some r)) = e in cc)
 
 pub row_put : {T E : Type 0} (result : Result T E) (rows : Rows) (head : Option Interface) (earlier : List Row) (o : Option Row) (told : Bool) (out after : List ℕ) → Some told ≡ told_where rows head earlier o
-    → (told ≡ false → after ≡ out) → ((i : Interface) (r : Row) → head ≡ Some i → o ≡ Some r → OnOk result (HasAppended (IsObjectWhere told i earlier r) out after))
+    → (told ≡ false → after ≡ out) → ((i : Interface) (r : Row) → head ≡ Some i → o ≡ Some r → OnOk result (HasAppended (IsObjectWhere told i (items_of i earlier) (item_of i r)) out after))
     → OnOk result (HasAppended (IsObjectOf rows head earlier o) out after)
 row_put result rows head earlier None told out after e untold object = absurd (let bad : Some told ≡ None = e in cc)
 row_put (Err x) rows head earlier (Some r) told out after e untold object = tt
 row_put (Ok x) rows None earlier (Some r) told out after e untold object =
     record { bytes = []; appended = untold (same_told told false e) ∙ sym (append-nil out); formed = refl }
 row_put (Ok x) rows (Some i) earlier (Some r) told out after e untold object =
-    subst (λ b. HasAppended (IsObjectWhere b i earlier r) out after) (same_told told (is_chosen rows i earlier r) e) (object i r refl refl)
+    subst (λ b. HasAppended (IsObjectWhere b i (items_of i earlier) (item_of i r)) out after) (same_told told (is_chosen rows i (items_of i earlier) (item_of i r)) e) (object i r refl refl)
 
 -- ---- a row that was taken
 

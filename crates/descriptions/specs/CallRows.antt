@@ -2,7 +2,7 @@
 use Rattle.std.specs.Prelude.{◌≡◌, ℕ, ◌-◌, ◌≤◌, ◌==◌, ◌&&◌, Bool, true, false, List, Option, None, Some, IfSome, length}
 use Rattle.line_model.specs.declared.event.Event.{Event}
 use Rattle.line_model.specs.declared.interface.Interface.{Interface}
-use Rattle.line_model.specs.basics.Records.{Row}
+use Rattle.line_model.specs.basics.Records.{Item}
 use Rattle.line_model.specs.observer.Calls.{calls_of, is_end, is_opening}
 use Rattle.line_model.specs.observer.Observer.{events, is_ready}
 use Rattle.restart_epochs.specs.Cutting.{observer}
@@ -22,7 +22,7 @@ pub record Hears (e : ℕ) (es : List Event) (w : CallRows) : Type 0 where
   pub known : IfSome w.place (λ p. p.epoch ≤ e)
 
 -- it stands for these rows of a trace: where channels take rows, it is open as the definitions' observer has it
-pub record Follows (i : Interface) (rs : List Row) (w : CallRows) : Type 0 where
+pub record Follows (i : Interface) (rs : List Item) (w : CallRows) : Type 0 where
   pub to_come : w.to_come ≡ w.number - length (calls_of (events i rs))
   pub place : is_ready (observer i rs).line ≡ true → (k : ℕ) → has_open w.number (observer i rs).epoch k (calls_of (events i rs)) ≡ is_at (observer i rs).epoch k w.place
   pub known : IfSome w.place (λ p. p.epoch ≤ (observer i rs).epoch)

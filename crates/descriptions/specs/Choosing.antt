@@ -2,6 +2,7 @@
 use Rattle.std.specs.Prelude.{◌≡◌, ℕ, Bool, List, Option, None, Some, IfSome, length}
 use Rattle.line_model.specs.declared.interface.Interface.{Interface}
 use Rattle.line_model.specs.basics.Records.{Row}
+use Rattle.line_model.specs.packets.Says.{items_of}
 use Rattle.line_model.specs.text.Text.{Line, head_of, rows_in}
 use Rattle.annotated_trace.specs.Rows.{asked_call, is_chosen_if, row_written}
 use Rattle.annotated_trace.specs.declared.rows.Rows.{Rows}
@@ -12,7 +13,7 @@ use Rattle.descriptions.specs.declared.chosen.Chosen.{Chosen}
 pub record HasChosen (ls : List Line) (c : Chosen) : Type 0 where
   pub packets : c.packets ≡ length (rows_in ls)
   pub number : c.call.number ≡ asked_call c.rows
-  pub call : (i : Interface) → IfSome (head_of ls) (λ j. j ≡ i) → Follows i (rows_in ls) c.call
+  pub call : (i : Interface) → IfSome (head_of ls) (λ j. j ≡ i) → Follows i (items_of i (rows_in ls)) c.call
 
 -- whether a row is told of, where there is one
 abbrev pub told_where : Rows → Option Interface → (before : List Row) → Option Row → Option Bool

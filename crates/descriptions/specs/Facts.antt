@@ -1,12 +1,11 @@
 -- The facts of a row, as the definitions' walk has them.
 use Rattle.std.specs.Prelude.{◌≡◌, ℕ, List, [], ◌∷◌, ◌++◌, Option, None, Some, option_to_list}
-use Rattle.line_model.specs.basics.Records.{Row}
+use Rattle.line_model.specs.basics.Records.{Item}
 use Rattle.line_model.specs.declared.interface.Interface.{Interface}
 use Rattle.line_model.specs.observer.Calls.{all_lengths, segments_of}
 use Rattle.line_model.specs.observer.Machine.{routed}
 use Rattle.line_model.specs.observer.Observer.{x25}
 use Rattle.line_model.specs.observer.Report.{report_of}
-use Rattle.line_model.specs.packets.Classes.{packet_of}
 use Rattle.restart_epochs.specs.Cutting.{observer}
 use Rattle.live_report.specs.LastRows.{IsKnown}
 use Rattle.live_report.specs.Uncounted.{reason_at}
@@ -29,10 +28,10 @@ reason_told (NotCounted reason) = Some reason
 reason_told _ = None
 
 -- a row after others, what was known before and after it by the machine that judged it, what it found, what it counted, and why it did not
-pub record AreFactsOf (i : Interface) (earlier : List Row) (r : Row) (facts : RowFacts) : Type 0 where
+pub record AreFactsOf (i : Interface) (earlier : List Item) (r : Item) (facts : RowFacts) : Type 0 where
   pub number : facts.last.now.number ≡ r.number
   pub side : facts.last.now.side ≡ r.side
-  pub packet : facts.last.now.packet ≡ packet_of i r.octets
+  pub packet : facts.last.now.packet ≡ r.packet
   pub before : IsKnown i (routed (x25 i) (observer i earlier).line r) (observer i earlier) facts.last.now.before
   pub after : IsKnown i (routed (x25 i) (observer i earlier).line r) (observer i (earlier ++ r ∷ [])) facts.last.now.after
   pub finding : (report_of i (earlier ++ r ∷ [])).findings ≡ (report_of i earlier).findings ++ option_to_list facts.last.now.finding

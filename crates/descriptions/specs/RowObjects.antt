@@ -1,7 +1,7 @@
 -- The object of a row: its first members say what the definitions' walk does; others come after them.
 use Rattle.std.specs.Prelude.{◌≡◌, ℕ, Bool, true, false, List, [], ◌∷◌, ◌++◌, Option, None, Some, option_to_list, codes, decimal, flat_map}
 use Rattle.json_lines.specs.Json.{json_text}
-use Rattle.line_model.specs.basics.Records.{Report, Row}
+use Rattle.line_model.specs.basics.Records.{Item, Report, Row}
 use Rattle.line_model.specs.channels.Channels.{Channel}
 use Rattle.line_model.specs.channels.ChannelStep.{setup_name, transfer_name}
 use Rattle.line_model.specs.channels.RestartMachine.{LineState, restart_name}
@@ -10,13 +10,14 @@ use Rattle.line_model.specs.declared.finding.Finding.{Finding}
 use Rattle.line_model.specs.declared.interface.Interface.{Interface}
 use Rattle.line_model.specs.declared.packet.Packet.{Packet}
 use Rattle.line_model.specs.declared.packet.Packet.TheVariants as packet
+use Rattle.line_model.specs.declared.state.Side.{Side}
 use Rattle.line_model.specs.declared.state.ChannelState.{ChannelState}
 use Rattle.line_model.specs.declared.state.ChannelState.TheVariants.{Setup, Transfer, Unknown}
 use Rattle.line_model.specs.observer.Calls.{all_lengths, segments_of}
 use Rattle.line_model.specs.observer.Machine.{Observer, routed}
 use Rattle.line_model.specs.observer.Observer.{x25}
 use Rattle.line_model.specs.observer.Report.{code_word, report_of, side_word, state_word, text_of}
-use Rattle.line_model.specs.packets.Classes.{packet_of}
+use Rattle.line_model.specs.packets.Says.{item_of, items_of}
 use Rattle.line_model.specs.text.Text.{Line, head_of, rows_in}
 use Rattle.channel_run.specs.Run.{row_events}
 use Rattle.restart_epochs.specs.Cutting.{observer}
@@ -47,7 +48,7 @@ state_at None o = state_word (restart_name o.line.state)
 state_at (Some k) o = channel_word (o.states k).state
 
 -- the events of a row on the logical channel that takes it
-abbrev pub events_at : Interface → (taker : Option ℕ) → Observer LineState Channel → Row → List Event
+abbrev pub events_at : Interface → (taker : Option ℕ) → Observer LineState Channel → Item → List Event
 events_at i None o r = []
 events_at i (Some k) o r = row_events i o.epoch k (o.states k) r
 
@@ -72,21 +73,21 @@ finding_word None = codes "null"
 finding_word (Some f) = joined (codes "{\"code\":\"" ∷ code_word f.code ∷ codes "\"" ∷ [])
 
 -- the members of a row up to its states
-abbrev pub state_members : Row → (channel : Option ℕ) → (before after : List ℕ) → List ℕ
-state_members r channel before after =
-    joined (codes "{\"line\":\"row\",\"packet\":" ∷ decimal r.number ∷ codes ",\"side\":\"" ∷ side_word r.side ∷ codes "\",\"channel\":" ∷ number_word channel
+abbrev pub state_members : (number : ℕ) → Side → (channel : Option ℕ) → (before after : List ℕ) → List ℕ
+state_members number side channel before after =
+    joined (codes "{\"line\":\"row\",\"packet\":" ∷ decimal number ∷ codes ",\"side\":\"" ∷ side_word side ∷ codes "\",\"channel\":" ∷ number_word channel
     ∷ codes ",\"before\":\"" ∷ before ∷ codes "\",\"after\":\"" ∷ after ∷ codes "\",\"counted\":" ∷ [])
 
 -- the beginning of the object of a row after others: the packet, its side and logical channel, the state before and after it, what it
 -- counted, and the code of what it found
-abbrev pub row_head : Interface → (earlier : List Row) → Row → Option Finding → List ℕ
+abbrev pub row_head : Interface → (earlier : List Item) → Item → Option Finding → List ℕ
 row_head i earlier r found =
     let taker : Option ℕ = routed (x25 i) (observer i earlier).line r in
-    state_members r (named_channel (packet_of i r.octets)) (state_at taker (observer i earlier)) (state_at taker (observer i (earlier ++ r ∷ [])))
+    state_members r.number r.side (named_channel r.packet) (state_at taker (observer i earlier)) (state_at taker (observer i (earlier ++ r ∷ [])))
     ++ (counted_word (all_lengths (events_at i taker (observer i earlier) r)) ++ (codes ",\"finding\":" ++ finding_word found))
 
 -- the object of a row after others on a line of its own: that beginning, with what the row found, and further members
-pub record IsRowObject (i : Interface) (earlier : List Row) (r : Row) (bytes : List ℕ) : Type 0 where
+pub record IsRowObject (i : Interface) (earlier : List Item) (r : Item) (bytes : List ℕ) : Type 0 where
   pub found : Option Finding
   pub came : (report_of i (earlier ++ r ∷ [])).findings ≡ (report_of i earlier).findings ++ option_to_list found
   pub rest : List ℕ
@@ -94,13 +95,13 @@ pub record IsRowObject (i : Interface) (earlier : List Row) (r : Row) (bytes : L
   pub written : bytes ≡ row_head i earlier r found ++ (rest ++ codes "}\n")
 
 -- the object of a row that is printed, and nothing for another
-abbrev pub IsObjectWhere : (told : Bool) → Interface → (earlier : List Row) → Row → List ℕ → Type 0
+abbrev pub IsObjectWhere : (told : Bool) → Interface → (earlier : List Item) → Item → List ℕ → Type 0
 IsObjectWhere true i earlier r bytes = IsRowObject i earlier r bytes
 IsObjectWhere false i earlier r bytes = bytes ≡ []
 
 -- of a row, if there is one
 abbrev pub IsObjectOf : Rows → Option Interface → (earlier : List Row) → Option Row → List ℕ → Type 0
-IsObjectOf rows (Some i) earlier (Some r) bytes = IsObjectWhere (is_chosen rows i earlier r) i earlier r bytes
+IsObjectOf rows (Some i) earlier (Some r) bytes = IsObjectWhere (is_chosen rows i (items_of i earlier) (item_of i r)) i (items_of i earlier) (item_of i r) bytes
 IsObjectOf rows _ earlier _ bytes = bytes ≡ []
 
 -- what a line after others becomes: the object of its row, where it writes one of these rows

@@ -13,7 +13,7 @@ amount_word octets segments = joined (codes "{\"octets\":" ∷ decimal octets �
 -- the beginning of its object, where its data packets have these lengths
 abbrev pub usual_head : QuietRow → (lengths : List ℕ) → List ℕ
 usual_head row lengths =
-    state_members (record { number = row.number; side = row.side; octets = [] }) (Some row.channel) (codes "d1") (codes "d1")
+    state_members row.number row.side (Some row.channel) (codes "d1") (codes "d1")
     ++ (counted_word lengths ++ (codes ",\"finding\":" ++ finding_word None))
 
 -- its object on a line of its own: that beginning, and further members

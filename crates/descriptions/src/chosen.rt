@@ -2,7 +2,7 @@
 
 ghost use Rattle.std.specs.Prelude.{◌≡◌, ℕ, ◌++◌, ◌∷◌, [], List};
 ghost use Rattle.line_model.specs.declared.interface.Interface.{Interface};
-ghost use Rattle.line_model.specs.basics.Records.{Row};
+ghost use Rattle.line_model.specs.basics.Records.{Item};
 ghost use Rattle.line_model.specs.text.Text.{Line, ended_lines};
 ghost use Rattle.live_report.specs.LastRows.{IsLastRow};
 ghost use Rattle.live_report.specs.Lives.{WasFed};
@@ -25,11 +25,11 @@ fn judge_call<A: Allocator + Copy, C: Channel<A>>(
     observer: &Observer<A, C>,
     last: &KeptRow,
 ) -> bool
-    ensures told { (i : Interface) (before : List Row) (r : Row) → Follows i before call.old
+    ensures told { (i : Interface) (before : List Item) (r : Item) → Follows i before call.old
         → HasWalked C.Channel i (before ++ r ∷ []) observer.now
         → IsLastRow i before r last.now observer.now.events.items
         → result ≡ is_of_call i before r call.old.number }
-    ensures follows { (i : Interface) (before : List Row) (r : Row) → Follows i before call.old
+    ensures follows { (i : Interface) (before : List Item) (r : Item) → Follows i before call.old
         → HasWalked C.Channel i (before ++ r ∷ []) observer.now
         → IsLastRow i before r last.now observer.now.events.items
         → Follows i (before ++ r ∷ []) call.new }
@@ -71,12 +71,12 @@ impl Chosen {
 
     /// Judges the observer's last row, the next one: whether it is told of.
     fn judge<A: Allocator + Copy, C: Channel<A>>(&mut self, observer: &Observer<A, C>) -> bool
-        ensures told { (i : Interface) (before : List Row) (r : Row)
+        ensures told { (i : Interface) (before : List Item) (r : Item)
             → Follows i before self.old.call
             → self.old.call.number ≡ asked_call self.old.rows
             → HasWalked C.Channel i (before ++ r ∷ []) observer.now
             → result ≡ is_chosen self.old.rows i before r }
-        ensures follows { (i : Interface) (before : List Row) (r : Row)
+        ensures follows { (i : Interface) (before : List Item) (r : Item)
             → Follows i before self.old.call
             → HasWalked C.Channel i (before ++ r ∷ []) observer.now
             → Follows i (before ++ r ∷ []) self.new.call }

@@ -1,7 +1,7 @@
 //! What is remembered of the rows before: the calls, and the sequences of data that PAD calls have begun.
 
 ghost use Rattle.std.specs.Prelude.{◌≡◌, ◌<◌, [], ℕ, List, None, OnOk, Some, length};
-ghost use Rattle.line_model.specs.basics.Records.{Row};
+ghost use Rattle.line_model.specs.basics.Records.{Item};
 ghost use Rattle.line_model.specs.declared.interface.Interface.{Interface as AnyInterface};
 ghost use Rattle.line_model.specs.observer.Calls.{all_lengths};
 ghost use Rattle.restart_epochs.specs.Cutting.{observer};
@@ -17,6 +17,7 @@ use data_transfer::assembler::Assembler;
 use data_transfer::sequence::{DataField, Put, UserData};
 use line_model::event::{Event, How, What};
 use line_model::interface::Interface;
+use line_model::row::ReadRow;
 use line_model::state::{ChannelState, DState, RState, Side};
 use live_report::last_row::{Known, LastRow};
 use live_report::observer::Observer;
@@ -200,18 +201,19 @@ impl<A: Allocator + Copy> Course<A> {
     pub fn facts<'a, C: Channel<A>>(
         &'a self,
         interface: &'a Interface,
-        octets: &'a [u8],
+        row: &'a ReadRow<A>,
         last: &'a LastRow,
         observer: &'a Observer<A, C>,
     ) -> RowFacts<'a>
-        ensures { (i : AnyInterface) (earlier : List Row) (r : Row)
+        ensures { (i : AnyInterface) (earlier : List Item) (r : Item)
             → IsLastRow i earlier r last.now observer.now.events.items
             → AreFactsOf i earlier r result }
     {
         let events = events_of(last, observer);
         RowFacts {
             interface,
-            octets,
+            length: row.length,
+            octets: row.octets.as_slice(),
             last,
             epoch: self.epoch,
             events,
@@ -297,7 +299,7 @@ fn events_of<'a, A: Allocator + Copy, C: Channel<A>>(
 /// What became of the data of a row with these events.
 fn fate(last: &LastRow, events: &[Event]) -> Fate
     ensures counted { IsFateOf (all_lengths events.now) result }
-    ensures reason { (i : AnyInterface) (earlier : List Row) (r : Row)
+    ensures reason { (i : AnyInterface) (earlier : List Item) (r : Item)
         → IsLastRow i earlier r last.now events.now → (last.now.channel ≡ None → events.now ≡ [])
         → reason_told result ≡ reason_at i (observer i earlier) r }
 {
@@ -310,7 +312,7 @@ fn fate(last: &LastRow, events: &[Event]) -> Fate
 /// What became of the data of a row that was not counted.
 fn passed_over(last: &LastRow, events: &[Event]) -> Fate
     ensures counted { IsFateOf [] result }
-    ensures reason { (i : AnyInterface) (earlier : List Row) (r : Row)
+    ensures reason { (i : AnyInterface) (earlier : List Item) (r : Item)
         → IsLastRow i earlier r last.now events.now
         → reason_told result ≡ reason_at i (observer i earlier) r }
 {

@@ -46,12 +46,12 @@ impl<A: Allocator + Copy> Past<A> {
         let (Some(observer), Some(interface)) = (trace.observer(), trace.interface()) else {
             return Ok(());
         };
-        let octets = trace.row().octets.as_slice();
+        let read = trace.row();
         let Some(last) = observer.last_row() else {
             return Ok(());
         };
-        self.course.take(&interface, octets, &last, observer)?;
-        let facts = self.course.facts(&interface, octets, &last, observer);
+        self.course.take(&interface, read.octets.as_slice(), &last, observer)?;
+        let facts = self.course.facts(&interface, read, &last, observer);
         if facts.last.finding.is_some() {
             self.before = Some(Before::of_row(&facts));
         }

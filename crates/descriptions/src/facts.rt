@@ -12,7 +12,7 @@ use line_model::interface::Interface;
 use line_model::packet::{DataHeader, Packet, PacketKind};
 use live_report::last_row::{Known, LastRow};
 use live_report::uncounted::Reason;
-use packet_decode::transfer::header_length;
+use packet_decode::decode::header_length;
 
 /// What became of the data of a row.
 #[derive(Clone, Copy)]
@@ -75,7 +75,9 @@ pub struct EndedCall {
 pub struct RowFacts<'a> {
     /// The interface.
     pub interface: &'a Interface,
-    /// Its octets.
+    /// How many octets it has.
+    pub length: usize,
+    /// The octets that are kept of it: of data with Q 0 its header, else all.
     pub octets: &'a [u8],
     /// The row as the observer judged it.
     pub last: &'a LastRow,
@@ -115,6 +117,11 @@ pub fn user_data<'a>(interface: &Interface, octets: &'a [u8]) -> &'a [u8] {
         Some((_, data)) => data,
         None => &[],
     }
+}
+
+/// How many octets of user data a data packet with so many octets has.
+pub fn user_octets(interface: &Interface, length: usize) -> u64 {
+    length.saturating_sub(header_length(interface)) as u64
 }
 
 /// Whether a packet is a clear request or indication.

@@ -1,6 +1,6 @@
 //! What is wrong with a row, in words.
 
-use crate::facts::RowFacts;
+use crate::facts::{RowFacts, user_octets};
 use crate::prose::{Prose, count, say_number};
 use channel_run::run::View;
 use data_transfer::flow::SendWindow;
@@ -16,7 +16,6 @@ use line_model::interface::Interface;
 use line_model::packet::{DataHeader, Packet, PacketKind};
 use line_model::state::{Side, StateName};
 use packet_decode::decode::logical_channel;
-use packet_decode::transfer::header_length;
 
 /// What was known before a row, and the row's packet.
 #[derive(Clone, Copy)]
@@ -27,6 +26,8 @@ pub struct Before {
     pub view: Option<View>,
     /// The packet.
     pub packet: Packet,
+    /// How many octets the packet has.
+    pub length: usize,
 }
 
 impl Before {
@@ -36,6 +37,7 @@ impl Before {
             interface: *facts.interface,
             view: facts.view_before(),
             packet: facts.last.packet,
+            length: facts.length,
         }
     }
 }
@@ -101,8 +103,8 @@ fn values<P: Prose>(out: &mut P, before: &Before, octets: &[u8], finding: &Findi
         Code::Number(INVALID_P_R) => receive_number(out, before, finding.side),
         Code::Number(CALL_ON_ONE_WAY_LOGICAL_CHANNEL) => direction(out, before, finding.side),
         Code::Number(PACKET_ON_UNASSIGNED_LOGICAL_CHANNEL) => channel(out, before, octets),
-        Code::Number(PACKET_TOO_SHORT) => length(out, octets, "which is too short"),
-        Code::Number(PACKET_TOO_LONG) => too_long(out, before, octets, finding.side),
+        Code::Number(PACKET_TOO_SHORT) => length(out, before.length, "which is too short"),
+        Code::Number(PACKET_TOO_LONG) => too_long(out, before, finding.side),
         Code::Number(INVALID_GENERAL_FORMAT_IDENTIFIER) => format(out, before, octets),
         Code::Number(UNIDENTIFIABLE_PACKET) => packet_type(out, octets),
         Code::Number(INCONSISTENT_Q_BIT_SETTING) => qualifier(out, before),
@@ -230,17 +232,17 @@ fn channel<P: Prose>(out: &mut P, before: &Before, octets: &[u8]) -> bool {
 }
 
 /// How long a packet is.
-fn length<P: Prose>(out: &mut P, octets: &[u8], why: &str) -> bool {
-    count(out, "", octets.len() as u64, " octet");
+fn length<P: Prose>(out: &mut P, length: usize, why: &str) -> bool {
+    count(out, "", length as u64, " octet");
     out.say(", ");
     out.say(why);
     true
 }
 
 /// How long a packet is that is too long, and what it may have where it is a data packet.
-fn too_long<P: Prose>(out: &mut P, before: &Before, octets: &[u8], side: Side) -> bool {
+fn too_long<P: Prose>(out: &mut P, before: &Before, side: Side) -> bool {
     if header(&before.packet).is_none() {
-        return length(out, octets, "which is too long");
+        return length(out, before.length, "which is too long");
     }
     let size = match before.view {
         Some(view) => match side {
@@ -249,10 +251,7 @@ fn too_long<P: Prose>(out: &mut P, before: &Before, octets: &[u8], side: Side) -
         },
         None => before.interface.size,
     };
-    let user_data = octets
-        .len()
-        .saturating_sub(header_length(&before.interface));
-    count(out, "", user_data as u64, " octet");
+    count(out, "", user_octets(&before.interface, before.length), " octet");
     say_number(out, " of user data where ", u64::from(size));
     out.say(" are allowed");
     true

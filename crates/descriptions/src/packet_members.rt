@@ -2,7 +2,7 @@
 
 use crate::causes::{clearing_cause, resetting_cause, restarting_cause};
 use crate::diagnostics::diagnostic;
-use crate::facts::{RowFacts, user_data};
+use crate::facts::{RowFacts, user_octets};
 use crate::json::{Json, Out};
 use crate::messages::name;
 use crate::prose::Prose;
@@ -50,7 +50,7 @@ fn kind_members<O: Out>(json: &mut Json<O>, facts: &RowFacts<'_>, kind: &PacketK
             json.number_member(",\"receive\":", u64::from(*number))
         }
         PacketKind::Interrupt => {
-            json.number_member(",\"octets\":", facts.octets.len().saturating_sub(3) as u64)
+            json.number_member(",\"octets\":", facts.length.saturating_sub(3) as u64)
         }
         _ => {}
     }
@@ -110,8 +110,7 @@ fn data_members<O: Out>(json: &mut Json<O>, facts: &RowFacts<'_>, header: &DataH
         ",\"qualified\":false",
     );
     json.flag_member(header.delivery, ",\"delivery\":true", ",\"delivery\":false");
-    let data = user_data(facts.interface, facts.octets);
-    json.number_member(",\"octets\":", data.len() as u64);
+    json.number_member(",\"octets\":", user_octets(facts.interface, facts.length));
     if let Some(octets) = facts.message {
         message_member(json, octets);
     }

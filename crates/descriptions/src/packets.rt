@@ -3,12 +3,10 @@
 use crate::calls::call;
 use crate::causes::{clearing_cause, resetting_cause, restarting_cause};
 use crate::diagnostics::diagnostic;
-use crate::facts::RowFacts;
+use crate::facts::{RowFacts, user_octets};
 use crate::names;
 use crate::prose::{Prose, bracketed, count, say_number};
-use line_model::interface::Interface;
 use line_model::packet::{DataHeader, Packet, PacketKind};
-use packet_decode::transfer::header_length;
 
 /// The packet of a row, with its side, its logical channel and its fields.
 pub fn packet<P: Prose>(out: &mut P, facts: &RowFacts<'_>) {
@@ -18,7 +16,7 @@ pub fn packet<P: Prose>(out: &mut P, facts: &RowFacts<'_>) {
             say_number(out, names::side_on_channel(side), u64::from(*channel));
             out.say(": ");
             out.say(names::packet(side, &facts.last.packet));
-            channel_fields(out, facts.interface, facts.octets, kind, facts.was_fast())
+            channel_fields(out, facts, kind)
         }
         packet => {
             out.say(names::side(side));
@@ -45,24 +43,25 @@ fn interface_fields<P: Prose>(out: &mut P, octets: &[u8], packet: &Packet) {
 }
 
 /// The fields of a packet on a logical channel.
-fn channel_fields<P: Prose>(
-    out: &mut P,
-    interface: &Interface,
-    octets: &[u8],
-    kind: &PacketKind,
-    fast_before: bool,
-) {
+fn channel_fields<P: Prose>(out: &mut P, facts: &RowFacts<'_>, kind: &PacketKind) {
     match kind {
-        PacketKind::Call | PacketKind::Accepted => call(out, interface, octets, fast_before),
-        PacketKind::Clear => match octets {
+        PacketKind::Call | PacketKind::Accepted => call(
+            out,
+            facts.interface,
+            facts.octets,
+            facts.was_fast(),
+        ),
+        PacketKind::Clear => match facts.octets {
             [_, _, _, value, rest @ ..] => cause(out, *value, clearing_cause(*value), rest),
             _ => {}
         },
-        PacketKind::Reset => match octets {
+        PacketKind::Reset => match facts.octets {
             [_, _, _, value, rest @ ..] => cause(out, *value, resetting_cause(*value), rest),
             _ => {}
         },
-        PacketKind::Data(Some(header)) => data(out, interface, header, octets.len()),
+        PacketKind::Data(Some(header)) => data(
+            out, header, user_octets(facts.interface, facts.length),
+        ),
         PacketKind::Rr(Some(number)) | PacketKind::Rnr(Some(number)) => receive_number(
             out, *number,
         ),
@@ -70,7 +69,7 @@ fn channel_fields<P: Prose>(
             ", its header is cut",
         ),
         PacketKind::Interrupt => {
-            count(out, ", ", octets.len().saturating_sub(3) as u64, " octet");
+            count(out, ", ", facts.length.saturating_sub(3) as u64, " octet");
         }
         _ => {}
     }
@@ -105,12 +104,11 @@ fn bit<P: Prose>(out: &mut P, name: &str, is_set: bool) {
 }
 
 /// The header of a data packet, and how much user data it has.
-fn data<P: Prose>(out: &mut P, interface: &Interface, header: &DataHeader, length: usize) {
+fn data<P: Prose>(out: &mut P, header: &DataHeader, user_octets: u64) {
     say_number(out, ", P(S) ", u64::from(header.send));
     say_number(out, ", P(R) ", u64::from(header.receive));
     bit(out, ", M", header.more);
     bit(out, ", D", header.delivery);
     bit(out, ", Q", header.qualified);
-    let user_data = length.saturating_sub(header_length(interface));
-    count(out, ", ", user_data as u64, " octet");
+    count(out, ", ", user_octets, " octet");
 }

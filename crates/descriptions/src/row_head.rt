@@ -1,7 +1,7 @@
 //! The beginning of the object of a row.
 
 ghost use Rattle.std.specs.Prelude.{◌≡◌, ℕ, ◌++◌, List, OnOk, map};
-ghost use Rattle.line_model.specs.basics.Records.{Row};
+ghost use Rattle.line_model.specs.basics.Records.{Item};
 ghost use Rattle.line_model.specs.declared.interface.Interface.{Interface};
 ghost use Rattle.line_model.specs.observer.Report.{code_word};
 ghost use Rattle.descriptions.specs.Facts.{AreFactsOf, IsFateOf};
@@ -60,8 +60,8 @@ fn channel_digits<'a>(packet: &Packet, buffer: &'a mut Buffer) -> &'a [u8]
 
 /// Appends the members of a row up to its states.
 fn append_states<A: Allocator>(facts: &RowFacts<'_>, out: &mut Vec<u8, A>) -> Result<(), AllocError>
-    ensures { (r : Row) → facts.now.last.now.number ≡ r.number → facts.now.last.now.side ≡ r.side
-        → OnOk result (out.new.items ≡ out.old.items ++ state_members r
+    ensures { (r : Item) → facts.now.last.now.number ≡ r.number → facts.now.last.now.side ≡ r.side
+        → OnOk result (out.new.items ≡ out.old.items ++ state_members r.number r.side
         (named_channel facts.now.last.now.packet) (known_word facts.now.last.now.before)
         (known_word facts.now.last.now.after)) }
 {
@@ -139,7 +139,7 @@ pub fn append_head<A: Allocator>(
     facts: &RowFacts<'_>,
     out: &mut Vec<u8, A>,
 ) -> Result<(), AllocError>
-    ensures { (i : Interface) (earlier : List Row) (r : Row) → AreFactsOf i earlier r facts.now
+    ensures { (i : Interface) (earlier : List Item) (r : Item) → AreFactsOf i earlier r facts.now
         → OnOk result (out.new.items ≡ out.old.items
         ++ row_head i earlier r facts.now.last.now.finding) }
 {

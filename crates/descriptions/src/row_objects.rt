@@ -2,8 +2,9 @@
 
 ghost use Rattle.std.specs.Prelude.{◌≡◌, ℕ, ◌++◌, ◌∷◌, [], List, IfSome, None, OnOk, Some, false};
 ghost use Rattle.annotated_trace.specs.Annotation.{IsOneLine};
-ghost use Rattle.line_model.specs.basics.Records.{Row};
+ghost use Rattle.line_model.specs.basics.Records.{Item, Row};
 ghost use Rattle.line_model.specs.declared.interface.Interface.{Interface};
+ghost use Rattle.line_model.specs.packets.Says.{item_of, items_of};
 ghost use Rattle.line_model.specs.text.Text.{Line, ended_lines, head_of, rows_in};
 ghost use Rattle.live_report.specs.Lives.{WasFed};
 ghost use Rattle.annotated_trace.specs.Printed.{HasAppended};
@@ -40,7 +41,7 @@ fn append_object<A: Allocator>(
     members: &[u8],
     out: &mut Vec<u8, A>,
 ) -> Result<(), AllocError>
-    ensures { (i : Interface) (earlier : List Row) (r : Row) → AreFactsOf i earlier r facts.now
+    ensures { (i : Interface) (earlier : List Item) (r : Item) → AreFactsOf i earlier r facts.now
         → OnOk result (HasAppended (IsRowObject i earlier r) out.old.items out.new.items) }
 {
     append_head(facts, out)?;
@@ -86,7 +87,7 @@ impl<A: Allocator + Copy> Past<A> {
         ensures object { (i : Interface) (before : List Line) (l : Line) (r : Row) (text : List ℕ)
             → WasFed C.Channel text trace.now → ended_lines text ≡ before ++ l ∷ []
             → head_of before ≡ Some i → row_written before l ≡ Some r → line.now ≡ l ++ 10 ∷ []
-            → IfSome result (λ object. IsObjectWhere is_told i (rows_in before) r object.now) }
+            → IfSome result (λ object. IsObjectWhere is_told i (items_of i (rows_in before)) (item_of i r) object.now) }
         ensures untold { is_told ≡ false → result ≡ None }
     {
         if !is_told {
@@ -101,7 +102,7 @@ impl<A: Allocator + Copy> Past<A> {
         let Some(row) = last.quiet() else {
             return None;
         };
-        let Some(digits) = last_digits(line, trace.row().octets.len()) else {
+        let Some(digits) = last_digits(line, trace.row().length) else {
             return None;
         };
         if self.time.is_some() {
@@ -128,7 +129,7 @@ impl<A: Allocator + Copy> Past<A> {
         ensures object { (i : Interface) (before : List Line) (l : Line) (r : Row) (text : List ℕ)
             → WasFed C.Channel text trace.now → ended_lines text ≡ before ++ l ∷ []
             → head_of before ≡ Some i → row_written before l ≡ Some r → OnOk result
-            (HasAppended (IsObjectWhere told i (rows_in before) r) out.old.items out.new.items) }
+            (HasAppended (IsObjectWhere told i (items_of i (rows_in before)) (item_of i r)) out.old.items out.new.items) }
         ensures untold { told ≡ false → out.new.items ≡ out.old.items }
     {
         let time = self.time.take();
@@ -138,12 +139,12 @@ impl<A: Allocator + Copy> Past<A> {
         let Some(interface) = trace.interface() else {
             return Ok(());
         };
-        let octets = trace.row().octets.as_slice();
+        let row = trace.row();
         let Some(last) = observer.last_row() else {
             return Ok(());
         };
-        self.course.take(&interface, octets, &last, observer)?;
-        let facts = self.course.facts(&interface, octets, &last, observer);
+        self.course.take(&interface, row.octets.as_slice(), &last, observer)?;
+        let facts = self.course.facts(&interface, row, &last, observer);
         self.rest.calls.take(&facts, self.course.ended(), time)?;
         self.rest.uncounted = observer.uncounted();
         if !told {
@@ -167,7 +168,7 @@ fn write_members<A: Allocator>(
     let mut json = Json {
         out: Growing::new(members),
     };
-    let digits = last_digits(line, facts.octets.len());
+    let digits = last_digits(line, facts.length);
     row_members(&mut json, facts, ended, time, digits);
     json.out.answer()
 }
@@ -233,7 +234,7 @@ impl<A: Allocator + Copy> RowObjects<A> {
             → WasFed C.Channel text trace.now → ended_lines text ≡ before ++ l ∷ []
             → head_of before ≡ Some i → row_written before l ≡ Some r → line.now ≡ l ++ 10 ∷ []
             → OnOk result
-            (HasAppended (IsObjectWhere told i (rows_in before) r) out.old.items out.new.items) }
+            (HasAppended (IsObjectWhere told i (items_of i (rows_in before)) (item_of i r)) out.old.items out.new.items) }
         ensures untold { told ≡ false → out.new.items ≡ out.old.items }
         ensures chosen { self.new.chosen ≡ self.old.chosen }
     {

@@ -1,7 +1,6 @@
 -- How much data the events of a row tell: no more than the octets of the row.
 use Rattle.std.proofs.Common.{◌≡◌, ℕ, ◌+◌, ◌≤◌, Bool, true, false, eqb, Option, Some, None, List, [], ◌∷◌, length, map, refl, ◌∙◌, ap, arith}
 use Rattle.std.specs.Prelude.{Result, Ok, Err, option_to_list}
-use Rattle.std.proofs.lemmas.List.{length-drop}
 use Rattle.line_model.specs.declared.diagnostic.TheConstants.{INCONSISTENT_Q_BIT_SETTING}
 use Rattle.line_model.specs.declared.interface.Interface.{Interface}
 use Rattle.line_model.specs.declared.packet.Class.{Class}
@@ -19,14 +18,15 @@ use Rattle.line_model.specs.declared.event.What.{What}
 use Rattle.line_model.specs.declared.event.What.TheVariants.{Data as DataHeard}
 use Rattle.line_model.specs.declared.finding.Xcode.{Xcode}
 use Rattle.line_model.specs.declared.finding.Xcode.TheVariants.{X3}
-use Rattle.line_model.specs.basics.Records.{Row}
+use Rattle.line_model.specs.basics.Records.{Item}
 use Rattle.line_model.specs.basics.Octets.{bits}
 use Rattle.line_model.specs.channels.Pad.{Pair, is_indication, is_set, indicated_by, indicated, asked, set_told, settings_told, settings_after, message_fault}
 use Rattle.line_model.specs.channels.Channels.{Channel, AcceptedData, Opening, Told, is_permanent, other}
 use Rattle.line_model.specs.channels.FlowControl.{Counts, count_data}
 use Rattle.line_model.specs.channels.Sequences.{begun, is_alike}
 use Rattle.line_model.specs.packets.Formats.{packet_fault, size_in_force, window_in_force}
-use Rattle.line_model.specs.packets.Classes.{class_of, data_header, header_length}
+use Rattle.line_model.specs.packets.Classes.{packet_class}
+use Rattle.line_model.specs.packets.Says.{header_in}
 use Rattle.line_model.specs.channels.ChannelStep.{heard_of, completed_message, call_change, judged, verdict, ending_open, after_error, failing, changing, entering, telling, option_found, data_alike, data_counted, data_step, counting, transferring, verdict_step, channel_step, counts_of}
 use Rattle.line_model.proofs.EventWeights.{total, total-append, heard_by, octets_by}
 
@@ -80,47 +80,46 @@ found_none : (x : Side) (f : Option Xcode) → octets_told (option_to_list (opti
 found_none x None = refl
 found_none x (Some f) = refl
 
-telling_data : (x : Side) (p : AcceptedData) (told : List Told) (m : Option (List ℕ)) → octets_told (telling x p told m) ≡ length p.octets
+telling_data : (x : Side) (p : AcceptedData) (told : List Told) (m : Option (List ℕ)) → octets_told (telling x p told m) ≡ p.length
 telling_data x p told None = omega arith
 telling_data x p told (Some m) =
     let f = message_fault x told m in
     let later : List What = settings_after f x m in
-    let parts = total-append (heard_by octets_by) (option_to_list (option_found x f)) (DataHeard x (length p.octets) ∷ later) in
+    let parts = total-append (heard_by octets_by) (option_to_list (option_found x f)) (DataHeard x p.length ∷ later) in
     let front = found_none x f in
     let behind = after_none f x m in
     omega arith
 
-alike_data : (i : Interface) (x : Side) (s : StateName) (p : AcceptedData) (v : Counts) (b : Bool) (c : Channel) → octets_told (data_alike i x s p v b c).reported ≤ length p.octets
+alike_data : (i : Interface) (x : Side) (s : StateName) (p : AcceptedData) (v : Counts) (b : Bool) (c : Channel) → octets_told (data_alike i x s p v b c).reported ≤ p.length
 alike_data i x s p v false c = let none = failing_none x s INCONSISTENT_Q_BIT_SETTING c in omega arith
 alike_data i x s p v true c = let told_is = telling_data x p c.told (completed_message i x c p) in omega arith
 
-counted_data : (i : Interface) (x : Side) (s : StateName) (p : AcceptedData) (r : Result Counts ℕ) (c : Channel) → octets_told (data_counted i x s p r c).reported ≤ length p.octets
+counted_data : (i : Interface) (x : Side) (s : StateName) (p : AcceptedData) (r : Result Counts ℕ) (c : Channel) → octets_told (data_counted i x s p r c).reported ≤ p.length
 counted_data i x s p (Err n) c = let none = failing_none x s n c in omega arith
 counted_data i x s p (Ok v) c = alike_data i x s p v (is_alike p (begun (size_in_force i c x) x c.heard)) c
 
-step_data : (i : Interface) (x : Side) (s : StateName) (xs : List ℕ) (h : Option DataHeader) (c : Channel) → octets_told (data_step i x s xs h c).reported ≤ length xs
-step_data i x s xs None c = omega arith
-step_data i x s xs (Some h) c =
-    let told_is = counted_data i x s (heard_of i x xs h) (count_data i.modulus (window_in_force i c x) (counts_of c) x h.send h.receive) c in
-    let less = length-drop (header_length i) xs in
+step_data : (i : Interface) (s : StateName) (r : Item) (h : Option DataHeader) (c : Channel) → octets_told (data_step i s r h c).reported ≤ r.length
+step_data i s r None c = omega arith
+step_data i s r (Some h) c =
+    let told_is = counted_data i r.side s (heard_of i r h) (count_data i.modulus (window_in_force i c r.side) (counts_of c) r.side h.send h.receive) c in
     omega arith
 
 counting_data : (x : Side) (s : StateName) (r : Result Counts ℕ) (c : Channel) (n : ℕ) → octets_told (counting x s r c).reported ≤ n
 counting_data x s (Err m) c n = let none = failing_none x s m c in omega arith
 counting_data x s (Ok v) c n = omega arith
 
-transferring_data : (i : Interface) (x : Side) (s : StateName) (k : Class) (xs : List ℕ) (c : Channel) → octets_told (transferring i x s k xs c).reported ≤ length xs
-transferring_data i x s Data xs c = step_data i x s xs (data_header i xs) c
-transferring_data i x s k xs c = counting_data x s _ c (length xs)
+transferring_data : (i : Interface) (s : StateName) (k : Class) (r : Item) (c : Channel) → octets_told (transferring i s k r c).reported ≤ r.length
+transferring_data i s Data r c = step_data i s r (header_in r.packet) c
+transferring_data i s k r c = counting_data r.side s _ c r.length
 
-verdict_data : (i : Interface) (x : Side) (s : StateName) (k : Class) (xs : List ℕ) (v : Verdict) (c : Channel) → octets_told (verdict_step i x s k xs v c).reported ≤ length xs
-verdict_data i x s k xs (Fails t n) c = let none = failing_none x t n c in omega arith
-verdict_data i x s k xs (Moves t) c = let none = changing_none xs (call_change x k t) (entering t false c) in omega arith
-verdict_data i x s k xs Transfers c = transferring_data i x s k xs c
-verdict_data i x s k xs EndsOwed c = omega arith
-verdict_data i x s k xs Nothing c = omega arith
+verdict_data : (i : Interface) (s : StateName) (r : Item) (v : Verdict) (c : Channel) → octets_told (verdict_step i s r v c).reported ≤ r.length
+verdict_data i s r (Fails t n) c = let none = failing_none r.side t n c in omega arith
+verdict_data i s r (Moves t) c = let none = changing_none r.octets (call_change r.side (packet_class r.packet) t) (entering t false c) in omega arith
+verdict_data i s r Transfers c = transferring_data i s (packet_class r.packet) r c
+verdict_data i s r EndsOwed c = omega arith
+verdict_data i s r Nothing c = omega arith
 
-pub row_data : (i : Interface) (k : ℕ) (c : Channel) (r : Row) → octets_told (channel_step i k c r).reported ≤ length r.octets
+pub row_data : (i : Interface) (k : ℕ) (c : Channel) (r : Item) → octets_told (channel_step i k c r).reported ≤ r.length
 row_data i k c r =
-    let j = judged (is_permanent i k) r.side c.state c.owed (class_of i r.octets) in
-    verdict_data i r.side j.state (class_of i r.octets) r.octets (verdict j (packet_fault i k c r.side (class_of i r.octets) r.octets)) c
+    let j = judged (is_permanent i k) r.side c.state c.owed (packet_class r.packet) in
+    verdict_data i j.state r (verdict j (packet_fault i k c r)) c

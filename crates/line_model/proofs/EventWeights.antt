@@ -6,7 +6,7 @@ use Rattle.line_model.specs.declared.state.Side.TheVariants.{T, N}
 use Rattle.line_model.specs.declared.event.What.{What}
 use Rattle.line_model.specs.declared.event.What.TheVariants.{Found, Data}
 use Rattle.line_model.specs.declared.event.Event.{Event}
-use Rattle.line_model.specs.basics.Records.{Row}
+use Rattle.line_model.specs.basics.Records.{Item}
 use Rattle.line_model.specs.observer.MachineEvents.{RowEvent}
 use Rattle.line_model.specs.observer.Observer.{event_of}
 use Rattle.line_model.specs.observer.Calls.{lengths_from, all_lengths, segments_of}
@@ -43,7 +43,7 @@ abbrev pub weight : (What → ℕ) → List Event → ℕ
 weight f es = total (λ e. f e.what) es
 
 -- events of rows, and as they are told
-pub row_weight : (f : What → ℕ) (vs : List (RowEvent Row What)) → weight f (map event_of vs) ≡ total (λ v. f v.what) vs
+pub row_weight : (f : What → ℕ) (vs : List (RowEvent Item What)) → weight f (map event_of vs) ≡ total (λ v. f v.what) vs
 row_weight f [] = refl
 row_weight f (v ∷ vs) = ap (λ n. f v.what + n) (row_weight f vs)
 

@@ -34,14 +34,14 @@ index-from_rises (a ∷ b ∷ ns) h = at (index-from_rises (b ∷ ns) (rises-fro
         subst (λ j. get_or (b ∷ ns) k 0 < get_or (a ∷ b ∷ ns) j 0) e (later k (omega arith))
 
 pub calls_order : CallsOrderLaw
-calls_order i rs up =
+calls_order i rs said up =
     let vs = walk_events (x25 i) (start i) rs in
     let qs = plan_of (x25 i) (start i) rs in
-    let has = has_channels i rs in
+    let has = has_channels i rs said in
     let is_plan = plan_law (x25 i) (start i) rs has in
-    let fit = walk_fit i rs up in
+    let fit = walk_fit i rs said up in
     let drawn_calls : calls_of (events i rs) ≡ drawn opens call_of vs = calls_drawn vs fit in
-    let apart : flat_map (λ p. (value p).calls) (plan i rs) ≡ drawn_apart (x25 i) (start i) rs qs opens call_of = plan_calls i rs 0 qs ∙ calls_apart i rs up qs is_plan in
+    let apart : flat_map (λ p. (value p).calls) (plan i rs) ≡ drawn_apart (x25 i) (start i) rs qs opens call_of = plan_calls i rs 0 qs ∙ calls_apart i rs said up qs is_plan in
     record {
       same_calls =
           subst (λ l. IsPermutation l (calls_of (events i rs))) (sym apart)
@@ -55,11 +55,11 @@ calls_order i rs up =
     }
 
 pub findings_order : FindingsOrderLaw
-findings_order i rs up =
+findings_order i rs said up =
     let vs = walk_events (x25 i) (start i) rs in
     let ps = placed (x25 i) (start i) rs in
     let qs = plan_of (x25 i) (start i) rs in
-    let has = has_channels i rs in
+    let has = has_channels i rs said in
     let is_plan = plan_law (x25 i) (start i) rs has in
     let apart : line_findings i rs ++ flat_map (λ p. (value p).findings) (plan i rs) ≡ drawn_apart (x25 i) (start i) rs qs tells_finding make =
     ap (λ l. l ++ flat_map (λ p. (value p).findings) (plan i rs)) (findings_are (filter is_line vs))

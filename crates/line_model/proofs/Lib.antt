@@ -44,3 +44,4 @@ pub mod RowsSoFar
 pub mod ItemLemmas
 pub mod DeviceLemmas
 pub mod WrittenLemmas
+pub mod Saying

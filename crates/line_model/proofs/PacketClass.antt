@@ -6,7 +6,7 @@ use Rattle.line_model.specs.declared.packet.Class.{Class}
 use Rattle.line_model.specs.declared.packet.Class.TheVariants.{Short, WrongFormat, Unassigned, Restart, RestartConfirm, Diagnostic, Registration, TwoOctets, RestartHere, Call, Accepted, Clear, ClearConfirm, Interrupt, InterruptConfirm, Reset, ResetConfirm, Data, Rr, Rnr, Rej, Undefined}
 use Rattle.line_model.specs.packets.Classes.{class_of, packet_of, packet_with, packet_class}
 
-class_kept : (i : Interface) (xs : List ℕ) (k : Class) → packet_class (packet_with i xs k) ≡ k
+pub class_kept : (i : Interface) (xs : List ℕ) (k : Class) → packet_class (packet_with i xs k) ≡ k
 class_kept i xs Short = refl
 class_kept i xs WrongFormat = refl
 class_kept i xs Unassigned = refl

@@ -1,3 +1,4 @@
 pub mod Classes
 pub mod Facilities
 pub mod Formats
+pub mod Says

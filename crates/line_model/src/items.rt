@@ -1,7 +1,7 @@
-//! Rows with their packets, in two lists: what stands before the octets of each row, and the octets that are kept.
+//! What rows say, in two lists: what stands before the octets of each row, and the octets that are kept.
 
-ghost use Rattle.std.specs.Prelude.{◌≡◌, ◌<◌, ◌^◌, ◌++◌, ◌∷◌, [], length, replicate, take, drop, true, OnErr, OnOk, IfErr, IfOk, ◌==◌};
-ghost use Rattle.line_model.specs.basics.Items.{kept_of, octets_of, unfolded};
+ghost use Rattle.std.specs.Prelude.{◌≡◌, ◌<◌, ◌^◌, ◌++◌, ◌∷◌, [], length, take, drop, OnErr, OnOk, IfErr, IfOk, ◌==◌};
+ghost use Rattle.line_model.specs.basics.Items.{octets_of};
 ghost use Rattle.line_model.specs.declared.fault.Fault.TheVariants.{Memory};
 
 use crate::fault::Fault;
@@ -10,33 +10,16 @@ use crate::state::Side;
 use std::alloc::{AllocError, Allocator, Global};
 use std::marker::Model;
 
-/// How many octets of a row are kept in any case: those before the user data, whatever the modulus is.
-const FRONT: usize = 4;
-
-/// A row with its packet, but for its octets.
+/// What a row says, without its octets.
 #[derive(Clone, Copy)]
 pub struct Head {
     number: u32,
     side: Side,
     packet: Packet,
-    /// Whether the octets after the fourth are all 0. They are not kept then.
-    is_blank: bool,
     /// How many octets the row has.
-    octets: u32,
-}
-
-impl Head {
-    /// How many octets of the row are kept.
-    fn kept(&self) -> usize
-        ensures { result ≡ kept_of self.now.is_blank self.now.octets }
-    {
-        let octets = self.octets as usize;
-        if self.is_blank {
-            FRONT.min(octets)
-        } else {
-            octets
-        }
-    }
+    length: u32,
+    /// How many of them are kept.
+    kept: u32,
 }
 
 /// How many octets of some rows are kept.
@@ -46,17 +29,16 @@ fn kept_of_all(heads: &[Head]) -> usize
 {
     let mut kept = 0;
     for head in heads {
-        kept += head.kept();
+        kept += head.kept as usize;
     }
     kept
 }
 
-/// Rows with their packets, in order. It takes memory for all heads and for all octets, and none for a single row. Octets
-/// at the end of a row take none where all after the fourth are 0.
+/// What rows say, in order. It takes memory for all heads and for all octets that are kept, and none for a single row.
 ///
 /// ```text
-///  heads   1 T call, 5 octets │ 2 N accepted, 3 octets │ 3 T data, 68 octets, blank
-///  octets  10 01 0B 00 01       10 01 0F                 10 01 00 00
+///  heads   1 T call, 5 octets │ 2 N accepted, 3 octets │ 3 T data, 68 octets
+///  octets  10 01 0B 00 01       10 01 0F                 none: its Q bit is 0
 /// ```
 #[derive(Drop)]
 pub struct Items<A: Allocator = Global> {
@@ -76,17 +58,19 @@ impl<A: Allocator> Model for Items<A> {
     ghost invariant = { λ i. octets_of i.heads.items ≡ length i.octets.items };
 }
 
-/// A row with its packet, where its octets lie.
+/// What a row says (X.25 clause 5), where its octets lie.
 #[derive(Drop)]
 pub struct ItemRef<'a> {
     /// The packet number.
     pub number: u32,
     /// The side that sent it.
     pub side: Side,
-    /// Its octets.
-    pub octets: &'a [u8],
-    /// What they are.
+    /// What its octets are.
     pub packet: Packet,
+    /// How many octets it has.
+    pub length: usize,
+    /// Those octets that say more: all, but none of data with Q 0.
+    pub octets: &'a [u8],
 }
 
 impl<'a> Model for ItemRef<'a> {
@@ -94,51 +78,10 @@ impl<'a> Model for ItemRef<'a> {
 
     ghost Value = { records.Item };
 
-    ghost view = { λ i. record { row = record { number = i.number; side = i.side; octets = i.octets.now }; packet = i.packet } };
+    ghost view = { λ i. record { number = i.number; side = i.side; packet = i.packet; length = i.length; octets = i.octets.now } };
 }
 
-/// A row with its packet as it is kept: the octets at its end may be left out, which are 0.
-#[derive(Drop)]
-pub struct KeptItem<'a> {
-    head: Head,
-    octets: &'a [u8],
-}
-
-impl<'a> Model for KeptItem<'a> {
-    ghost use Rattle.line_model.specs.basics.Records as records;
-    ghost use Rattle.line_model.specs.basics.Items.{unfolded};
-
-    ghost Value = { records.Item };
-
-    ghost view = { λ i. record { row = record { number = i.head.number; side = i.head.side; octets = unfolded i.head.octets i.octets.now }; packet = i.head.packet } };
-}
-
-impl<'a> KeptItem<'a> {
-    /// Writes all octets of the row, in place of those that the list has.
-    pub fn unfold<A: Allocator>(&self, octets: &mut Vec<u8, A>) -> Result<(), AllocError>
-        ensures { OnOk result (octets.new.items ≡ self.now.row.octets) }
-    {
-        octets.clear();
-        octets.extend_from_slice(self.octets)?;
-        octets.resize((self.head.octets as usize).max(self.octets.len()), 0)?;
-        Ok(())
-    }
-
-    /// The row with its octets, which `unfold` wrote.
-    pub fn with_octets<'b>(&self, octets: &'b [u8]) -> ItemRef<'b>
-        requires unfolded { octets.now ≡ self.now.row.octets }
-        ensures { result ≡ self.now }
-    {
-        ItemRef {
-            number: self.head.number,
-            side: self.head.side,
-            octets,
-            packet: self.head.packet,
-        }
-    }
-}
-
-/// The rows that are left of some, first to last.
+/// What the rows say that are left of some, first to last.
 #[derive(Drop)]
 pub struct Iter<'a> {
     heads: &'a [Head],
@@ -158,7 +101,7 @@ impl<'a> Model for Iter<'a> {
 }
 
 impl<'a> Iter<'a> {
-    /// Takes out the first rows that are left, as many as that. Where fewer are left it takes all.
+    /// Removes the first `count` rows that are left, or all where fewer are left, and returns them.
     pub fn take_front(&mut self, count: usize) -> Iter<'a>
         ensures taken { result ≡ take count self.old }
         ensures left { self.new ≡ drop count self.old }
@@ -172,7 +115,7 @@ impl<'a> Iter<'a> {
 }
 
 impl<'a> Iterator for Iter<'a> {
-    type Item = KeptItem<'a>;
+    type Item = ItemRef<'a>;
 
     ghost use Rattle.std.specs.Iterator.{YieldsFirst, item_count};
 
@@ -180,39 +123,19 @@ impl<'a> Iterator for Iter<'a> {
 
     ghost remaining = { item_count (λ left. left) };
 
-    fn next(&mut self) -> Option<KeptItem<'a>> {
+    fn next(&mut self) -> Option<ItemRef<'a>> {
         let (head, heads) = self.heads.split_first()?;
-        let (octets, rest) = self.octets.split_at(head.kept());
+        let (octets, rest) = self.octets.split_at(head.kept as usize);
         self.heads = heads;
         self.octets = rest;
-        Some(KeptItem {
-            head: *head,
+        Some(ItemRef {
+            number: head.number,
+            side: head.side,
+            packet: head.packet,
+            length: head.length as usize,
             octets,
         })
     }
-}
-
-/// Whether octets are all 0. It looks at each of them, so that several are looked at in one step.
-fn is_zero(octets: &[u8]) -> bool
-    ensures { result ≡ true → octets.now ≡ replicate (length octets.now) 0 }
-{
-    let mut greatest = 0;
-    for octet in octets {
-        greatest = greatest.max(*octet);
-    }
-    greatest == 0
-}
-
-/// What is kept of the octets of a row, and whether the others are all 0.
-fn kept_octets(octets: &[u8]) -> (&[u8], bool)
-    ensures same { unfolded (length octets.now) result.0.now ≡ octets.now }
-    ensures kept { kept_of result.1 (length octets.now) ≡ length result.0.now }
-{
-    let (front, rest) = octets.split_at(FRONT.min(octets.len()));
-    if is_zero(rest) {
-        return (front, true);
-    }
-    (octets, false)
 }
 
 impl<A: Allocator> Items<A> {
@@ -235,7 +158,7 @@ impl<A: Allocator> Items<A> {
         self.heads.allocator()
     }
 
-    /// The rows in order, as they are kept.
+    /// What the rows say, in order.
     pub fn iter(&self) -> Iter<'_>
         ensures { result ≡ self.now }
     {
@@ -253,23 +176,23 @@ impl<A: Allocator> Items<A> {
         self.octets.clear();
     }
 
-    /// Appends a row of less than 2^32 octets. Where memory is refused nothing changes.
+    /// Appends what a row of less than 2^32 octets says. Where memory is refused nothing changes.
     pub fn push(&mut self, item: &ItemRef<'_>) -> Result<(), AllocError>
         ensures ok { OnOk result (self.new ≡ self.old ++ item.now ∷ []) }
         ensures refused { OnErr result (self.new ≡ self.old) }
     {
-        let Ok(octets) = u32::try_from(item.octets.len()) else {
+        let (Ok(length), Ok(kept)) = (u32::try_from(item.length), u32::try_from(item.octets.len()))
+        else {
             return Err(AllocError);
         };
-        let (kept, is_blank) = kept_octets(item.octets);
         self.heads.reserve(1)?;
-        self.octets.extend_from_slice(kept)?;
+        self.octets.extend_from_slice(item.octets)?;
         self.heads.push_reserved(Head {
             number: item.number,
             side: item.side,
             packet: item.packet,
-            is_blank,
-            octets,
+            length,
+            kept,
         });
         Ok(())
     }
@@ -302,7 +225,7 @@ impl<A: Allocator + Copy> Items<A> {
         }
     }
 
-    /// The same rows once more. It answers `Memory` alone.
+    /// The same rows once more. Fails only when memory is refused.
     pub fn copy(&self) -> Result<Items<A>, Fault>
         ensures same { IfOk result (λ items. items ≡ self.now) }
         ensures memory { IfErr result (λ fault. fault ≡ Memory) }

@@ -1,12 +1,13 @@
 -- A chunk that is read row by row, and an observer that takes the rows.
-use Rattle.std.proofs.Common.{◌≡◌, ◌∙◌, sym, ap, subst, refl, ℕ, List, [], ◌∷◌, ◌++◌, Some, None, append-nil, append_assoc}
+use Rattle.std.proofs.Common.{◌≡◌, ◌∙◌, ◌≤◌, ◌^◌, All, map, sum_by, length, sym, ap, subst, refl, ℕ, List, [], ◌∷◌, ◌++◌, Some, None, append-nil, append_assoc}
+use Rattle.std.proofs.lemmas.List.Elements.{All-map}
 use Rattle.line_model.specs.declared.fault.Fault.{Fault}
 use Rattle.line_model.specs.declared.fault.Fault.TheVariants.{Memory}
 use Rattle.line_model.specs.declared.finding.Finding.{Finding}
 use Rattle.line_model.specs.observer.Report.{report_of}
 use Rattle.line_model.specs.declared.interface.Interface.{Interface}
 use Rattle.line_model.specs.channels.Channels.{Channel}
-use Rattle.line_model.specs.basics.Records.{Row}
+use Rattle.line_model.specs.basics.Records.{Item, Row, ReadRow}
 use Rattle.line_model.specs.text.Text.{early, early_head, early_rows}
 use Rattle.trace_text.specs.Progress.{Progress}
 use Rattle.trace_text.specs.StandsFor.{AreKnown, StandsFor as IsReaderOf, TakesRow, ReadsChunk}
@@ -14,14 +15,30 @@ use Rattle.trace_text.proofs.Grows.{early_head_stays}
 use Rattle.trace_text.proofs.RefusalLemmas.{head_stands, known-here}
 use Rattle.trace_text.proofs.RowsOfText.{early_numbers, early_octets, early_rises}
 use Rattle.live_report.specs.declared.observer.Observer.{Observer}
-use Rattle.live_report.specs.Observing.{AreRows, StandsFor as IsObserverOf}
+use Rattle.live_report.specs.Observing.{AreItems, StandsFor as IsObserverOf}
 use Rattle.live_report.specs.Found.{HasFound, IsFoundUpTo, found_at}
 use Rattle.live_report.specs.Lives.{IsObserving}
 use Rattle.live_report.proofs.FoundLemmas.{found_next, found_none, found_refused}
+use Rattle.line_model.specs.packets.Says.{item_of, item_read, items_of, read_row}
+use Rattle.line_model.proofs.Saying.{all_said, items_more, read_says, said_lengths, said_numbers}
+use Rattle.std.specs.List.Sorted.{IsStrictlyIncreasing}
 
--- the rows of a text that has no fault so far
-pub early_trace : (text : List ℕ) → early text ≡ None → AreRows (early_rows text)
-early_trace text sound = record { rising = early_rises text sound; numbers = early_numbers text sound; octets = early_octets text sound }
+-- what rows say as a trace has them
+pub items_sound : (i : Interface) (rs : List Row) → IsStrictlyIncreasing (0 ∷ map (λ r. r.number) rs) → All (λ r. r.number ≤ 999999999) rs → sum_by (λ r. length r.octets) rs ≤ 2 ^ 31 → AreItems i (items_of i rs)
+items_sound i rs rising numbers octets = record {
+  said = all_said i rs;
+  rising = subst (λ ns. IsStrictlyIncreasing (0 ∷ ns)) (sym (said_numbers i rs)) rising;
+  numbers = All-map (λ (r : Item). r.number ≤ 999999999) (item_of i) rs numbers;
+  octets = subst (λ n. n ≤ 2 ^ 31) (sym (said_lengths i rs)) octets;
+}
+
+-- what the rows say of a text that has no fault so far
+pub early_trace : (i : Interface) (text : List ℕ) → early text ≡ None → AreItems i (items_of i (early_rows text))
+early_trace i text sound = items_sound i (early_rows text) (early_rises text sound) (early_numbers text sound) (early_octets text sound)
+
+-- a row was taken off the front of a chunk, and this one was put of it
+abbrev pub ReadsRow : (before after : Progress) (chunk rest : List ℕ) → ReadRow → Type 0
+ReadsRow before after chunk rest row = (taken : Row) × TakesRow before after chunk rest taken × (row ≡ read_row taken)
 
 -- what is known of the header stays
 pub header_stays : (reader after : Progress) (text more : List ℕ) (i : Interface) → IsReaderOf reader text → reader.interface ≡ Some i → after.interface ≡ early_head (text ++ more) → after.interface ≡ Some i
@@ -42,31 +59,38 @@ course_begun I N S i text chunk reader o out w = record {
   found = subst (λ x. HasFound out out (found_at i text) (found_at i x)) (sym (append-nil text)) (found_none out (found_at i text));
 }
 
--- the row that was taken may come next
-pub next_rows : (reader after : Progress) (text chunk rest : List ℕ) (row : Row) → IsReaderOf reader text → TakesRow reader after chunk rest row → AreRows (early_rows text ++ row ∷ [])
-next_rows reader after text chunk rest row s t = subst AreRows (t.rows text s) (early_trace (text ++ t.taken) (t.stands text s).sound)
+-- what a row says that was taken comes after what the rows before it say
+pub next_items : (i : Interface) (reader after : Progress) (text chunk rest : List ℕ) (row : ReadRow) → IsReaderOf reader text → (t : ReadsRow reader after chunk rest row)
+    → items_of i (early_rows (text ++ t.1.taken)) ≡ items_of i (early_rows text) ++ item_read i row ∷ []
+next_items i reader after text chunk rest row s t =
+    let is = t.1.rows text s in
+    ap (items_of i) is ∙ items_more i (early_rows text) (t.0 ∷ []) ∙ ap (λ r. items_of i (early_rows text) ++ r ∷ []) (sym (read_says i t.0) ∙ ap (item_read i) (sym t.2))
 
-pub observed_row : {A C : Type 0} → (I : C → Interface) (N : C → ℕ) (S : C → Channel → Type 0) (i : Interface) (text chunk rest : List ℕ) (row : Row) (reader after : Progress) (o : Observer A C)
-    → IsReaderOf reader text → (t : TakesRow reader after chunk rest row) → after.interface ≡ Some i → IsObserverOf I N S i (early_rows text ++ row ∷ []) o → IsObserving I N S i (text ++ t.taken) after o
+-- the row that was taken may come next
+pub next_rows : (i : Interface) (reader after : Progress) (text chunk rest : List ℕ) (row : ReadRow) → IsReaderOf reader text → ReadsRow reader after chunk rest row → AreItems i (items_of i (early_rows text) ++ item_read i row ∷ [])
+next_rows i reader after text chunk rest row s t = subst (AreItems i) (next_items i reader after text chunk rest row s t) (early_trace i (text ++ t.1.taken) (t.1.stands text s).sound)
+
+pub observed_row : {A C : Type 0} → (I : C → Interface) (N : C → ℕ) (S : C → Channel → Type 0) (i : Interface) (text chunk rest : List ℕ) (row : ReadRow) (reader after : Progress) (o : Observer A C)
+    → IsReaderOf reader text → (t : ReadsRow reader after chunk rest row) → after.interface ≡ Some i → IsObserverOf I N S i (items_of i (early_rows text) ++ item_read i row ∷ []) o → IsObserving I N S i (text ++ t.1.taken) after o
 observed_row I N S i text chunk rest row reader after o s t h took = record {
-  reads = t.stands text s;
+  reads = t.1.stands text s;
   header = h;
-  observes = subst (λ rows. IsObserverOf I N S i rows o) (sym (t.rows text s)) took;
+  observes = subst (λ items. IsObserverOf I N S i items o) (sym (next_items i reader after text chunk rest row s t)) took;
 }
 
-pub course_row : {A C : Type 0} → (I : C → Interface) (N : C → ℕ) (S : C → Channel → Type 0) (i : Interface) (text chunk rest left : List ℕ) (row : Row) (reader after : Progress) (o next : Observer A C) (out out_now out_after more : List Finding)
-    → (c : Course I N S i text chunk reader o rest out out_now) → TakesRow reader after rest left row → after.interface ≡ early_head ((text ++ c.read) ++ rest) → IsObserverOf I N S i (early_rows (text ++ c.read) ++ row ∷ []) next
-    → out_after ≡ out_now ++ more → (report_of i (early_rows (text ++ c.read) ++ row ∷ [])).findings ≡ found_at i (text ++ c.read) ++ more → Course I N S i text chunk after next left out out_after
+pub course_row : {A C : Type 0} → (I : C → Interface) (N : C → ℕ) (S : C → Channel → Type 0) (i : Interface) (text chunk rest left : List ℕ) (row : ReadRow) (reader after : Progress) (o next : Observer A C) (out out_now out_after more : List Finding)
+    → (c : Course I N S i text chunk reader o rest out out_now) → ReadsRow reader after rest left row → after.interface ≡ early_head ((text ++ c.read) ++ rest) → IsObserverOf I N S i (items_of i (early_rows (text ++ c.read)) ++ item_read i row ∷ []) next
+    → out_after ≡ out_now ++ more → (report_of i (items_of i (early_rows (text ++ c.read)) ++ item_read i row ∷ [])).findings ≡ found_at i (text ++ c.read) ++ more → Course I N S i text chunk after next left out out_after
 course_row I N S i text chunk rest left row reader after o next out out_now out_after more c t kept took has finds =
     let w = c.observing in
-    let here : found_at i ((text ++ c.read) ++ t.taken) ≡ found_at i (text ++ c.read) ++ more = ap (λ rows. (report_of i rows).findings) (t.rows (text ++ c.read) w.reads) ∙ finds in
+    let here : found_at i ((text ++ c.read) ++ t.1.taken) ≡ found_at i (text ++ c.read) ++ more = ap (λ items. (report_of i items).findings) (next_items i reader after (text ++ c.read) rest left row w.reads t) ∙ finds in
     record {
-      read = c.read ++ t.taken;
-      whole = c.whole ∙ ap (λ x. c.read ++ x) t.whole ∙ sym (append_assoc c.read t.taken left);
-      observing = subst (λ x. IsObserving I N S i x after next) (append_assoc text c.read t.taken)
+      read = c.read ++ t.1.taken;
+      whole = c.whole ∙ ap (λ x. c.read ++ x) t.1.whole ∙ sym (append_assoc c.read t.1.taken left);
+      observing = subst (λ x. IsObserving I N S i x after next) (append_assoc text c.read t.1.taken)
           (observed_row I N S i (text ++ c.read) rest left row reader after next w.reads t (header_stays reader after (text ++ c.read) rest i w.reads w.header kept) took);
-      found = subst (λ x. HasFound out out_after (found_at i text) (found_at i x)) (append_assoc text c.read t.taken)
-          (found_next out out_now out_after (found_at i text) (found_at i (text ++ c.read)) (found_at i ((text ++ c.read) ++ t.taken)) c.found (record { more = more; out_has = has; known_has = here }));
+      found = subst (λ x. HasFound out out_after (found_at i text) (found_at i x)) (append_assoc text c.read t.1.taken)
+          (found_next out out_now out_after (found_at i text) (found_at i (text ++ c.read)) (found_at i ((text ++ c.read) ++ t.1.taken)) c.found (record { more = more; out_has = has; known_has = here }));
     }
 
 -- the whole text with the chunk
@@ -81,7 +105,7 @@ course_end I N S i text chunk rest reader after o out out_after c t kept =
     record {
       reads = subst (IsReaderOf after) all (t.stands (text ++ c.read) w.reads);
       header = header_stays reader after (text ++ c.read) rest i w.reads w.header kept;
-      observes = subst (λ x. IsObserverOf I N S i (early_rows x) o) all (subst (λ rows. IsObserverOf I N S i rows o) (sym (t.rows (text ++ c.read) w.reads)) w.observes);
+      observes = subst (λ x. IsObserverOf I N S i (items_of i (early_rows x)) o) all (subst (λ rows. IsObserverOf I N S i (items_of i rows) o) (sym (t.rows (text ++ c.read) w.reads)) w.observes);
     }
 
 -- the rest of the chunk has no further row
@@ -89,7 +113,7 @@ pub course_found : {A C : Type 0} → (I : C → Interface) (N : C → ℕ) (S :
     → (c : Course I N S i text chunk reader o rest out out_after) → ReadsChunk reader after rest → HasFound out out_after (found_at i text) (found_at i (text ++ chunk))
 course_found I N S i text chunk rest reader after o out out_after c t =
     subst (λ x. HasFound out out_after (found_at i text) (found_at i x)) (course_text I N S i text chunk rest reader o out out_after c)
-    (subst (λ x. HasFound out out_after (found_at i text) x) (ap (λ rows. (report_of i rows).findings) (sym (t.rows (text ++ c.read) c.observing.reads))) c.found)
+    (subst (λ x. HasFound out out_after (found_at i text) x) (ap (λ rows. (report_of i (items_of i rows)).findings) (sym (t.rows (text ++ c.read) c.observing.reads))) c.found)
 
 -- the rest of the chunk is refused
 pub course_refused : {A C : Type 0} → (I : C → Interface) (N : C → ℕ) (S : C → Channel → Type 0) (i : Interface) (text chunk rest : List ℕ) (reader : Progress) (o : Observer A C) (out out_after : List Finding) (f : Fault)

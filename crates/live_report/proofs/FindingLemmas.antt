@@ -9,38 +9,36 @@ use Rattle.line_model.specs.declared.finding.Finding.{Finding}
 use Rattle.line_model.specs.declared.event.What.{What}
 use Rattle.line_model.specs.declared.route.Route.{Route}
 use Rattle.line_model.specs.declared.route.Route.TheVariants.{ToChannel, Leave, Enter, Found, Pass}
-use Rattle.line_model.specs.basics.Records.{Row, Item}
+use Rattle.line_model.specs.basics.Records.{Item}
 use Rattle.line_model.specs.channels.RestartMachine.{LineState}
 use Rattle.line_model.specs.channels.Channels.{Channel, fresh, is_open}
 use Rattle.line_model.specs.channels.ChannelStep.{channel_step}
-use Rattle.line_model.specs.basics.Octets.{channel_of}
 use Rattle.line_model.specs.observer.Machine.{Observer}
 use Rattle.line_model.specs.observer.MachineEvents.{RowEvent, stamp, closed_events, row_events as all_row_events, row_events_routed, walk_events}
 use Rattle.line_model.specs.observer.Observer.{x25, start, routing, is_ready, route_found, restart_end_if, restart_end, event_of, events}
-use Rattle.line_model.specs.pieces.Plans.{item_of}
 use Rattle.line_model.specs.pieces.Pieces.{piece_rows}
 use Rattle.line_model.specs.observer.Report.{findings_of, report_of}
 use Rattle.restart_epochs.specs.OpenRows.{rows_of}
 use Rattle.restart_epochs.specs.Cutting.{Cutting, StandsFor as IsCutterOf, observer, places, rows_if}
 use Rattle.restart_epochs.specs.declared.walk.EpochWalk.{EpochWalk}
 use Rattle.restart_epochs.specs.declared.walk.Step.{Step}
-use Rattle.restart_epochs.specs.Walks.{route_finding, routed_at, turn_of, IsStep}
+use Rattle.restart_epochs.specs.Walks.{route_finding, turn_of, IsStep}
 use Rattle.restart_epochs.proofs.LineFindings.{events_append, found_here}
 use Rattle.restart_epochs.proofs.Routes.{is_to_channel}
 use Rattle.restart_epochs.proofs.Steps.{on_channel, routed_to, routed_none}
-use Rattle.restart_epochs.proofs.Taken.{routed_by}
 use Rattle.restart_epochs.proofs.States.{after_rows, states_of}
 use Rattle.channel_run.specs.Run.{row_events}
 use Rattle.channel_run.specs.Live.{channel_after, channel_so_far}
-use Rattle.line_model.specs.packets.Classes.{packet_of}
 use Rattle.live_report.specs.Lanes.{begun_piece}
 use Rattle.live_report.specs.Turns.{FindsAt, FindsBy}
+use Rattle.line_model.specs.packets.Says.{packet_channel}
+use Rattle.line_model.specs.basics.Bounds.{IsSaid}
 
-pub findings_append : (us vs : List (RowEvent Row What)) → findings_of (map event_of (us ++ vs)) ≡ findings_of (map event_of us) ++ findings_of (map event_of vs)
+pub findings_append : (us vs : List (RowEvent Item What)) → findings_of (map event_of (us ++ vs)) ≡ findings_of (map event_of us) ++ findings_of (map event_of vs)
 findings_append us vs = ap findings_of (map-append event_of us vs) ∙ filter_map-append _ (map event_of us) (map event_of vs)
 
 -- what one more row finds comes behind
-found_more : (i : Interface) (rs : List Row) (r : Row) → findings_of (events i (rs ++ r ∷ [])) ≡ findings_of (events i rs) ++ findings_of (map event_of (all_row_events (x25 i) (observer i rs) r))
+found_more : (i : Interface) (rs : List Item) (r : Item) → findings_of (events i (rs ++ r ∷ [])) ≡ findings_of (events i rs) ++ findings_of (map event_of (all_row_events (x25 i) (observer i rs) r))
 found_more i rs r =
     let o = observer i rs in
     ap (λ l. findings_of (map event_of l)) (events_append (x25 i) (start i) rs (r ∷ []))
@@ -48,90 +46,87 @@ found_more i rs r =
     ∙ ap (λ l. findings_of (events i rs) ++ findings_of (map event_of l)) (append-nil (all_row_events (x25 i) o r))
 
 -- the end of a call is no finding
-end_found : (e k : ℕ) (r : Row) (b : Bool) → findings_of (map event_of (stamp e (Some k) r (restart_end_if b))) ≡ []
+end_found : (e k : ℕ) (r : Item) (b : Bool) → findings_of (map event_of (stamp e (Some k) r (restart_end_if b))) ≡ []
 end_found e k r true = refl
 end_found e k r false = refl
 
-ends_found : (i : Interface) (o : Observer LineState Channel) (r : Row) (ks : List ℕ) → findings_of (map event_of (flat_map (λ k. stamp o.epoch (Some k) r (restart_end (o.states k))) ks)) ≡ []
+ends_found : (i : Interface) (o : Observer LineState Channel) (r : Item) (ks : List ℕ) → findings_of (map event_of (flat_map (λ k. stamp o.epoch (Some k) r (restart_end (o.states k))) ks)) ≡ []
 ends_found i o r [] = refl
 ends_found i o r (k ∷ ks) =
     findings_append (stamp o.epoch (Some k) r (restart_end (o.states k))) (flat_map (λ j. stamp o.epoch (Some j) r (restart_end (o.states j))) ks)
     ∙ ap (λ l. l ++ findings_of (map event_of (flat_map (λ j. stamp o.epoch (Some j) r (restart_end (o.states j))) ks))) (end_found o.epoch k r (is_open (o.states k)))
     ∙ ends_found i o r ks
 
-closed_found : (i : Interface) (o : Observer LineState Channel) (r : Row) (b a : Bool) → findings_of (map event_of (closed_events (x25 i) o r b a)) ≡ []
+closed_found : (i : Interface) (o : Observer LineState Channel) (r : Item) (b a : Bool) → findings_of (map event_of (closed_events (x25 i) o r b a)) ≡ []
 closed_found i o r true false = ends_found i o r (x25 i).channels
 closed_found i o r true true = refl
 closed_found i o r false a = refl
 
-pub found_on_line : (i : Interface) (rs : List Row) (c : Cutting) (r : Row) → IsCutterOf i rs c → is_to_channel (routing i c.line r).route ≡ false → findings_of (events i (rs ++ r ∷ [])) ≡ findings_of (events i rs) ++ route_finding r (routing i c.line r).route
+pub found_on_line : (i : Interface) (rs : List Item) (c : Cutting) (r : Item) → IsCutterOf i rs c → is_to_channel (routing c.line r).route ≡ false → findings_of (events i (rs ++ r ∷ [])) ≡ findings_of (events i rs) ++ route_finding r (routing c.line r).route
 found_on_line i rs c r s to =
     let o = observer i rs in
-    let own = stamp o.epoch None r (route_found r (routing i o.line r).route) in
-    let closed = closed_events (x25 i) o r (is_ready o.line) (is_ready (routing i o.line r).after) in
+    let own = stamp o.epoch None r (route_found r (routing o.line r).route) in
+    let closed = closed_events (x25 i) o r (is_ready o.line) (is_ready (routing o.line r).after) in
     found_more i rs r
     ∙ ap (λ l. findings_of (events i rs) ++ l)
-    (ap (λ q. findings_of (map event_of (row_events_routed (x25 i) o r q))) (routed_none i o.line r (ap (λ l. is_to_channel (routing i l r).route) (sym s.line) ∙ to))
+    (ap (λ q. findings_of (map event_of (row_events_routed (x25 i) o r q))) (routed_none i o.line r (ap (λ l. is_to_channel (routing l r).route) (sym s.line) ∙ to))
     ∙ findings_append own closed
-    ∙ ap (λ l. findings_of (map event_of own) ++ l) (closed_found i o r (is_ready o.line) (is_ready (routing i o.line r).after))
+    ∙ ap (λ l. findings_of (map event_of own) ++ l) (closed_found i o r (is_ready o.line) (is_ready (routing o.line r).after))
     ∙ append-nil (findings_of (map event_of own))
-    ∙ found_here o.epoch r (routing i o.line r).route
-    ∙ ap (λ l. route_finding r (routing i l r).route) (sym s.line))
+    ∙ found_here o.epoch r (routing o.line r).route
+    ∙ ap (λ l. route_finding r (routing l r).route) (sym s.line))
 
 -- the channel of the rows of a piece
-same_channel : (i : Interface) (k : ℕ) (c : Channel) (rs : List Row) → channel_after i k c (map (item_of i) rs) ≡ after_rows i k c rs
+same_channel : (i : Interface) (k : ℕ) (c : Channel) (rs : List Item) → channel_after i k c rs ≡ after_rows i k c rs
 same_channel i k c [] = refl
 same_channel i k c (r ∷ rs) = same_channel i k (channel_step i k c r).after rs
 
 -- in r1 the state of a channel is that of its piece in the open epoch
-pub state_here : (i : Interface) (rs : List Row) (c : Cutting) (k : ℕ) → IsCutterOf i rs c → is_ready (observer i rs).line ≡ true → (observer i rs).states k ≡ channel_so_far (begun_piece c.interface c.epoch k (rows_of c.open_rows k))
+pub state_here : (i : Interface) (rs : List Item) (c : Cutting) (k : ℕ) → IsCutterOf i rs c → is_ready (observer i rs).line ≡ true → (observer i rs).states k ≡ channel_so_far (begun_piece c.interface c.epoch k (rows_of c.open_rows k))
 state_here i rs c k s ready =
     let o = observer i rs in
-    let rows : rows_of c.open_rows k ≡ map (item_of i) (piece_rows o.epoch k (places i rs)) = s.rows k ∙ ap (λ b. rows_if b i (places i rs) o.epoch k) ready in
+    let rows : rows_of c.open_rows k ≡ piece_rows o.epoch k (places i rs) = s.rows k ∙ ap (λ b. rows_if b i (places i rs) o.epoch k) ready in
     states_of i rs ready k ∙ sym (same_channel i k (fresh i o.epoch k) (piece_rows o.epoch k (places i rs))) ∙ ap (channel_after i k (fresh i o.epoch k)) (sym rows)
     ∙ (λ t. channel_so_far (begun_piece (sym s.interface t) (sym s.epoch t) k (rows_of c.open_rows k)))
 
 -- the events of a row on its channel, by the rows of the open epoch
-pub events_on : (i : Interface) (rs : List Row) (c : Cutting) (r : Row) → IsCutterOf i rs c → is_to_channel (routing i c.line r).route ≡ true
-    → row_events i (observer i rs).epoch (channel_of r.octets) ((observer i rs).states (channel_of r.octets)) r
-    ≡ row_events c.interface c.epoch (channel_of r.octets) (channel_so_far (begun_piece c.interface c.epoch (channel_of r.octets) (rows_of c.open_rows (channel_of r.octets)))) r
+pub events_on : (i : Interface) (rs : List Item) (c : Cutting) (r : Item) → IsCutterOf i rs c → is_to_channel (routing c.line r).route ≡ true
+    → row_events i (observer i rs).epoch (packet_channel r.packet) ((observer i rs).states (packet_channel r.packet)) r
+    ≡ row_events c.interface c.epoch (packet_channel r.packet) (channel_so_far (begun_piece c.interface c.epoch (packet_channel r.packet) (rows_of c.open_rows (packet_channel r.packet)))) r
 events_on i rs c r s to =
-    let on = on_channel i rs r (ap (λ l. is_to_channel (routing i l r).route) (sym s.line) ∙ to) in
-    let state = state_here i rs c (channel_of r.octets) s on.ready in
-    (λ t. row_events (sym s.interface t) (sym s.epoch t) (channel_of r.octets) (state t) r)
+    let on = on_channel i rs r (ap (λ l. is_to_channel (routing l r).route) (sym s.line) ∙ to) in
+    let state = state_here i rs c (packet_channel r.packet) s on.ready in
+    (λ t. row_events (sym s.interface t) (sym s.epoch t) (packet_channel r.packet) (state t) r)
 
-pub found_on_channel : (i : Interface) (rs : List Row) (c : Cutting) (r : Row) → IsCutterOf i rs c → is_to_channel (routing i c.line r).route ≡ true
-    → findings_of (events i (rs ++ r ∷ [])) ≡ findings_of (events i rs) ++ findings_of (row_events c.interface c.epoch (channel_of r.octets) (channel_so_far (begun_piece c.interface c.epoch (channel_of r.octets) (rows_of c.open_rows (channel_of r.octets)))) r)
+pub found_on_channel : (i : Interface) (rs : List Item) (c : Cutting) (r : Item) → IsCutterOf i rs c → is_to_channel (routing c.line r).route ≡ true
+    → findings_of (events i (rs ++ r ∷ [])) ≡ findings_of (events i rs) ++ findings_of (row_events c.interface c.epoch (packet_channel r.packet) (channel_so_far (begun_piece c.interface c.epoch (packet_channel r.packet) (rows_of c.open_rows (packet_channel r.packet)))) r)
 found_on_channel i rs c r s to =
     let o = observer i rs in
-    let here = ap (λ l. is_to_channel (routing i l r).route) (sym s.line) ∙ to in
+    let here = ap (λ l. is_to_channel (routing l r).route) (sym s.line) ∙ to in
     found_more i rs r
     ∙ ap (λ l. findings_of (events i rs) ++ l)
     (ap (λ q. findings_of (map event_of (row_events_routed (x25 i) o r q))) (routed_to i o.line r here) ∙ ap findings_of (events_on i rs c r s to))
 
 -- ---- what a call answers
 
-pub finds_after : {B : Type 0} → (i : Interface) (rs : List Row) (c : Cutting) (item : Item) (step : Step) (v : EpochWalk B) (found : Option Finding) → IsCutterOf i rs c → item.packet ≡ packet_of c.interface item.row.octets → IsStep c.line c.epoch item step
-    → v.interface ≡ c.interface → v.epoch ≡ c.epoch → FindsBy step v c.open_rows item.row found → (report_of i (rs ++ item.row ∷ [])).findings ≡ (report_of i rs).findings ++ option_to_list found
+pub finds_after : {B : Type 0} → (i : Interface) (rs : List Item) (c : Cutting) (item : Item) (step : Step) (v : EpochWalk B) (found : Option Finding) → IsCutterOf i rs c → IsSaid c.interface item → IsStep c.line c.epoch item step
+    → v.interface ≡ c.interface → v.epoch ≡ c.epoch → FindsBy step v c.open_rows item found → (report_of i (rs ++ item ∷ [])).findings ≡ (report_of i rs).findings ++ option_to_list found
 finds_after i rs c item step v found s packet is same_interface same_epoch h =
-    at (routed_at c.line item).route refl (subst (λ t. FindsAt t step.finding v c.open_rows item.row found) is.turn h)
+    at (routing c.line item).route refl (subst (λ t. FindsAt t step.finding v c.open_rows item found) is.turn h)
   where
-    r : Row
-    r = item.row
+    r : Item
+    r = item
 
-    routed : routed_at c.line item ≡ routing i c.line r
-    routed = routed_by i rs c item (routed_at c.line item) s (record { packet = packet; stepped = refl })
-
-    on_line : (q : Route) → (routed_at c.line item).route ≡ q → is_to_channel q ≡ false → found ≡ step.finding → findings_of (events i (rs ++ r ∷ [])) ≡ findings_of (events i rs) ++ option_to_list found
+    on_line : (q : Route) → (routing c.line item).route ≡ q → is_to_channel q ≡ false → found ≡ step.finding → findings_of (events i (rs ++ r ∷ [])) ≡ findings_of (events i rs) ++ option_to_list found
     on_line q e to same =
-        found_on_line i rs c r s (ap (λ x. is_to_channel x.route) (sym routed) ∙ ap is_to_channel e ∙ to)
-        ∙ ap (λ l. findings_of (events i rs) ++ l) (sym (ap option_to_list same ∙ is.finding ∙ ap (λ x. route_finding r x.route) routed))
+        found_on_line i rs c r s (ap is_to_channel e ∙ to)
+        ∙ ap (λ l. findings_of (events i rs) ++ l) (sym (ap option_to_list same ∙ is.finding))
 
-    at : (q : Route) → (routed_at c.line item).route ≡ q → FindsAt (turn_of r.octets q) step.finding v c.open_rows r found → findings_of (events i (rs ++ r ∷ [])) ≡ findings_of (events i rs) ++ option_to_list found
+    at : (q : Route) → (routing c.line item).route ≡ q → FindsAt (turn_of r.packet q) step.finding v c.open_rows r found → findings_of (events i (rs ++ r ∷ [])) ≡ findings_of (events i rs) ++ option_to_list found
     at ToChannel e f =
-        found_on_channel i rs c r s (ap (λ x. is_to_channel x.route) (sym routed) ∙ ap is_to_channel e)
+        found_on_channel i rs c r s (ap is_to_channel e)
         ∙ ap (λ l. findings_of (events i rs) ++ l)
-        (sym (f ∙ (λ t. findings_of (row_events (same_interface t) (same_epoch t) (channel_of r.octets) (channel_so_far (begun_piece (same_interface t) (same_epoch t) (channel_of r.octets) (rows_of c.open_rows (channel_of r.octets)))) r))))
+        (sym (f ∙ (λ t. findings_of (row_events (same_interface t) (same_epoch t) (packet_channel r.packet) (channel_so_far (begun_piece (same_interface t) (same_epoch t) (packet_channel r.packet) (rows_of c.open_rows (packet_channel r.packet)))) r))))
     at (Leave code) e f = on_line (Leave code) e refl f
     at Enter e f = on_line Enter e refl f
     at (Found state code) e f = on_line (Found state code) e refl f

@@ -25,6 +25,7 @@ use Rattle.live_report.proofs.FoundLemmas.{nothing_found}
 use Rattle.live_report.proofs.LawLemmas.{found_in_report, lines_more}
 use Rattle.live_report.proofs.ReportLemmas.{report_text}
 use Rattle.line_model.proofs.DeviceLemmas.{front_of, with_more-append, with_more-nil}
+use Rattle.line_model.specs.packets.Says.{items_of}
 
 -- ---- what a chunk found
 
@@ -106,7 +107,7 @@ pub told_front : (text : List ℕ) (r : Report) → early text ≡ None → IsRe
 told_front text r sound is =
     let nil = append-nil text in
     let others = found_in_report text [] is.interface sound (ap head nil ∙ is.header) in
-    (others.0, ap (λ (x : Report). x.findings) is.report ∙ ap (λ x. (report_of is.interface (rows x)).findings) (sym nil) ∙ others.1)
+    (others.0, ap (λ (x : Report). x.findings) is.report ∙ ap (λ x. (report_of is.interface (items_of is.interface (rows x))).findings) (sym nil) ∙ others.1)
 
 pub told_within : (text : List ℕ) (r : Report) (told : ℕ) → early text ≡ None → IsReportOf text r → told ≡ length (found text) → told ≤ length r.findings
 told_within text r told sound is n =

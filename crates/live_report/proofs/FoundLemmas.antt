@@ -8,16 +8,18 @@ use Rattle.line_model.specs.declared.fault.Fault.TheVariants.{Memory, Trace, Rea
 use Rattle.line_model.specs.observer.Machine.{walk}
 use Rattle.line_model.specs.observer.MachineEvents.{walk_events}
 use Rattle.line_model.specs.observer.Observer.{event_of, start, x25}
-use Rattle.line_model.specs.basics.Records.{Row}
+use Rattle.line_model.specs.basics.Records.{Row, Item}
 use Rattle.line_model.specs.observer.Report.{findings_of, report_of}
 use Rattle.line_model.specs.text.Text.{early_head, early_rows}
 use Rattle.restart_epochs.proofs.LineFindings.{events_append}
 use Rattle.trace_text.specs.StandsFor.{AreKnown}
 use Rattle.live_report.specs.Found.{HasFound, IsFoundUpTo, found, found_at}
 use Rattle.live_report.proofs.FindingLemmas.{findings_append}
+use Rattle.line_model.specs.packets.Says.{items_of}
+use Rattle.line_model.proofs.Saying.{items_more}
 
 -- more rows find more
-pub findings_grow : (i : Interface) (rs more : List Row) → (others : List Finding) × ((report_of i (rs ++ more)).findings ≡ (report_of i rs).findings ++ others)
+pub findings_grow : (i : Interface) (rs more : List Item) → (others : List Finding) × ((report_of i (rs ++ more)).findings ≡ (report_of i rs).findings ++ others)
 findings_grow i rs more =
     let after = walk (x25 i) (start i) rs in (
       findings_of (map event_of (walk_events (x25 i) after more)),
@@ -28,9 +30,9 @@ findings_grow i rs more =
 pub found_under : (i : Interface) (text : List ℕ) → early_head text ≡ Some i → found text ≡ found_at i text
 found_under i text h = ap (λ o. elim o as (λ _. List Finding) [ None ↦ [] | Some j ↦ found_at j text ]) h
 
-no_rows_found : (o : Option Interface) (rows : List Row) → rows ≡ [] → (elim o as (λ _. List Finding) [ None ↦ [] | Some j ↦ (report_of j rows).findings ]) ≡ []
+no_rows_found : (o : Option Interface) (rows : List Row) → rows ≡ [] → (elim o as (λ _. List Finding) [ None ↦ [] | Some j ↦ (report_of j (items_of j rows)).findings ]) ≡ []
 no_rows_found None rows h = refl
-no_rows_found (Some j) rows h = ap (λ rs. (report_of j rs).findings) h
+no_rows_found (Some j) rows h = ap (λ rs. (report_of j (items_of j rs)).findings) h
 
 -- without rows nothing is found
 pub nothing_found : (text : List ℕ) → early_rows text ≡ [] → found text ≡ []
@@ -61,9 +63,9 @@ found_some f a b k l m e h more =
 -- at a refusal the findings of all rows before the faulty line are known
 pub found_refused : (f : Fault) (i : Interface) (given all : List ℕ) (a b k : List Finding) → HasFound a b k (found_at i given) → AreKnown (early_rows given) (early_rows all) f → IsFoundUpTo f a b k (found_at i all)
 found_refused Memory i given all a b k h r =
-    let grown = findings_grow i (early_rows given) r.0 in
-    found_some Memory a b k (found_at i given) (found_at i all) refl h (grown.0, ap (λ rows. (report_of i rows).findings) r.1 ∙ grown.1)
-found_refused (Trace line kind) i given all a b k h r = subst (λ m. HasFound a b k m) (ap (λ rows. (report_of i rows).findings) (sym r)) h
+    let grown = findings_grow i (items_of i (early_rows given)) (items_of i r.0) in
+    found_some Memory a b k (found_at i given) (found_at i all) refl h (grown.0, ap (λ rows. (report_of i (items_of i rows)).findings) r.1 ∙ ap (λ items. (report_of i items).findings) (items_more i (early_rows given) r.0) ∙ grown.1)
+found_refused (Trace line kind) i given all a b k h r = subst (λ m. HasFound a b k m) (ap (λ rows. (report_of i (items_of i rows)).findings) (sym r)) h
 found_refused Read i given all a b k h r = absurd r
 found_refused Write i given all a b k h r = absurd r
 found_refused Start i given all a b k h r = absurd r

@@ -19,6 +19,8 @@ use Rattle.trace_text.proofs.RefusalLemmas.{more_lines, rows_grow}
 use Rattle.live_report.specs.Found.{found, found_at, found_text}
 use Rattle.live_report.specs.Laws.{GrowthLaw, ReportLaw}
 use Rattle.live_report.proofs.FoundLemmas.{findings_grow, found_under}
+use Rattle.line_model.specs.packets.Says.{items_of}
+use Rattle.line_model.proofs.Saying.{items_more}
 
 pub lines_more : (a b : List Finding) → findings_text (a ++ b) ≡ findings_text a ++ findings_text b
 lines_more a b = flat_map-append finding_line a b
@@ -75,7 +77,7 @@ rows_kept text more at h =
 found_kept : (text more : List ℕ) (at : ℕ × Kind) → early text ≡ Some at → found (text ++ more) ≡ found text
 found_kept text more at h =
     ap (λ o. elim o as (λ _. List Finding) [ None ↦ [] | Some j ↦ found_at j (text ++ more) ]) (head_kept text more at h)
-    ∙ ap (λ rs. elim (early_head text) as (λ _. List Finding) [ None ↦ [] | Some j ↦ (report_of j rs).findings ]) (rows_kept text more at h)
+    ∙ ap (λ rs. elim (early_head text) as (λ _. List Finding) [ None ↦ [] | Some j ↦ (report_of j (items_of j rs)).findings ]) (rows_kept text more at h)
 
 -- ---- a text without a fault so far
 
@@ -83,9 +85,9 @@ found_on : (text more : List ℕ) (o : Option Interface) → early_head text ≡
 found_on text more None e h = (found (text ++ more), ap (λ xs. xs ++ found (text ++ more)) (sym (found_unheaded text e)))
 found_on text more (Some i) e h =
     let rs = rows_grow text more h in
-    let grown = findings_grow i (early_rows text) rs.0 in (
+    let grown = findings_grow i (items_of i (early_rows text)) (items_of i rs.0) in (
       grown.0,
-      found_under i (text ++ more) (early_head_stays text more i h e) ∙ ap (λ l. (report_of i l).findings) rs.1 ∙ grown.1 ∙ ap (λ xs. xs ++ grown.0) (sym (found_under i text e)),
+      found_under i (text ++ more) (early_head_stays text more i h e) ∙ ap (λ l. (report_of i (items_of i l)).findings) rs.1 ∙ ap (λ l. (report_of i l).findings) (items_more i (early_rows text) rs.0) ∙ grown.1 ∙ ap (λ xs. xs ++ grown.0) (sym (found_under i text e)),
     )
 
 found_grows : (text more : List ℕ) (o : Option (ℕ × Kind)) → early text ≡ o → (rest : List Finding) × (found (text ++ more) ≡ found text ++ rest)
@@ -102,24 +104,24 @@ growth text more =
 some_same : (i j : Interface) → Some i ≡ Some j → i ≡ j
 some_same i j h = cc
 
-in_report : (given rest : List ℕ) (i : Interface) (o : Option Interface) → early_head given ≡ o → early given ≡ None → head (given ++ rest) ≡ Some i → (others : List Finding) × ((report_of i (rows (given ++ rest))).findings ≡ found given ++ others)
-in_report given rest i None e h is = ((report_of i (rows (given ++ rest))).findings, ap (λ xs. xs ++ (report_of i (rows (given ++ rest))).findings) (sym (found_unheaded given e)))
+in_report : (given rest : List ℕ) (i : Interface) (o : Option Interface) → early_head given ≡ o → early given ≡ None → head (given ++ rest) ≡ Some i → (others : List Finding) × ((report_of i (items_of i (rows (given ++ rest)))).findings ≡ found given ++ others)
+in_report given rest i None e h is = ((report_of i (items_of i (rows (given ++ rest)))).findings, ap (λ xs. xs ++ (report_of i (items_of i (rows (given ++ rest)))).findings) (sym (found_unheaded given e)))
 in_report given rest i (Some j) e h is =
     let same : j ≡ i = some_same j i (sym (head_stays given rest j h e) ∙ is) in
     let rs = rows_first given rest h in
-    let grown = findings_grow i (early_rows given) rs.0 in
-    (grown.0, ap (λ l. (report_of i l).findings) rs.1 ∙ grown.1 ∙ ap (λ xs. xs ++ grown.0) (ap (λ k. found_at k given) (sym same) ∙ sym (found_under j given e)))
+    let grown = findings_grow i (items_of i (early_rows given)) (items_of i rs.0) in
+    (grown.0, ap (λ l. (report_of i (items_of i l)).findings) rs.1 ∙ ap (λ l. (report_of i l).findings) (items_more i (early_rows given) rs.0) ∙ grown.1 ∙ ap (λ xs. xs ++ grown.0) (ap (λ k. found_at k given) (sym same) ∙ sym (found_under j given e)))
 
 -- the findings so far stand first in the report of a text
-pub found_in_report : (given rest : List ℕ) (i : Interface) → early given ≡ None → head (given ++ rest) ≡ Some i → (others : List Finding) × ((report_of i (rows (given ++ rest))).findings ≡ found given ++ others)
+pub found_in_report : (given rest : List ℕ) (i : Interface) → early given ≡ None → head (given ++ rest) ≡ Some i → (others : List Finding) × ((report_of i (items_of i (rows (given ++ rest)))).findings ≡ found given ++ others)
 found_in_report given rest i h is = in_report given rest i (early_head given) refl h is
 
 report_text_in : (text more : List ℕ) (o : Option Interface) → head (text ++ more) ≡ o → early text ≡ None → (rest : List ℕ) × (trace_report (text ++ more) ≡ found_text text ++ rest)
 report_text_in text more (Some i) e h =
     let others = found_in_report text more i h e in
-    let r : Report = report_of i (rows (text ++ more)) in (
+    let r : Report = report_of i (items_of i (rows (text ++ more))) in (
       findings_text others.0 ++ rest_text r,
-      ap (λ o. elim o as (λ _. List ℕ) [ None ↦ [] | Some j ↦ report j (rows (text ++ more)) ]) e ∙ sym (two_parts r)
+      ap (λ o. elim o as (λ _. List ℕ) [ None ↦ [] | Some j ↦ report j (items_of j (rows (text ++ more))) ]) e ∙ sym (two_parts r)
           ∙ ap (λ xs. xs ++ rest_text r) (ap findings_text others.1 ∙ lines_more (found text) others.0) ∙ append_assoc (found_text text) (findings_text others.0) (rest_text r),
     )
 report_text_in text more None e h =

@@ -4,7 +4,6 @@ pub mod FindingLemmas
 pub mod LastLemmas
 pub mod UncountedLemmas
 pub mod StandLemmas
-pub mod UsualLemmas
 pub mod TakeLemmas
 pub mod ReportingLemmas
 pub mod WholeLemmas

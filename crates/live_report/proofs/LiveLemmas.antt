@@ -2,23 +2,24 @@
 use Rattle.std.proofs.Common.{◌≡◌, ◌∙◌, sym, ap, subst, ℕ, List, [], ◌∷◌, ◌++◌, Some, None, Result, append_assoc}
 use Rattle.line_model.specs.declared.interface.Interface.{Interface}
 use Rattle.line_model.specs.channels.Channels.{Channel}
-use Rattle.line_model.specs.basics.Records.{Row}
+use Rattle.line_model.specs.basics.Records.{ReadRow}
 use Rattle.line_model.specs.observer.Report.{report_of}
 use Rattle.line_model.specs.declared.fault.Fault.{Fault}
 use Rattle.line_model.specs.declared.fault.Fault.TheVariants.{Memory}
 use Rattle.line_model.specs.declared.finding.Finding.{Finding}
 use Rattle.line_model.specs.text.Text.{early_rows}
 use Rattle.trace_text.specs.Progress.{Progress}
-use Rattle.trace_text.specs.StandsFor.{StandsFor as IsReaderOf, TakesRow, ReadsChunk}
+use Rattle.trace_text.specs.StandsFor.{StandsFor as IsReaderOf, ReadsChunk}
 use Rattle.trace_text.proofs.Grows.{early_head_stays}
 use Rattle.trace_text.proofs.RefusalLemmas.{head_stands, known-here}
 use Rattle.live_report.specs.declared.live.Live.{Live}
 use Rattle.live_report.specs.declared.observer.Observer.{Observer}
-use Rattle.live_report.specs.Observing.{AreRows, StandsFor as IsObserverOf}
+use Rattle.live_report.specs.Observing.{AreItems, StandsFor as IsObserverOf}
 use Rattle.live_report.specs.Lives.{IsObserved, IsObserving, StandsFor}
 use Rattle.live_report.specs.Found.{HasFound, IsFoundBy, IsFoundUpTo, found, found_at}
 use Rattle.live_report.proofs.FoundLemmas.{found_none, found_under, found_unheaded, nothing_found}
-use Rattle.live_report.proofs.ChunkLemmas.{next_rows, observed_row}
+use Rattle.live_report.proofs.ChunkLemmas.{ReadsRow, next_items, next_rows, observed_row}
+use Rattle.line_model.specs.packets.Says.{item_read, items_of}
 
 pub observing_of : {A C : Type 0} → (I : C → Interface) (N : C → ℕ) (S : C → Channel → Type 0) (live : Live A C) (text : List ℕ) (o : Observer A C) → StandsFor I N S live text → live.observer ≡ Some o
     → (i : Interface) × IsObserving I N S i text live.lines o
@@ -37,17 +38,17 @@ stands_observing I N S i live text o w h running = record {
 }
 
 -- the first row may come
-pub first_rows : (reader after : Progress) (text chunk rest : List ℕ) (row : Row) → IsReaderOf reader text → early_rows text ≡ [] → TakesRow reader after chunk rest row → AreRows ([] ++ row ∷ [])
-first_rows reader after text chunk rest row s none t = subst (λ rows. AreRows (rows ++ row ∷ [])) none (next_rows reader after text chunk rest row s t)
+pub first_rows : (i : Interface) (reader after : Progress) (text chunk rest : List ℕ) (row : ReadRow) → IsReaderOf reader text → early_rows text ≡ [] → ReadsRow reader after chunk rest row → AreItems i ([] ++ item_read i row ∷ [])
+first_rows i reader after text chunk rest row s none t = subst (λ rows. AreItems i (items_of i rows ++ item_read i row ∷ [])) none (next_rows i reader after text chunk rest row s t)
 
-pub first_observed : {A C : Type 0} → (I : C → Interface) (N : C → ℕ) (S : C → Channel → Type 0) (i : Interface) (text chunk rest : List ℕ) (row : Row) (reader after : Progress) (o : Observer A C)
-    → IsReaderOf reader text → early_rows text ≡ [] → (t : TakesRow reader after chunk rest row) → Some i ≡ after.interface → IsObserverOf I N S i ([] ++ row ∷ []) o → IsObserving I N S i (text ++ t.taken) after o
+pub first_observed : {A C : Type 0} → (I : C → Interface) (N : C → ℕ) (S : C → Channel → Type 0) (i : Interface) (text chunk rest : List ℕ) (row : ReadRow) (reader after : Progress) (o : Observer A C)
+    → IsReaderOf reader text → early_rows text ≡ [] → (t : ReadsRow reader after chunk rest row) → Some i ≡ after.interface → IsObserverOf I N S i ([] ++ item_read i row ∷ []) o → IsObserving I N S i (text ++ t.1.taken) after o
 first_observed I N S i text chunk rest row reader after o s none t h took =
-    observed_row I N S i text chunk rest row reader after o s t (sym h) (subst (λ rows. IsObserverOf I N S i (rows ++ row ∷ []) o) (sym none) took)
+    observed_row I N S i text chunk rest row reader after o s t (sym h) (subst (λ rows. IsObserverOf I N S i (items_of i rows ++ item_read i row ∷ []) o) (sym none) took)
 
 -- the text with the chunk
-pub chunk_text : (reader after : Progress) (text chunk rest : List ℕ) (row : Row) → (t : TakesRow reader after chunk rest row) → (text ++ t.taken) ++ rest ≡ text ++ chunk
-chunk_text reader after text chunk rest row t = append_assoc text t.taken rest ∙ ap (λ x. text ++ x) (sym t.whole)
+pub chunk_text : (reader after : Progress) (text chunk rest : List ℕ) (row : ReadRow) → (t : ReadsRow reader after chunk rest row) → (text ++ t.1.taken) ++ rest ≡ text ++ chunk
+chunk_text reader after text chunk rest row t = append_assoc text t.1.taken rest ∙ ap (λ x. text ++ x) (sym t.1.whole)
 
 -- ---- what was found
 
@@ -71,10 +72,10 @@ found_no_more reader text chunk out out_after s none e =
     subst (λ l. IsFoundUpTo Memory out l (found text) (found (text ++ chunk))) (sym e) (found_unheaded Memory text (text ++ chunk) out none (known-here reader text chunk Memory s tt tt))
 
 -- what the first row found
-pub first_found : (i : Interface) (text chunk rest : List ℕ) (row : Row) (reader after : Progress) (out out_after more : List Finding) → IsReaderOf reader text → early_rows text ≡ [] → (t : TakesRow reader after chunk rest row)
-    → out_after ≡ out ++ more → (report_of i ([] ++ row ∷ [])).findings ≡ (report_of i []).findings ++ more → HasFound out out_after (found text) (found_at i (text ++ t.taken))
+pub first_found : (i : Interface) (text chunk rest : List ℕ) (row : ReadRow) (reader after : Progress) (out out_after more : List Finding) → IsReaderOf reader text → early_rows text ≡ [] → (t : ReadsRow reader after chunk rest row)
+    → out_after ≡ out ++ more → (report_of i ([] ++ item_read i row ∷ [])).findings ≡ (report_of i []).findings ++ more → HasFound out out_after (found text) (found_at i (text ++ t.1.taken))
 first_found i text chunk rest row reader after out out_after more s none t has finds = record {
   more = more;
   out_has = has;
-  known_has = ap (λ rows. (report_of i rows).findings) (t.rows text s ∙ ap (λ rows. rows ++ row ∷ []) none) ∙ finds ∙ ap (λ xs. xs ++ more) (sym (nothing_found text none));
+  known_has = ap (λ items. (report_of i items).findings) (next_items i reader after text chunk rest row s t ∙ ap (λ rows. items_of i rows ++ item_read i row ∷ []) none) ∙ finds ∙ ap (λ xs. xs ++ more) (sym (nothing_found text none));
 }

@@ -1,26 +1,29 @@
 -- The report of a text, from the observer of its rows.
-use Rattle.std.proofs.Common.{◌≡◌, ◌∙◌, refl, sym, ap, subst, ℕ, List, [], ◌++◌, length, Option, Some, None, Result, Ok, Err, IfOk, IfErr, append-nil}
+use Rattle.std.proofs.Common.{Bool, Err, IfErr, IfOk, List, None, Ok, Option, Result, Some, [], ap, append-nil, false, length, refl, subst, sym, true, ℕ, ◌∷◌, ◌++◌, ◌∙◌, ◌≡◌}
 use Rattle.line_model.specs.basics.Device.{with_more}
-use Rattle.line_model.specs.basics.Records.{Report, Row}
+use Rattle.line_model.specs.basics.Records.{Item, ReadRow, Report, Row}
 use Rattle.line_model.specs.observer.Report.{no_summary, report, report_of, text_of}
-use Rattle.line_model.specs.text.Text.{fault, head, rows}
+use Rattle.line_model.specs.text.Text.{early_rows, fault, head, rows}
 use Rattle.line_model.specs.traces.Traces.{trace_report, trace_summary}
 use Rattle.line_model.specs.declared.interface.Interface.{Interface}
 use Rattle.line_model.specs.declared.fault.Fault.{Fault}
 use Rattle.line_model.specs.declared.fault.Fault.TheVariants.{Memory, Trace, Write}
 use Rattle.line_model.specs.declared.totals.Summary.{Summary}
 use Rattle.trace_text.specs.Progress.{Progress}
-use Rattle.trace_text.specs.StandsFor.{StandsFor as IsReaderOf, IsFaultOf, IsTextFault}
+use Rattle.trace_text.specs.StandsFor.{StandsFor as IsReaderOf, IsFaultOf, IsTextFault, last_row}
 use Rattle.trace_text.proofs.Grows.{head_stays}
 use Rattle.trace_text.proofs.RefusalLemmas.{head_stands}
 use Rattle.trace_text.proofs.RowsOfText.{text_numbers, text_octets, text_rises}
-use Rattle.live_report.specs.Observing.{AreRows}
+use Rattle.live_report.specs.Observing.{AreItems, last_item}
 use Rattle.live_report.specs.Reports.{IsRefusal, IsReported, IsTaken}
 use Rattle.trace_text.specs.ObserverAnswers.{IsReportOf}
 use Rattle.line_model.proofs.DeviceLemmas.{front_of}
+use Rattle.line_model.specs.packets.Says.{item_read, items_of, read_row}
+use Rattle.live_report.proofs.ChunkLemmas.{items_sound}
+use Rattle.line_model.proofs.Saying.{items_more, read_says}
 
 -- a report of the rows of a text is the text's
-pub told_at : (text : List ℕ) (i : Interface) (rs : List Row) (answer : Result Report Fault) → IfOk answer (λ r. r ≡ report_of i rs) → fault text ≡ None → head text ≡ Some i → rows text ≡ rs → IfOk answer (IsReportOf text)
+pub told_at : (text : List ℕ) (i : Interface) (rs : List Item) (answer : Result Report Fault) → IfOk answer (λ r. r ≡ report_of i rs) → fault text ≡ None → head text ≡ Some i → items_of i (rows text) ≡ rs → IfOk answer (IsReportOf text)
 told_at text i rs (Ok r) h sound header same = record { sound = sound; interface = i; header = header; report = h ∙ ap (report_of i) (sym same) }
 told_at text i rs (Err f) h sound header same = tt
 
@@ -29,8 +32,13 @@ memory_only P (Ok x) h m = tt
 memory_only P (Err f) h m = subst P (sym h) m
 
 -- the rows of a text that has no fault
-pub whole_trace : (text : List ℕ) → fault text ≡ None → AreRows (rows text)
-whole_trace text sound = record { rising = text_rises text sound; numbers = text_numbers text sound; octets = text_octets text sound }
+pub whole_trace : (i : Interface) (text : List ℕ) → fault text ≡ None → AreItems i (items_of i (rows text))
+whole_trace i text sound = items_sound i (rows text) (text_rises text sound) (text_numbers text sound) (text_octets text sound)
+
+-- what the rows of a text say, with the row of a last line that no LF ended
+pub ended_items : (i : Interface) (text : List ℕ) (has_row : Bool) (row : ReadRow) → (last : Row) × (rows text ≡ early_rows text ++ last_row has_row last) × (has_row ≡ true → row ≡ read_row last) → items_of i (rows text) ≡ items_of i (early_rows text) ++ last_item i has_row row
+ended_items i text false row end = ap (items_of i) end.1 ∙ items_more i (early_rows text) []
+ended_items i text true row end = ap (items_of i) end.1 ∙ items_more i (early_rows text) (end.0 ∷ []) ∙ ap (λ r. items_of i (early_rows text) ++ r ∷ []) (sym (read_says i end.0) ∙ ap (item_read i) (sym (end.2 refl)))
 
 -- the header that was read is the text's
 pub whole_header : (reader : Progress) (text : List ℕ) (i : Interface) → IsReaderOf reader text → reader.interface ≡ Some i → head text ≡ Some i
@@ -39,10 +47,10 @@ whole_header reader text i s h = ap head (sym (append-nil text)) ∙ head_stays 
 -- ---- what was written
 
 pub report_text : (text : List ℕ) (r : Report) → (is : IsReportOf text r) → text_of r ≡ trace_report text
-report_text text r is = ap text_of is.report ∙ ap (λ o. elim o as (λ _. List ℕ) [ None ↦ [] | Some j ↦ report j (rows text) ]) (sym is.header)
+report_text text r is = ap text_of is.report ∙ ap (λ o. elim o as (λ _. List ℕ) [ None ↦ [] | Some j ↦ report j (items_of j (rows text)) ]) (sym is.header)
 
 pub report_sums : (text : List ℕ) (r : Report) → (is : IsReportOf text r) → r.summary ≡ trace_summary text
-report_sums text r is = ap (λ x. x.summary) is.report ∙ ap (λ o. elim o as (λ _. Summary) [ None ↦ no_summary | Some j ↦ (report_of j (rows text)).summary ]) (sym is.header)
+report_sums text r is = ap (λ x. x.summary) is.report ∙ ap (λ o. elim o as (λ _. Summary) [ None ↦ no_summary | Some j ↦ (report_of j (items_of j (rows text))).summary ]) (sym is.header)
 
 pub reported_by : (text : List ℕ) (r : Report) (before after : Option (List ℕ)) → IsReportOf text r → after ≡ with_more before (text_of r) → IsReported text before after r.summary
 reported_by text r before after is taken = record { sound = is.sound; taken = taken ∙ ap (with_more before) (report_text text r is); counted = report_sums text r is }

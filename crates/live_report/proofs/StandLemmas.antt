@@ -4,7 +4,7 @@ use Rattle.std.specs.Prelude.{All, sum_by}
 use Rattle.std.proofs.lemmas.List.{map-append}
 use Rattle.std.proofs.lemmas.List.Sums.{sum_by_push}
 use Rattle.line_model.specs.declared.interface.Interface.{Interface}
-use Rattle.line_model.specs.basics.Records.{Row, Item, Piece}
+use Rattle.line_model.specs.basics.Records.{Item, Item, Piece}
 use Rattle.line_model.specs.channels.Channels.{Channel}
 use Rattle.line_model.specs.pieces.Plan.{has_some}
 use Rattle.line_model.specs.pieces.Plans.{value}
@@ -20,7 +20,7 @@ use Rattle.live_report.specs.declared.observer.Observer.{Observer}
 use Rattle.live_report.specs.Lanes.{begun_piece, LaneFor, OpenFor}
 use Rattle.live_report.specs.LastRows.{KnowsLast}
 use Rattle.live_report.specs.Uncounted.{none_left_out, uncounted_of}
-use Rattle.live_report.specs.Observing.{AreRows, Holds, StandsFor}
+use Rattle.live_report.specs.Observing.{AreItems, Holds, StandsFor}
 use Rattle.live_report.proofs.LastLemmas.{no_row}
 use Rattle.line_model.proofs.LineLemmas.{last_or-add}
 
@@ -60,39 +60,39 @@ rises_past : (a : ℕ) (ns : List ℕ) (n : ℕ) → RisesFrom a (ns ++ n ∷ []
 rises_past a [] n h = h.0
 rises_past a (m ∷ ns) n h = rises_past m ns n h.1
 
-last_of_all : (P : Row → Type 0) (rs : List Row) (r : Row) → All P (rs ++ r ∷ []) → P r
+last_of_all : (P : Item → Type 0) (rs : List Item) (r : Item) → All P (rs ++ r ∷ []) → P r
 last_of_all P [] r h = h 0 r (omega arith)
 last_of_all P (x ∷ rs) r h = last_of_all P rs r (λ k d lt. h (suc k) d (omega (arith, lt)))
 
 -- a row that may come next
-pub record MayCome (c : Cutting) (r : Row) : Type 0 where
+pub record MayCome (c : Cutting) (r : Item) : Type 0 where
   pub rising : c.last < r.number
   pub number : r.number ≤ 999999999
-  pub octets : c.octets + length r.octets ≤ 2147483648
+  pub octets : c.octets + r.length ≤ 2147483648
 
-pub may_come : (c : Cutting) (rs : List Row) (r : Row) → c.last ≡ last_or 0 (map (λ x. x.number) rs) → c.octets ≡ sum_by (λ x. length x.octets) rs → AreRows (rs ++ r ∷ []) → MayCome c r
-may_come c rs r last octets h =
-    let all : RisesFrom 0 (map (λ x. x.number) rs ++ r.number ∷ []) = subst (RisesFrom 0) (map-append (λ (x : Row). x.number) rs (r ∷ [])) (rises-from_index (0 ∷ map (λ x. x.number) (rs ++ r ∷ [])) h.rising) in
+pub may_come : (i : Interface) (c : Cutting) (rs : List Item) (r : Item) → c.last ≡ last_or 0 (map (λ x. x.number) rs) → c.octets ≡ sum_by (λ x. x.length) rs → AreItems i (rs ++ r ∷ []) → MayCome c r
+may_come i c rs r last octets h =
+    let all : RisesFrom 0 (map (λ x. x.number) rs ++ r.number ∷ []) = subst (RisesFrom 0) (map-append (λ (x : Item). x.number) rs (r ∷ [])) (rises-from_index (0 ∷ map (λ x. x.number) (rs ++ r ∷ [])) h.rising) in
     let past : last_or 0 (map (λ x. x.number) rs) < r.number = rises_past 0 (map (λ x. x.number) rs) r.number all in
     let few = h.octets in
     record {
       rising = omega (arith, last, past);
       number = last_of_all (λ x. x.number ≤ 999999999) rs r h.numbers;
-      octets = omega (arith, few, octets, sum_by_push (λ (x : Row). length x.octets) rs r);
+      octets = omega (arith, few, octets, sum_by_push (λ (x : Item). x.length) rs r);
     }
 
 -- ---- one more row
 
-pub next_stands : {A C : Type 0} → (I : C → Interface) (N : C → ℕ) (S : C → Channel → Type 0) (i : Interface) (rs : List Row) (r : Row) (more : List Piece) (before new : Observer A C) (after : Cutting)
-    → (s : StandsFor I N S i rs before) → AreRows (rs ++ r ∷ []) → Pushed i rs r more after → IsCutting after → IsCounted r s.cutting after → Holds I N S after (map value (given_of i rs) ++ map value more) new
+pub next_stands : {A C : Type 0} → (I : C → Interface) (N : C → ℕ) (S : C → Channel → Type 0) (i : Interface) (rs : List Item) (r : Item) (more : List Piece) (before new : Observer A C) (after : Cutting)
+    → (s : StandsFor I N S i rs before) → AreItems i (rs ++ r ∷ []) → Pushed i rs r more after → IsCutting after → IsCounted r s.cutting after → Holds I N S after (map value (given_of i rs) ++ map value more) new
     → KnowsLast i (rs ++ r ∷ []) new.last new.events.items → new.uncounted ≡ uncounted_of i (rs ++ r ∷ []) → StandsFor I N S i (rs ++ r ∷ []) new
 next_stands I N S i rs r more before new after s sound pushed bounds counted holds known uncounted = record {
   sound = sound;
   cutting = after;
   cut = pushed.stands;
   bounds = bounds;
-  last = counted.last ∙ sym (ap (last_or 0) (map-append (λ (x : Row). x.number) rs (r ∷ [])) ∙ last_or-add 0 r.number (map (λ x. x.number) rs));
-  octets = counted.octets ∙ ap (λ n. n + length r.octets) s.octets ∙ sym (sum_by_push (λ (x : Row). length x.octets) rs r);
+  last = counted.last ∙ sym (ap (last_or 0) (map-append (λ (x : Item). x.number) rs (r ∷ [])) ∙ last_or-add 0 r.number (map (λ x. x.number) rs));
+  octets = counted.octets ∙ ap (λ n. n + r.length) s.octets ∙ sym (sum_by_push (λ (x : Item). x.length) rs r);
   holds = subst (λ reports. Holds I N S after reports new) (sym (ap (map value) pushed.given ∙ map-append value (given_of i rs) more)) holds;
   row = known;
   uncounted = uncounted;
@@ -104,7 +104,7 @@ of_no_length (p ∷ ps) h = absurd (omega (arith, h))
 
 pub nothing_taken : {A C : Type 0} → (I : C → Interface) (N : C → ℕ) (S : C → Channel → Type 0) (i : Interface) (o : Observer A C) → Holds I N S (no_cutting i) [] o → o.uncounted ≡ none_left_out → StandsFor I N S i [] o
 nothing_taken I N S i o holds uncounted = record {
-  sound = record { rising = λ k lt. absurd (omega (arith, lt)); numbers = λ k d lt. absurd (omega (arith, lt)); octets = omega arith };
+  sound = record { said = tt; rising = λ k lt. absurd (omega (arith, lt)); numbers = λ k d lt. absurd (omega (arith, lt)); octets = omega arith };
   cutting = no_cutting i;
   cut = nothing_cut i;
   bounds = nothing_bound i;

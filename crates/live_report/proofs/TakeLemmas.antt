@@ -5,10 +5,9 @@ use Rattle.std.specs.Option.{option_to_list}
 use Rattle.line_model.specs.declared.interface.Interface.{Interface}
 use Rattle.line_model.specs.declared.route.Route.{Route}
 use Rattle.line_model.specs.declared.route.Route.TheVariants.{ToChannel as RouteToChannel, Leave, Enter, Found, Pass}
-use Rattle.line_model.specs.basics.Records.{Row, Item, PieceReport}
-use Rattle.line_model.specs.basics.Bounds.{IsPiece}
+use Rattle.line_model.specs.basics.Records.{Item, Item, PieceReport}
+use Rattle.line_model.specs.basics.Bounds.{IsPiece, IsSaid}
 use Rattle.line_model.specs.channels.Channels.{Channel}
-use Rattle.line_model.specs.packets.Classes.{packet_of}
 use Rattle.line_model.specs.pieces.Plans.{value}
 use Rattle.restart_epochs.specs.OpenLanes.{OpenLanes, IsEmpty}
 use Rattle.restart_epochs.specs.OpenRows.{OpenRows, no_rows, rows_of, IsListing}
@@ -16,11 +15,11 @@ use Rattle.restart_epochs.specs.declared.walk.EpochWalk.{EpochWalk}
 use Rattle.restart_epochs.specs.declared.walk.Step.{Step}
 use Rattle.restart_epochs.specs.declared.walk.Turn.{Turn}
 use Rattle.restart_epochs.specs.declared.walk.Turn.TheVariants.{ToChannel, Ends, Stays}
-use Rattle.restart_epochs.specs.Walks.{epoch_after, routed_at, turn_of, IsAdvanced, IsSameWalk, IsStep}
+use Rattle.restart_epochs.specs.Walks.{epoch_after, turn_of, IsAdvanced, IsSameWalk, IsStep}
 use Rattle.restart_epochs.specs.Cutting.{Cutting, IsCutting, IsTakenBy, HasTurned, StandsFor as IsCutterOf, ended_by, given_after, given_of}
 use Rattle.restart_epochs.proofs.Bounds.{lane_piece}
 use Rattle.restart_epochs.proofs.Listings.{bare, has_one_more, rows_with}
-use Rattle.restart_epochs.proofs.Taken.{Told, enters_unready, takes, taken_bounds}
+use Rattle.restart_epochs.proofs.Taken.{enters_unready, takes, taken_bounds}
 use Rattle.report_merge.specs.Gathered.{gathered}
 use Rattle.channel_run.specs.declared.live.LiveChannel.{LiveChannel}
 use Rattle.live_report.specs.declared.observer.Observer.{Observer}
@@ -28,8 +27,10 @@ use Rattle.live_report.specs.LastRows.{KnowsLast}
 use Rattle.live_report.specs.Uncounted.{uncounted_of}
 use Rattle.live_report.specs.Lanes.{begun_piece, LaneFor, OpenFor}
 use Rattle.live_report.specs.Turns.{MayTurn}
-use Rattle.live_report.specs.Observing.{AreRows, Holds, StandsFor}
+use Rattle.live_report.specs.Observing.{AreItems, Holds, StandsFor}
 use Rattle.live_report.proofs.StandLemmas.{MayCome, lanes_bare, lanes_same, may_come, next_stands}
+use Rattle.line_model.proofs.Saying.{last_said}
+use Rattle.line_model.specs.observer.Observer.{routing}
 
 -- ---- what a cutter keeps after one more row
 
@@ -49,8 +50,8 @@ cutting_after c item step = record c {
   epoch = step.epoch;
   given = given_after step.turn c.given c.open_rows;
   packets = c.packets + 1;
-  last = item.row.number;
-  octets = c.octets + length item.row.octets;
+  last = item.number;
+  octets = c.octets + item.length;
   findings = c.findings ++ option_to_list step.finding;
   open_rows = rows_after step.turn item c.open_rows;
 }
@@ -65,7 +66,7 @@ is_taken c item step = record {
   open_rows = has_turned step.turn item c.open_rows;
 }
 
-pub cut_after : (i : Interface) (rs : List Row) (c : Cutting) (item : Item) (step : Step) → IsCutterOf i rs c → item.packet ≡ packet_of c.interface item.row.octets → IsStep c.line c.epoch item step → IsCutterOf i (rs ++ item.row ∷ []) (cutting_after c item step)
+pub cut_after : (i : Interface) (rs : List Item) (c : Cutting) (item : Item) (step : Step) → IsCutterOf i rs c → IsSaid c.interface item → IsStep c.line c.epoch item step → IsCutterOf i (rs ++ item ∷ []) (cutting_after c item step)
 cut_after i rs c item step s packet is = (takes i rs c (cutting_after c item step) item step s packet is (is_taken c item step)).stands
 
 -- ---- live channels
@@ -95,20 +96,24 @@ pub lanes_at : {A C : Type 0} → (I : C → Interface) (N : C → ℕ) (S : C �
 lanes_at I N S c reports o v h same =
     lanes_same I N S c.interface v.interface c.epoch v.epoch c.open_rows c.open_rows o.lanes h.lanes (same.interface ∙ h.interface) (same.epoch ∙ h.epoch) (record { rows = λ k. refl; channels = refl })
 
+-- what the next row says, by the interface that the observer holds
+pub said_here : {A C : Type 0} → (I : C → Interface) (N : C → ℕ) (S : C → Channel → Type 0) (i : Interface) (rs : List Item) (o : Observer A C) (item : Item) (j : Interface) → StandsFor I N S i rs o → AreItems i (rs ++ item ∷ []) → o.walk.interface ≡ j → IsSaid j item
+said_here I N S i rs o item j s sound same = subst (λ x. IsSaid x item) (sym (s.holds.interface ∙ s.cut.interface) ∙ same) (last_said i rs item sound.said)
+
 -- ---- bounds
 
-next_of : {A C : Type 0} → (I : C → Interface) (N : C → ℕ) (S : C → Channel → Type 0) (i : Interface) (rs : List Row) (o : Observer A C) (r : Row) → (s : StandsFor I N S i rs o) → AreRows (rs ++ r ∷ []) → MayCome s.cutting r
-next_of I N S i rs o r s sound = may_come s.cutting rs r s.last s.octets sound
+next_of : {A C : Type 0} → (I : C → Interface) (N : C → ℕ) (S : C → Channel → Type 0) (i : Interface) (rs : List Item) (o : Observer A C) (r : Item) → (s : StandsFor I N S i rs o) → AreItems i (rs ++ r ∷ []) → MayCome s.cutting r
+next_of I N S i rs o r s sound = may_come i s.cutting rs r s.last s.octets sound
 
-bounds_after : {A C : Type 0} → (I : C → Interface) (N : C → ℕ) (S : C → Channel → Type 0) (i : Interface) (rs : List Row) (o : Observer A C) (item : Item) (step : Step) (s : StandsFor I N S i rs o) → AreRows (rs ++ item.row ∷ [])
-    → item.packet ≡ packet_of s.cutting.interface item.row.octets → IsStep s.cutting.line s.cutting.epoch item step → IsCutting (cutting_after s.cutting item step)
+bounds_after : {A C : Type 0} → (I : C → Interface) (N : C → ℕ) (S : C → Channel → Type 0) (i : Interface) (rs : List Item) (o : Observer A C) (item : Item) (step : Step) (s : StandsFor I N S i rs o) → AreItems i (rs ++ item ∷ [])
+    → IsSaid s.cutting.interface item → IsStep s.cutting.line s.cutting.epoch item step → IsCutting (cutting_after s.cutting item step)
 bounds_after I N S i rs o item step s sound packet is =
-    let may = next_of I N S i rs o item.row s sound in
+    let may = next_of I N S i rs o item s sound in
     taken_bounds s.cutting (cutting_after s.cutting item step) item step s.bounds packet may.rising may.number may.octets is (is_taken s.cutting item step)
 
 -- the rows of the channel that a row goes to, with this one, can be a piece
-pub may_turn : {A C : Type 0} → (I : C → Interface) (N : C → ℕ) (S : C → Channel → Type 0) (i : Interface) (rs : List Row) (o : Observer A C) (item : Item) (step : Step) (s : StandsFor I N S i rs o) → AreRows (rs ++ item.row ∷ [])
-    → item.packet ≡ packet_of s.cutting.interface item.row.octets → IsStep s.cutting.line s.cutting.epoch item step → MayTurn step.turn s.cutting.interface item s.cutting.open_rows
+pub may_turn : {A C : Type 0} → (I : C → Interface) (N : C → ℕ) (S : C → Channel → Type 0) (i : Interface) (rs : List Item) (o : Observer A C) (item : Item) (step : Step) (s : StandsFor I N S i rs o) → AreItems i (rs ++ item ∷ [])
+    → IsSaid s.cutting.interface item → IsStep s.cutting.line s.cutting.epoch item step → MayTurn step.turn s.cutting.interface item s.cutting.open_rows
 may_turn I N S i rs o item step s sound packet is = at step.turn refl
   where
     c : Cutting
@@ -123,17 +128,14 @@ may_turn I N S i rs o item step s sound packet is = at step.turn refl
 
 -- ---- the epoch after the row
 
-epoch_stays : (i : Interface) (rs : List Row) (c : Cutting) (item : Item) (step : Step) → IsCutterOf i rs c → item.packet ≡ packet_of c.interface item.row.octets → IsStep c.line c.epoch item step
+epoch_stays : (i : Interface) (rs : List Item) (c : Cutting) (item : Item) (step : Step) → IsCutterOf i rs c → IsSaid c.interface item → IsStep c.line c.epoch item step
     → (step.epoch ≡ c.epoch) ⊎ ((k : ℕ) → rows_of (rows_after step.turn item c.open_rows) k ≡ [])
-epoch_stays i rs c item step s packet is = at (routed_at c.line item).route refl
+epoch_stays i rs c item step s packet is = at (routing c.line item).route refl
   where
-    told : Told c item (routed_at c.line item)
-    told = record { packet = packet; stepped = refl }
-
-    at : (q : Route) → (routed_at c.line item).route ≡ q → (step.epoch ≡ c.epoch) ⊎ ((k : ℕ) → rows_of (rows_after step.turn item c.open_rows) k ≡ [])
+    at : (q : Route) → (routing c.line item).route ≡ q → (step.epoch ≡ c.epoch) ⊎ ((k : ℕ) → rows_of (rows_after step.turn item c.open_rows) k ≡ [])
     at RouteToChannel e = inl (is.epoch ∙ ap (epoch_after c.epoch) e)
     at (Leave code) e = inl (is.epoch ∙ ap (epoch_after c.epoch) e)
-    at Enter e = inr (λ k. ap (λ t. rows_of (rows_after t item c.open_rows) k) (is.turn ∙ ap (turn_of item.row.octets) e) ∙ bare i rs c s (enters_unready i rs c item (routed_at c.line item) s told e) k)
+    at Enter e = inr (λ k. ap (λ t. rows_of (rows_after t item c.open_rows) k) (is.turn ∙ ap (turn_of item.packet) e) ∙ bare i rs c s (enters_unready c.line item e) k)
     at (Found state code) e = inl (is.epoch ∙ ap (epoch_after c.epoch) e)
     at Pass e = inl (is.epoch ∙ ap (epoch_after c.epoch) e)
 
@@ -143,11 +145,11 @@ lanes_moved I N S i e n rows lanes f (inr none) = lanes_bare I N S i e n rows la
 
 -- ---- one more row
 
-pub holds_after : {A C : Type 0} → (I : C → Interface) (N : C → ℕ) (S : C → Channel → Type 0) (i : Interface) (rs : List Row) (c : Cutting) (reports : List PieceReport) (item : Item) (step : Step) (o new : Observer A C) (v : EpochWalk A)
-    → IsCutterOf i rs c → item.packet ≡ packet_of c.interface item.row.octets → IsStep c.line c.epoch item step → Holds I N S c reports o → IsSameWalk o.walk v → IsAdvanced step v new.walk → length reports ≡ c.given
-    → new.ended ≡ gathered (reports ++ map value (ended_by step.turn v.interface v.epoch item.row.number (length reports) c.open_rows))
+pub holds_after : {A C : Type 0} → (I : C → Interface) (N : C → ℕ) (S : C → Channel → Type 0) (i : Interface) (rs : List Item) (c : Cutting) (reports : List PieceReport) (item : Item) (step : Step) (o new : Observer A C) (v : EpochWalk A)
+    → IsCutterOf i rs c → IsSaid c.interface item → IsStep c.line c.epoch item step → Holds I N S c reports o → IsSameWalk o.walk v → IsAdvanced step v new.walk → length reports ≡ c.given
+    → new.ended ≡ gathered (reports ++ map value (ended_by step.turn v.interface v.epoch item.number (length reports) c.open_rows))
     → OpenFor I N S v.interface v.epoch (rows_after step.turn item c.open_rows) new.lanes
-    → Holds I N S (cutting_after c item step) (reports ++ map value (ended_by step.turn c.interface c.epoch item.row.number c.given c.open_rows)) new
+    → Holds I N S (cutting_after c item step) (reports ++ map value (ended_by step.turn c.interface c.epoch item.number c.given c.open_rows)) new
 holds_after I N S i rs c reports item step o new v s packet is h same on many ended lanes =
     let interface = same.interface ∙ h.interface in
     let epoch = same.epoch ∙ h.epoch in
@@ -158,19 +160,19 @@ holds_after I N S i rs c reports item step o new v s packet is h same on many en
       epoch = on.epoch;
       packets = on.packets ∙ ap (λ n. n + 1) (same.packets ∙ h.packets);
       findings = on.findings ∙ ap (λ l. l ++ option_to_list step.finding) (same.findings ∙ h.findings);
-      ended = ended ∙ (λ t. gathered (reports ++ map value (ended_by step.turn (interface t) (epoch t) item.row.number (many t) c.open_rows)));
+      ended = ended ∙ (λ t. gathered (reports ++ map value (ended_by step.turn (interface t) (epoch t) item.number (many t) c.open_rows)));
       lanes = lanes_moved I N S c.interface c.epoch step.epoch rows new.lanes
           (lanes_same I N S v.interface c.interface v.epoch c.epoch rows rows new.lanes lanes (sym interface) (sym epoch) (record { rows = λ k. refl; channels = refl })) (epoch_stays i rs c item step s packet is);
     }
 
-pub stands_after : {A C : Type 0} → (I : C → Interface) (N : C → ℕ) (S : C → Channel → Type 0) (i : Interface) (rs : List Row) (r : Row) (o new : Observer A C) (item : Item) (step : Step) (s : StandsFor I N S i rs o) → item.row ≡ r → AreRows (rs ++ item.row ∷ [])
-    → item.packet ≡ packet_of s.cutting.interface item.row.octets → IsStep s.cutting.line s.cutting.epoch item step
-    → Holds I N S (cutting_after s.cutting item step) (map value (given_of i rs) ++ map value (ended_by step.turn s.cutting.interface s.cutting.epoch item.row.number s.cutting.given s.cutting.open_rows)) new
-    → KnowsLast i (rs ++ item.row ∷ []) new.last new.events.items → new.uncounted ≡ uncounted_of i (rs ++ item.row ∷ []) → StandsFor I N S i (rs ++ r ∷ []) new
+pub stands_after : {A C : Type 0} → (I : C → Interface) (N : C → ℕ) (S : C → Channel → Type 0) (i : Interface) (rs : List Item) (r : Item) (o new : Observer A C) (item : Item) (step : Step) (s : StandsFor I N S i rs o) → item ≡ r → AreItems i (rs ++ item ∷ [])
+    → IsSaid s.cutting.interface item → IsStep s.cutting.line s.cutting.epoch item step
+    → Holds I N S (cutting_after s.cutting item step) (map value (given_of i rs) ++ map value (ended_by step.turn s.cutting.interface s.cutting.epoch item.number s.cutting.given s.cutting.open_rows)) new
+    → KnowsLast i (rs ++ item ∷ []) new.last new.events.items → new.uncounted ≡ uncounted_of i (rs ++ item ∷ []) → StandsFor I N S i (rs ++ r ∷ []) new
 stands_after I N S i rs r o new item step s same sound packet is holds known uncounted =
     let c = s.cutting in
     let after = cutting_after c item step in
     let t = is_taken c item step in
     subst (λ x. StandsFor I N S i (rs ++ x ∷ []) new) same
-    (next_stands I N S i rs item.row (ended_by step.turn c.interface c.epoch item.row.number c.given c.open_rows) o new after s sound (takes i rs c after item step s.cut packet is t)
+    (next_stands I N S i rs item (ended_by step.turn c.interface c.epoch item.number c.given c.open_rows) o new after s sound (takes i rs c after item step s.cut packet is t)
     (bounds_after I N S i rs o item step s sound packet is) t.counted holds known uncounted)

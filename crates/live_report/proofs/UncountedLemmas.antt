@@ -1,26 +1,22 @@
 -- What was not counted of some rows and of one more.
-use Rattle.std.proofs.Common.{◌≡◌, ◌∙◌, sym, ap, subst, refl, ℕ, ◌+◌, ◌-◌, ◌<◌, ◌≤◌, ◌^◌, Bool, true, false, cond, List, [], ◌∷◌, ◌++◌, length, filter, min, sum_by, Option, Some, None, Result, Ok, Err, OnOk, append-nil, append_assoc, length-append, length-drop, arith}
+use Rattle.std.proofs.Common.{◌≡◌, ◌∙◌, sym, ap, subst, refl, ℕ, ◌+◌, ◌-◌, ◌<◌, ◌≤◌, ◌^◌, Bool, true, false, cond, List, [], ◌∷◌, ◌++◌, length, filter, min, sum_by, Option, Some, None, Result, Ok, Err, OnOk, append-nil, append_assoc, length-append, arith}
 use Rattle.std.proofs.lemmas.List.Elements.{filter-append}
 use Rattle.std.proofs.lemmas.List.Sums.{sum_by-append, sum_by-cons, sum_by_push}
 use Rattle.line_model.specs.declared.event.Event.{Event}
 use Rattle.line_model.specs.declared.interface.Interface.{Interface}
 use Rattle.line_model.specs.declared.state.RState.{RState}
-use Rattle.line_model.specs.basics.Records.{Row}
+use Rattle.line_model.specs.basics.Records.{Item}
 use Rattle.line_model.specs.channels.Channels.{Channel}
 use Rattle.line_model.specs.channels.RestartMachine.{LineState}
 use Rattle.line_model.specs.observer.Machine.{Observer, after, routed, walk}
 use Rattle.line_model.specs.observer.Observer.{start, x25}
-use Rattle.line_model.specs.packets.Classes.{header_length, packet_of}
 use Rattle.line_model.specs.text.Text.{head, rows}
-use Rattle.channel_run.specs.Run.{row_events, usual_events}
-use Rattle.channel_run.specs.declared.run.Usual.{Usual}
-use Rattle.channel_run.specs.declared.run.Usual.TheVariants.{Data}
 use Rattle.channel_run.specs.Views.{IsViewOf}
 use Rattle.channel_run.specs.declared.run.View.{View}
 use Rattle.restart_epochs.specs.Cutting.{observer}
 use Rattle.live_report.specs.LastRows.{IsKnown, IsLastRow}
-use Rattle.live_report.specs.Observing.{AreRows, StandsFor}
-use Rattle.live_report.specs.Uncounted.{AreFew, LeftOut, amount_of, amounts_of, counts_data, grown, has_finding, is_data, is_same, left_out, left_out_at, left_out_by, none_left_out, reason_at, reason_by, reason_of_state, reason_on, trace_uncounted, uncounted_of, user_octets, with_one}
+use Rattle.live_report.specs.Observing.{AreItems, StandsFor}
+use Rattle.live_report.specs.Uncounted.{AreFew, LeftOut, amount_of, amounts_of, grown, is_data, is_same, left_out, left_out_at, left_out_by, none_left_out, reason_at, reason_by, reason_on, trace_uncounted, uncounted_of, user_octets, with_one}
 use Rattle.live_report.specs.declared.last_row.Known.TheVariants as known
 use Rattle.live_report.specs.declared.last_row.LastRow.{LastRow}
 use Rattle.live_report.specs.declared.observer.Observer.{Observer as Running}
@@ -28,64 +24,46 @@ use Rattle.live_report.specs.declared.uncounted.Amount.{Amount}
 use Rattle.live_report.specs.declared.uncounted.Reason.{Reason}
 use Rattle.live_report.specs.declared.uncounted.Reason.TheVariants.{Finding, Owed, NotInTransfer, Discarded, Unknown, Restart}
 use Rattle.live_report.specs.declared.uncounted.Uncounted.{Uncounted}
+use Rattle.line_model.specs.packets.Says.{items_of}
+use Rattle.channel_run.specs.Run.{row_events}
 
 -- ---- why the data of a row was not counted
 
 -- by what is known before it
-by_known : (i : Interface) (o : Observer LineState Channel) (r : Row) (events : List Event) (taker : Option ℕ) (view : View) (answer : Option Reason) → IsKnown i taker o (known.Channel view)
+by_known : (i : Interface) (o : Observer LineState Channel) (r : Item) (events : List Event) (taker : Option ℕ) (view : View) (answer : Option Reason) → IsKnown i taker o (known.Channel view)
     → ((k : ℕ) → taker ≡ Some k → events ≡ row_events i o.epoch k (o.states k) r) → ((j : Interface) (c : Channel) → IsViewOf j c view → answer ≡ reason_on c events) → answer ≡ reason_by i taker o r
 by_known i o r events None view answer h came by = absurd h
 by_known i o r events (Some k) view answer h came by = by i (o.states k) h ∙ ap (reason_on (o.states k)) (came k refl)
 
-by_state : (i : Interface) (o : Observer LineState Channel) (r : Row) (taker : Option ℕ) (s : RState) → IsKnown i taker o (known.Restart s) → Some Restart ≡ reason_by i taker o r
+by_state : (i : Interface) (o : Observer LineState Channel) (r : Item) (taker : Option ℕ) (s : RState) → IsKnown i taker o (known.Restart s) → Some Restart ≡ reason_by i taker o r
 by_state i o r None s h = refl
 by_state i o r (Some k) s h = absurd h
 
-of_data : (i : Interface) (earlier : List Row) (r : Row) (last : LastRow) (events : List Event) → IsLastRow i earlier r last events → is_data last.packet ≡ true
+of_data : (i : Interface) (earlier : List Item) (r : Item) (last : LastRow) (events : List Event) → IsLastRow i earlier r last events → is_data last.packet ≡ true
     → reason_by i last.channel (observer i earlier) r ≡ reason_at i (observer i earlier) r
 of_data i earlier r last events l data_is =
     let o = observer i earlier in
     ap (λ taker. reason_by i taker o r) l.channel ∙ ap (λ b. cond b (reason_by i (routed (x25 i) o.line r) o r) None) (sym data_is ∙ ap is_data l.packet)
 
-pub no_data : (i : Interface) (earlier : List Row) (r : Row) (last : LastRow) (events : List Event) → IsLastRow i earlier r last events → is_data last.packet ≡ false → None ≡ reason_at i (observer i earlier) r
+pub no_data : (i : Interface) (earlier : List Item) (r : Item) (last : LastRow) (events : List Event) → IsLastRow i earlier r last events → is_data last.packet ≡ false → None ≡ reason_at i (observer i earlier) r
 no_data i earlier r last events l none =
     let o = observer i earlier in
     ap (λ b. cond b (reason_by i (routed (x25 i) o.line r) o r) None) (sym none ∙ ap is_data l.packet)
 
-pub in_restart : (i : Interface) (earlier : List Row) (r : Row) (last : LastRow) (events : List Event) (s : RState) → IsLastRow i earlier r last events → is_data last.packet ≡ true → last.before ≡ known.Restart s
+pub in_restart : (i : Interface) (earlier : List Item) (r : Item) (last : LastRow) (events : List Event) (s : RState) → IsLastRow i earlier r last events → is_data last.packet ≡ true → last.before ≡ known.Restart s
     → Some Restart ≡ reason_at i (observer i earlier) r
 in_restart i earlier r last events s l data_is before =
     by_state i (observer i earlier) r last.channel s (subst (IsKnown i last.channel (observer i earlier)) before l.before) ∙ of_data i earlier r last events l data_is
 
-pub on_channel : (i : Interface) (earlier : List Row) (r : Row) (last : LastRow) (events : List Event) (view : View) (answer : Option Reason) → IsLastRow i earlier r last events → is_data last.packet ≡ true → last.before ≡ known.Channel view
+pub on_channel : (i : Interface) (earlier : List Item) (r : Item) (last : LastRow) (events : List Event) (view : View) (answer : Option Reason) → IsLastRow i earlier r last events → is_data last.packet ≡ true → last.before ≡ known.Channel view
     → ((j : Interface) (c : Channel) → IsViewOf j c view → answer ≡ reason_on c events) → answer ≡ reason_at i (observer i earlier) r
 on_channel i earlier r last events view answer l data_is before by =
     by_known i (observer i earlier) r events last.channel view answer (subst (IsKnown i last.channel (observer i earlier)) before l.before) l.came by ∙ of_data i earlier r last events l data_is
 
--- where its data was counted
-pub counted_on : (i : Interface) (earlier : List Row) (r : Row) (last : LastRow) (events : List Event) (k : ℕ) → IsLastRow i earlier r last events → last.channel ≡ Some k → counts_data events ≡ true → None ≡ reason_at i (observer i earlier) r
-counted_on i earlier r last events k l here counted = at (is_data (packet_of i r.octets))
-  where
-    o : Observer LineState Channel
-    o = observer i earlier
-
-    none : None ≡ reason_by i (routed (x25 i) o.line r) o r
-    none =
-        ap (λ b. cond b None (cond (has_finding events) (Some Finding) (Some (reason_of_state (o.states k).state (o.states k).owed)))) (sym counted)
-        ∙ ap (reason_on (o.states k)) (l.came k here)
-        ∙ ap (λ taker. reason_by i taker o r) (sym here ∙ l.channel)
-
-    at : (b : Bool) → None ≡ cond b (reason_by i (routed (x25 i) o.line r) o r) None
-    at true = none
-    at false = refl
-
-pub data_is_counted : (epoch k : ℕ) (r : Row) (usual : Usual) (n : ℕ) (events : List Event) → usual ≡ Data n → events ≡ usual_events epoch k r usual → counts_data events ≡ true
-data_is_counted epoch k r usual n events is_data came = ap counts_data (came ∙ ap (usual_events epoch k r) is_data)
-
 -- ---- rows one by one
 
 -- those of some rows and of one more
-left_out_more : (i : Interface) (o : Observer LineState Channel) (rs : List Row) (r : Row) → left_out i o (rs ++ r ∷ []) ≡ left_out i o rs ++ left_out_at i (walk (x25 i) o rs) r
+left_out_more : (i : Interface) (o : Observer LineState Channel) (rs : List Item) (r : Item) → left_out i o (rs ++ r ∷ []) ≡ left_out i o rs ++ left_out_at i (walk (x25 i) o rs) r
 left_out_more i o [] r = append-nil (left_out_at i o r)
 left_out_more i o (x ∷ rs) r =
     ap (λ ds. left_out_at i o x ++ ds) (left_out_more i (after (x25 i) o x) rs r)
@@ -109,26 +87,22 @@ row_octets : (why : Reason) (came : Option Reason) (n : ℕ) → sum_by (λ d. d
 row_octets why None n = omega arith
 row_octets why (Some reason) n = its_octets (is_same why reason) (record { reason = reason; octets = n })
 
-few_packets : (why : Reason) (i : Interface) (o : Observer LineState Channel) (rs : List Row) → length (filter (λ d. is_same why d.reason) (left_out i o rs)) ≤ length rs
+few_packets : (why : Reason) (i : Interface) (o : Observer LineState Channel) (rs : List Item) → length (filter (λ d. is_same why d.reason) (left_out i o rs)) ≤ length rs
 few_packets why i o [] = omega arith
 few_packets why i o (r ∷ rs) =
     let p : LeftOut → Bool = λ d. is_same why d.reason in
     let here = left_out_at i o r in
     let later = left_out i (after (x25 i) o r) rs in
-    omega (arith, row_packets why (reason_at i o r) (user_octets i r.octets), few_packets why i (after (x25 i) o r) rs, ap (λ (ds : List LeftOut). length ds) (filter-append p here later), length-append (filter p here) (filter p later))
+    omega (arith, row_packets why (reason_at i o r) (user_octets i r.length), few_packets why i (after (x25 i) o r) rs, ap (λ (ds : List LeftOut). length ds) (filter-append p here later), length-append (filter p here) (filter p later))
 
--- a row has no fewer octets than its user data
-data_within : (i : Interface) (xs : List ℕ) → user_octets i xs ≤ length xs
-data_within i xs = omega (arith, length-drop (header_length i) xs)
-
-few_octets : (why : Reason) (i : Interface) (o : Observer LineState Channel) (rs : List Row) → sum_by (λ d. d.octets) (filter (λ d. is_same why d.reason) (left_out i o rs)) ≤ sum_by (λ r. length r.octets) rs
+few_octets : (why : Reason) (i : Interface) (o : Observer LineState Channel) (rs : List Item) → sum_by (λ d. d.octets) (filter (λ d. is_same why d.reason) (left_out i o rs)) ≤ sum_by (λ r. r.length) rs
 few_octets why i o [] = omega arith
 few_octets why i o (r ∷ rs) =
     let p : LeftOut → Bool = λ d. is_same why d.reason in
     let f : LeftOut → ℕ = λ d. d.octets in
     let here = left_out_at i o r in
     let later = left_out i (after (x25 i) o r) rs in
-    omega (arith, row_octets why (reason_at i o r) (user_octets i r.octets), data_within i r.octets, few_octets why i (after (x25 i) o r) rs, ap (sum_by f) (filter-append p here later), sum_by-append f (filter p here) (filter p later), sum_by-cons (λ (x : Row). length x.octets) r rs)
+    omega (arith, row_octets why (reason_at i o r) (user_octets i r.length), few_octets why i (after (x25 i) o r) rs, ap (sum_by f) (filter-append p here later), sum_by-append f (filter p here) (filter p later), sum_by-cons (λ (x : Item). x.length) r rs)
 
 -- ---- one packet more
 
@@ -208,33 +182,33 @@ amounts_after Restart n ds h = λ t. record {
   restart = amount_after Restart Restart n ds h t;
 }
 
-room_for : (i : Interface) (earlier : List Row) (r : Row) → AreFew (earlier ++ r ∷ []) → HasRoom (user_octets i r.octets) (left_out i (start i) earlier)
+room_for : (i : Interface) (earlier : List Item) (r : Item) → AreFew (earlier ++ r ∷ []) → HasRoom (user_octets i r.length) (left_out i (start i) earlier)
 room_for i earlier r few = record {
   packets = λ why. omega (arith, few_packets why i (start i) earlier, few.rows, length-append earlier (r ∷ []));
-  octets = λ why. omega (arith, few_octets why i (start i) earlier, few.octets, sum_by_push (λ (x : Row). length x.octets) earlier r, data_within i r.octets);
+  octets = λ why. omega (arith, few_octets why i (start i) earlier, few.octets, sum_by_push (λ (x : Item). x.length) earlier r);
 }
 
 -- the data of one row more was not counted
-pub uncounted_more : (i : Interface) (earlier : List Row) (r : Row) (why : Reason) → AreFew (earlier ++ r ∷ []) → Some why ≡ reason_at i (observer i earlier) r
-    → with_one why (user_octets i r.octets) (uncounted_of i earlier) ≡ uncounted_of i (earlier ++ r ∷ [])
+pub uncounted_more : (i : Interface) (earlier : List Item) (r : Item) (why : Reason) → AreFew (earlier ++ r ∷ []) → Some why ≡ reason_at i (observer i earlier) r
+    → with_one why (user_octets i r.length) (uncounted_of i earlier) ≡ uncounted_of i (earlier ++ r ∷ [])
 uncounted_more i earlier r why few came =
-    sym (amounts_after why (user_octets i r.octets) (left_out i (start i) earlier) (room_for i earlier r few))
-    ∙ ap (λ o. amounts_of (left_out i (start i) earlier ++ left_out_by o (user_octets i r.octets))) came
+    sym (amounts_after why (user_octets i r.length) (left_out i (start i) earlier) (room_for i earlier r few))
+    ∙ ap (λ o. amounts_of (left_out i (start i) earlier ++ left_out_by o (user_octets i r.length))) came
     ∙ ap amounts_of (sym (left_out_more i (start i) earlier r))
 
 -- it was, or the row has none
-pub uncounted_same : (i : Interface) (earlier : List Row) (r : Row) → None ≡ reason_at i (observer i earlier) r → uncounted_of i earlier ≡ uncounted_of i (earlier ++ r ∷ [])
+pub uncounted_same : (i : Interface) (earlier : List Item) (r : Item) → None ≡ reason_at i (observer i earlier) r → uncounted_of i earlier ≡ uncounted_of i (earlier ++ r ∷ [])
 uncounted_same i earlier r came =
     ap amounts_of (sym (append-nil (left_out i (start i) earlier)))
-    ∙ ap (λ o. amounts_of (left_out i (start i) earlier ++ left_out_by o (user_octets i r.octets))) came
+    ∙ ap (λ o. amounts_of (left_out i (start i) earlier ++ left_out_by o (user_octets i r.length))) came
     ∙ ap amounts_of (sym (left_out_more i (start i) earlier r))
 
 -- the rows of a trace are few
-pub few_with : {A C : Type 0} → (I : C → Interface) (N : C → ℕ) (S : C → Channel → Type 0) (i : Interface) (rs : List Row) (r : Row) (o : Running A C) → StandsFor I N S i rs o → AreRows (rs ++ r ∷ []) → AreFew (rs ++ r ∷ [])
+pub few_with : {A C : Type 0} → (I : C → Interface) (N : C → ℕ) (S : C → Channel → Type 0) (i : Interface) (rs : List Item) (r : Item) (o : Running A C) → StandsFor I N S i rs o → AreItems i (rs ++ r ∷ []) → AreFew (rs ++ r ∷ [])
 few_with I N S i rs r o s sound = record { rows = omega (arith, length-append rs (r ∷ []), s.cut.packets, s.bounds.rows, s.bounds.last); octets = omega (arith, sound.octets) }
 
 -- what was not counted of the rows of a text
-pub of_the_text : {T E : Type 0} → (answer : Result T E) (text : List ℕ) (i : Interface) (rs : List Row) (u : Uncounted) → OnOk answer (u ≡ uncounted_of i rs) → head text ≡ Some i → rows text ≡ rs → OnOk answer (u ≡ trace_uncounted text)
+pub of_the_text : {T E : Type 0} → (answer : Result T E) (text : List ℕ) (i : Interface) (rs : List Item) (u : Uncounted) → OnOk answer (u ≡ uncounted_of i rs) → head text ≡ Some i → items_of i (rows text) ≡ rs → OnOk answer (u ≡ trace_uncounted text)
 of_the_text (Ok x) text i rs u h header same =
-    h ∙ ap (uncounted_of i) (sym same) ∙ ap (λ o. elim o as (λ _. Uncounted) [ None ↦ none_left_out | Some j ↦ uncounted_of j (rows text) ]) (sym header)
+    h ∙ ap (uncounted_of i) (sym same) ∙ ap (λ o. elim o as (λ _. Uncounted) [ None ↦ none_left_out | Some j ↦ uncounted_of j (items_of j (rows text)) ]) (sym header)
 of_the_text (Err f) text i rs u h header same = tt

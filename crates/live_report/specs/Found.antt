@@ -7,10 +7,11 @@ use Rattle.line_model.specs.declared.fault.Fault.TheVariants.{Memory}
 use Rattle.line_model.specs.declared.finding.Finding.{Finding}
 use Rattle.line_model.specs.declared.interface.Interface.{Interface}
 use Rattle.report_merge.specs.Parts.{findings_text}
+use Rattle.line_model.specs.packets.Says.{items_of}
 
 -- the findings of the rows of the lines that an LF ended
 abbrev pub found_at : Interface → List ℕ → List Finding
-found_at i text = (report_of i (early_rows text)).findings
+found_at i text = (report_of i (items_of i (early_rows text))).findings
 
 -- the same, none where no header came yet
 abbrev pub found : List ℕ → List Finding

@@ -2,7 +2,7 @@
 use Rattle.std.specs.Prelude.{◌≡◌, ◌≢◌, ℕ, true, List, [], Option, Some, None, option_to_list}
 use Rattle.line_model.specs.declared.interface.Interface.{Interface}
 use Rattle.line_model.specs.declared.finding.Finding.{Finding}
-use Rattle.line_model.specs.basics.Records.{Row, Item, Piece}
+use Rattle.line_model.specs.basics.Records.{Item, Item, Piece}
 use Rattle.line_model.specs.channels.Channels.{Channel}
 use Rattle.line_model.specs.observer.Report.{findings_of}
 use Rattle.line_model.specs.pieces.Plan.{has_some}
@@ -43,5 +43,5 @@ abbrev pub IsOut : {A C : Type 0} → Machine C A → Interface → (epoch chann
 IsOut m i epoch channel rows live lanes = IsOutFor m.interface_of m.number_of m.stands_for i epoch channel rows live lanes
 
 -- the finding on the next row of a piece
-abbrev pub FindsOn : Piece → Row → Option Finding → Type 0
+abbrev pub FindsOn : Piece → Item → Option Finding → Type 0
 FindsOn p row found = option_to_list found ≡ findings_of (row_events p.interface p.epoch p.channel (channel_so_far p) row)

@@ -1,9 +1,11 @@
 -- The observer that runs: what it holds after some rows.
-use Rattle.std.specs.Prelude.{◌≡◌, ℕ, ◌≤◌, ◌^◌, List, [], ◌∷◌, ◌++◌, All, Option, Result, IfOk, OnOk, length, map, option_to_list, sum_by}
+use Rattle.std.specs.Prelude.{◌≡◌, ℕ, ◌≤◌, ◌^◌, Bool, true, false, List, [], ◌∷◌, ◌++◌, All, Option, Result, IfOk, OnOk, map, option_to_list, sum_by}
 use Rattle.std.specs.List.Sorted.{IsStrictlyIncreasing}
 use Rattle.line_model.specs.declared.interface.Interface.{Interface}
 use Rattle.line_model.specs.declared.finding.Finding.{Finding}
-use Rattle.line_model.specs.basics.Records.{Row, Piece, PieceReport, Report}
+use Rattle.line_model.specs.basics.Records.{Item, Piece, PieceReport, ReadRow, Report}
+use Rattle.line_model.specs.packets.Says.{item_read}
+use Rattle.line_model.specs.basics.Bounds.{AreSaid}
 use Rattle.line_model.specs.channels.Channels.{Channel}
 use Rattle.line_model.specs.observer.Report.{report_of}
 use Rattle.line_model.specs.pieces.Plans.{value}
@@ -18,11 +20,17 @@ use Rattle.live_report.specs.Uncounted.{uncounted_of}
 use Rattle.live_report.specs.declared.uncounted.Uncounted.{Uncounted}
 use Rattle.live_report.specs.Lanes.{OpenFor, begun_piece}
 
--- rows as a trace has them: their numbers rise, and their octets are few
-pub record AreRows (rs : List Row) : Type 0 where
+-- what rows of an interface say, as a trace has them: their numbers rise, and their octets are few
+pub record AreItems (i : Interface) (rs : List Item) : Type 0 where
+  pub said : AreSaid i rs
   pub rising : IsStrictlyIncreasing (0 ∷ map (λ r. r.number) rs)
   pub numbers : All (λ r. r.number ≤ 999999999) rs
-  pub octets : sum_by (λ r. length r.octets) rs ≤ 2 ^ 31
+  pub octets : sum_by (λ r. r.length) rs ≤ 2 ^ 31
+
+-- what the row of a last line says that no LF ended, if it has one
+abbrev pub last_item : Interface → (has_row : Bool) → ReadRow → List Item
+last_item i false row = []
+last_item i true row = item_read i row ∷ []
 
 -- an observer holds what a cutter does, with a live channel in place of the rows of each channel of the open epoch, and
 -- what these reports of the pieces give whose epochs have ended
@@ -39,13 +47,13 @@ pub record Holds {A C : Type 0} (interface_of : C → Interface) (number_of : C 
 -- an observer took these rows of an interface: it holds what a cutter of them does, and the values of the pieces that
 -- are known whole
 pub record StandsFor {A C : Type 0} (interface_of : C → Interface) (number_of : C → ℕ) (stands_for : C → Channel → Type 0)
-    (i : Interface) (rs : List Row) (o : Observer A C) : Type 0 where
-  pub sound : AreRows rs
+    (i : Interface) (rs : List Item) (o : Observer A C) : Type 0 where
+  pub sound : AreItems i rs
   pub cutting : Cutting
   pub cut : IsCutterOf i rs cutting
   pub bounds : IsCutting cutting
   pub last : cutting.last ≡ last_or 0 (map (λ r. r.number) rs)
-  pub octets : cutting.octets ≡ sum_by (λ r. length r.octets) rs
+  pub octets : cutting.octets ≡ sum_by (λ r. r.length) rs
   pub holds : Holds interface_of number_of stands_for cutting (map value (given_of i rs)) o
   pub row : KnowsLast i rs o.last o.events.items
   pub uncounted : o.uncounted ≡ uncounted_of i rs
@@ -54,7 +62,7 @@ pub record StandsFor {A C : Type 0} (interface_of : C → Interface) (number_of 
 abbrev pub IsHolding : {A C : Type 0} → Machine C A → Cutting → List PieceReport → Observer A C → Type 0
 IsHolding m c reports o = Holds m.interface_of m.number_of m.stands_for c reports o
 
-abbrev pub HasWalked : {A C : Type 0} → Machine C A → Interface → List Row → Observer A C → Type 0
+abbrev pub HasWalked : {A C : Type 0} → Machine C A → Interface → List Item → Observer A C → Type 0
 HasWalked m i rows o = StandsFor m.interface_of m.number_of m.stands_for i rows o
 
 -- the piece of a channel in the open epoch
@@ -63,43 +71,32 @@ open_piece c channel = begun_piece c.interface c.epoch channel (rows_of c.open_r
 
 -- it has walked some rows
 abbrev pub IsObserver : {A C : Type 0} → Machine C A → Observer A C → Type 0
-IsObserver m o = (i : Interface) × (rows : List Row) × HasWalked m i rows o
+IsObserver m o = (i : Interface) × (rows : List Item) × HasWalked m i rows o
 
--- it has walked some rows, and these may come behind them
-abbrev pub MayWalk : {A C : Type 0} → Machine C A → Observer A C → (more : List Row) → Type 0
-MayWalk m o more = (i : Interface) × (rows : List Row) × HasWalked m i rows o × AreRows (rows ++ more)
+-- it has walked some rows, and these may come after them
+abbrev pub MayWalk : {A C : Type 0} → Machine C A → Observer A C → (more : Interface → List Item) → Type 0
+MayWalk m o more = (i : Interface) × (rows : List Item) × HasWalked m i rows o × AreItems i (rows ++ more i)
 
 -- of any rows that it has walked: it has walked them and this one
-abbrev pub WalksOn : {A C T E : Type 0} → Machine C A → (before : Observer A C) → Row → (after : Observer A C) → Result T E → Type 0
+abbrev pub WalksOn : {A C T E : Type 0} → Machine C A → (before : Observer A C) → (row : Interface → Item) → (after : Observer A C) → Result T E → Type 0
 WalksOn m before row after result =
-    (i : Interface) (rows : List Row) → HasWalked m i rows before → AreRows (rows ++ row ∷ []) → OnOk result (HasWalked m i (rows ++ row ∷ []) after)
+    (i : Interface) (rows : List Item) → HasWalked m i rows before → AreItems i (rows ++ row i ∷ []) → OnOk result (HasWalked m i (rows ++ row i ∷ []) after)
 
--- of any rows that it has walked: it has walked them and this one, or only them still
-abbrev pub WalksOnFrom : {A C : Type 0} → Machine C A → (before : Observer A C) → Row → (after : Observer A C) → Type 0
-WalksOnFrom m before row after = (i : Interface) (rows : List Row) → HasWalked m i rows before → AreRows (rows ++ row ∷ []) → HasWalked m i (rows ++ row ∷ []) after
-
-abbrev pub WalksStill : {A C : Type 0} → Machine C A → (before after : Observer A C) → Type 0
-WalksStill m before after = (i : Interface) (rows : List Row) → HasWalked m i rows before → HasWalked m i rows after
-
--- of any rows that it has walked: nothing is found on this one
-abbrev pub FindsNothing : {A C : Type 0} → Machine C A → Observer A C → Row → Type 0
-FindsNothing m o row = (i : Interface) (rows : List Row) → HasWalked m i rows o → (report_of i (rows ++ row ∷ [])).findings ≡ (report_of i rows).findings
-
--- of any rows that it has walked: the finding on this one comes behind all that was found before
-abbrev pub ReturnsFinding : {A C E : Type 0} → Machine C A → Observer A C → Row → Result (Option Finding) E → Type 0
+-- of any rows that it has walked: the finding on this one comes after all that was found before
+abbrev pub ReturnsFinding : {A C E : Type 0} → Machine C A → Observer A C → (row : Interface → Item) → Result (Option Finding) E → Type 0
 ReturnsFinding m o row result =
-    (i : Interface) (rows : List Row) → HasWalked m i rows o → IfOk result (λ found. (report_of i (rows ++ row ∷ [])).findings ≡ (report_of i rows).findings ++ option_to_list found)
+    (i : Interface) (rows : List Item) → HasWalked m i rows o → IfOk result (λ found. (report_of i (rows ++ row i ∷ [])).findings ≡ (report_of i rows).findings ++ option_to_list found)
 
 -- of any rows that it has walked: their report
 abbrev pub ReturnsReport : {A C E : Type 0} → Machine C A → Observer A C → Result Report E → Type 0
-ReturnsReport m o result = (i : Interface) (rows : List Row) → HasWalked m i rows o → IfOk result (λ report. report ≡ report_of i rows)
+ReturnsReport m o result = (i : Interface) (rows : List Item) → HasWalked m i rows o → IfOk result (λ report. report ≡ report_of i rows)
 
 -- of any rows that it has walked: the report of them and these
-abbrev pub ReturnsReportWith : {A C E : Type 0} → Machine C A → Observer A C → (more : List Row) → Result Report E → Type 0
+abbrev pub ReturnsReportWith : {A C E : Type 0} → Machine C A → Observer A C → (more : Interface → List Item) → Result Report E → Type 0
 ReturnsReportWith m o more result =
-    (i : Interface) (rows : List Row) → HasWalked m i rows o → AreRows (rows ++ more) → IfOk result (λ report. report ≡ report_of i (rows ++ more))
+    (i : Interface) (rows : List Item) → HasWalked m i rows o → AreItems i (rows ++ more i) → IfOk result (λ report. report ≡ report_of i (rows ++ more i))
 
 -- of any rows that it has walked: what was not counted of them and these
-abbrev pub LeavesOutWith : {A C T E : Type 0} → Machine C A → Observer A C → (more : List Row) → Uncounted → Result T E → Type 0
+abbrev pub LeavesOutWith : {A C T E : Type 0} → Machine C A → Observer A C → (more : Interface → List Item) → Uncounted → Result T E → Type 0
 LeavesOutWith m o more uncounted result =
-    (i : Interface) (rows : List Row) → HasWalked m i rows o → AreRows (rows ++ more) → OnOk result (uncounted ≡ uncounted_of i (rows ++ more))
+    (i : Interface) (rows : List Item) → HasWalked m i rows o → AreItems i (rows ++ more i) → OnOk result (uncounted ≡ uncounted_of i (rows ++ more i))

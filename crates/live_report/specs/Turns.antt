@@ -4,7 +4,7 @@ use Rattle.line_model.specs.declared.interface.Interface.{Interface}
 use Rattle.line_model.specs.declared.event.Event.{Event}
 use Rattle.line_model.specs.declared.finding.Finding.{Finding}
 use Rattle.line_model.specs.basics.Bounds.{IsPiece}
-use Rattle.line_model.specs.basics.Records.{Row, Item, Piece}
+use Rattle.line_model.specs.basics.Records.{Item, Item, Piece}
 use Rattle.line_model.specs.channels.RestartMachine.{LineState}
 use Rattle.restart_epochs.specs.OpenLanes.{OpenLanes}
 use Rattle.restart_epochs.specs.OpenRows.{OpenRows, rows_of, IsListing}
@@ -46,15 +46,15 @@ MayTurn (ToChannel channel) i item rows = IsPiece i channel (rows_of rows channe
 MayTurn _ i item rows = Unit {0}
 
 -- what a row finds: where it goes to a channel what that finds, else what the restart machine does
-abbrev pub FindsAt : {B : Type 0} → Turn → (line : Option Finding) → EpochWalk B → OpenRows → Row → Option Finding → Type 0
+abbrev pub FindsAt : {B : Type 0} → Turn → (line : Option Finding) → EpochWalk B → OpenRows → Item → Option Finding → Type 0
 FindsAt (ToChannel channel) line walk rows row found = FindsOn (walked_piece walk channel rows) row found
 FindsAt _ line walk rows row found = found ≡ line
 
-abbrev pub FindsBy : {B : Type 0} → Step → EpochWalk B → OpenRows → Row → Option Finding → Type 0
+abbrev pub FindsBy : {B : Type 0} → Step → EpochWalk B → OpenRows → Item → Option Finding → Type 0
 FindsBy step walk rows row found = FindsAt step.turn step.finding walk rows row found
 
 -- the events of a row that goes to a channel
-abbrev pub HasEvents : {B : Type 0} → Turn → EpochWalk B → OpenRows → Row → List Event → Type 0
+abbrev pub HasEvents : {B : Type 0} → Turn → EpochWalk B → OpenRows → Item → List Event → Type 0
 HasEvents (ToChannel channel) walk rows row events = events ≡ row_events walk.interface walk.epoch channel (channel_so_far (walked_piece walk channel rows)) row
 HasEvents _ walk rows row events = Unit {0}
 

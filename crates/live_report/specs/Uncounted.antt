@@ -1,5 +1,5 @@
 -- The data that was not counted, and why.
-use Rattle.std.specs.Prelude.{◌≡◌, ℕ, ◌+◌, ◌-◌, ◌<◌, ◌^◌, Bool, true, false, List, [], ◌∷◌, ◌++◌, Option, Some, None, drop, filter, length, min, sum_by, if◌then◌else◌}
+use Rattle.std.specs.Prelude.{ℕ, ◌+◌, ◌-◌, ◌<◌, ◌^◌, Bool, true, false, List, [], ◌∷◌, ◌++◌, Option, Some, None, filter, length, min, sum_by, if◌then◌else◌}
 use Rattle.std.specs.List.{list_any}
 use Rattle.line_model.specs.declared.interface.Interface.{Interface}
 use Rattle.line_model.specs.declared.event.Event.{Event}
@@ -11,20 +11,20 @@ use Rattle.line_model.specs.declared.packet.PacketKind.{PacketKind}
 use Rattle.line_model.specs.declared.packet.PacketKind.TheVariants as kind
 use Rattle.line_model.specs.declared.state.ChannelState.{ChannelState}
 use Rattle.line_model.specs.declared.state.ChannelState.TheVariants as state
-use Rattle.line_model.specs.basics.Records.{Row}
+use Rattle.line_model.specs.basics.Records.{Item}
 use Rattle.line_model.specs.channels.Channels.{Channel}
 use Rattle.line_model.specs.channels.RestartMachine.{LineState}
 use Rattle.line_model.specs.observer.Machine.{Observer, after, routed}
 use Rattle.line_model.specs.observer.Observer.{start, x25}
 use Rattle.line_model.specs.observer.Report.{is_finding}
-use Rattle.line_model.specs.packets.Classes.{header_length, packet_of}
+use Rattle.line_model.specs.packets.Classes.{header_length}
 use Rattle.line_model.specs.text.Text.{head, rows}
-use Rattle.channel_run.specs.Run.{row_events, usual_events}
-use Rattle.channel_run.specs.declared.run.Usual.{Usual}
 use Rattle.live_report.specs.declared.uncounted.Amount.{Amount}
 use Rattle.live_report.specs.declared.uncounted.Reason.{Reason}
 use Rattle.live_report.specs.declared.uncounted.Reason.TheVariants.{Finding, Owed, NotInTransfer, Discarded, Unknown, Restart}
 use Rattle.live_report.specs.declared.uncounted.Uncounted.{Uncounted}
+use Rattle.line_model.specs.packets.Says.{items_of}
+use Rattle.channel_run.specs.Run.{row_events}
 
 -- whether a packet is a data packet
 abbrev pub is_data_kind : PacketKind → Bool
@@ -59,21 +59,17 @@ abbrev pub reason_on : Channel → List Event → Option Reason
 reason_on c es = if counts_data es then None else (if has_finding es then Some Finding else Some (reason_of_state c.state c.owed))
 
 -- why a data packet was not counted: where no channel took it, a restart goes on
-abbrev pub reason_by : Interface → (taker : Option ℕ) → Observer LineState Channel → Row → Option Reason
+abbrev pub reason_by : Interface → (taker : Option ℕ) → Observer LineState Channel → Item → Option Reason
 reason_by i None o r = Some Restart
 reason_by i (Some k) o r = reason_on (o.states k) (row_events i o.epoch k (o.states k) r)
 
 -- why the data of a row was not counted, by what was known before it; none where it has no data, or where it was counted
-abbrev pub reason_at : Interface → Observer LineState Channel → Row → Option Reason
-reason_at i o r = if is_data (packet_of i r.octets) then reason_by i (routed (x25 i) o.line r) o r else None
-
--- a channel took a row, and these are its events, as most rows have them
-abbrev pub IsUsualRow : Usual → (taker : Option ℕ) → List Event → Type 0
-IsUsualRow usual taker es = (epoch k : ℕ) × (r : Row) × (taker ≡ Some k) × (es ≡ usual_events epoch k r usual)
+abbrev pub reason_at : Interface → Observer LineState Channel → Item → Option Reason
+reason_at i o r = if is_data r.packet then reason_by i (routed (x25 i) o.line r) o r else None
 
 -- how many octets of user data a data packet has
-abbrev pub user_octets : Interface → List ℕ → ℕ
-user_octets i xs = length (drop (header_length i) xs)
+abbrev pub user_octets : Interface → (length : ℕ) → ℕ
+user_octets i n = n - header_length i
 
 -- a data packet that was not counted: why, and its octets of user data
 pub record LeftOut : Type 0 where
@@ -85,11 +81,11 @@ abbrev pub left_out_by : (why : Option Reason) → (octets : ℕ) → List LeftO
 left_out_by None n = []
 left_out_by (Some why) n = record { reason = why; octets = n } ∷ []
 
-abbrev pub left_out_at : Interface → Observer LineState Channel → Row → List LeftOut
-left_out_at i o r = left_out_by (reason_at i o r) (user_octets i r.octets)
+abbrev pub left_out_at : Interface → Observer LineState Channel → Item → List LeftOut
+left_out_at i o r = left_out_by (reason_at i o r) (user_octets i r.length)
 
 -- the data packets of some rows that were not counted, in order
-abbrev pub left_out : Interface → Observer LineState Channel → List Row → List LeftOut
+abbrev pub left_out : Interface → Observer LineState Channel → List Item → List LeftOut
 left_out i o [] = []
 left_out i o (r ∷ rs) = left_out_at i o r ++ left_out i (after (x25 i) o r) rs
 
@@ -126,12 +122,12 @@ abbrev pub none_left_out : Uncounted
 none_left_out = amounts_of []
 
 -- what was not counted of the rows of an interface
-abbrev pub uncounted_of : Interface → List Row → Uncounted
+abbrev pub uncounted_of : Interface → List Item → Uncounted
 uncounted_of i rs = amounts_of (left_out i (start i) rs)
 
 -- what was not counted of a text
 abbrev pub trace_uncounted : List ℕ → Uncounted
-trace_uncounted x = elim (head x) [ None ↦ none_left_out | Some i ↦ uncounted_of i (rows x) ]
+trace_uncounted x = elim (head x) [ None ↦ none_left_out | Some i ↦ uncounted_of i (items_of i (rows x)) ]
 
 -- the amount for a reason
 abbrev pub amount_for : Reason → Uncounted → Amount
@@ -156,6 +152,6 @@ with_one Unknown n u = record u { unknown = grown n u.unknown }
 with_one Restart n u = record u { restart = grown n u.restart }
 
 -- so few rows that their numbers fit
-pub record AreFew (rs : List Row) : Type 0 where
+pub record AreFew (rs : List Item) : Type 0 where
   pub rows : length rs < 2 ^ 64
-  pub octets : sum_by (λ r. length r.octets) rs < 2 ^ 64
+  pub octets : sum_by (λ r. r.length) rs < 2 ^ 64

@@ -5,14 +5,16 @@ ghost use Rattle.line_model.specs.basics.Bounds.{IsPiece};
 ghost use Rattle.line_model.specs.declared.fault.Fault.TheVariants.{Memory};
 ghost use Rattle.restart_epochs.specs.OpenRows.{OpenRows, rows_of, HasMore};
 ghost use Rattle.channel_run.specs.Live.{channel_so_far};
-ghost use Rattle.channel_run.specs.Run.{row_events};
+ghost use Rattle.channel_run.specs.Run.{data_events, row_events};
+ghost use Rattle.channel_run.specs.Taken.{data_in, finding_in};
 ghost use Rattle.live_report.specs.Lanes.{FindsOn, IsOut, LanesStandFor};
 ghost use Rattle.live_report.specs.Turns.{walked_piece, OfLanes, SeesOn};
 
 use crate::last_row::{Judge, KeptRow};
-use channel_run::live::LiveChannel;
+use channel_run::live::{LiveChannel, Taken};
 use channel_run::run::Channel;
-use line_model::event::Event;
+use line_model::event::{Event, What};
+use line_model::finding::Finding;
 use line_model::fault::Fault;
 use line_model::interface::Interface;
 use line_model::items::ItemRef;
@@ -58,8 +60,8 @@ pub fn step_channel<A: Allocator + Copy, C: Channel<A>>(
         → HasMore channel item.now rows after
         → IsPiece walk.now.interface channel (rows_of after channel)
         → OnOk result (LanesStandFor C.Channel walk.now.interface walk.now.epoch after lanes.new)) }
-    ensures number { IfOk result (λ last. last.number ≡ item.now.row.number) }
-    ensures side { IfOk result (λ last. last.side ≡ item.now.row.side) }
+    ensures number { IfOk result (λ last. last.number ≡ item.now.number) }
+    ensures side { IfOk result (λ last. last.side ≡ item.now.side) }
     ensures packet { IfOk result (λ last. last.packet ≡ item.now.packet) }
     ensures channel { IfOk result (λ last. last.channel ≡ Some channel) }
     ensures before { OfLanes C.Channel walk.now lanes.old (λ rows.
@@ -69,16 +71,17 @@ pub fn step_channel<A: Allocator + Copy, C: Channel<A>>(
         → IsPiece walk.now.interface channel (rows_of after channel)
         → IfOk result (λ last. SeesOn walk.now channel after last.after)) }
     ensures finding { OfLanes C.Channel walk.now lanes.old (λ rows.
-        IfOk result (λ last. FindsOn (walked_piece walk.now channel rows) item.now.row last.finding)) }
+        IfOk result (λ last. FindsOn (walked_piece walk.now channel rows) item.now last.finding)) }
     ensures events { OfLanes C.Channel walk.now lanes.old (λ rows.
         OnOk result (events.new.items ≡ row_events walk.now.interface walk.now.epoch channel
-        (channel_so_far (walked_piece walk.now channel rows)) item.now.row)) }
+        (channel_so_far (walked_piece walk.now channel rows)) item.now)) }
     ensures memory { IfErr result (λ fault. fault ≡ Memory) }
 {
     let alloc = *events.allocator();
     let mut live = take_out(alloc, &walk.interface, walk.epoch, channel, lanes)?;
     let before = live.word();
-    let finding = live.take(item, events)?;
+    let taken = live.take(item, events)?;
+    let finding = list_events(walk.epoch, channel, item, taken, events)?;
     let after = live.word();
     lanes.put(channel, live);
     Ok(KeptRow {
@@ -92,4 +95,35 @@ pub fn step_channel<A: Allocator + Copy, C: Channel<A>>(
         },
         finding,
     })
+}
+
+/// Appends the event of accepted data that its channel left out of the list, and returns the finding on the row.
+#[inline(always)]
+fn list_events<A: Allocator>(
+    epoch: u32,
+    channel: u16,
+    item: &ItemRef<'_>,
+    taken: Taken,
+    events: &mut Vec<Event, A>,
+) -> Result<Option<Finding>, Fault>
+    ensures listed { OnOk result (events.new.items ≡ events.old.items
+        ++ data_events epoch channel item.now (data_in taken)) }
+    ensures finding { IfOk result (λ found. found ≡ finding_in taken) }
+    ensures memory { IfErr result (λ fault. fault ≡ Memory) }
+{
+    match taken {
+        Taken::Data(octets) => {
+            events.push(Event {
+                epoch,
+                channel,
+                packet: item.number,
+                what: What::Data {
+                    side: item.side,
+                    octets,
+                },
+            })?;
+            Ok(None)
+        }
+        Taken::Listed(finding) => Ok(finding),
+    }
 }

@@ -12,4 +12,3 @@ pub mod observer;
 mod observing;
 mod reporting;
 pub mod uncounted;
-mod usual;

@@ -22,7 +22,7 @@ use line_model::fault::Fault;
 use line_model::finding::Finding;
 use line_model::interface::Interface;
 use line_model::report::Report;
-use line_model::row::Row;
+use line_model::row::ReadRow;
 use line_model::state::Side;
 use line_model::totals::Summary;
 use report_merge::text::write_report;
@@ -36,7 +36,7 @@ use trace_text::lines::{Lines, TextEnd};
 pub struct Live<A: Allocator, C: Channel<A>> {
     lines: Lines<A>,
     /// The last row, whose room the next one uses.
-    row: Row<A>,
+    row: ReadRow<A>,
     /// Made once the first row was read.
     observer: Option<Observer<A, C>>,
     /// What the rows of the last chunk found.
@@ -52,9 +52,10 @@ impl<A: Allocator + Copy, C: Channel<A>> Live<A, C> {
     {
         Live {
             lines: Lines::new(alloc),
-            row: Row {
+            row: ReadRow {
                 number: 0,
                 side: Side::T,
+                length: 0,
                 octets: Vec::new(alloc),
             },
             observer: None,
@@ -71,7 +72,7 @@ impl<A: Allocator + Copy, C: Channel<A>> Live<A, C> {
     }
 
     /// The last row that was taken; what it holds where there is none is not said.
-    pub fn row(&self) -> &Row<A>
+    pub fn row(&self) -> &ReadRow<A>
         ensures { result.now ≡ self.now.row }
     {
         &self.row

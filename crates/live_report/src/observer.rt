@@ -4,8 +4,7 @@ ghost use Rattle.std.specs.Prelude.{◌≡◌, ◌<◌, ◌+◌, ◌^◌, ◌++�
 ghost use Rattle.line_model.specs.basics.Records as records;
 ghost use Rattle.line_model.specs.declared.fault.Fault.TheVariants.{Memory};
 ghost use Rattle.line_model.specs.declared.interface.Interface.{Interface as AnyInterface};
-ghost use Rattle.std.specs.Bool.{MatchBool, OnTrue};
-ghost use Rattle.line_model.specs.packets.Classes.{packet_of};
+ghost use Rattle.line_model.specs.packets.Says.{item_read};
 ghost use Rattle.line_model.specs.pieces.Plans.{value};
 ghost use Rattle.restart_epochs.specs.OpenRows.{OpenRows};
 ghost use Rattle.restart_epochs.specs.Cutting.{Cutting, ended_by, observer, HasTurned};
@@ -18,14 +17,13 @@ ghost use Rattle.live_report.specs.LastRows.{IsLastRow};
 ghost use Rattle.live_report.specs.Uncounted.{uncounted_of};
 ghost use Rattle.live_report.specs.declared.last_row.Known.TheVariants.{Restart};
 ghost use Rattle.live_report.specs.Turns.{FindsBy, HasEvents, KnowsBy, MayTurn, OfOpen, StandsAt};
-ghost use Rattle.live_report.specs.Observing.{open_piece, FindsNothing, HasWalked, IsHolding, IsObserver, MayWalk, ReturnsFinding, ReturnsReport, WalksOn, WalksOnFrom, WalksStill};
+ghost use Rattle.live_report.specs.Observing.{open_piece, HasWalked, IsHolding, IsObserver, MayWalk, ReturnsFinding, ReturnsReport, WalksOn};
 
 use crate::ending::end_channels;
 use crate::lanes::step_channel;
 use crate::last_row::{Judge, KeptRow, LastRow};
 use crate::reporting::report_channels;
 use crate::uncounted::Uncounted;
-use crate::usual::{put_usual, step_usual};
 use channel_run::live::LiveChannel;
 use channel_run::run::{Channel, View};
 use line_model::event::Event;
@@ -34,7 +32,7 @@ use line_model::finding::Finding;
 use line_model::interface::Interface;
 use line_model::items::ItemRef;
 use line_model::report::Report;
-use line_model::row::Row;
+use line_model::row::ReadRow;
 use line_model::state::RState;
 use packet_decode::decode::decode;
 use report_merge::parts::Parts;
@@ -61,8 +59,8 @@ pub struct Observer<A: Allocator, C: Channel<A>> {
 /// A row of a packet that no channel takes, which the restart machine judged in a state.
 fn judged_on_line(item: &ItemRef<'_>, before: RState, step: &Step) -> KeptRow
     ensures { result ≡ record {
-      number = item.now.row.number;
-      side = item.now.row.side;
+      number = item.now.number;
+      side = item.now.side;
       packet = item.now.packet;
       channel = None;
       before = Restart before;
@@ -97,8 +95,8 @@ impl<A: Allocator + Copy, C: Channel<A>> Observer<A, C> {
         }
     }
 
-    /// Steps the channel that a row goes to, or ends the channels that it ends, and returns the row as it was judged. It
-    /// refuses for want of memory alone.
+    /// Steps the channel that a row goes to, or ends the channels that it ends, and returns the row as it was judged. Fails only
+    /// when memory is refused.
     fn turn(&mut self, step: &Step, item: &ItemRef<'_>) -> Result<KeptRow, Fault>
         requires room { (rows : OpenRows) × (reports : List records.PieceReport)
             × StandsAt C.Channel self.old.walk rows self.old.lanes × (self.old.ended ≡ gathered reports)
@@ -113,9 +111,9 @@ impl<A: Allocator + Copy, C: Channel<A>> Observer<A, C> {
         ensures ended { OfOpen C.Channel self.old.walk self.old.lanes (λ rows. (reports : List records.PieceReport)
             → self.old.ended ≡ gathered reports
             → OnOk result (self.new.ended ≡ gathered (reports ++ map value (ended_by step.now.turn
-            self.old.walk.interface self.old.walk.epoch item.now.row.number (length reports) rows)))) }
-        ensures number { IfOk result (λ last. last.number ≡ item.now.row.number) }
-        ensures side { IfOk result (λ last. last.side ≡ item.now.row.side) }
+            self.old.walk.interface self.old.walk.epoch item.now.number (length reports) rows)))) }
+        ensures number { IfOk result (λ last. last.number ≡ item.now.number) }
+        ensures side { IfOk result (λ last. last.side ≡ item.now.side) }
         ensures packet { IfOk result (λ last. last.packet ≡ item.now.packet) }
         ensures channel { IfOk result (λ last. last.channel ≡ channel_in step.now.turn) }
         ensures before { OfOpen C.Channel self.old.walk self.old.lanes (λ rows. IfOk result (λ last.
@@ -125,9 +123,9 @@ impl<A: Allocator + Copy, C: Channel<A>> Observer<A, C> {
             → HasTurned step.now.turn item.now rows after
             → IfOk result (λ last. KnowsBy step.now.turn self.old.walk step.now.machine after last.after)) }
         ensures finding { OfOpen C.Channel self.old.walk self.old.lanes (λ rows.
-            IfOk result (λ last. FindsBy step.now self.old.walk rows item.now.row last.finding)) }
+            IfOk result (λ last. FindsBy step.now self.old.walk rows item.now last.finding)) }
         ensures events { OfOpen C.Channel self.old.walk self.old.lanes (λ rows.
-            OnOk result (HasEvents step.now.turn self.old.walk rows item.now.row self.new.events.items)) }
+            OnOk result (HasEvents step.now.turn self.old.walk rows item.now self.new.events.items)) }
         ensures memory { IfErr result (λ fault. fault ≡ Memory) }
     {
         match step.turn {
@@ -152,7 +150,7 @@ impl<A: Allocator + Copy, C: Channel<A>> Observer<A, C> {
     /// Which stretch between restarts goes on, counted from 1.
     pub fn epoch(&self) -> u32
         ensures kept { result ≡ self.now.walk.epoch }
-        ensures walked { (i : AnyInterface) (rows : List records.Row)
+        ensures walked { (i : AnyInterface) (rows : List records.Item)
             → HasWalked C.Channel i rows self.now → result ≡ (observer i rows).epoch }
     {
         self.walk.epoch
@@ -161,7 +159,7 @@ impl<A: Allocator + Copy, C: Channel<A>> Observer<A, C> {
     /// How many rows were taken.
     pub fn packets(&self) -> u32
         ensures kept { result ≡ self.now.walk.packets }
-        ensures walked { (i : AnyInterface) (rows : List records.Row)
+        ensures walked { (i : AnyInterface) (rows : List records.Item)
             → HasWalked C.Channel i rows self.now → result ≡ length rows }
     {
         self.walk.packets
@@ -169,7 +167,7 @@ impl<A: Allocator + Copy, C: Channel<A>> Observer<A, C> {
 
     /// The row that was taken last, as it was judged; none before the first row.
     pub fn last_row(&self) -> Option<LastRow>
-        ensures { (i : AnyInterface) (before : List records.Row) (row : records.Row)
+        ensures { (i : AnyInterface) (before : List records.Item) (row : records.Item)
             → HasWalked C.Channel i (before ++ row ∷ []) self.now
             → MatchOption result ⊥ (λ last. IsLastRow i before row last self.now.events.items) }
     {
@@ -181,7 +179,7 @@ impl<A: Allocator + Copy, C: Channel<A>> Observer<A, C> {
 
     /// The row that was taken last, as it is kept, which costs no copy; none before the first row.
     pub fn kept_row(&self) -> Option<&KeptRow>
-        ensures { (i : AnyInterface) (before : List records.Row) (row : records.Row)
+        ensures { (i : AnyInterface) (before : List records.Item) (row : records.Item)
             → HasWalked C.Channel i (before ++ row ∷ []) self.now
             → MatchOption result ⊥ (λ last. IsLastRow i before row last.now self.now.events.items) }
     {
@@ -198,7 +196,7 @@ impl<A: Allocator + Copy, C: Channel<A>> Observer<A, C> {
     /// The data of the rows that was not counted, and why.
     pub fn uncounted(&self) -> Uncounted
         ensures kept { result ≡ self.now.uncounted }
-        ensures walked { (i : AnyInterface) (rows : List records.Row)
+        ensures walked { (i : AnyInterface) (rows : List records.Item)
             → HasWalked C.Channel i rows self.now → result ≡ uncounted_of i rows }
     {
         self.uncounted
@@ -209,7 +207,7 @@ impl<A: Allocator + Copy, C: Channel<A>> Observer<A, C> {
         ensures held { (c : Cutting) (reports : List records.PieceReport)
             → IsHolding C.Channel c reports self.now
             → IfSome result (IsViewOf c.interface (channel_so_far (open_piece c channel))) }
-        ensures walked { (i : AnyInterface) (rows : List records.Row)
+        ensures walked { (i : AnyInterface) (rows : List records.Item)
             → HasWalked C.Channel i rows self.now
             → IfSome result (IsViewOf i ((observer i rows).states channel)) }
     {
@@ -219,71 +217,24 @@ impl<A: Allocator + Copy, C: Channel<A>> Observer<A, C> {
         }
     }
 
-    /// Takes the next row, and answers what it finds. It refuses for want of memory alone, and stands for nothing then.
-    pub fn take(&mut self, row: &Row<A>) -> Result<Option<Finding>, Fault>
-        requires room { MayWalk C.Channel self.old (row.now ∷ []) }
+    /// Takes the next row, and returns what it finds. Fails only when memory is refused; drop the observer then.
+    pub fn take(&mut self, row: &ReadRow<A>) -> Result<Option<Finding>, Fault>
+        requires room { MayWalk C.Channel self.old (λ i. item_read i row.now ∷ []) }
         // Of any rows that it took: it stands for them and this one.
-        ensures stands { WalksOn C.Channel self.old row.now self.new result }
-        // What was found comes behind all that was found before.
-        ensures finding { ReturnsFinding C.Channel self.old row.now result }
+        ensures stands { WalksOn C.Channel self.old (λ i. item_read i row.now) self.new result }
+        // What was found comes after all that was found before.
+        ensures finding { ReturnsFinding C.Channel self.old (λ i. item_read i row.now) result }
         ensures memory { IfErr result (λ fault. fault ≡ Memory) }
     {
         let packet = decode(&self.walk.interface, row.octets.as_slice());
-        if self.take_usual(&row.with_packet(packet))? {
-            return Ok(None);
-        }
-        self.take_any(&row.with_packet(packet))
+        self.take_item(&row.item(packet))
     }
 
-    /// Takes the next row, if it is as most are, and answers whether it did; else it stands for the same rows as before.
-    #[inline(always)]
-    fn take_usual(&mut self, item: &ItemRef<'_>) -> Result<bool, Fault>
-        requires room { MayWalk C.Channel self.old (item.now.row ∷ []) }
-        requires packet { item.now.packet ≡ packet_of self.old.walk.interface item.now.row.octets }
-        ensures taken { IfOk result (λ taken. MatchBool taken
-            (WalksOnFrom C.Channel self.old item.now.row self.new)
-            (WalksStill C.Channel self.old self.new)) }
-        ensures interface { OnOk result (self.new.walk.interface ≡ self.old.walk.interface) }
-        ensures finding { IfOk result (λ taken. OnTrue taken (FindsNothing C.Channel self.old item.now.row)) }
-        ensures memory { IfErr result (λ fault. fault ≡ Memory) }
-    {
-        let Some(channel) = self.walk.usual_channel(item) else {
-            return Ok(false);
-        };
-        let Some(row) = step_usual(&self.walk, channel, item, &mut self.lanes) else {
-            return Ok(false);
-        };
-        put_usual(self.walk.epoch, channel, item, row.usual, &mut self.events)?;
-        let kept = KeptRow {
-            number: item.number,
-            side: item.side,
-            packet: item.packet,
-            judge: Judge::Channel {
-                channel,
-                before: row.before,
-                after: row.after,
-            },
-            finding: None,
-        };
-        self.uncounted.take_usual(
-            &self.walk.interface,
-            item.octets,
-            row.usual,
-            &kept,
-            self.events.as_slice(),
-        );
-        self.last = Some(kept);
-        self.walk.count_row();
-        Ok(true)
-    }
-
-    /// Takes the next row with its packet, as `take` does.
-    #[inline(never)]
-    fn take_any(&mut self, item: &ItemRef<'_>) -> Result<Option<Finding>, Fault>
-        requires room { MayWalk C.Channel self.old (item.now.row ∷ []) }
-        requires packet { item.now.packet ≡ packet_of self.old.walk.interface item.now.row.octets }
-        ensures stands { WalksOn C.Channel self.old item.now.row self.new result }
-        ensures finding { ReturnsFinding C.Channel self.old item.now.row result }
+    /// Takes the next row by what it says, as `take` does.
+    fn take_item(&mut self, item: &ItemRef<'_>) -> Result<Option<Finding>, Fault>
+        requires room { MayWalk C.Channel self.old (λ _. item.now ∷ []) }
+        ensures stands { WalksOn C.Channel self.old (λ _. item.now) self.new result }
+        ensures finding { ReturnsFinding C.Channel self.old (λ _. item.now) result }
         ensures memory { IfErr result (λ fault. fault ≡ Memory) }
     {
         let step = self.walk.step(item)?;
@@ -291,7 +242,7 @@ impl<A: Allocator + Copy, C: Channel<A>> Observer<A, C> {
         let finding = last.finding();
         self.uncounted.take(
             &self.walk.interface,
-            item.octets,
+            item.length,
             &last,
             self.events.as_slice(),
         );

@@ -4,10 +4,11 @@ ghost use Rattle.std.specs.Prelude.{◌≡◌, ◌+◌, ◌≤◌, ◌^◌, ◌+
 ghost use Rattle.line_model.specs.text.Text.{early};
 ghost use Rattle.line_model.specs.declared.fault.Fault.TheVariants.{Memory};
 ghost use Rattle.trace_text.specs.Progress.{bytes_fed};
-ghost use Rattle.trace_text.specs.StandsFor.{last_row, IsFaultOf, IsTextFault};
+ghost use Rattle.trace_text.specs.StandsFor.{IsFaultOf, IsTextFault};
 ghost use Rattle.live_report.specs.Found.{IsFoundBy, found_at};
 ghost use Rattle.live_report.specs.Lives.{ObservesSome, OfObserved, Observes};
-ghost use Rattle.live_report.specs.Observing.{LeavesOutWith, MayWalk, ReturnsReportWith};
+ghost use Rattle.line_model.specs.packets.Says.{item_read};
+ghost use Rattle.live_report.specs.Observing.{LeavesOutWith, MayWalk, ReturnsReportWith, last_item};
 
 use crate::observer::Observer;
 use crate::uncounted::Uncounted;
@@ -15,7 +16,7 @@ use channel_run::run::Channel;
 use line_model::fault::Fault;
 use line_model::finding::Finding;
 use line_model::report::Report;
-use line_model::row::Row;
+use line_model::row::ReadRow;
 use restart_epochs::walk::append_finding;
 use std::alloc::Allocator;
 use trace_text::lines::Lines;
@@ -24,7 +25,7 @@ use trace_text::lines::Lines;
 pub fn observe_chunk<A: Allocator + Copy, C: Channel<A>>(
     chunk: &[u8],
     lines: &mut Lines<A>,
-    row: &mut Row<A>,
+    row: &mut ReadRow<A>,
     observer: &mut Observer<A, C>,
     found: &mut Vec<Finding, A>,
 ) -> Result<(), Fault>
@@ -54,12 +55,12 @@ pub fn observe_chunk<A: Allocator + Copy, C: Channel<A>>(
 pub fn finish_observing<A: Allocator + Copy, C: Channel<A>>(
     observer: Observer<A, C>,
     has_row: bool,
-    row: &Row<A>,
+    row: &ReadRow<A>,
     uncounted: &mut Uncounted,
 ) -> Result<Report<A>, Fault>
-    requires room { MayWalk C.Channel observer (last_row has_row row.now) }
-    ensures report { ReturnsReportWith C.Channel observer (last_row has_row row.now) result }
-    ensures uncounted { LeavesOutWith C.Channel observer (last_row has_row row.now) uncounted.new result }
+    requires room { MayWalk C.Channel observer (λ i. last_item i has_row row.now) }
+    ensures report { ReturnsReportWith C.Channel observer (λ i. last_item i has_row row.now) result }
+    ensures uncounted { LeavesOutWith C.Channel observer (λ i. last_item i has_row row.now) uncounted.new result }
     ensures memory { IfErr result (λ fault. fault ≡ Memory) }
 {
     if has_row {
@@ -72,12 +73,12 @@ pub fn finish_observing<A: Allocator + Copy, C: Channel<A>>(
 /// The report of an observer after one more row, and the data that was not counted.
 fn observe_last<A: Allocator + Copy, C: Channel<A>>(
     mut observer: Observer<A, C>,
-    row: &Row<A>,
+    row: &ReadRow<A>,
     uncounted: &mut Uncounted,
 ) -> Result<Report<A>, Fault>
-    requires room { MayWalk C.Channel observer (row.now ∷ []) }
-    ensures report { ReturnsReportWith C.Channel observer (row.now ∷ []) result }
-    ensures uncounted { LeavesOutWith C.Channel observer (row.now ∷ []) uncounted.new result }
+    requires room { MayWalk C.Channel observer (λ i. item_read i row.now ∷ []) }
+    ensures report { ReturnsReportWith C.Channel observer (λ i. item_read i row.now ∷ []) result }
+    ensures uncounted { LeavesOutWith C.Channel observer (λ i. item_read i row.now ∷ []) uncounted.new result }
     ensures memory { IfErr result (λ fault. fault ≡ Memory) }
 {
     observer.take(row)?;

@@ -1,24 +1,24 @@
 //! The data packets that were not counted, and why.
 
 ghost use Rattle.std.specs.Prelude.{◌≡◌, ◌++◌, ◌∷◌, [], List};
-ghost use Rattle.line_model.specs.basics.Records.{Row};
+ghost use Rattle.line_model.specs.basics.Records.{Item};
 ghost use Rattle.line_model.specs.channels.Channels as channels;
 ghost use Rattle.line_model.specs.declared.interface.Interface.{Interface as AnyInterface};
 ghost use Rattle.restart_epochs.specs.Cutting.{observer};
 ghost use Rattle.channel_run.specs.StatusWord.{view_in};
 ghost use Rattle.channel_run.specs.Views.{IsViewOf};
 ghost use Rattle.live_report.specs.LastRows.{IsLastRow};
-ghost use Rattle.live_report.specs.Uncounted.{AreFew, amount_for, counts_data, grown, has_finding, is_data, IsUsualRow, none_left_out, reason_at, reason_of_state, reason_on, uncounted_of, user_octets, with_one};
+ghost use Rattle.live_report.specs.Uncounted.{AreFew, amount_for, counts_data, grown, has_finding, is_data, none_left_out, reason_at, reason_of_state, reason_on, uncounted_of, user_octets, with_one};
 
 use crate::last_row::{Judge, KeptRow, Known, LastRow};
-use channel_run::run::{Usual, View};
+use channel_run::run::View;
 use channel_run::status_word::view_in;
 use data_transfer::packed::FlowWord;
 use line_model::event::{Event, What};
 use line_model::interface::Interface;
 use line_model::packet::{Packet, PacketKind};
 use line_model::state::ChannelState;
-use packet_decode::transfer::header_length;
+use packet_decode::decode::header_length;
 
 /// Why the data of a row was not counted.
 #[derive(Clone, Copy, PartialEq, Eq, Debug)]
@@ -69,7 +69,7 @@ impl Reason {
 }
 
 /// Whether a packet is a data packet.
-fn is_data(packet: &Packet) -> bool
+pub fn is_data(packet: &Packet) -> bool
     ensures { result ≡ is_data packet.now }
 {
     match packet {
@@ -79,7 +79,7 @@ fn is_data(packet: &Packet) -> bool
 }
 
 /// Whether data was counted.
-fn counts_data(events: &[Event]) -> bool
+pub fn counts_data(events: &[Event]) -> bool
     ensures { result ≡ counts_data events.now }
 {
     for event in events {
@@ -91,7 +91,7 @@ fn counts_data(events: &[Event]) -> bool
 }
 
 /// Whether something was found.
-fn has_finding(events: &[Event]) -> bool
+pub fn has_finding(events: &[Event]) -> bool
     ensures { result ≡ has_finding events.now }
 {
     for event in events {
@@ -118,7 +118,7 @@ fn reason_on(view: &View, events: &[Event]) -> Option<Reason>
 
 /// Why the data of a row was not counted; none where it has no data, or where it was counted.
 pub fn reason_of(last: &LastRow, events: &[Event]) -> Option<Reason>
-    ensures { (i : AnyInterface) (earlier : List Row) (r : Row)
+    ensures { (i : AnyInterface) (earlier : List Item) (r : Item)
         → IsLastRow i earlier r last.now events.now
         → result ≡ reason_at i (observer i earlier) r }
 {
@@ -145,7 +145,7 @@ fn reason_in(word: &FlowWord, events: &[Event]) -> Option<Reason>
 /// Why the data of a row that is kept was not counted, as `reason_of` has it.
 #[inline(always)]
 fn reason_kept(last: &KeptRow, events: &[Event]) -> Option<Reason>
-    ensures { (i : AnyInterface) (earlier : List Row) (r : Row)
+    ensures { (i : AnyInterface) (earlier : List Item) (r : Item)
         → IsLastRow i earlier r last.now events.now
         → result ≡ reason_at i (observer i earlier) r }
 {
@@ -159,10 +159,10 @@ fn reason_kept(last: &KeptRow, events: &[Event]) -> Option<Reason>
 }
 
 /// How many octets of user data a data packet has.
-fn user_octets(interface: &Interface, octets: &[u8]) -> u64
-    ensures { result ≡ user_octets interface.now octets.now }
+fn user_octets(interface: &Interface, length: usize) -> u64
+    ensures { result ≡ user_octets interface.now length }
 {
-    octets.len().saturating_sub(header_length(interface)) as u64
+    length.saturating_sub(header_length(interface)) as u64
 }
 
 /// Some data packets.
@@ -255,41 +255,18 @@ impl Uncounted {
     pub(crate) fn take(
         &mut self,
         interface: &Interface,
-        octets: &[u8],
+        length: usize,
         last: &KeptRow,
         events: &[Event],
     )
-        ensures { (i : AnyInterface) (earlier : List Row) (r : Row)
+        ensures { (i : AnyInterface) (earlier : List Item) (r : Item)
             → IsLastRow i earlier r last.now events.now
-            → interface.now ≡ i → octets.now ≡ r.octets → AreFew (earlier ++ r ∷ [])
+            → interface.now ≡ i → length ≡ r.length → AreFew (earlier ++ r ∷ [])
             → self.old ≡ uncounted_of i earlier
             → self.new ≡ uncounted_of i (earlier ++ r ∷ []) }
     {
         if let Some(reason) = reason_kept(last, events) {
-            self.add(reason, user_octets(interface, octets));
-        }
-    }
-
-    /// The same of a row that is as most are, whose data was counted if it has any.
-    #[inline(always)]
-    pub(crate) fn take_usual(
-        &mut self,
-        interface: &Interface,
-        octets: &[u8],
-        usual: Usual,
-        last: &KeptRow,
-        events: &[Event],
-    )
-        requires usual { IsUsualRow usual last.now.channel events.now }
-        ensures { (i : AnyInterface) (earlier : List Row) (r : Row)
-            → IsLastRow i earlier r last.now events.now
-            → interface.now ≡ i → octets.now ≡ r.octets → AreFew (earlier ++ r ∷ [])
-            → self.old ≡ uncounted_of i earlier
-            → self.new ≡ uncounted_of i (earlier ++ r ∷ []) }
-    {
-        match usual {
-            Usual::Data(_) => {}
-            Usual::Ready => self.take(interface, octets, last, events),
+            self.add(reason, user_octets(interface, length));
         }
     }
 }

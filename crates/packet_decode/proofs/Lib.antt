@@ -2,6 +2,6 @@ pub mod OctetLemmas
 pub mod FacilityLemmas
 pub mod AskedLemmas
 pub mod CallTypes
-pub mod ContentsLemmas
+pub mod SaidPackets
 pub mod BlockLemmas
 pub mod KindLemmas

@@ -3,6 +3,4 @@ pub mod Reading
 pub mod CallFaults
 pub mod Blocks
 pub mod Shown
-pub mod Lengths
-pub mod Transfers
-pub mod Contents
+pub mod SaidData

@@ -2,10 +2,7 @@
 #![tactic(auto)]
 
 mod address;
-pub mod contents;
 pub mod decode;
 mod facility;
 pub mod fields;
-mod lengths;
 pub mod rows;
-pub mod transfer;

@@ -10,7 +10,7 @@ use Rattle.line_model.specs.declared.fault.Fault.{Fault}
 use Rattle.line_model.specs.declared.fault.Fault.TheVariants.{Memory, Trace, Read, Write, Start, Double, Stranger, Missing}
 use Rattle.line_model.specs.declared.interface.Interface.{Interface}
 use Rattle.line_model.specs.declared.finding.Finding.{Finding}
-use Rattle.line_model.specs.basics.Records.{Row, Piece, PieceReport}
+use Rattle.line_model.specs.basics.Records.{Item, Piece, PieceReport}
 use Rattle.line_model.specs.pieces.Plans.{plan, value}
 use Rattle.line_model.specs.work.Book.{times, ids_of}
 use Rattle.line_model.proofs.Counting.{bit, times-cons, times-append}
@@ -81,14 +81,14 @@ none_is_not_some k e = absurd (cc)
 -- ---- the values of a plan
 
 -- how often an id stands among the reports
-stands : (i : Interface) (rs : List Row) (reports : List PieceReport) → IsPermutation (map value (plan i rs)) reports → (x : ℕ) → times x (ids_of reports) ≡ times x (ids (plan i rs))
+stands : (i : Interface) (rs : List Item) (reports : List PieceReport) → IsPermutation (map value (plan i rs)) reports → (x : ℕ) → times x (ids_of reports) ≡ times x (ids (plan i rs))
 stands i rs reports h x =
     sum_by-IsPermutation (λ y. bit (y == x)) (ids (plan i rs)) (ids_of reports) (IsPermutation-map (λ r. r.id) (map value (plan i rs)) reports h)
 
-numbered : (i : Interface) (rs : List Row) → NumberedFrom 0 (plan i rs)
+numbered : (i : Interface) (rs : List Item) → NumberedFrom 0 (plan i rs)
 numbered i rs k p e = omega (arith, numbers_law i rs k p e)
 
-pub memory_alone : (i : Interface) (rs : List Row) (reports : List PieceReport) (line : List Finding) (packets pieces : ℕ) (f : Fault)
+pub memory_alone : (i : Interface) (rs : List Item) (reports : List PieceReport) (line : List Finding) (packets pieces : ℕ) (f : Fault)
     → IsOfWalk i rs reports line packets pieces → IsRefusal f pieces (ids_of reports) → f ≡ Memory
 memory_alone i rs reports line packets pieces f w refused = at f refused
   where

@@ -10,7 +10,8 @@ use Rattle.line_model.specs.declared.route.Route.TheVariants.{Found as ErrorFoun
 use Rattle.line_model.specs.declared.event.What.{What}
 use Rattle.line_model.specs.declared.event.What.TheVariants.{Data}
 use Rattle.line_model.specs.declared.finding.Finding.{Finding}
-use Rattle.line_model.specs.basics.Records.{Row, CallRecord, PieceReport, Report}
+use Rattle.line_model.specs.basics.Records.{Item, CallRecord, PieceReport, Report}
+use Rattle.line_model.specs.basics.Bounds.{AreSaid}
 use Rattle.line_model.specs.observer.MachineEvents.{RowEvent, walk_events}
 use Rattle.line_model.specs.pieces.Merge.{is_line}
 use Rattle.line_model.specs.observer.Peak.{how_many, IsPeakOfTimes}
@@ -34,12 +35,12 @@ abbrev tells_data : What → Bool
 tells_data (Data x n) = true
 tells_data w = false
 
-line_tells_none : (r : Row) (v : Route) → how_many tells_data (route_found r v) ≡ 0
+line_tells_none : (r : Item) (v : Route) → how_many tells_data (route_found r v) ≡ 0
 line_tells_none r (ErrorFound s n) = refl
 line_tells_none r (Leave (Some n)) = refl
 line_tells_none r v = refl
 
-lengths_apart : (vs : List (RowEvent Row What)) → filter (λ v. tells_data v.what) (filter is_line vs) ≡ []
+lengths_apart : (vs : List (RowEvent Item What)) → filter (λ v. tells_data v.what) (filter is_line vs) ≡ []
     → all_lengths (map event_of vs) ≡ all_lengths (map event_of (filter (λ v. not (is_line v)) vs))
 lengths_apart [] h = refl
 lengths_apart (v ∷ vs) h = at v.channel v.what h (lengths_apart vs)
@@ -54,16 +55,16 @@ lengths_apart (v ∷ vs) h = at v.channel v.what h (lengths_apart vs)
     at (Some k) (Data x n) h later = ap (λ l. n ∷ l) (later h)
     at (Some k) w h later = later h
 
-lengths_of_channels : (i : Interface) (rs : List Row) → all_lengths (events i rs) ≡ all_lengths (channel_events_of i rs)
+lengths_of_channels : (i : Interface) (rs : List Item) → all_lengths (events i rs) ≡ all_lengths (channel_events_of i rs)
 lengths_of_channels i rs =
-    lengths_apart (walk_events (x25 i) (start i) rs) (line_none (x25 i) tells_data (λ e l x. line_tells_none x (routing i l x).route) (start i) rs)
+    lengths_apart (walk_events (x25 i) (start i) rs) (line_none (x25 i) tells_data (λ e l x. line_tells_none x (routing l x).route) (start i) rs)
 
 -- ---- the parts of the report
 
-findings_are : (i : Interface) (rs : List Row) (reports : List PieceReport) (line : List Finding) (packets pieces : ℕ) (r : Report)
+findings_are : (i : Interface) (rs : List Item) (reports : List PieceReport) (line : List Finding) (packets pieces : ℕ) (r : Report)
     → IsOfWalk i rs reports line packets pieces → IsMerged r reports line packets → r.findings ≡ findings_of (events i rs)
 findings_are i rs reports line packets pieces r w m =
-    let own = findings_order i rs (increasing (map (λ r. r.number) rs) w.rising) in
+    let own = findings_order i rs w.said (increasing (map (λ r. r.number) rs) w.rising) in
     let walked = findings_of (events i rs) in
     let found : PieceReport → List Finding = λ p. p.findings in
     let of_values = flat_map found (map value (plan i rs)) in
@@ -77,10 +78,10 @@ findings_are i rs reports line packets pieces r w m =
     (IsPermutation-trans walked (line_findings i rs ++ of_values) r.findings start_from
     (IsPermutation-trans (line_findings i rs ++ of_values) (line ++ flat_map found reports) r.findings reported m.same_findings))
 
-calls_are : (i : Interface) (rs : List Row) (reports : List PieceReport) (line : List Finding) (packets pieces : ℕ) (r : Report)
+calls_are : (i : Interface) (rs : List Item) (reports : List PieceReport) (line : List Finding) (packets pieces : ℕ) (r : Report)
     → IsOfWalk i rs reports line packets pieces → IsMerged r reports line packets → r.calls ≡ calls_of (events i rs)
 calls_are i rs reports line packets pieces r w m =
-    let own = calls_order i rs (increasing (map (λ r. r.number) rs) w.rising) in
+    let own = calls_order i rs w.said (increasing (map (λ r. r.number) rs) w.rising) in
     let walked = calls_of (events i rs) in
     let opened : PieceReport → List CallRecord = λ p. p.calls in
     let of_values = flat_map opened (map value (plan i rs)) in
@@ -91,31 +92,31 @@ calls_are i rs reports line packets pieces r w m =
     (IsPermutation-trans walked of_values r.calls start_from
     (IsPermutation-trans of_values (flat_map opened reports) r.calls (flat_map_permuted opened (map value (plan i rs)) reports w.values) m.same_calls))
 
-octets_are : (i : Interface) (rs : List Row) (reports : List PieceReport) → IsPermutation (map value (plan i rs)) reports → sum_by (λ p. p.octets) reports ≡ sum (all_lengths (events i rs))
-octets_are i rs reports h =
-    sum_by-IsPermutation (λ p. p.octets) (map value (plan i rs)) reports h ∙ ap (λ t. t.octets) (totals_law i rs) ∙ ap sum (sym (lengths_of_channels i rs))
+octets_are : (i : Interface) (rs : List Item) → AreSaid i rs → (reports : List PieceReport) → IsPermutation (map value (plan i rs)) reports → sum_by (λ p. p.octets) reports ≡ sum (all_lengths (events i rs))
+octets_are i rs said reports h =
+    sum_by-IsPermutation (λ p. p.octets) (map value (plan i rs)) reports h ∙ ap (λ t. t.octets) (totals_law i rs said) ∙ ap sum (sym (lengths_of_channels i rs))
 
-segments_are : (i : Interface) (rs : List Row) (reports : List PieceReport) → IsPermutation (map value (plan i rs)) reports → sum_by (λ p. p.segments) reports ≡ segments_of (all_lengths (events i rs))
-segments_are i rs reports h =
-    sum_by-IsPermutation (λ p. p.segments) (map value (plan i rs)) reports h ∙ ap (λ t. t.segments) (totals_law i rs) ∙ ap segments_of (sym (lengths_of_channels i rs))
+segments_are : (i : Interface) (rs : List Item) → AreSaid i rs → (reports : List PieceReport) → IsPermutation (map value (plan i rs)) reports → sum_by (λ p. p.segments) reports ≡ segments_of (all_lengths (events i rs))
+segments_are i rs said reports h =
+    sum_by-IsPermutation (λ p. p.segments) (map value (plan i rs)) reports h ∙ ap (λ t. t.segments) (totals_law i rs said) ∙ ap segments_of (sym (lengths_of_channels i rs))
 
 -- ---- the report
 
-pub report_is : (i : Interface) (rs : List Row) (reports : List PieceReport) (line : List Finding) (packets pieces : ℕ) (r : Report)
+pub report_is : (i : Interface) (rs : List Item) (reports : List PieceReport) (line : List Finding) (packets pieces : ℕ) (r : Report)
     → IsOfWalk i rs reports line packets pieces → IsMerged r reports line packets → r ≡ report_of i rs
 report_is i rs reports line packets pieces r w m =
     let found = findings_are i rs reports line packets pieces r w m in
     let called = calls_are i rs reports line packets pieces r w m in
     let paid : r.accounts ≡ accounts_of (calls_of (events i rs)) = m.accounts ∙ ap accounts_of called in
     let top = peak_unique (up_at (calls_of (events i rs))) r.peak.count (peak i rs).0 r.peak.packet (peak i rs).1
-    (subst (λ l. IsPeakOfTimes (up_at l) r.peak.count r.peak.packet) called m.peak) (calls_peak i rs w.rising) in
+    (subst (λ l. IsPeakOfTimes (up_at l) r.peak.count r.peak.packet) called m.peak) (calls_peak i rs w.said w.rising) in
     let sums : r.summary ≡ (report_of i rs).summary =
     m.summary
     ∙ ap (λ n. record { packets = n; findings = length r.findings; calls = length r.calls; octets = sum_by (λ p. p.octets) reports; segments = sum_by (λ p. p.segments) reports }) w.packets_are
     ∙ ap (λ l. record { packets = length rs; findings = length l; calls = length r.calls; octets = sum_by (λ p. p.octets) reports; segments = sum_by (λ p. p.segments) reports }) found
     ∙ ap (λ l. record { packets = length rs; findings = length (findings_of (events i rs)); calls = length l; octets = sum_by (λ p. p.octets) reports; segments = sum_by (λ p. p.segments) reports }) called
-    ∙ ap (λ n. record { packets = length rs; findings = length (findings_of (events i rs)); calls = length (calls_of (events i rs)); octets = n; segments = sum_by (λ p. p.segments) reports }) (octets_are i rs reports w.values)
-    ∙ ap (λ n. record { packets = length rs; findings = length (findings_of (events i rs)); calls = length (calls_of (events i rs)); octets = sum (all_lengths (events i rs)); segments = n }) (segments_are i rs reports w.values) in
+    ∙ ap (λ n. record { packets = length rs; findings = length (findings_of (events i rs)); calls = length (calls_of (events i rs)); octets = n; segments = sum_by (λ p. p.segments) reports }) (octets_are i rs w.said reports w.values)
+    ∙ ap (λ n. record { packets = length rs; findings = length (findings_of (events i rs)); calls = length (calls_of (events i rs)); octets = sum (all_lengths (events i rs)); segments = n }) (segments_are i rs w.said reports w.values) in
     let count = top.0 in
     let packet = top.1 in
     λ j. record { findings = found j; calls = called j; accounts = paid j; peak = record { count = count j; packet = packet j }; summary = sums j }

@@ -5,7 +5,8 @@ use Rattle.line_model.specs.declared.interface.Interface.{Interface}
 use Rattle.line_model.specs.declared.fault.Fault.{Fault}
 use Rattle.line_model.specs.declared.fault.Fault.TheVariants.{Memory}
 use Rattle.line_model.specs.declared.finding.Finding.{Finding}
-use Rattle.line_model.specs.basics.Records.{Row, CallRecord, PieceReport, Report}
+use Rattle.line_model.specs.basics.Records.{Item, CallRecord, PieceReport, Report}
+use Rattle.line_model.specs.basics.Bounds.{AreSaid}
 use Rattle.line_model.specs.observer.Accounts.{accounts_of}
 use Rattle.line_model.specs.observer.Calls.{up_at}
 use Rattle.line_model.specs.observer.Peak.{IsPeakOfTimes}
@@ -31,9 +32,10 @@ pub record IsArranged (r : Report) (findings : List Finding) (calls : List CallR
 abbrev pub IsMerged : Report → List PieceReport → List Finding → (packets : ℕ) → Type 0
 IsMerged r ps line packets = IsArranged r (all_findings ps line) (all_calls ps) (sum_by (λ p. p.octets) ps) (sum_by (λ p. p.segments) ps) packets
 
--- what is merged comes of the walk over some rows, whose numbers rise from above 0: the reports are the values of the
+-- what is merged comes of the walk over what some rows say, whose numbers rise from above 0: the reports are the values of the
 -- plan's pieces, in any order; with the findings of the restart machine, and with the numbers of rows and of pieces
-pub record IsOfWalk (i : Interface) (rs : List Row) (reports : List PieceReport) (line : List Finding) (packets pieces : ℕ) : Type 0 where
+pub record IsOfWalk (i : Interface) (rs : List Item) (reports : List PieceReport) (line : List Finding) (packets pieces : ℕ) : Type 0 where
+  pub said : AreSaid i rs
   pub rising : IsStrictlyIncreasing (0 ∷ map (λ r. r.number) rs)
   pub values : IsPermutation (map value (plan i rs)) reports
   pub line_is : line ≡ line_findings i rs
@@ -42,8 +44,8 @@ pub record IsOfWalk (i : Interface) (rs : List Row) (reports : List PieceReport)
 
 -- where that is so, this is the report of the walk
 abbrev pub IsReportOfWalk : List PieceReport → List Finding → (packets pieces : ℕ) → Report → Type 0
-IsReportOfWalk reports line packets pieces r = (i : Interface) (rs : List Row) → IsOfWalk i rs reports line packets pieces → r ≡ report_of i rs
+IsReportOfWalk reports line packets pieces r = (i : Interface) (rs : List Item) → IsOfWalk i rs reports line packets pieces → r ≡ report_of i rs
 
 -- where that is so, memory ran out
 abbrev pub IsMemoryOfWalk : List PieceReport → List Finding → (packets pieces : ℕ) → Fault → Type 0
-IsMemoryOfWalk reports line packets pieces f = (i : Interface) (rs : List Row) → IsOfWalk i rs reports line packets pieces → f ≡ Memory
+IsMemoryOfWalk reports line packets pieces f = (i : Interface) (rs : List Item) → IsOfWalk i rs reports line packets pieces → f ≡ Memory

@@ -116,7 +116,7 @@ impl<A: Allocator + Clone> Parts<A> {
     pub fn finish(self, line: Vec<Finding, A>, packets: u32) -> Result<Report<A>, Fault>
         ensures merged { (ps : List records.PieceReport) → self ≡ gathered ps
             → IfOk result (λ report. IsMerged report ps line.items packets) }
-        ensures report { (i : Interface) (rs : List records.Row) (ps : List records.PieceReport)
+        ensures report { (i : Interface) (rs : List records.Item) (ps : List records.PieceReport)
             → self ≡ gathered ps → IsOfWalk i rs ps line.items packets (length ps)
             → IfOk result (λ report. report ≡ report_of i rs) }
         ensures memory { IfErr result (λ fault. fault ≡ Fault.Memory) }

@@ -1,8 +1,9 @@
--- Rows beside the packets that their octets are.
-use Rattle.std.proofs.Common.{◌≡◌, refl, ap, sym, ◌∙◌, List, [], ◌∷◌, ◌++◌, map}
+-- What rows say, by the packets that stand beside them.
+use Rattle.std.proofs.Common.{◌≡◌, refl, ap, sym, ◌∙◌, List, [], ◌∷◌, ◌++◌, map, length}
 use Rattle.std.specs.List.{zip}
 use Rattle.std.proofs.lemmas.List.{map-append}
-use Rattle.line_model.specs.basics.Records.{Row}
+use Rattle.line_model.specs.basics.Records.{Row, Item}
+use Rattle.line_model.specs.packets.Says.{item_of, items_of, said_octets}
 use Rattle.line_model.specs.declared.interface.Interface.{Interface}
 use Rattle.line_model.specs.declared.packet.Packet.{Packet}
 use Rattle.line_model.specs.packets.Classes.{packet_of}
@@ -10,15 +11,20 @@ use Rattle.line_model.specs.packets.Classes.{packet_of}
 abbrev pub packets : Interface → List Row → List Packet
 packets i rs = map (λ r. packet_of i r.octets) rs
 
-abbrev pub rows : List (Row × Packet) → List Row
-rows ps = map (λ p. p.0) ps
+abbrev pub said : Interface → List (Row × Packet) → List Item
+said i ps = map (λ p. item_of i p.0) ps
 
-pub rows-beside : (i : Interface) (rs : List Row) → rows (zip rs (packets i rs)) ≡ rs
-rows-beside i [] = refl
-rows-beside i (r ∷ rs) = ap (λ l. r ∷ l) (rows-beside i rs)
+pub said-beside : (i : Interface) (rs : List Row) → said i (zip rs (packets i rs)) ≡ items_of i rs
+said-beside i [] = refl
+said-beside i (r ∷ rs) = ap (λ l. item_of i r ∷ l) (said-beside i rs)
 
-pub rows-more : (ps : List (Row × Packet)) (r : Row) (p : Packet) → rows (ps ++ (r, p) ∷ []) ≡ rows ps ++ r ∷ []
-rows-more ps r p = map-append (λ (q : Row × Packet). q.0) ps ((r, p) ∷ [])
+pub said-more : (i : Interface) (ps : List (Row × Packet)) (r : Row) (p : Packet) → said i (ps ++ (r, p) ∷ []) ≡ said i ps ++ item_of i r ∷ []
+said-more i ps r p = map-append (λ (q : Row × Packet). item_of i q.0) ps ((r, p) ∷ [])
+
+-- what a row says with the packet that was decoded
+pub said_by : (i : Interface) (r : Row) (p : Packet) (item : Item) → item ≡ record { number = r.number; side = r.side; packet = p; length = length r.octets; octets = said_octets r.octets }
+    → p ≡ packet_of i r.octets → item ≡ item_of i r
+said_by i r p item is e = is ∙ ap (λ q. record { number = r.number; side = r.side; packet = q; length = length r.octets; octets = said_octets r.octets }) e
 
 first_or : Packet → List Packet → Packet
 first_or d [] = d

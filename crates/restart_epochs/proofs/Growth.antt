@@ -4,7 +4,7 @@ use Rattle.std.specs.Prelude.{is_some}
 use Rattle.std.specs.List.{filter}
 use Rattle.std.proofs.lemmas.Bool.{ne_eqb, and_right, eq-eqb, eqb-true, eqb-false}
 use Rattle.line_model.specs.declared.interface.Interface.{Interface}
-use Rattle.line_model.specs.basics.Records.{Row, Piece}
+use Rattle.line_model.specs.basics.Records.{Item, Piece}
 use Rattle.line_model.specs.pieces.Shuffle.{is_channel}
 use Rattle.line_model.specs.pieces.Pieces.{Placed, piece_end}
 use Rattle.restart_epochs.specs.Cutting.{observer, places, given_of, EndsOf}
@@ -21,13 +21,13 @@ ends_nothing = record {
   later_end = λ e h. refl;
 }
 
-not_of : (b : Bool) (p : Placed Row) (epoch e : ℕ) → p.epoch ≡ epoch → epoch ≢ e → (b && eqb p.epoch e) ≡ false
+not_of : (b : Bool) (p : Placed Item) (epoch e : ℕ) → p.epoch ≡ epoch → epoch ≢ e → (b && eqb p.epoch e) ≡ false
 not_of b p epoch e at ne = and_right b (eqb p.epoch e) (ne_eqb p.epoch e (λ h. ne (sym at ∙ h)))
 
-stays_in : (p : Placed Row) (e : ℕ) → p.leaves ≡ false → (p.leaves && eqb p.epoch e) ≡ false
+stays_in : (p : Placed Item) (e : ℕ) → p.leaves ≡ false → (p.leaves && eqb p.epoch e) ≡ false
 stays_in p e h = ap (λ b. b && eqb p.epoch e) h
 
-pub ends_same : (ps : List (Placed Row)) (p : Placed Row) (epoch : ℕ) (ready : Bool) → EndsOf ps epoch ready → p.epoch ≡ epoch → p.leaves ≡ false → EndsOf (ps ++ p ∷ []) epoch ready
+pub ends_same : (ps : List (Placed Item)) (p : Placed Item) (epoch : ℕ) (ready : Bool) → EndsOf ps epoch ready → p.epoch ≡ epoch → p.leaves ≡ false → EndsOf (ps ++ p ∷ []) epoch ready
 ends_same ps p epoch ready h at stays = record {
   begun = h.begun;
   ended = λ e lo hi. ap (λ o. is_some o) (end_same e ps p (stays_in p e stays)) ∙ h.ended e lo hi;
@@ -37,7 +37,7 @@ ends_same ps p epoch ready h at stays = record {
   later_end = λ e lt. end_same e ps p (stays_in p e stays) ∙ h.later_end e lt;
 }
 
-pub ends_leave : (ps : List (Placed Row)) (p : Placed Row) (epoch : ℕ) → EndsOf ps epoch true → p.epoch ≡ epoch → p.leaves ≡ true → EndsOf (ps ++ p ∷ []) epoch false
+pub ends_leave : (ps : List (Placed Item)) (p : Placed Item) (epoch : ℕ) → EndsOf ps epoch true → p.epoch ≡ epoch → p.leaves ≡ true → EndsOf (ps ++ p ∷ []) epoch false
 ends_leave ps p epoch h at leaves = record {
   begun = h.begun;
   ended = λ e lo hi. ap (λ o. is_some o) (end_stays e ps p (h.ended e lo hi)) ∙ h.ended e lo hi;
@@ -50,7 +50,7 @@ ends_leave ps p epoch h at leaves = record {
 split_last : (e epoch : ℕ) → e < epoch + 1 → (e ≢ epoch → e < epoch)
 split_last e epoch lt ne = omega (arith, lt, ne)
 
-pub ends_enter : (ps : List (Placed Row)) (p : Placed Row) (epoch : ℕ) → EndsOf ps epoch false → p.epoch ≡ epoch → p.leaves ≡ false → EndsOf (ps ++ p ∷ []) (epoch + 1) true
+pub ends_enter : (ps : List (Placed Item)) (p : Placed Item) (epoch : ℕ) → EndsOf ps epoch false → p.epoch ≡ epoch → p.leaves ≡ false → EndsOf (ps ++ p ∷ []) (epoch + 1) true
 ends_enter ps p epoch h at stays = record {
   begun = omega arith;
   ended = λ e lo hi. ap (λ o. is_some o) (end_same e ps p (stays_in p e stays)) ∙ was e lo hi (eqb e epoch) refl;
@@ -69,7 +69,7 @@ abbrev pub whole_epochs : (epoch : ℕ) (ready : Bool) → ℕ
 whole_epochs epoch true = epoch - 1
 whole_epochs epoch false = epoch
 
-pub given_pieces : (i : Interface) (rs : List Row) (ready : Bool) → EndsOf (places i rs) (observer i rs).epoch ready → given_of i rs ≡ pieces_to i (places i rs) (whole_epochs (observer i rs).epoch ready)
+pub given_pieces : (i : Interface) (rs : List Item) (ready : Bool) → EndsOf (places i rs) (observer i rs).epoch ready → given_of i rs ≡ pieces_to i (places i rs) (whole_epochs (observer i rs).epoch ready)
 given_pieces i rs true h = ap (filter (λ p. is_some p.end)) (plan_is i rs) ∙ at (observer i rs).epoch h.begun h.ended (h.unended refl)
   where
     at : (n : ℕ) → 1 ≤ n → ((e : ℕ) → 1 ≤ e → e < n → is_some (piece_end e (places i rs)) ≡ true) → piece_end n (places i rs) ≡ None
@@ -89,24 +89,24 @@ given_pieces i rs false h =
 
 -- ---- epochs that the row is none of
 
-pub same_below : (ps : List (Placed Row)) (p : Placed Row) (epoch e : ℕ) → p.epoch ≡ epoch → e < epoch → SameEpoch e ps (ps ++ p ∷ [])
+pub same_below : (ps : List (Placed Item)) (p : Placed Item) (epoch e : ℕ) → p.epoch ≡ epoch → e < epoch → SameEpoch e ps (ps ++ p ∷ [])
 same_below ps p epoch e at lt = record {
   rows = λ k. rows_same e k ps p (not_of (is_channel k p.channel) p epoch e at (λ q. omega (arith, q, lt)));
   end = end_same e ps p (not_of p.leaves p epoch e at (λ q. omega (arith, q, lt)));
 }
 
-pub same_line : (ps : List (Placed Row)) (p : Placed Row) (e : ℕ) → p.channel ≡ None → p.leaves ≡ false → SameEpoch e ps (ps ++ p ∷ [])
+pub same_line : (ps : List (Placed Item)) (p : Placed Item) (e : ℕ) → p.channel ≡ None → p.leaves ≡ false → SameEpoch e ps (ps ++ p ∷ [])
 same_line ps p e line stays = record {
   rows = λ k. rows_same e k ps p (ap (λ c. is_channel k c && eqb p.epoch e) line);
   end = end_same e ps p (stays_in p e stays);
 }
 
 -- the pieces of an epoch that is left come behind those before it
-pub leave_pieces : (i : Interface) (ps : List (Placed Row)) (p : Placed Row) (epoch : ℕ) → 1 ≤ epoch → p.epoch ≡ epoch
+pub leave_pieces : (i : Interface) (ps : List (Placed Item)) (p : Placed Item) (epoch : ℕ) → 1 ≤ epoch → p.epoch ≡ epoch
     → pieces_to i (ps ++ p ∷ []) epoch ≡ pieces_to i ps (epoch - 1) ++ pieces_in i (ps ++ p ∷ []) (length (pieces_to i ps (epoch - 1))) epoch
 leave_pieces i ps p zero lo at = absurd (omega (arith, lo))
 leave_pieces i ps p (suc n) lo at =
-    let qs : List (Placed Row) = ps ++ p ∷ [] in
+    let qs : List (Placed Item) = ps ++ p ∷ [] in
     let same : (e : ℕ) → e ≤ n → SameEpoch e ps qs = λ e h. same_below ps p (suc n) e at (omega (arith, h)) in
     let back : n ≡ suc n - 1 = omega arith in
     let next : n + 1 ≡ suc n = omega arith in

@@ -2,7 +2,7 @@
 use Rattle.std.proofs.Common.{◌≡◌, ◌∙◌, sym, ap, subst, refl, ℕ, zero, suc, ◌+◌, ◌-◌, ◌<◌, ◌≤◌, ◌⊎◌, inl, inr, Bool, true, false, true≢false, ◌&&◌, cond, eqb, not, List, [], ◌∷◌, ◌++◌, length, arith, append-nil, append_assoc}
 use Rattle.std.proofs.lemmas.Bool.{eqb-true, eqb-false}
 use Rattle.line_model.specs.declared.interface.Interface.{Interface}
-use Rattle.line_model.specs.basics.Records.{Row, Piece}
+use Rattle.line_model.specs.basics.Records.{Item, Piece}
 use Rattle.line_model.specs.channels.RestartMachine.{LineState}
 use Rattle.line_model.specs.channels.Channels.{Channel}
 use Rattle.line_model.specs.observer.Machine.{Observer, line_moved}
@@ -17,11 +17,11 @@ use Rattle.restart_epochs.proofs.Cuts.{SameEpoch, pieces_to, pieces_in, keys_to,
 use Rattle.restart_epochs.proofs.Growth.{ends_nothing, ends_same, ends_leave, ends_enter, whole_epochs, given_pieces, same_below, same_line}
 
 -- an epoch that no row will be of any more
-abbrev IsShut : Interface → List Row → ℕ → Type 0
+abbrev IsShut : Interface → List Item → ℕ → Type 0
 IsShut i rs e = (e < (observer i rs).epoch) ⊎ ((e ≡ (observer i rs).epoch) × (is_ready (observer i rs).line ≡ false))
 
 -- an epoch that stays as it is, and shut
-record Kept (i : Interface) (rs more : List Row) (e : ℕ) : Type 0 where
+record Kept (i : Interface) (rs more : List Item) (e : ℕ) : Type 0 where
   same : SameEpoch e (places i rs) (places i more)
   shut : IsShut i more e
 
@@ -35,17 +35,17 @@ still_below : (c : Bool) (e n : ℕ) → e < n → e < cond c (n + 1) n
 still_below true e n lt = omega (arith, lt)
 still_below false e n lt = lt
 
-with_place : (i : Interface) (rs : List Row) (r : Row) (e : ℕ) → SameEpoch e (places i rs) (places i rs ++ place_of i rs r ∷ []) → SameEpoch e (places i rs) (places i (rs ++ r ∷ []))
+with_place : (i : Interface) (rs : List Item) (r : Item) (e : ℕ) → SameEpoch e (places i rs) (places i rs ++ place_of i rs r ∷ []) → SameEpoch e (places i rs) (places i (rs ++ r ∷ []))
 with_place i rs r e s = subst (SameEpoch e (places i rs)) (sym (places_more i rs r)) s
 
-keeps_one : (i : Interface) (rs : List Row) (r : Row) (e : ℕ) → IsShut i rs e → Kept i rs (rs ++ r ∷ []) e
-keeps_one i rs r e s = at (is_to_channel (routing i (observer i rs).line r).route) refl s
+keeps_one : (i : Interface) (rs : List Item) (r : Item) (e : ℕ) → IsShut i rs e → Kept i rs (rs ++ r ∷ []) e
+keeps_one i rs r e s = at (is_to_channel (routing (observer i rs).line r).route) refl s
   where
     behind : (n : ℕ) → e ≡ n → (a : Bool) (m : ℕ) (next : LineState) → m ≡ cond a (n + 1) n → is_ready next ≡ a → (e < m) ⊎ ((e ≡ m) × (is_ready next ≡ false))
     behind n same true m next h k = inl (omega (arith, same, h))
     behind n same false m next h k = inr (same ∙ sym h, k)
 
-    at : (b : Bool) → is_to_channel (routing i (observer i rs).line r).route ≡ b → IsShut i rs e → Kept i rs (rs ++ r ∷ []) e
+    at : (b : Bool) → is_to_channel (routing (observer i rs).line r).route ≡ b → IsShut i rs e → Kept i rs (rs ++ r ∷ []) e
     at true h (inl lt) = record {
       same = with_place i rs r e (same_below (places i rs) (place_of i rs r) (observer i rs).epoch e refl lt);
       shut = inl (subst (λ n. e < n) (sym (on_channel i rs r h).epoch) lt);
@@ -53,14 +53,14 @@ keeps_one i rs r e s = at (is_to_channel (routing i (observer i rs).line r).rout
     at true h (inr w) = absurd (true≢false (sym (on_channel i rs r h).ready ∙ w.1))
     at false h (inl lt) =
         let o = observer i rs in
-        let l : LineState = (routing i o.line r).after in
+        let l : LineState = (routing o.line r).after in
         record {
           same = with_place i rs r e (same_below (places i rs) (place_of i rs r) o.epoch e refl lt);
           shut = inl (subst (λ n. e < n) (sym ((on_line i rs r h).epoch ∙ epoch_moved i o l (is_ready o.line) (is_ready l))) (still_below (not (is_ready o.line) && is_ready l) e o.epoch lt));
         }
     at false h (inr w) =
         let o = observer i rs in
-        let l : LineState = (routing i o.line r).after in
+        let l : LineState = (routing o.line r).after in
         let on = on_line i rs r h in
         record {
           same = with_place i rs r e (same_line (places i rs) (place_of i rs r) e on.channel (on.leaves ∙ ap (λ b. b && not (is_ready l)) w.1));
@@ -69,7 +69,7 @@ keeps_one i rs r e s = at (is_to_channel (routing i (observer i rs).line r).rout
               (ap is_ready on.line);
         }
 
-keeps : (i : Interface) (rs more : List Row) (e : ℕ) → IsShut i rs e → Kept i rs (rs ++ more) e
+keeps : (i : Interface) (rs more : List Item) (e : ℕ) → IsShut i rs e → Kept i rs (rs ++ more) e
 keeps i rs [] e s = subst (λ l. Kept i rs l e) (sym (append-nil rs)) (record { same = record { rows = λ k. refl; end = refl }; shut = s })
 keeps i rs (r ∷ more) e s =
     let one = keeps_one i rs r e s in
@@ -79,54 +79,54 @@ keeps i rs (r ∷ more) e s =
 
 -- ---- the epochs of any rows
 
-abbrev Ends : Interface → List Row → Type 0
+abbrev Ends : Interface → List Item → Type 0
 Ends i rs = EndsOf (places i rs) (observer i rs).epoch (is_ready (observer i rs).line)
 
-ends_one : (i : Interface) (rs : List Row) (r : Row) → Ends i rs → Ends i (rs ++ r ∷ [])
-ends_one i rs r h = at (is_to_channel (routing i (observer i rs).line r).route) refl
+ends_one : (i : Interface) (rs : List Item) (r : Item) → Ends i rs → Ends i (rs ++ r ∷ [])
+ends_one i rs r h = at (is_to_channel (routing (observer i rs).line r).route) refl
   where
-    told : (epoch : ℕ) (ready : Bool) → (observer i (rs ++ r ∷ [])).epoch ≡ epoch → is_ready (observer i (rs ++ r ∷ [])).line ≡ ready → EndsOf (places i rs ++ place_of i rs r ∷ []) epoch ready → Ends i (rs ++ r ∷ [])
-    told epoch ready e l s = subst (λ ps. EndsOf ps (observer i (rs ++ r ∷ [])).epoch (is_ready (observer i (rs ++ r ∷ [])).line)) (sym (places_more i rs r))
+    ends_here : (epoch : ℕ) (ready : Bool) → (observer i (rs ++ r ∷ [])).epoch ≡ epoch → is_ready (observer i (rs ++ r ∷ [])).line ≡ ready → EndsOf (places i rs ++ place_of i rs r ∷ []) epoch ready → Ends i (rs ++ r ∷ [])
+    ends_here epoch ready e l s = subst (λ ps. EndsOf ps (observer i (rs ++ r ∷ [])).epoch (is_ready (observer i (rs ++ r ∷ [])).line)) (sym (places_more i rs r))
         (subst (λ n. EndsOf (places i rs ++ place_of i rs r ∷ []) n (is_ready (observer i (rs ++ r ∷ [])).line)) (sym e) (subst (EndsOf (places i rs ++ place_of i rs r ∷ []) epoch) (sym l) s))
 
-    on_the_line : (b a : Bool) → is_ready (observer i rs).line ≡ b → is_ready (routing i (observer i rs).line r).after ≡ a → is_to_channel (routing i (observer i rs).line r).route ≡ false → Ends i (rs ++ r ∷ [])
+    on_the_line : (b a : Bool) → is_ready (observer i rs).line ≡ b → is_ready (routing (observer i rs).line r).after ≡ a → is_to_channel (routing (observer i rs).line r).route ≡ false → Ends i (rs ++ r ∷ [])
     on_the_line true true was will to =
         let on = on_line i rs r to in
         let o = observer i rs in
-        told o.epoch true (on.epoch ∙ (λ j. (line_moved (x25 i) o (routing i o.line r).after (was j) (will j)).epoch)) (ap is_ready on.line ∙ will)
+        ends_here o.epoch true (on.epoch ∙ (λ j. (line_moved (x25 i) o (routing o.line r).after (was j) (will j)).epoch)) (ap is_ready on.line ∙ will)
         (ends_same (places i rs) (place_of i rs r) o.epoch true (subst (EndsOf (places i rs) o.epoch) was h) refl (on.leaves ∙ (λ j. was j && not (will j))))
     on_the_line true false was will to =
         let on = on_line i rs r to in
         let o = observer i rs in
-        told o.epoch false (on.epoch ∙ (λ j. (line_moved (x25 i) o (routing i o.line r).after (was j) (will j)).epoch)) (ap is_ready on.line ∙ will)
+        ends_here o.epoch false (on.epoch ∙ (λ j. (line_moved (x25 i) o (routing o.line r).after (was j) (will j)).epoch)) (ap is_ready on.line ∙ will)
         (ends_leave (places i rs) (place_of i rs r) o.epoch (subst (EndsOf (places i rs) o.epoch) was h) refl (on.leaves ∙ (λ j. was j && not (will j))))
     on_the_line false true was will to =
         let on = on_line i rs r to in
         let o = observer i rs in
-        told (o.epoch + 1) true (on.epoch ∙ (λ j. (line_moved (x25 i) o (routing i o.line r).after (was j) (will j)).epoch)) (ap is_ready on.line ∙ will)
+        ends_here (o.epoch + 1) true (on.epoch ∙ (λ j. (line_moved (x25 i) o (routing o.line r).after (was j) (will j)).epoch)) (ap is_ready on.line ∙ will)
         (ends_enter (places i rs) (place_of i rs r) o.epoch (subst (EndsOf (places i rs) o.epoch) was h) refl (on.leaves ∙ (λ j. was j && not (will j))))
     on_the_line false false was will to =
         let on = on_line i rs r to in
         let o = observer i rs in
-        told o.epoch false (on.epoch ∙ (λ j. (line_moved (x25 i) o (routing i o.line r).after (was j) (will j)).epoch)) (ap is_ready on.line ∙ will)
+        ends_here o.epoch false (on.epoch ∙ (λ j. (line_moved (x25 i) o (routing o.line r).after (was j) (will j)).epoch)) (ap is_ready on.line ∙ will)
         (ends_same (places i rs) (place_of i rs r) o.epoch false (subst (EndsOf (places i rs) o.epoch) was h) refl (on.leaves ∙ (λ j. was j && not (will j))))
 
-    at : (b : Bool) → is_to_channel (routing i (observer i rs).line r).route ≡ b → Ends i (rs ++ r ∷ [])
+    at : (b : Bool) → is_to_channel (routing (observer i rs).line r).route ≡ b → Ends i (rs ++ r ∷ [])
     at true to =
         let on = on_channel i rs r to in
-        told (observer i rs).epoch (is_ready (observer i rs).line) on.epoch (ap is_ready on.line) (ends_same (places i rs) (place_of i rs r) (observer i rs).epoch (is_ready (observer i rs).line) h refl on.leaves)
-    at false to = on_the_line (is_ready (observer i rs).line) (is_ready (routing i (observer i rs).line r).after) refl refl to
+        ends_here (observer i rs).epoch (is_ready (observer i rs).line) on.epoch (ap is_ready on.line) (ends_same (places i rs) (place_of i rs r) (observer i rs).epoch (is_ready (observer i rs).line) h refl on.leaves)
+    at false to = on_the_line (is_ready (observer i rs).line) (is_ready (routing (observer i rs).line r).after) refl refl to
 
-ends_from : (i : Interface) (rs more : List Row) → Ends i rs → Ends i (rs ++ more)
+ends_from : (i : Interface) (rs more : List Item) → Ends i rs → Ends i (rs ++ more)
 ends_from i rs [] h = subst (Ends i) (sym (append-nil rs)) h
 ends_from i rs (r ∷ more) h = subst (Ends i) (append_assoc rs (r ∷ []) more) (ends_from i (rs ++ r ∷ []) more (ends_one i rs r h))
 
-pub ends_of : (i : Interface) (rs : List Row) → Ends i rs
+pub ends_of : (i : Interface) (rs : List Item) → Ends i rs
 ends_of i rs = ends_from i [] rs ends_nothing
 
 -- ---- the pieces up to an epoch come before those up to a later one
 
-further : (i : Interface) (ps : List (Placed Row)) (n d : ℕ) → (rest : List Piece) × (pieces_to i ps n ++ rest ≡ pieces_to i ps (n + d))
+further : (i : Interface) (ps : List (Placed Item)) (n d : ℕ) → (rest : List Piece) × (pieces_to i ps n ++ rest ≡ pieces_to i ps (n + d))
 further i ps n zero = ([], append-nil (pieces_to i ps n) ∙ ap (pieces_to i ps) (omega arith))
 further i ps n (suc d) =
     let before = further i ps n d in
@@ -134,7 +134,7 @@ further i ps n (suc d) =
     let one : List Piece = pieces_in i ps (length (keys_to i ps (n + d))) (n + d + 1) in
     (before.0 ++ one, sym (append_assoc (pieces_to i ps n) before.0 one) ∙ ap (λ l. l ++ one) before.1 ∙ sym (pieces_more i ps (n + d)) ∙ ap (pieces_to i ps) next)
 
-shut_to : (i : Interface) (rs : List Row) (ready : Bool) → is_ready (observer i rs).line ≡ ready → 1 ≤ (observer i rs).epoch → (e : ℕ) → e ≤ whole_epochs (observer i rs).epoch ready → IsShut i rs e
+shut_to : (i : Interface) (rs : List Item) (ready : Bool) → is_ready (observer i rs).line ≡ ready → 1 ≤ (observer i rs).epoch → (e : ℕ) → e ≤ whole_epochs (observer i rs).epoch ready → IsShut i rs e
 shut_to i rs true h lo e le = inl (omega (arith, lo, le))
 shut_to i rs false h lo e le = at (eqb e (observer i rs).epoch) refl
   where
@@ -142,11 +142,11 @@ shut_to i rs false h lo e le = at (eqb e (observer i rs).epoch) refl
     at true same = inr (eqb-true e (observer i rs).epoch same, h)
     at false other = let ne = eqb-false e (observer i rs).epoch other in inl (omega (arith, le, ne))
 
-reached : (i : Interface) (rs : List Row) (e : ℕ) → IsShut i rs e → e ≤ (observer i rs).epoch
+reached : (i : Interface) (rs : List Item) (e : ℕ) → IsShut i rs e → e ≤ (observer i rs).epoch
 reached i rs e (inl lt) = omega (arith, lt)
 reached i rs e (inr w) = let same = w.0 in omega (arith, same)
 
-pub given_first : (i : Interface) (rs more : List Row) → (rest : List Piece) × (given_of i rs ++ rest ≡ plan i (rs ++ more))
+pub given_first : (i : Interface) (rs more : List Item) → (rest : List Piece) × (given_of i rs ++ rest ≡ plan i (rs ++ more))
 given_first i rs more =
     let ends = ends_of i rs in
     let n : ℕ = whole_epochs (observer i rs).epoch (is_ready (observer i rs).line) in

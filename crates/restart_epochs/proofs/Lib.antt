@@ -17,7 +17,6 @@ pub mod OpenLaneLemmas
 pub mod Listings
 pub mod States
 pub mod Peeks
-pub mod HandingOn
 pub mod ListedRows
 pub mod Parts
 pub mod SplitSteps

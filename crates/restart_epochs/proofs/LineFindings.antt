@@ -8,11 +8,11 @@ use Rattle.line_model.specs.declared.finding.Finding.{Finding}
 use Rattle.line_model.specs.declared.route.Route.{Route}
 use Rattle.line_model.specs.declared.route.Route.TheVariants.{Pass, Found, Leave, Enter, ToChannel}
 use Rattle.line_model.specs.declared.event.What.{What}
-use Rattle.line_model.specs.basics.Records.{Row}
+use Rattle.line_model.specs.basics.Records.{Item}
 use Rattle.line_model.specs.channels.RestartMachine.{LineState}
 use Rattle.line_model.specs.channels.Channels.{Channel}
 use Rattle.line_model.specs.channels.ChannelStep.{channel_step}
-use Rattle.line_model.specs.basics.Octets.{channel_of}
+use Rattle.line_model.specs.packets.Says.{packet_channel}
 use Rattle.line_model.specs.observer.Machine.{Machine, Observer, after, walk}
 use Rattle.line_model.specs.observer.MachineEvents.{RowEvent, stamp, closed_events, row_events, row_events_routed, walk_events}
 use Rattle.line_model.specs.pieces.Merge.{is_line}
@@ -31,16 +31,16 @@ events_append m o [] q = refl
 events_append m o (x ∷ p) q = ap (λ l. row_events m o x ++ l) (events_append m (after m o x) p q) ∙ sym (append_assoc (row_events m o x) (walk_events m (after m o x) p) (walk_events m (walk m (after m o x) p) q))
 
 -- the findings among the line's events
-line_of_events : List (RowEvent Row What) → List Finding
+line_of_events : List (RowEvent Item What) → List Finding
 line_of_events vs = findings_of (map event_of (filter is_line vs))
 
-line_append : (us vs : List (RowEvent Row What)) → findings_of (map event_of (filter is_line (us ++ vs))) ≡ findings_of (map event_of (filter is_line us)) ++ findings_of (map event_of (filter is_line vs))
+line_append : (us vs : List (RowEvent Item What)) → findings_of (map event_of (filter is_line (us ++ vs))) ≡ findings_of (map event_of (filter is_line us)) ++ findings_of (map event_of (filter is_line vs))
 line_append us vs =
     ap (λ l. findings_of (map event_of l)) (filter_append is_line us vs)
     ∙ ap findings_of (map-append event_of (filter is_line us) (filter is_line vs))
     ∙ filter_map-append _ (map event_of (filter is_line us)) (map event_of (filter is_line vs))
 
-pub found_here : (e : ℕ) (r : Row) (route : Route) → findings_of (map event_of (stamp e None r (route_found r route))) ≡ route_finding r route
+pub found_here : (e : ℕ) (r : Item) (route : Route) → findings_of (map event_of (stamp e None r (route_found r route))) ≡ route_finding r route
 found_here e r (Found s n) = refl
 found_here e r (Leave (Some n)) = refl
 found_here e r (Leave None) = refl
@@ -48,30 +48,30 @@ found_here e r Pass = refl
 found_here e r Enter = refl
 found_here e r ToChannel = refl
 
-pub to_none : (r : Row) (route : Route) → is_to_channel route ≡ true → route_finding r route ≡ []
+pub to_none : (r : Item) (route : Route) → is_to_channel route ≡ true → route_finding r route ≡ []
 to_none r ToChannel h = refl
 to_none r Pass h = refl
 to_none r (Found s n) h = absurd (true≢false (sym h))
 to_none r (Leave c) h = absurd (true≢false (sym h))
 to_none r Enter h = refl
 
-on_routed : (i : Interface) (o : Observer LineState Channel) (r : Row) (b : Bool) → is_to_channel (routing i o.line r).route ≡ b
-    → findings_of (map event_of (filter is_line (row_events (x25 i) o r))) ≡ route_finding r (routing i o.line r).route
+on_routed : (i : Interface) (o : Observer LineState Channel) (r : Item) (b : Bool) → is_to_channel (routing o.line r).route ≡ b
+    → findings_of (map event_of (filter is_line (row_events (x25 i) o r))) ≡ route_finding r (routing o.line r).route
 on_routed i o r true h =
     ap (λ q. findings_of (map event_of (filter is_line (row_events_routed (x25 i) o r q)))) (routed_to i o.line r h)
-    ∙ ap (λ l. findings_of (map event_of l)) (channel_dropped o.epoch (channel_of r.octets) r (channel_step i (channel_of r.octets) (o.states (channel_of r.octets)) r).reported)
-    ∙ sym (to_none r (routing i o.line r).route h)
+    ∙ ap (λ l. findings_of (map event_of l)) (channel_dropped o.epoch (packet_channel r.packet) r (channel_step i (packet_channel r.packet) (o.states (packet_channel r.packet)) r).reported)
+    ∙ sym (to_none r (routing o.line r).route h)
 on_routed i o r false h =
-    let own = stamp o.epoch None r (route_found r (routing i o.line r).route) in
-    let closed = closed_events (x25 i) o r (is_ready o.line) (is_ready (routing i o.line r).after) in
+    let own = stamp o.epoch None r (route_found r (routing o.line r).route) in
+    let closed = closed_events (x25 i) o r (is_ready o.line) (is_ready (routing o.line r).after) in
     ap (λ q. findings_of (map event_of (filter is_line (row_events_routed (x25 i) o r q)))) (routed_none i o.line r h)
-    ∙ ap (λ l. findings_of (map event_of l)) (filter_append is_line own closed ∙ ap (λ l. filter is_line own ++ l) (closed_dropped (x25 i) o r (is_ready o.line) (is_ready (routing i o.line r).after)) ∙ append-nil (filter is_line own) ∙ line_kept o.epoch r (route_found r (routing i o.line r).route))
-    ∙ found_here o.epoch r (routing i o.line r).route
+    ∙ ap (λ l. findings_of (map event_of l)) (filter_append is_line own closed ∙ ap (λ l. filter is_line own ++ l) (closed_dropped (x25 i) o r (is_ready o.line) (is_ready (routing o.line r).after)) ∙ append-nil (filter is_line own) ∙ line_kept o.epoch r (route_found r (routing o.line r).route))
+    ∙ found_here o.epoch r (routing o.line r).route
 
-pub line_findings_more : (i : Interface) (rs : List Row) (r : Row) → line_findings i (rs ++ r ∷ []) ≡ line_findings i rs ++ route_finding r (routing i (observer i rs).line r).route
+pub line_findings_more : (i : Interface) (rs : List Item) (r : Item) → line_findings i (rs ++ r ∷ []) ≡ line_findings i rs ++ route_finding r (routing (observer i rs).line r).route
 line_findings_more i rs r =
     let o = observer i rs in
     ap (λ l. findings_of (map event_of (filter is_line l))) (events_append (x25 i) (start i) rs (r ∷ []))
     ∙ line_append (walk_events (x25 i) (start i) rs) (row_events (x25 i) o r ++ [])
     ∙ ap (λ l. line_findings i rs ++ findings_of (map event_of (filter is_line l))) (append-nil (row_events (x25 i) o r))
-    ∙ ap (λ l. line_findings i rs ++ l) (on_routed i o r (is_to_channel (routing i o.line r).route) refl)
+    ∙ ap (λ l. line_findings i rs ++ l) (on_routed i o r (is_to_channel (routing o.line r).route) refl)

@@ -1,10 +1,9 @@
 -- The channels that are listed, and the rows of the open epoch with one more.
-use Rattle.std.proofs.Common.{◌≡◌, ◌≢◌, ◌∙◌, sym, ap, subst, refl, ℕ, zero, suc, Bool, true, false, cond, List, [], ◌∷◌, ◌++◌, map, arith, Option, Some, None}
+use Rattle.std.proofs.Common.{◌≡◌, ◌≢◌, ◌∙◌, sym, ap, subst, refl, ℕ, zero, suc, Bool, true, false, cond, List, [], ◌∷◌, ◌++◌, arith, Option, Some, None}
 use Rattle.std.specs.List.{filter, range_with_len, AllByRecursion}
 use Rattle.line_model.specs.declared.interface.Interface.{Interface}
-use Rattle.line_model.specs.basics.Records.{Row, Item}
+use Rattle.line_model.specs.basics.Records.{Item}
 use Rattle.line_model.specs.pieces.Plan.{has_some}
-use Rattle.line_model.specs.pieces.Plans.{item_of}
 use Rattle.line_model.specs.pieces.Pieces.{piece_rows}
 use Rattle.line_model.specs.observer.Observer.{is_ready}
 use Rattle.restart_epochs.specs.OpenLanes.{lane_at}
@@ -22,28 +21,24 @@ passes f (k ∷ ks) = at (f k) refl (passes f ks)
     at true e rest = (e, rest)
     at false e rest = rest
 
-pub some_mapped : (i : Interface) (rs : List Row) → has_some (map (item_of i) rs) ≡ has_some rs
-some_mapped i [] = refl
-some_mapped i (r ∷ rs) = refl
-
-all_some : (i : Interface) (rs : List Row) (e : ℕ) (o : OpenRows) → ((k : ℕ) → rows_of o k ≡ map (item_of i) (piece_rows e k (places i rs)))
+all_some : (i : Interface) (rs : List Item) (e : ℕ) (o : OpenRows) → ((k : ℕ) → rows_of o k ≡ piece_rows e k (places i rs))
     → (ks : List ℕ) → AllByRecursion (λ k. has_some (piece_rows e k (places i rs)) ≡ true) ks → AllByRecursion (λ k. has_some (rows_of o k) ≡ true) ks
 all_some i rs e o rows [] all = tt
-all_some i rs e o rows (k ∷ ks) all = (ap has_some (rows k) ∙ some_mapped i (piece_rows e k (places i rs)) ∙ all.0, all_some i rs e o rows ks all.1)
+all_some i rs e o rows (k ∷ ks) all = (ap has_some (rows k) ∙ all.0, all_some i rs e o rows ks all.1)
 
 -- a cutter lists the channels that have rows
-pub listing : (i : Interface) (rs : List Row) (c : Cutting) → StandsFor i rs c → IsListing c.open_rows
+pub listing : (i : Interface) (rs : List Item) (c : Cutting) → StandsFor i rs c → IsListing c.open_rows
 listing i rs c s = at (is_ready (observer i rs).line) refl
   where
     at : (b : Bool) → is_ready (observer i rs).line ≡ b → IsListing c.open_rows
     at true e =
         let n = (observer i rs).epoch in
-        let rows : (k : ℕ) → rows_of c.open_rows k ≡ map (item_of i) (piece_rows n k (places i rs)) = λ k. s.rows k ∙ ap (λ b. rows_if b i (places i rs) n k) e in
+        let rows : (k : ℕ) → rows_of c.open_rows k ≡ piece_rows n k (places i rs) = λ k. s.rows k ∙ ap (λ b. rows_if b i (places i rs) n k) e in
         let channels = s.channels ∙ ap (λ b. channels_if b i (places i rs) n) e in
         record {
           listed = subst (AllByRecursion (λ k. has_some (rows_of c.open_rows k) ≡ true)) (sym channels)
               (all_some i rs n c.open_rows rows _ (passes (λ k. has_some (piece_rows n k (places i rs))) (range_with_len 1 i.svc)));
-          others = λ k not. rows k ∙ ap (map (item_of i)) (no_rows_of i rs n k (subst (AllByRecursion (λ j. j ≢ k)) channels not));
+          others = λ k not. rows k ∙ no_rows_of i rs s.said n k (subst (AllByRecursion (λ j. j ≢ k)) channels not);
         }
     at false e = record {
       listed = subst (AllByRecursion (λ k. has_some (rows_of c.open_rows k) ≡ true)) (sym (s.channels ∙ ap (λ b. channels_if b i (places i rs) (observer i rs).epoch) e)) tt;
@@ -51,7 +46,7 @@ listing i rs c s = at (is_ready (observer i rs).line) refl
     }
 
 -- outside r1 no channel has rows
-pub bare : (i : Interface) (rs : List Row) (c : Cutting) → StandsFor i rs c → is_ready c.line ≡ false → (k : ℕ) → rows_of c.open_rows k ≡ []
+pub bare : (i : Interface) (rs : List Item) (c : Cutting) → StandsFor i rs c → is_ready c.line ≡ false → (k : ℕ) → rows_of c.open_rows k ≡ []
 bare i rs c s h k = s.rows k ∙ ap (λ b. rows_if b i (places i rs) (observer i rs).epoch k) (ap is_ready (sym s.line) ∙ h)
 
 -- lanes with one more row

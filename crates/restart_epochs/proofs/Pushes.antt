@@ -4,19 +4,20 @@ use Rattle.std.specs.Prelude.{option_map}
 use Rattle.std.specs.List.{filter, range_with_len, enumerate_from, AllByRecursion}
 use Rattle.std.specs.BTreeSet.{insert_key}
 use Rattle.std.specs.Ordering.{nat_cmp}
-use Rattle.std.proofs.lemmas.List.{map-append}
 use Rattle.std.proofs.lemmas.Bool.{ne_eqb, eq-eqb, eqb-true, eqb-false}
 use Rattle.line_model.specs.declared.interface.Interface.{Interface}
 use Rattle.line_model.specs.declared.finding.Finding.{Finding}
-use Rattle.line_model.specs.basics.Records.{Row, Item, Piece}
-use Rattle.line_model.specs.basics.Octets.{channel_of}
+use Rattle.line_model.specs.basics.Records.{Item, Piece}
+use Rattle.line_model.specs.basics.Bounds.{IsSaid, AreSaid}
+use Rattle.line_model.proofs.Rising.{all_append}
+use Rattle.line_model.specs.packets.Says.{packet_channel}
 use Rattle.line_model.specs.channels.RestartMachine.{LineState}
 use Rattle.line_model.specs.pieces.Shuffle.{is_channel}
 use Rattle.line_model.specs.observer.Machine.{Observer, line_moved}
 use Rattle.line_model.specs.channels.Channels.{Channel}
 use Rattle.line_model.specs.pieces.Pieces.{Placed, piece_rows, piece_end, StandsOnce}
 use Rattle.line_model.specs.pieces.Plan.{has_some}
-use Rattle.line_model.specs.pieces.Plans.{item_of, piece_of, plan, line_findings}
+use Rattle.line_model.specs.pieces.Plans.{piece_of, plan, line_findings}
 use Rattle.line_model.proofs.Handed.{handed_in_range, has_channels}
 use Rattle.line_model.proofs.Merged.{piece_once}
 use Rattle.line_model.specs.observer.Observer.{x25, start, routing, is_ready, line_in_r1, channel_in_r1}
@@ -34,28 +35,29 @@ use mathlib.Core.Bool.{and-not_self}
 
 -- ---- the pieces of an epoch, as they are given out
 
-mapped_out : (i : Interface) (ps : List (Placed Row)) (e : ℕ) (end : Option ℕ) (rows : ℕ → List Item) → option_map (λ (r : Row). r.number) (piece_end e ps) ≡ end
-    → ((k : ℕ) → rows k ≡ map (item_of i) (piece_rows e k ps)) → (id : ℕ) (ks : List ℕ)
+mapped_out : (i : Interface) (ps : List (Placed Item)) (e : ℕ) (end : Option ℕ) (rows : ℕ → List Item) → option_map (λ (r : Item). r.number) (piece_end e ps) ≡ end
+    → ((k : ℕ) → rows k ≡ piece_rows e k ps) → (id : ℕ) (ks : List ℕ)
     → map (piece_of i ps) (enumerate_from id (map (λ k. (e, k)) ks)) ≡ pieces_out i e end rows id ks
 mapped_out i ps e end rows h same id [] = refl
 mapped_out i ps e end rows h same id (k ∷ ks) =
     ap (λ p. p ∷ map (piece_of i ps) (enumerate_from (id + 1) (map (λ j. (e, j)) ks)))
-    (ap (λ items. record { id = id; interface = i; epoch = e; channel = k; items = items; end = option_map (λ (r : Row). r.number) (piece_end e ps) }) (sym (same k))
+    (ap (λ items. record { id = id; interface = i; epoch = e; channel = k; items = items; end = option_map (λ (r : Item). r.number) (piece_end e ps) }) (sym (same k))
     ∙ ap (λ o. record { id = id; interface = i; epoch = e; channel = k; items = rows k; end = o }) h)
     ∙ ap (λ l. record { id = id; interface = i; epoch = e; channel = k; items = rows k; end = end } ∷ l) (mapped_out i ps e end rows h same (id + 1) ks)
 
-pub pieces_in_out : (i : Interface) (ps : List (Placed Row)) (id e : ℕ) (end : Option ℕ) (rows : ℕ → List Item) → option_map (λ (r : Row). r.number) (piece_end e ps) ≡ end
-    → ((k : ℕ) → rows k ≡ map (item_of i) (piece_rows e k ps)) → pieces_in i ps id e ≡ pieces_out i e end rows id (channels_in i ps e)
+pub pieces_in_out : (i : Interface) (ps : List (Placed Item)) (id e : ℕ) (end : Option ℕ) (rows : ℕ → List Item) → option_map (λ (r : Item). r.number) (piece_end e ps) ≡ end
+    → ((k : ℕ) → rows k ≡ piece_rows e k ps) → pieces_in i ps id e ≡ pieces_out i e end rows id (channels_in i ps e)
 pieces_in_out i ps id e end rows h same = mapped_out i ps e end rows h same id (channels_in i ps e)
 
 -- ---- the first row
 
 no_channels : (i : Interface) → channels_in i [] 1 ≡ []
-no_channels i = none_listed (λ k. has_some {X = Row} (piece_rows 1 k [])) (range_with_len 1 i.svc) (λ k. refl)
+no_channels i = none_listed (λ k. has_some {X = Item} (piece_rows 1 k [])) (range_with_len 1 i.svc) (λ k. refl)
 
 pub stands_nothing : (i : Interface) (c : Cutting) → c.interface ≡ i → c.line ≡ line_in_r1 i.join → c.epoch ≡ 1 → c.given ≡ 0 → c.packets ≡ 0 → c.findings ≡ []
     → ((k : ℕ) → rows_of c.open_rows k ≡ []) → c.open_rows.channels ≡ [] → StandsFor i [] c
 stands_nothing i c same line epoch given packets findings rows channels = record {
+  said = tt;
   interface = same;
   line = line;
   epoch = epoch;
@@ -69,28 +71,27 @@ stands_nothing i c same line epoch given packets findings rows channels = record
 
 -- ---- a row on a channel
 
-kept_rows : (i : Interface) (ps : List (Placed Row)) (p : Placed Row) (e channel k : ℕ) (b : Bool) → eqb k channel ≡ b → p.epoch ≡ e → p.channel ≡ Some channel
-    → (before after : OpenRows) → HasMore channel (item_of i p.row) before after → ((j : ℕ) → rows_of before j ≡ map (item_of i) (piece_rows e j ps))
-    → rows_of after k ≡ map (item_of i) (piece_rows e k (ps ++ p ∷ []))
+kept_rows : (i : Interface) (ps : List (Placed Item)) (p : Placed Item) (e channel k : ℕ) (b : Bool) → eqb k channel ≡ b → p.epoch ≡ e → p.channel ≡ Some channel
+    → (before after : OpenRows) → HasMore channel p.row before after → ((j : ℕ) → rows_of before j ≡ piece_rows e j ps)
+    → rows_of after k ≡ piece_rows e k (ps ++ p ∷ [])
 kept_rows i ps p e channel k true same at on before after more was =
     let is = eqb-true k channel same in
     let here : (is_channel channel p.channel && eqb p.epoch e) ≡ true =
     ap (λ c. is_channel channel c && eqb p.epoch e) on ∙ ap (λ b. b && eqb p.epoch e) (eq-eqb channel channel refl) ∙ eq-eqb p.epoch e at in
-    ap (rows_of after) is ∙ more.row ∙ ap (λ l. l ++ item_of i p.row ∷ []) (was channel)
-    ∙ sym (map-append (item_of i) (piece_rows e channel ps) (p.row ∷ []))
-    ∙ ap (map (item_of i)) (sym (rows_on_more e channel ps p here))
-    ∙ ap (λ j. map (item_of i) (piece_rows e j (ps ++ p ∷ []))) (sym is)
+    ap (rows_of after) is ∙ more.row ∙ ap (λ l. l ++ p.row ∷ []) (was channel)
+    ∙ sym (rows_on_more e channel ps p here)
+    ∙ ap (λ j. piece_rows e j (ps ++ p ∷ [])) (sym is)
 kept_rows i ps p e channel k false other at on before after more was =
     let ne = eqb-false k channel other in
     let not_here : (is_channel k p.channel && eqb p.epoch e) ≡ false =
     ap (λ c. is_channel k c && eqb p.epoch e) on ∙ ap (λ b. b && eqb p.epoch e) (ne_eqb channel k (λ q. ne (sym q))) in
-    more.others k ne ∙ was k ∙ ap (map (item_of i)) (sym (rows_same e k ps p not_here))
+    more.others k ne ∙ was k ∙ sym (rows_same e k ps p not_here)
 
-rows_or_none : (rs : List Row) → (rs ≡ []) ⊎ (has_some rs ≡ true)
+rows_or_none : (rs : List Item) → (rs ≡ []) ⊎ (has_some rs ≡ true)
 rows_or_none [] = inl refl
 rows_or_none (r ∷ rs) = inr refl
 
-more_some : (rs : List Row) (r : Row) → has_some (rs ++ r ∷ []) ≡ true
+more_some : (rs : List Item) (r : Item) → has_some (rs ++ r ∷ []) ≡ true
 more_some [] r = refl
 more_some (x ∷ rs) r = refl
 
@@ -101,13 +102,9 @@ with_known (item ∷ items) k channels ne = refl
 with_new : (items : List Item) (k : ℕ) (channels : List ℕ) → items ≡ [] → with_channel items k channels ≡ insert_key nat_cmp channels k
 with_new items k channels e = ap (λ l. with_channel l k channels) e
 
-mapped_some : (i : Interface) (rs : List Row) → has_some rs ≡ true → map (item_of i) rs ≢ []
-mapped_some i [] h e = true≢false (sym h)
-mapped_some i (r ∷ rs) h e = cc
-
 -- a row makes its channel one of those that have rows
-kept_channels : (i : Interface) (ps : List (Placed Row)) (p : Placed Row) (e channel : ℕ) → 1 ≤ channel → channel ≤ i.svc → p.epoch ≡ e → p.channel ≡ Some channel
-    → channels_in i (ps ++ p ∷ []) e ≡ with_channel (map (item_of i) (piece_rows e channel ps)) channel (channels_in i ps e)
+kept_channels : (i : Interface) (ps : List (Placed Item)) (p : Placed Item) (e channel : ℕ) → 1 ≤ channel → channel ≤ i.svc → p.epoch ≡ e → p.channel ≡ Some channel
+    → channels_in i (ps ++ p ∷ []) e ≡ with_channel (piece_rows e channel ps) channel (channels_in i ps e)
 kept_channels i ps p e channel lo hi at on =
     let here : (is_channel channel p.channel && eqb p.epoch e) ≡ true =
     ap (λ c. is_channel channel c && eqb p.epoch e) on ∙ ap (λ b. b && eqb p.epoch e) (eq-eqb channel channel refl) ∙ eq-eqb p.epoch e at in
@@ -118,9 +115,9 @@ kept_channels i ps p e channel lo hi at on =
     let now : g channel ≡ true = ap has_some (rows_on_more e channel ps p here) ∙ more_some (piece_rows e channel ps) p.row in
     elim (rows_or_none (piece_rows e channel ps)) [
       | inl none ↦ insert_listed f g channel 1 i.svc lo (omega (arith, hi)) (ap has_some none) now others
-          ∙ sym (with_new (map (item_of i) (piece_rows e channel ps)) channel (channels_in i ps e) (ap (map (item_of i)) none))
+          ∙ sym (with_new (piece_rows e channel ps) channel (channels_in i ps e) none)
       | inr some ↦ filter_each g f (λ k. each k (eqb k channel) refl f g others (now ∙ sym some)) (range_with_len 1 i.svc)
-          ∙ sym (with_known (map (item_of i) (piece_rows e channel ps)) channel (channels_in i ps e) (mapped_some i (piece_rows e channel ps) some))
+          ∙ sym (with_known (piece_rows e channel ps) channel (channels_in i ps e) (λ none. true≢false (sym some ∙ ap has_some none)))
     ]
   where
     each : (k : ℕ) (b : Bool) → eqb k channel ≡ b → (f g : ℕ → Bool) → ((j : ℕ) → j ≢ channel → g j ≡ f j) → g channel ≡ f channel → g k ≡ f k
@@ -130,30 +127,30 @@ kept_channels i ps p e channel lo hi at on =
 -- ---- a cutter after one more row
 
 -- what the observer and the places are after a row
-record After (i : Interface) (rs : List Row) (r : Row) (ready : Bool) (epoch : ℕ) (line : LineState) : Type 0 where
+record After (i : Interface) (rs : List Item) (r : Item) (ready : Bool) (epoch : ℕ) (line : LineState) : Type 0 where
   is_ready : is_ready (observer i (rs ++ r ∷ [])).line ≡ ready
   is_epoch : (observer i (rs ++ r ∷ [])).epoch ≡ epoch
   is_line : (observer i (rs ++ r ∷ [])).line ≡ line
 
-counted_length : (rs : List Row) (r : Row) (n m : ℕ) → n ≡ length rs → m ≡ n + 1 → m ≡ length (rs ++ r ∷ [])
+counted_length : (rs : List Item) (r : Item) (n m : ℕ) → n ≡ length rs → m ≡ n + 1 → m ≡ length (rs ++ r ∷ [])
 counted_length rs r n m e h = omega (arith, e, h, length-append rs (r ∷ []))
 
-ends_at : (i : Interface) (rs : List Row) (r : Row) (ready : Bool) (epoch : ℕ) (line : LineState) → After i rs r ready epoch line → EndsOf (places i rs ++ place_of i rs r ∷ []) epoch ready
+ends_at : (i : Interface) (rs : List Item) (r : Item) (ready : Bool) (epoch : ℕ) (line : LineState) → After i rs r ready epoch line → EndsOf (places i rs ++ place_of i rs r ∷ []) epoch ready
     → EndsOf (places i (rs ++ r ∷ [])) (observer i (rs ++ r ∷ [])).epoch (is_ready (observer i (rs ++ r ∷ [])).line)
 ends_at i rs r ready epoch line a h =
-    subst (λ (ps : List (Placed Row)). EndsOf ps (observer i (rs ++ r ∷ [])).epoch (is_ready (observer i (rs ++ r ∷ [])).line)) (sym (places_more i rs r))
+    subst (λ (ps : List (Placed Item)). EndsOf ps (observer i (rs ++ r ∷ [])).epoch (is_ready (observer i (rs ++ r ∷ [])).line)) (sym (places_more i rs r))
     (subst (λ e. EndsOf (places i rs ++ place_of i rs r ∷ []) e (is_ready (observer i (rs ++ r ∷ [])).line)) (sym a.is_epoch)
     (subst (λ b. EndsOf (places i rs ++ place_of i rs r ∷ []) epoch b) (sym a.is_ready) h))
 
-rows_at : (i : Interface) (rs : List Row) (r : Row) (ready : Bool) (epoch : ℕ) (line : LineState) → After i rs r ready epoch line → (k : ℕ)
+rows_at : (i : Interface) (rs : List Item) (r : Item) (ready : Bool) (epoch : ℕ) (line : LineState) → After i rs r ready epoch line → (k : ℕ)
     → rows_if ready i (places i rs ++ place_of i rs r ∷ []) epoch k ≡ rows_if (is_ready (observer i (rs ++ r ∷ [])).line) i (places i (rs ++ r ∷ [])) (observer i (rs ++ r ∷ [])).epoch k
 rows_at i rs r ready epoch line a k = λ j. rows_if (sym a.is_ready j) i (sym (places_more i rs r) j) (sym a.is_epoch j) k
 
-channels_at : (i : Interface) (rs : List Row) (r : Row) (ready : Bool) (epoch : ℕ) (line : LineState) → After i rs r ready epoch line
+channels_at : (i : Interface) (rs : List Item) (r : Item) (ready : Bool) (epoch : ℕ) (line : LineState) → After i rs r ready epoch line
     → channels_if ready i (places i rs ++ place_of i rs r ∷ []) epoch ≡ channels_if (is_ready (observer i (rs ++ r ∷ [])).line) i (places i (rs ++ r ∷ [])) (observer i (rs ++ r ∷ [])).epoch
 channels_at i rs r ready epoch line a = λ j. channels_if (sym a.is_ready j) i (sym (places_more i rs r) j) (sym a.is_epoch j)
 
-given_at : (i : Interface) (rs : List Row) (r : Row) (ready : Bool) (epoch : ℕ) (line : LineState) → After i rs r ready epoch line → EndsOf (places i rs ++ place_of i rs r ∷ []) epoch ready
+given_at : (i : Interface) (rs : List Item) (r : Item) (ready : Bool) (epoch : ℕ) (line : LineState) → After i rs r ready epoch line → EndsOf (places i rs ++ place_of i rs r ∷ []) epoch ready
     → given_of i (rs ++ r ∷ []) ≡ pieces_to i (places i rs ++ place_of i rs r ∷ []) (whole_epochs epoch ready)
 given_at i rs r ready epoch line a h =
     let there = ends_at i rs r ready epoch line a h in
@@ -161,43 +158,47 @@ given_at i rs r ready epoch line a h =
     ∙ (λ j. pieces_to i (places_more i rs r j) (whole_epochs (a.is_epoch j) (a.is_ready j)))
 
 -- before the row
-given_before : (i : Interface) (rs : List Row) (c : Cutting) (ready : Bool) → StandsFor i rs c → is_ready (observer i rs).line ≡ ready → given_of i rs ≡ pieces_to i (places i rs) (whole_epochs (observer i rs).epoch ready)
+given_before : (i : Interface) (rs : List Item) (c : Cutting) (ready : Bool) → StandsFor i rs c → is_ready (observer i rs).line ≡ ready → given_of i rs ≡ pieces_to i (places i rs) (whole_epochs (observer i rs).epoch ready)
 given_before i rs c ready s h = given_pieces i rs ready (subst (EndsOf (places i rs) (observer i rs).epoch) h s.epochs)
 
 -- ---- by its route
 
-pub record Pushed (i : Interface) (rs : List Row) (r : Row) (more : List Piece) (c : Cutting) : Type 0 where
+pub record Pushed (i : Interface) (rs : List Item) (r : Item) (more : List Piece) (c : Cutting) : Type 0 where
   pub stands : StandsFor i (rs ++ r ∷ []) c
   pub given : given_of i (rs ++ r ∷ []) ≡ given_of i rs ++ more
 
-to_channel_at : (i : Interface) (rs : List Row) (r : Row) (c : Cutting) → StandsFor i rs c → is_to_channel (routing i c.line r).route ≡ true → OnChannel i rs r
-to_channel_at i rs r c s h = on_channel i rs r (ap (λ l. is_to_channel (routing i l r).route) (sym s.line) ∙ h)
+said_more : (i : Interface) (rs : List Item) (r : Item) → {c : Cutting} → StandsFor i rs c → IsSaid i r → AreSaid i (rs ++ r ∷ [])
+said_more i rs r s said = all_append (IsSaid i) rs (r ∷ []) s.said (said, tt)
 
-pub pushed_on_channel : (i : Interface) (rs : List Row) (r : Row) (c c' : Cutting) → StandsFor i rs c → is_to_channel (routing i c.line r).route ≡ true → IsKeptOn (channel_of r.octets) (item_of i r) c c' → Pushed i rs r [] c'
-pushed_on_channel i rs r c c' s h kept =
+to_channel_at : (i : Interface) (rs : List Item) (r : Item) (c : Cutting) → StandsFor i rs c → is_to_channel (routing c.line r).route ≡ true → OnChannel i rs r
+to_channel_at i rs r c s h = on_channel i rs r (ap (λ l. is_to_channel (routing l r).route) (sym s.line) ∙ h)
+
+pub pushed_on_channel : (i : Interface) (rs : List Item) (r : Item) (c c' : Cutting) → StandsFor i rs c → IsSaid i r → is_to_channel (routing c.line r).route ≡ true → IsKeptOn (packet_channel r.packet) r c c' → Pushed i rs r [] c'
+pushed_on_channel i rs r c c' s said h kept =
     let on = to_channel_at i rs r c s h in
     let o = observer i rs in
     let p = place_of i rs r in
-    let k = channel_of r.octets in
+    let k = packet_channel r.packet in
     let a : After i rs r true o.epoch o.line = record { is_ready = ap is_ready on.line ∙ on.ready; is_epoch = on.epoch; is_line = on.line } in
     let ends : EndsOf (places i rs ++ p ∷ []) o.epoch true = ends_same (places i rs) p o.epoch true (subst (EndsOf (places i rs) o.epoch) on.ready s.epochs) refl on.leaves in
-    let was : (j : ℕ) → rows_of c.open_rows j ≡ map (item_of i) (piece_rows o.epoch j (places i rs)) = λ j. s.rows j ∙ ap (λ b. rows_if b i (places i rs) o.epoch j) on.ready in
-    let range = handed_in_range i r k (ap (λ b. cond b (channel_in_r1 i r) None) (sym on.ready) ∙ on.channel) in
+    let was : (j : ℕ) → rows_of c.open_rows j ≡ piece_rows o.epoch j (places i rs) = λ j. s.rows j ∙ ap (λ b. rows_if b i (places i rs) o.epoch j) on.ready in
+    let range = handed_in_range i r k said (ap (λ b. cond b (channel_in_r1 r) None) (sym on.ready) ∙ on.channel) in
     let given : given_of i (rs ++ r ∷ []) ≡ given_of i rs =
     given_at i rs r true o.epoch o.line a ends
     ∙ pieces_to_same i (places i rs) (places i rs ++ p ∷ []) (o.epoch - 1) (λ e le. same_below (places i rs) p o.epoch e refl (let lo = ends.begun in omega (arith, lo, le)))
     ∙ sym (given_before i rs c true s on.ready) in
     record {
       stands = record {
+        said = said_more i rs r s said;
         interface = kept.counted.interface ∙ s.interface;
         line = kept.line ∙ s.line ∙ sym on.line;
         epoch = kept.epoch ∙ s.epoch ∙ sym on.epoch;
         packets = counted_length rs r c.packets c'.packets s.packets kept.counted.packets;
-        findings = kept.findings ∙ s.findings ∙ sym (line_findings_more i rs r ∙ ap (λ l. line_findings i rs ++ l) (to_none r (routing i o.line r).route (ap (λ l. is_to_channel (routing i l r).route) (sym s.line) ∙ h)) ∙ append-nil (line_findings i rs));
+        findings = kept.findings ∙ s.findings ∙ sym (line_findings_more i rs r ∙ ap (λ l. line_findings i rs ++ l) (to_none r (routing o.line r).route (ap (λ l. is_to_channel (routing l r).route) (sym s.line) ∙ h)) ∙ append-nil (line_findings i rs));
         given = kept.given ∙ s.given ∙ ap (λ (l : List Piece). length l) (sym given);
         rows = λ j. kept_rows i (places i rs) p o.epoch k j (eqb j k) refl refl on.channel c.open_rows c'.open_rows kept.open_rows was ∙ rows_at i rs r true o.epoch o.line a j;
         channels = kept.open_rows.channels ∙ ap (λ l. with_channel l k c.open_rows.channels) (was k)
-            ∙ ap (with_channel (map (item_of i) (piece_rows o.epoch k (places i rs))) k) (s.channels ∙ ap (λ b. channels_if b i (places i rs) o.epoch) on.ready)
+            ∙ ap (with_channel (piece_rows o.epoch k (places i rs)) k) (s.channels ∙ ap (λ b. channels_if b i (places i rs) o.epoch) on.ready)
             ∙ sym (kept_channels i (places i rs) p o.epoch k range.0 range.1 refl on.channel)
             ∙ channels_at i rs r true o.epoch o.line a;
         epochs = ends_at i rs r true o.epoch o.line a ends;
@@ -210,34 +211,34 @@ same_epoch i o l true = refl
 same_epoch i o l false = refl
 
 -- the findings after a row of the line part
-findings_at : (i : Interface) (rs : List Row) (r : Row) (c : Cutting) (findings : List Finding) → StandsFor i rs c → findings ≡ c.findings ++ route_finding r (routing i c.line r).route → findings ≡ line_findings i (rs ++ r ∷ [])
+findings_at : (i : Interface) (rs : List Item) (r : Item) (c : Cutting) (findings : List Finding) → StandsFor i rs c → findings ≡ c.findings ++ route_finding r (routing c.line r).route → findings ≡ line_findings i (rs ++ r ∷ [])
 findings_at i rs r c findings s h =
-    h ∙ ap (λ l. l ++ route_finding r (routing i c.line r).route) s.findings
-    ∙ ap (λ l. line_findings i rs ++ route_finding r (routing i l r).route) s.line
+    h ∙ ap (λ l. l ++ route_finding r (routing c.line r).route) s.findings
+    ∙ ap (λ l. line_findings i rs ++ route_finding r (routing l r).route) s.line
     ∙ sym (line_findings_more i rs r)
 
-line_at : (i : Interface) (rs : List Row) (r : Row) (c : Cutting) → StandsFor i rs c → is_to_channel (routing i c.line r).route ≡ false → OnLine i rs r
-line_at i rs r c s h = on_line i rs r (ap (λ l. is_to_channel (routing i l r).route) (sym s.line) ∙ h)
+line_at : (i : Interface) (rs : List Item) (r : Item) (c : Cutting) → StandsFor i rs c → is_to_channel (routing c.line r).route ≡ false → OnLine i rs r
+line_at i rs r c s h = on_line i rs r (ap (λ l. is_to_channel (routing l r).route) (sym s.line) ∙ h)
 
-line_rows : (i : Interface) (ps : List (Placed Row)) (p : Placed Row) (e k : ℕ) (ready : Bool) → p.channel ≡ None → rows_if ready i (ps ++ p ∷ []) e k ≡ rows_if ready i ps e k
-line_rows i ps p e k true none = ap (map (item_of i)) (rows_same e k ps p (ap (λ c. is_channel k c && eqb p.epoch e) none))
+line_rows : (i : Interface) (ps : List (Placed Item)) (p : Placed Item) (e k : ℕ) (ready : Bool) → p.channel ≡ None → rows_if ready i (ps ++ p ∷ []) e k ≡ rows_if ready i ps e k
+line_rows i ps p e k true none = rows_same e k ps p (ap (λ c. is_channel k c && eqb p.epoch e) none)
 line_rows i ps p e k false none = refl
 
-line_channels : (i : Interface) (ps : List (Placed Row)) (p : Placed Row) (e : ℕ) (ready : Bool) → p.channel ≡ None → channels_if ready i (ps ++ p ∷ []) e ≡ channels_if ready i ps e
+line_channels : (i : Interface) (ps : List (Placed Item)) (p : Placed Item) (e : ℕ) (ready : Bool) → p.channel ≡ None → channels_if ready i (ps ++ p ∷ []) e ≡ channels_if ready i ps e
 line_channels i ps p e true none = filter_each _ _ (λ k. ap has_some (rows_same e k ps p (ap (λ c. is_channel k c && eqb p.epoch e) none))) (range_with_len 1 i.svc)
 line_channels i ps p e false none = refl
 
 -- r1 is neither left nor entered
-pub pushed_quietly : (i : Interface) (rs : List Row) (r : Row) (c c' : Cutting) (ready : Bool) → StandsFor i rs c → is_to_channel (routing i c.line r).route ≡ false
-    → is_ready c.line ≡ ready → is_ready (routing i c.line r).after ≡ ready
-    → IsStepped r (routing i c.line r).after c.epoch (route_finding r (routing i c.line r).route) c c' → Pushed i rs r [] c'
-pushed_quietly i rs r c c' ready s h before after step =
+pub pushed_quietly : (i : Interface) (rs : List Item) (r : Item) (c c' : Cutting) (ready : Bool) → StandsFor i rs c → IsSaid i r → is_to_channel (routing c.line r).route ≡ false
+    → is_ready c.line ≡ ready → is_ready (routing c.line r).after ≡ ready
+    → IsStepped r (routing c.line r).after c.epoch (route_finding r (routing c.line r).route) c c' → Pushed i rs r [] c'
+pushed_quietly i rs r c c' ready s said h before after step =
     let on = line_at i rs r c s h in
     let o = observer i rs in
     let p = place_of i rs r in
-    let l' : LineState = (routing i o.line r).after in
+    let l' : LineState = (routing o.line r).after in
     let was : is_ready o.line ≡ ready = ap is_ready (sym s.line) ∙ before in
-    let will : is_ready l' ≡ ready = ap (λ l. is_ready (routing i l r).after) (sym s.line) ∙ after in
+    let will : is_ready l' ≡ ready = ap (λ l. is_ready (routing l r).after) (sym s.line) ∙ after in
     let stays : p.leaves ≡ false = on.leaves ∙ (λ j. was j && not (will j)) ∙ and-not_self ready in
     let epoch : (observer i (rs ++ r ∷ [])).epoch ≡ o.epoch = on.epoch ∙ (λ j. (line_moved (x25 i) o l' (was j) (will j)).epoch) ∙ same_epoch i o l' ready in
     let a : After i rs r ready o.epoch l' = record { is_ready = ap is_ready on.line ∙ will; is_epoch = epoch; is_line = on.line } in
@@ -248,8 +249,9 @@ pushed_quietly i rs r c c' ready s h before after step =
     ∙ sym (given_before i rs c ready s was) in
     record {
       stands = record {
+        said = said_more i rs r s said;
         interface = step.counted.interface ∙ s.interface;
-        line = step.line ∙ ap (λ l. (routing i l r).after) s.line ∙ sym on.line;
+        line = step.line ∙ ap (λ l. (routing l r).after) s.line ∙ sym on.line;
         epoch = step.epoch ∙ s.epoch ∙ sym epoch;
         packets = counted_length rs r c.packets c'.packets s.packets step.counted.packets;
         findings = findings_at i rs r c c'.findings s step.findings;
@@ -262,16 +264,16 @@ pushed_quietly i rs r c c' ready s h before after step =
     }
 
 -- r1 is entered
-pub pushed_entering : (i : Interface) (rs : List Row) (r : Row) (c c' : Cutting) → StandsFor i rs c → is_to_channel (routing i c.line r).route ≡ false
-    → is_ready c.line ≡ false → is_ready (routing i c.line r).after ≡ true
-    → IsStepped r (routing i c.line r).after (c.epoch + 1) (route_finding r (routing i c.line r).route) c c' → Pushed i rs r [] c'
-pushed_entering i rs r c c' s h before after step =
+pub pushed_entering : (i : Interface) (rs : List Item) (r : Item) (c c' : Cutting) → StandsFor i rs c → IsSaid i r → is_to_channel (routing c.line r).route ≡ false
+    → is_ready c.line ≡ false → is_ready (routing c.line r).after ≡ true
+    → IsStepped r (routing c.line r).after (c.epoch + 1) (route_finding r (routing c.line r).route) c c' → Pushed i rs r [] c'
+pushed_entering i rs r c c' s said h before after step =
     let on = line_at i rs r c s h in
     let o = observer i rs in
     let p = place_of i rs r in
-    let l' : LineState = (routing i o.line r).after in
+    let l' : LineState = (routing o.line r).after in
     let was : is_ready o.line ≡ false = ap is_ready (sym s.line) ∙ before in
-    let will : is_ready l' ≡ true = ap (λ l. is_ready (routing i l r).after) (sym s.line) ∙ after in
+    let will : is_ready l' ≡ true = ap (λ l. is_ready (routing l r).after) (sym s.line) ∙ after in
     let stays : p.leaves ≡ false = on.leaves ∙ (λ j. was j && not (will j)) in
     let epoch : (observer i (rs ++ r ∷ [])).epoch ≡ o.epoch + 1 = on.epoch ∙ (λ j. (line_moved (x25 i) o l' (was j) (will j)).epoch) in
     let a : After i rs r true (o.epoch + 1) l' = record { is_ready = ap is_ready on.line ∙ will; is_epoch = epoch; is_line = on.line } in
@@ -287,13 +289,14 @@ pushed_entering i rs r c c' s h before after step =
     rows_same (o.epoch + 1) k (places i rs) p (ap (λ q. is_channel k q && eqb p.epoch (o.epoch + 1)) on.channel) ∙ old.later (o.epoch + 1) k (omega arith) in
     record {
       stands = record {
+        said = said_more i rs r s said;
         interface = step.counted.interface ∙ s.interface;
-        line = step.line ∙ ap (λ l. (routing i l r).after) s.line ∙ sym on.line;
+        line = step.line ∙ ap (λ l. (routing l r).after) s.line ∙ sym on.line;
         epoch = step.epoch ∙ ap (λ n. n + 1) s.epoch ∙ sym epoch;
         packets = counted_length rs r c.packets c'.packets s.packets step.counted.packets;
         findings = findings_at i rs r c c'.findings s step.findings;
         given = step.given ∙ s.given ∙ ap (λ (l : List Piece). length l) (sym given);
-        rows = λ j. step.open_rows.rows j ∙ s.rows j ∙ ap (λ b. rows_if b i (places i rs) o.epoch j) was ∙ ap (map (item_of i)) (sym (none j)) ∙ rows_at i rs r true (o.epoch + 1) l' a j;
+        rows = λ j. step.open_rows.rows j ∙ s.rows j ∙ ap (λ b. rows_if b i (places i rs) o.epoch j) was ∙ sym (none j) ∙ rows_at i rs r true (o.epoch + 1) l' a j;
         channels = step.open_rows.channels ∙ s.channels ∙ ap (λ b. channels_if b i (places i rs) o.epoch) was
             ∙ sym (none_listed (λ k. has_some (piece_rows (o.epoch + 1) k (places i rs ++ p ∷ []))) (range_with_len 1 i.svc) (λ k. ap has_some (none k))) ∙ channels_at i rs r true (o.epoch + 1) l' a;
         epochs = ends_at i rs r true (o.epoch + 1) l' a ends;
@@ -305,7 +308,7 @@ pub out-length : (i : Interface) (e : ℕ) (end : Option ℕ) (rows : ℕ → Li
 out-length i e end rows id [] = refl
 out-length i e end rows id (k ∷ ks) = let more = out-length i e end rows (id + 1) ks in omega (arith, more)
 
-last_pieces : (i : Interface) (ps : List (Placed Row)) (epoch : ℕ) → 1 ≤ epoch → pieces_to i ps epoch ≡ pieces_to i ps (epoch - 1) ++ pieces_in i ps (length (pieces_to i ps (epoch - 1))) epoch
+last_pieces : (i : Interface) (ps : List (Placed Item)) (epoch : ℕ) → 1 ≤ epoch → pieces_to i ps epoch ≡ pieces_to i ps (epoch - 1) ++ pieces_in i ps (length (pieces_to i ps (epoch - 1))) epoch
 last_pieces i ps zero lo = absurd (omega (arith, lo))
 last_pieces i ps (suc n) lo =
     let back : n ≡ suc n - 1 = omega arith in
@@ -331,46 +334,46 @@ not_listed f k (j ∷ ks) (inr w) h others = not_listed f k ks w.1 h (rest (f j)
     rest true all = all.1
     rest false all = all
 
-served : (i : Interface) (rs : List Row) (e k : ℕ) → piece_rows e k (places i rs) ≢ [] → StandsOnce k (range_with_len 1 i.svc)
-served i rs e k some = piece_once (x25 i) (start i) e k rs (has_channels i rs).of_rows some
+served : (i : Interface) (rs : List Item) → AreSaid i rs → (e k : ℕ) → piece_rows e k (places i rs) ≢ [] → StandsOnce k (range_with_len 1 i.svc)
+served i rs said e k some = piece_once (x25 i) (start i) e k rs (has_channels i rs said).of_rows some
 
-pub no_rows_of : (i : Interface) (rs : List Row) (e k : ℕ) → AllByRecursion (λ j. j ≢ k) (channels_in i (places i rs) e) → piece_rows e k (places i rs) ≡ []
-no_rows_of i rs e k others = elim (rows_or_none (piece_rows e k (places i rs))) [
+pub no_rows_of : (i : Interface) (rs : List Item) → AreSaid i rs → (e k : ℕ) → AllByRecursion (λ j. j ≢ k) (channels_in i (places i rs) e) → piece_rows e k (places i rs) ≡ []
+no_rows_of i rs said e k others = elim (rows_or_none (piece_rows e k (places i rs))) [
   | inl none ↦ none
-  | inr some ↦ absurd (not_listed (λ j. has_some (piece_rows e j (places i rs))) k (range_with_len 1 i.svc) (served i rs e k (λ none. true≢false (sym some ∙ ap has_some none))) some others)
+  | inr some ↦ absurd (not_listed (λ j. has_some (piece_rows e j (places i rs))) k (range_with_len 1 i.svc) (served i rs said e k (λ none. true≢false (sym some ∙ ap has_some none))) some others)
 ]
 
-emptied_row : (i : Interface) (rs : List Row) (e k : ℕ) (before after : OpenRows) → before.channels ≡ channels_in i (places i rs) e → rows_of before k ≡ map (item_of i) (piece_rows e k (places i rs))
+emptied_row : (i : Interface) (rs : List Item) → AreSaid i rs → (e k : ℕ) (before after : OpenRows) → before.channels ≡ channels_in i (places i rs) e → rows_of before k ≡ piece_rows e k (places i rs)
     → (rows_of after k ≡ []) ⊎ ((rows_of after k ≡ rows_of before k) × AllByRecursion (λ j. j ≢ k) before.channels) → rows_of after k ≡ []
-emptied_row i rs e k before after listed was (inl none) = none
-emptied_row i rs e k before after listed was (inr kept) = kept.0 ∙ was ∙ ap (map (item_of i)) (no_rows_of i rs e k (subst (AllByRecursion (λ j. j ≢ k)) listed kept.1))
+emptied_row i rs said e k before after listed was (inl none) = none
+emptied_row i rs said e k before after listed was (inr kept) = kept.0 ∙ was ∙ no_rows_of i rs said e k (subst (AllByRecursion (λ j. j ≢ k)) listed kept.1)
 
-pub pushed_leaving : (i : Interface) (rs : List Row) (r : Row) (c c' : Cutting) → StandsFor i rs c → is_to_channel (routing i c.line r).route ≡ false
-    → is_ready c.line ≡ true → is_ready (routing i c.line r).after ≡ false
-    → IsLeft r (routing i c.line r).after (route_finding r (routing i c.line r).route) c c'
+pub pushed_leaving : (i : Interface) (rs : List Item) (r : Item) (c c' : Cutting) → StandsFor i rs c → IsSaid i r → is_to_channel (routing c.line r).route ≡ false
+    → is_ready c.line ≡ true → is_ready (routing c.line r).after ≡ false
+    → IsLeft r (routing c.line r).after (route_finding r (routing c.line r).route) c c'
     → Pushed i rs r (pieces_out c.interface c.epoch (Some r.number) (rows_of c.open_rows) c.given c.open_rows.channels) c'
-pushed_leaving i rs r c c' s h before after step =
+pushed_leaving i rs r c c' s said h before after step =
     let on = line_at i rs r c s h in
     let o = observer i rs in
     let p = place_of i rs r in
-    let l' : LineState = (routing i o.line r).after in
+    let l' : LineState = (routing o.line r).after in
     let was : is_ready o.line ≡ true = ap is_ready (sym s.line) ∙ before in
-    let will : is_ready l' ≡ false = ap (λ l. is_ready (routing i l r).after) (sym s.line) ∙ after in
+    let will : is_ready l' ≡ false = ap (λ l. is_ready (routing l r).after) (sym s.line) ∙ after in
     let leaves : p.leaves ≡ true = on.leaves ∙ (λ j. was j && not (will j)) in
     let epoch : (observer i (rs ++ r ∷ [])).epoch ≡ o.epoch = on.epoch ∙ (λ j. (line_moved (x25 i) o l' (was j) (will j)).epoch) in
     let a : After i rs r false o.epoch l' = record { is_ready = ap is_ready on.line ∙ will; is_epoch = epoch; is_line = on.line } in
     let old : EndsOf (places i rs) o.epoch true = subst (EndsOf (places i rs) o.epoch) was s.epochs in
     let ends : EndsOf (places i rs ++ p ∷ []) o.epoch false = ends_leave (places i rs) p o.epoch old refl leaves in
     let here : eqb p.epoch o.epoch ≡ true = eq-eqb p.epoch o.epoch refl in
-    let end : option_map (λ (q : Row). q.number) (piece_end o.epoch (places i rs ++ p ∷ [])) ≡ Some r.number =
-    ap (option_map (λ (q : Row). q.number)) (end_new o.epoch (places i rs) p (ap (λ b. b && eqb p.epoch o.epoch) leaves ∙ here) (old.unended refl)) in
+    let end : option_map (λ (q : Item). q.number) (piece_end o.epoch (places i rs ++ p ∷ [])) ≡ Some r.number =
+    ap (option_map (λ (q : Item). q.number)) (end_new o.epoch (places i rs) p (ap (λ b. b && eqb p.epoch o.epoch) leaves ∙ here) (old.unended refl)) in
     let same_rows : (k : ℕ) → piece_rows o.epoch k (places i rs ++ p ∷ []) ≡ piece_rows o.epoch k (places i rs) = λ k.
     rows_same o.epoch k (places i rs) p (ap (λ q. is_channel k q && eqb p.epoch o.epoch) on.channel) in
     let listed : c.open_rows.channels ≡ channels_in i (places i rs) o.epoch = s.channels ∙ ap (λ b. channels_if b i (places i rs) o.epoch) was in
-    let rows : (k : ℕ) → rows_of c.open_rows k ≡ map (item_of i) (piece_rows o.epoch k (places i rs)) = λ k. s.rows k ∙ ap (λ b. rows_if b i (places i rs) o.epoch k) was in
+    let rows : (k : ℕ) → rows_of c.open_rows k ≡ piece_rows o.epoch k (places i rs) = λ k. s.rows k ∙ ap (λ b. rows_if b i (places i rs) o.epoch k) was in
     let before_is : given_of i rs ≡ pieces_to i (places i rs) (o.epoch - 1) = given_before i rs c true s was in
     let more : pieces_in i (places i rs ++ p ∷ []) (length (pieces_to i (places i rs) (o.epoch - 1))) o.epoch ≡ pieces_out c.interface c.epoch (Some r.number) (rows_of c.open_rows) c.given c.open_rows.channels =
-    pieces_in_out i (places i rs ++ p ∷ []) (length (pieces_to i (places i rs) (o.epoch - 1))) o.epoch (Some r.number) (rows_of c.open_rows) end (λ k. rows k ∙ ap (map (item_of i)) (sym (same_rows k)))
+    pieces_in_out i (places i rs ++ p ∷ []) (length (pieces_to i (places i rs) (o.epoch - 1))) o.epoch (Some r.number) (rows_of c.open_rows) end (λ k. rows k ∙ sym (same_rows k))
     ∙ (λ j. pieces_out (sym s.interface j) (sym s.epoch j) (Some r.number) (rows_of c.open_rows) (sym (s.given ∙ ap (λ (l : List Piece). length l) before_is) j)
     (sym (listed ∙ sym (line_channels i (places i rs) p o.epoch true on.channel)) j)) in
     let given : given_of i (rs ++ r ∷ []) ≡ given_of i rs ++ pieces_out c.interface c.epoch (Some r.number) (rows_of c.open_rows) c.given c.open_rows.channels =
@@ -379,15 +382,16 @@ pushed_leaving i rs r c c' s h before after step =
     ∙ (λ j. sym before_is j ++ more j) in
     record {
       stands = record {
+        said = said_more i rs r s said;
         interface = step.counted.interface ∙ s.interface;
-        line = step.line ∙ ap (λ l. (routing i l r).after) s.line ∙ sym on.line;
+        line = step.line ∙ ap (λ l. (routing l r).after) s.line ∙ sym on.line;
         epoch = step.epoch ∙ s.epoch ∙ sym epoch;
         packets = counted_length rs r c.packets c'.packets s.packets step.counted.packets;
         findings = findings_at i rs r c c'.findings s step.findings;
         given = step.given ∙ ap (λ n. n + length c.open_rows.channels) s.given
             ∙ ap (λ n. length (given_of i rs) + n) (sym (out-length c.interface c.epoch (Some r.number) (rows_of c.open_rows) c.given c.open_rows.channels))
             ∙ sym (ap (λ (l : List Piece). length l) given ∙ length-append (given_of i rs) (pieces_out c.interface c.epoch (Some r.number) (rows_of c.open_rows) c.given c.open_rows.channels));
-        rows = λ k. emptied_row i rs o.epoch k c.open_rows c'.open_rows listed (rows k) (step.emptied k) ∙ rows_at i rs r false o.epoch l' a k;
+        rows = λ k. emptied_row i rs s.said o.epoch k c.open_rows c'.open_rows listed (rows k) (step.emptied k) ∙ rows_at i rs r false o.epoch l' a k;
         channels = step.channels ∙ channels_at i rs r false o.epoch l' a;
         epochs = ends_at i rs r false o.epoch l' a ends;
       };
@@ -396,7 +400,7 @@ pushed_leaving i rs r c c' s h before after step =
 
 -- ---- the end of the trace
 
-pub rest_open : (i : Interface) (rs : List Row) (c : Cutting) → StandsFor i rs c → given_of i rs ++ pieces_out c.interface c.epoch None (rows_of c.open_rows) c.given c.open_rows.channels ≡ plan i rs
+pub rest_open : (i : Interface) (rs : List Item) (c : Cutting) → StandsFor i rs c → given_of i rs ++ pieces_out c.interface c.epoch None (rows_of c.open_rows) c.given c.open_rows.channels ≡ plan i rs
 rest_open i rs c s = at (is_ready (observer i rs).line) refl
   where
     at : (b : Bool) → is_ready (observer i rs).line ≡ b → given_of i rs ++ pieces_out c.interface c.epoch None (rows_of c.open_rows) c.given c.open_rows.channels ≡ plan i rs
@@ -405,7 +409,7 @@ rest_open i rs c s = at (is_ready (observer i rs).line) refl
         let ends : EndsOf (places i rs) o.epoch true = subst (EndsOf (places i rs) o.epoch) e s.epochs in
         let before_is : given_of i rs ≡ pieces_to i (places i rs) (o.epoch - 1) = given_before i rs c true s e in
         let last : pieces_in i (places i rs) (length (pieces_to i (places i rs) (o.epoch - 1))) o.epoch ≡ pieces_out c.interface c.epoch None (rows_of c.open_rows) c.given c.open_rows.channels =
-        pieces_in_out i (places i rs) (length (pieces_to i (places i rs) (o.epoch - 1))) o.epoch None (rows_of c.open_rows) (ap (option_map (λ (q : Row). q.number)) (ends.unended refl)) (λ k. s.rows k ∙ ap (λ b. rows_if b i (places i rs) o.epoch k) e)
+        pieces_in_out i (places i rs) (length (pieces_to i (places i rs) (o.epoch - 1))) o.epoch None (rows_of c.open_rows) (ap (option_map (λ (q : Item). q.number)) (ends.unended refl)) (λ k. s.rows k ∙ ap (λ b. rows_if b i (places i rs) o.epoch k) e)
         ∙ (λ j. pieces_out (sym s.interface j) (sym s.epoch j) None (rows_of c.open_rows) (sym (s.given ∙ ap (λ (l : List Piece). length l) before_is) j) (sym (s.channels ∙ ap (λ b. channels_if b i (places i rs) o.epoch) e) j)) in
         (λ j. before_is j ++ sym last j) ∙ sym (last_pieces i (places i rs) o.epoch ends.begun) ∙ sym (plan_is i rs)
     at false e =

@@ -7,11 +7,11 @@ use Rattle.std.proofs.lemmas.Bool.{eqb-true, eqb-false, eq-eqb}
 use Rattle.line_model.specs.declared.interface.Interface.{Interface}
 use Rattle.line_model.specs.declared.route.Route.TheVariants.{ToChannel}
 use Rattle.line_model.specs.basics.Bounds.{all_octets}
-use Rattle.line_model.specs.basics.Octets.{channel_of}
-use Rattle.line_model.specs.basics.Records.{Row, Item, Piece}
+use Rattle.line_model.specs.packets.Says.{packet_channel}
+use Rattle.line_model.specs.basics.Records.{Item, Piece}
 use Rattle.line_model.specs.channels.RestartMachine.{LineState}
 use Rattle.line_model.specs.observer.Observer.{routing, is_ready, channel_in_r1}
-use Rattle.line_model.specs.packets.Classes.{packet_of}
+use Rattle.line_model.specs.basics.Bounds.{IsSaid}
 use Rattle.line_model.specs.pieces.Pieces.{piece_rows}
 use Rattle.line_model.specs.pieces.Plan.{has_some}
 use Rattle.line_model.specs.text.Text.{last_or}
@@ -19,18 +19,16 @@ use Rattle.line_model.proofs.Handed.{handed_in_range}
 use Rattle.restart_epochs.specs.Coming.{Comes, HasNext}
 use Rattle.restart_epochs.specs.OpenRows.{OpenRows, rows_of}
 use Rattle.restart_epochs.specs.Cutting.{Cutting, IsCutting, IsKeptOn, IsLane, IsUnchanged, StandsFor, given_of, observer, places, rows_if, channels_if}
-use Rattle.restart_epochs.specs.Stretches.{AreAdded, AreHandedOn, ChannelRows, HasAll, HasTakenAll, IsRun, StretchView, line_after, on_channel, parts_of, rows_alone, rows_on, with_rows}
-use Rattle.restart_epochs.specs.Walks.{routed_at}
+use Rattle.restart_epochs.specs.Stretches.{AreAdded, AreHandedOn, ChannelRows, HasAll, HasTakenAll, IsRun, StretchView, line_after, on_channel, parts_of, rows_on, with_rows}
 use Rattle.restart_epochs.specs.declared.stretch.Part.{Part}
 use Rattle.restart_epochs.proofs.Bounds.{kept_bounds}
 use Rattle.restart_epochs.proofs.Cuts.{filter_each}
 use Rattle.restart_epochs.proofs.Listed.{insert_listed}
-use Rattle.restart_epochs.proofs.Listings.{has_one_more, rows_with, some_mapped}
-use Rattle.restart_epochs.proofs.Pushes.{Pushed}
+use Rattle.restart_epochs.proofs.Listings.{has_one_more, rows_with}
+use Rattle.restart_epochs.proofs.Pushes.{Pushed, pushed_on_channel}
 use Rattle.restart_epochs.proofs.Routes.{is_to_channel}
 use Rattle.restart_epochs.proofs.Steps.{in_r1, routed_to}
-use Rattle.restart_epochs.proofs.Stretched.{come_first, come_next, line_taken, numbers, octets_first, same_routing, taken_both}
-use Rattle.restart_epochs.proofs.Taken.{takes_channel}
+use Rattle.restart_epochs.proofs.Stretched.{come_first, come_next, line_taken, numbers, octets_first, taken_both}
 
 -- ---- row by row
 
@@ -42,20 +40,20 @@ kept_on c item = record {
   epoch = c.epoch;
   given = c.given;
   packets = c.packets + 1;
-  last = item.row.number;
-  octets = c.octets + length item.row.octets;
+  last = item.number;
+  octets = c.octets + item.length;
   findings = c.findings;
-  open_rows = rows_with c.open_rows (channel_of item.row.octets) item;
+  open_rows = rows_with c.open_rows (packet_channel item.packet) item;
 }
 
-kept : (c : Cutting) (item : Item) → IsKeptOn (channel_of item.row.octets) item c (kept_on c item)
+kept : (c : Cutting) (item : Item) → IsKeptOn (packet_channel item.packet) item c (kept_on c item)
 kept c item = record {
   counted = record { interface = refl; packets = refl; last = refl; octets = refl };
   line = refl;
   epoch = refl;
   given = refl;
   findings = refl;
-  open_rows = has_one_more c.open_rows (channel_of item.row.octets) item;
+  open_rows = has_one_more c.open_rows (packet_channel item.packet) item;
 }
 
 abbrev ran : Cutting → List Item → Cutting
@@ -70,32 +68,32 @@ record Runs (c : Cutting) (run : List Item) : Type 0 where
 runs_more : (c : Cutting) (item : Item) (run : List Item) → Runs c (item ∷ run) → Runs (kept_on c item) run
 runs_more c item run r = record { handed = r.handed.1; coming = r.coming.3 }
 
-one_more : (i : Interface) (rs : List Row) (c : Cutting) (item : Item) (run : List Item) → StandsFor i rs c → Runs c (item ∷ run) → Pushed i rs item.row [] (kept_on c item)
+one_more : (i : Interface) (rs : List Item) (c : Cutting) (item : Item) (run : List Item) → StandsFor i rs c → Runs c (item ∷ run) → Pushed i rs item [] (kept_on c item)
 one_more i rs c item run s r =
-    takes_channel i rs c (kept_on c item) item (routed_at c.line item) s (record { packet = r.coming.2; stepped = refl }) (ap is_to_channel r.handed.0) (kept c item)
+    pushed_on_channel i rs item c (kept_on c item) s (subst (λ j. IsSaid j item) s.interface r.coming.2) (ap is_to_channel r.handed.0) (kept c item)
 
-ran_stands : (i : Interface) (rs : List Row) (c : Cutting) (run : List Item) → StandsFor i rs c → Runs c run → StandsFor i (rs ++ rows_alone run) (ran c run)
+ran_stands : (i : Interface) (rs : List Item) (c : Cutting) (run : List Item) → StandsFor i rs c → Runs c run → StandsFor i (rs ++ run) (ran c run)
 ran_stands i rs c [] s r = subst (λ l. StandsFor i l c) (sym (append-nil rs)) s
 ran_stands i rs c (item ∷ run) s r =
-    subst (λ l. StandsFor i l (ran c (item ∷ run))) (append_assoc rs (item.row ∷ []) (rows_alone run))
-    (ran_stands i (rs ++ item.row ∷ []) (kept_on c item) run (one_more i rs c item run s r).stands (runs_more c item run r))
+    subst (λ l. StandsFor i l (ran c (item ∷ run))) (append_assoc rs (item ∷ []) run)
+    (ran_stands i (rs ++ item ∷ []) (kept_on c item) run (one_more i rs c item run s r).stands (runs_more c item run r))
 
-ran_given : (i : Interface) (rs : List Row) (c : Cutting) (run : List Item) → StandsFor i rs c → Runs c run → given_of i (rs ++ rows_alone run) ≡ given_of i rs
+ran_given : (i : Interface) (rs : List Item) (c : Cutting) (run : List Item) → StandsFor i rs c → Runs c run → given_of i (rs ++ run) ≡ given_of i rs
 ran_given i rs c [] s r = ap (given_of i) (append-nil rs)
 ran_given i rs c (item ∷ run) s r =
     let one = one_more i rs c item run s r in
-    ap (given_of i) (sym (append_assoc rs (item.row ∷ []) (rows_alone run)))
-    ∙ ran_given i (rs ++ item.row ∷ []) (kept_on c item) run one.stands (runs_more c item run r) ∙ one.given ∙ append-nil (given_of i rs)
+    ap (given_of i) (sym (append_assoc rs (item ∷ []) run))
+    ∙ ran_given i (rs ++ item ∷ []) (kept_on c item) run one.stands (runs_more c item run r) ∙ one.given ∙ append-nil (given_of i rs)
 
 ran_room : (i : Interface) (last octets : ℕ) (items : List Item) → Comes i last octets items → octets ≤ 2147483648
 ran_room i last octets [] h = h
-ran_room i last octets (item ∷ items) h = let rest = ran_room i item.row.number (octets + length item.row.octets) items h.3 in omega (arith, rest)
+ran_room i last octets (item ∷ items) h = let rest = ran_room i item.number (octets + item.length) items h.3 in omega (arith, rest)
 
 ran_bounds : (c : Cutting) (run : List Item) → IsCutting c → Runs c run → IsCutting (ran c run)
 ran_bounds c [] h r = h
 ran_bounds c (item ∷ run) h r =
     ran_bounds (kept_on c item) run
-    (kept_bounds c (kept_on c item) (channel_of item.row.octets) item h (kept c item) (record { packet = r.coming.2; channel = refl }) r.coming.0 r.coming.1 (ran_room c.interface item.row.number (c.octets + length item.row.octets) run r.coming.3))
+    (kept_bounds c (kept_on c item) (packet_channel item.packet) item h (kept c item) (record { said = r.coming.2; channel = refl }) r.coming.0 r.coming.1 (ran_room c.interface item.number (c.octets + item.length) run r.coming.3))
     (runs_more c item run r)
 
 -- what rows on channels do not change
@@ -122,21 +120,21 @@ ran_octets : (c : Cutting) (run : List Item) → (ran c run).octets ≡ c.octets
 ran_octets c [] = omega arith
 ran_octets c (item ∷ run) = let rest = ran_octets (kept_on c item) run in omega (arith, rest, octets_first item run)
 
-more_on : (o : OpenRows) (item : Item) (run : List Item) (k : ℕ) (b : Bool) → eqb (channel_of item.row.octets) k ≡ b
-    → rows_of (rows_with o (channel_of item.row.octets) item) k ++ on_channel k run ≡ rows_of o k ++ cond b (item ∷ on_channel k run) (on_channel k run)
+more_on : (o : OpenRows) (item : Item) (run : List Item) (k : ℕ) (b : Bool) → eqb (packet_channel item.packet) k ≡ b
+    → rows_of (rows_with o (packet_channel item.packet) item) k ++ on_channel k run ≡ rows_of o k ++ cond b (item ∷ on_channel k run) (on_channel k run)
 more_on o item run k true e =
-    let here = eqb-true (channel_of item.row.octets) k e in
-    let more = has_one_more o (channel_of item.row.octets) item in
-    ap (λ l. l ++ on_channel k run) (ap (rows_of (rows_with o (channel_of item.row.octets) item)) (sym here) ∙ more.row ∙ ap (λ j. rows_of o j ++ item ∷ []) here)
+    let here = eqb-true (packet_channel item.packet) k e in
+    let more = has_one_more o (packet_channel item.packet) item in
+    ap (λ l. l ++ on_channel k run) (ap (rows_of (rows_with o (packet_channel item.packet) item)) (sym here) ∙ more.row ∙ ap (λ j. rows_of o j ++ item ∷ []) here)
     ∙ append_assoc (rows_of o k) (item ∷ []) (on_channel k run)
 more_on o item run k false e =
-    let ne = eqb-false (channel_of item.row.octets) k e in
-    ap (λ l. l ++ on_channel k run) ((has_one_more o (channel_of item.row.octets) item).others k (λ q. ne (sym q)))
+    let ne = eqb-false (packet_channel item.packet) k e in
+    ap (λ l. l ++ on_channel k run) ((has_one_more o (packet_channel item.packet) item).others k (λ q. ne (sym q)))
 
 ran_rows : (c : Cutting) (run : List Item) (k : ℕ) → rows_of (ran c run).open_rows k ≡ rows_of c.open_rows k ++ on_channel k run
 ran_rows c [] k = sym (append-nil (rows_of c.open_rows k))
 ran_rows c (item ∷ run) k =
-    ran_rows (kept_on c item) run k ∙ more_on c.open_rows item run k (eqb (channel_of item.row.octets) k) refl
+    ran_rows (kept_on c item) run k ∙ more_on c.open_rows item run k (eqb (packet_channel item.packet) k) refl
 
 -- ---- channel by channel
 
@@ -238,8 +236,9 @@ same_bounds c after u h =
       lanes = λ k. lane_same (sym u.interface) (sym u.packets) (sym u.octets) (sym (u.open_rows.rows k)) (h.lanes k);
     }
 
-same_stands : (i : Interface) (rs : List Row) (c after : Cutting) → IsUnchanged c after → StandsFor i rs c → StandsFor i rs after
+same_stands : (i : Interface) (rs : List Item) (c after : Cutting) → IsUnchanged c after → StandsFor i rs c → StandsFor i rs after
 same_stands i rs c after u s = record {
+  said = s.said;
   interface = u.interface ∙ s.interface;
   line = u.line ∙ s.line;
   epoch = u.epoch ∙ s.epoch;
@@ -265,37 +264,34 @@ pub record HasRun (s : StretchView) (c after : Cutting) : Type 0 where
   pub findings : after.findings ≡ c.findings
   pub open_rows : AreAdded s.parts c.open_rows after.open_rows
 
-listed_in : (i : Interface) (rs : List Row) (c : Cutting) → StandsFor i rs c → is_ready c.line ≡ true → c.open_rows.channels ≡ listed i.svc c.open_rows
+listed_in : (i : Interface) (rs : List Item) (c : Cutting) → StandsFor i rs c → is_ready c.line ≡ true → c.open_rows.channels ≡ listed i.svc c.open_rows
 listed_in i rs c s h =
     let n = (observer i rs).epoch in
     let ready : is_ready (observer i rs).line ≡ true = ap is_ready (sym s.line) ∙ h in
     s.channels ∙ ap (λ b. channels_if b i (places i rs) n) ready
     ∙ filter_each (λ k. has_some (piece_rows n k (places i rs))) (λ k. has_some (rows_of c.open_rows k))
-    (λ k. sym (ap has_some (s.rows k ∙ ap (λ b. rows_if b i (places i rs) n k) ready) ∙ some_mapped i (piece_rows n k (places i rs)))) (range_with_len 1 i.svc)
+    (λ k. sym (ap has_some (s.rows k ∙ ap (λ b. rows_if b i (places i rs) n k) ready))) (range_with_len 1 i.svc)
 
 -- the line is in r1, and the channels are the interface's
-goes_to : (i : Interface) (l : LineState) (item : Item) → (routed_at l item).route ≡ ToChannel → item.packet ≡ packet_of i item.row.octets → is_to_channel (routing i l item.row).route ≡ true
-goes_to i l item to told = ap (λ q. is_to_channel q.route) (sym (same_routing i l item told)) ∙ ap is_to_channel to
-
-channel_within : (i : Interface) (l : LineState) (item : Item) → (routed_at l item).route ≡ ToChannel → item.packet ≡ packet_of i item.row.octets → (1 ≤ channel_of item.row.octets) × (channel_of item.row.octets ≤ i.svc)
-channel_within i l item to told =
-    let h = goes_to i l item to told in
-    handed_in_range i item.row (channel_of item.row.octets) (ap (λ b. cond b (channel_in_r1 i item.row) None) (sym (in_r1 i l item.row h)) ∙ routed_to i l item.row h)
+channel_within : (i : Interface) (l : LineState) (item : Item) → (routing l item).route ≡ ToChannel → IsSaid i item → (1 ≤ packet_channel item.packet) × (packet_channel item.packet ≤ i.svc)
+channel_within i l item to said =
+    let h = ap is_to_channel to in
+    handed_in_range i item (packet_channel item.packet) said (ap (λ b. cond b (channel_in_r1 item) None) (sym (in_r1 l item h)) ∙ routed_to i l item h)
 
 run_within : (i : Interface) (l : LineState) (last octets : ℕ) (run : List Item) → AreHandedOn l run → Comes i last octets run → (k : ℕ) → has_some (on_channel k run) ≡ true → (1 ≤ k) × (k ≤ i.svc)
 run_within i l last octets [] handed come k some = absurd (true≢false (sym some))
-run_within i l last octets (item ∷ run) handed come k some = at (eqb (channel_of item.row.octets) k) refl (run_within i l item.row.number (octets + length item.row.octets) run handed.1 come.3 k) some
+run_within i l last octets (item ∷ run) handed come k some = at (eqb (packet_channel item.packet) k) refl (run_within i l item.number (octets + item.length) run handed.1 come.3 k) some
   where
-    first : (1 ≤ channel_of item.row.octets) × (channel_of item.row.octets ≤ i.svc)
+    first : (1 ≤ packet_channel item.packet) × (packet_channel item.packet ≤ i.svc)
     first = channel_within i l item handed.0 come.2
 
-    at : (b : Bool) → eqb (channel_of item.row.octets) k ≡ b → (has_some (on_channel k run) ≡ true → (1 ≤ k) × (k ≤ i.svc)) → has_some (cond b (item ∷ on_channel k run) (on_channel k run)) ≡ true → (1 ≤ k) × (k ≤ i.svc)
-    at true e more h = subst (λ j. (1 ≤ j) × (j ≤ i.svc)) (eqb-true (channel_of item.row.octets) k e) first
+    at : (b : Bool) → eqb (packet_channel item.packet) k ≡ b → (has_some (on_channel k run) ≡ true → (1 ≤ k) × (k ≤ i.svc)) → has_some (cond b (item ∷ on_channel k run) (on_channel k run)) ≡ true → (1 ≤ k) × (k ≤ i.svc)
+    at true e more h = subst (λ j. (1 ≤ j) × (j ≤ i.svc)) (eqb-true (packet_channel item.packet) k e) first
     at false e more h = more h
 
 run_ready : (c : Cutting) (run : List Item) (n : ℕ) → Runs c run → n ≡ length run → n ≢ 0 → is_ready c.line ≡ true
 run_ready c [] n r e ne = absurd (ne e)
-run_ready c (item ∷ run) n r e ne = in_r1 c.interface c.line item.row (goes_to c.interface c.line item r.handed.0 r.coming.2)
+run_ready c (item ∷ run) n r e ne = in_r1 c.line item (ap is_to_channel r.handed.0)
 
 last_of : (run : List Item) (n d e : ℕ) → n ≡ length run → n ≢ 0 → last_or d (numbers run) ≡ last_or e (numbers run)
 last_of [] n d e is ne = absurd (ne is)
@@ -309,7 +305,7 @@ run_rows : (c after : Cutting) (s : StretchView) (run : List Item) → IsRun c.l
 run_rows c after s run is h k = added_rows s.parts c.open_rows after.open_rows h.open_rows k ∙ ap (λ l. rows_of c.open_rows k ++ l) (is.by_channel k) ∙ sym (ran_rows c run k)
 
 -- added channel by channel they leave the cutter that they would row by row
-as_ran : (i : Interface) (rs : List Row) (c after : Cutting) (s : StretchView) (run : List Item) → StandsFor i rs c → Runs c run → IsRun c.line run s → s.rows ≢ 0 → HasRun s c after → IsUnchanged (ran c run) after
+as_ran : (i : Interface) (rs : List Item) (c after : Cutting) (s : StretchView) (run : List Item) → StandsFor i rs c → Runs c run → IsRun c.line run s → s.rows ≢ 0 → HasRun s c after → IsUnchanged (ran c run) after
 as_ran i rs c after s run stands r is some h =
     let stays = ran_stays c run in
     let ready = run_ready c run s.rows r is.rows some in
@@ -317,7 +313,7 @@ as_ran i rs c after s run stands r is some h =
     let within = are_within i.svc s.parts (λ k has. run_within i c.line c.last c.octets run r.handed come k (ap has_some (sym (is.by_channel k)) ∙ has)) in
     let rows = run_rows c after s run is h in
     let mine = parts_listed i.svc s.parts c.open_rows after.open_rows h.open_rows within (listed_in i rs c stands ready) in
-    let theirs = listed_in i (rs ++ rows_alone run) (ran c run) (ran_stands i rs c run stands r) (ap is_ready stays.line ∙ ready) in
+    let theirs = listed_in i (rs ++ run) (ran c run) (ran_stands i rs c run stands r) (ap is_ready stays.line ∙ ready) in
     record {
       interface = h.interface ∙ sym stays.interface;
       line = h.line ∙ sym stays.line;
@@ -340,11 +336,11 @@ run_taken c after s run out coming is some h =
       interface = h.interface;
       last = h.last ∙ is.last ∙ last_of run s.rows 0 c.last is.rows some;
       octets = h.octets ∙ ap (λ n. c.octets + n) is.octets;
-      stands = λ i rs stands. same_stands i (rs ++ rows_alone run) (ran c run) after (as_ran i rs c after s run stands r is some h) (ran_stands i rs c run stands r);
+      stands = λ i rs stands. same_stands i (rs ++ run) (ran c run) after (as_ran i rs c after s run stands r is some h) (ran_stands i rs c run stands r);
       appended = λ i rs stands. record { more = []; out_has = sym (append-nil out); known_has = ran_given i rs c run stands r ∙ sym (append-nil (given_of i rs)) };
     }
 
-pub run_bounds : (i : Interface) (rs : List Row) (c after : Cutting) (s : StretchView) (run : List Item) → IsCutting c → StandsFor i rs c → Comes c.interface c.last c.octets run → IsRun c.line run s → s.rows ≢ 0 → HasRun s c after → IsCutting after
+pub run_bounds : (i : Interface) (rs : List Item) (c after : Cutting) (s : StretchView) (run : List Item) → IsCutting c → StandsFor i rs c → Comes c.interface c.last c.octets run → IsRun c.line run s → s.rows ≢ 0 → HasRun s c after → IsCutting after
 run_bounds i rs c after s run bounds stands coming is some h =
     let r : Runs c run = record { handed = is.handed; coming = coming } in
     same_bounds (ran c run) after (as_ran i rs c after s run stands r is some h) (ran_bounds c run bounds r)
@@ -359,11 +355,11 @@ pub record HasLeft (now : Cutting) (s : StretchView) (run : List Item) : Type 0 
   pub handed : IsRun now.line run s
   pub coming : Comes now.interface now.last now.octets run
 
-pub run_left : (i : Interface) (rs : List Row) (c now : Cutting) (s : StretchView) (run kept : List Item) (out out' : List Piece) → StandsFor i rs c → HasNext c s run → kept ≡ s.kept → HasTakenAll kept c now out out' → HasLeft now s run
+pub run_left : (i : Interface) (rs : List Item) (c now : Cutting) (s : StretchView) (run kept : List Item) (out out' : List Piece) → StandsFor i rs c → HasNext c s run → kept ≡ s.kept → HasTakenAll kept c now out out' → HasLeft now s run
 run_left i rs c now s run kept out out' stands h e taken =
     let took : HasTakenAll s.kept c now out out' = subst (λ (l : List Item). HasTakenAll l c now out out') e taken in
     record {
-      handed = subst (λ l. IsRun l run s) (sym (line_taken i rs c now out out' s.kept stands (come_first c.interface c.last c.octets s.kept run h.coming) took)) h.handed;
+      handed = subst (λ l. IsRun l run s) (sym (line_taken i rs c now out out' s.kept stands took)) h.handed;
       coming = come_next c now out out' s.kept run h.coming took;
     }
 

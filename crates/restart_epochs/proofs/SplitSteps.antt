@@ -3,7 +3,7 @@ use Rattle.std.proofs.Common.{◌≡◌, ◌∙◌, sym, ap, subst, refl, ℕ, �
 use Rattle.std.proofs.lemmas.Bool.{eqb-true, eqb-false}
 use Rattle.std.proofs.lemmas.List.{map-append}
 use Rattle.std.proofs.lemmas.List.Sums.{sum_by_push}
-use Rattle.line_model.specs.basics.Octets.{channel_of}
+use Rattle.line_model.specs.packets.Says.{packet_channel}
 use Rattle.line_model.specs.basics.Records.{Item}
 use Rattle.line_model.specs.channels.RestartMachine.{LineState}
 use Rattle.line_model.specs.declared.route.Route.TheVariants.{ToChannel}
@@ -15,7 +15,7 @@ use Rattle.line_model.proofs.Rising.{all_append}
 use Rattle.restart_epochs.specs.OpenRows.{rows_of, HasMore}
 use Rattle.restart_epochs.specs.Splits.{IsRunOf, IsSplitSoFar, IsSplitWhole}
 use Rattle.restart_epochs.specs.Stretches.{AreHandedOn, IsRun, IsSplit, StretchView, line_after, on_channel}
-use Rattle.restart_epochs.specs.Walks.{routed_at}
+use Rattle.line_model.specs.observer.Observer.{routing}
 use Rattle.restart_epochs.specs.declared.splitter.Run.{Run}
 use Rattle.restart_epochs.specs.declared.splitter.Splitter.{Splitter}
 use Rattle.restart_epochs.proofs.KeptLine.{kept_line}
@@ -24,12 +24,12 @@ use Rattle.restart_epochs.proofs.Routes.{is_to_channel}
 
 -- ---- the restart machine after rows
 
-pub handed_line : (l : LineState) (it : Item) → (routed_at l it).route ≡ ToChannel → (routed_at l it).after ≡ l
-handed_line l it h = kept_line l it.row.side (packet_class it.packet) (length it.row.octets) (ap is_to_channel h)
+pub handed_line : (l : LineState) (it : Item) → (routing l it).route ≡ ToChannel → (routing l it).after ≡ l
+handed_line l it h = kept_line l it.side (packet_class it.packet) it.length (ap is_to_channel h)
 
 pub line-append : (l : LineState) (first rest : List Item) → line_after l (first ++ rest) ≡ line_after (line_after l first) rest
 line-append l [] rest = refl
-line-append l (it ∷ first) rest = line-append (routed_at l it).after first rest
+line-append l (it ∷ first) rest = line-append (routing l it).after first rest
 
 pub handed_after : (l : LineState) (run : List Item) → AreHandedOn l run → line_after l run ≡ l
 handed_after l [] all = refl
@@ -37,30 +37,30 @@ handed_after l (it ∷ run) all = ap (λ m. line_after m run) (handed_line l it 
 
 -- ---- a run
 
-run_rows : (k : ℕ) (run : List Item) (it : Item) (before after : List Item) → ((channel_of it.row.octets == k) ≡ true → after ≡ before ++ it ∷ []) → ((channel_of it.row.octets == k) ≡ false → after ≡ before)
+run_rows : (k : ℕ) (run : List Item) (it : Item) (before after : List Item) → ((packet_channel it.packet == k) ≡ true → after ≡ before ++ it ∷ []) → ((packet_channel it.packet == k) ≡ false → after ≡ before)
     → before ≡ on_channel k run → after ≡ on_channel k (run ++ it ∷ [])
 run_rows k run it before after here there was =
-    at (channel_of it.row.octets == k) refl ∙ sym (filter_append (λ (x : Item). channel_of x.row.octets == k) run (it ∷ []))
+    at (packet_channel it.packet == k) refl ∙ sym (filter_append (λ (x : Item). packet_channel x.packet == k) run (it ∷ []))
   where
-    at : (b : Bool) → (channel_of it.row.octets == k) ≡ b → after ≡ on_channel k run ++ cond b (it ∷ []) []
+    at : (b : Bool) → (packet_channel it.packet == k) ≡ b → after ≡ on_channel k run ++ cond b (it ∷ []) []
     at true e = here e ∙ ap (λ l. l ++ it ∷ []) was
     at false e = there e ∙ was ∙ sym (append-nil (on_channel k run))
 
-pub run_more : {A : Type 0} → (l : LineState) (run : List Item) (it : Item) (before after : Run A) → IsRunOf l run before → (routed_at l it).route ≡ ToChannel
-    → HasMore (channel_of it.row.octets) it before.by_channel after.by_channel → after.rows ≡ before.rows + 1 → after.last ≡ it.row.number → after.octets ≡ before.octets + length it.row.octets
+pub run_more : {A : Type 0} → (l : LineState) (run : List Item) (it : Item) (before after : Run A) → IsRunOf l run before → (routing l it).route ≡ ToChannel
+    → HasMore (packet_channel it.packet) it before.by_channel after.by_channel → after.rows ≡ before.rows + 1 → after.last ≡ it.number → after.octets ≡ before.octets + it.length
     → IsRunOf l (run ++ it ∷ []) after
 run_more l run it before after was route more rows last octets =
-    let channel = channel_of it.row.octets in
+    let channel = packet_channel it.packet in
     record {
-      handed = all_append (λ x. (routed_at l x).route ≡ ToChannel) run (it ∷ []) was.handed (route, tt);
+      handed = all_append (λ x. (routing l x).route ≡ ToChannel) run (it ∷ []) was.handed (route, tt);
       by_channel = λ k. run_rows k run it (rows_of before.by_channel k) (rows_of after.by_channel k)
           (λ e. subst (λ j. rows_of after.by_channel j ≡ rows_of before.by_channel j ++ it ∷ []) (eqb-true channel k e) more.row)
           (λ e. more.others k (λ same. eqb-false channel k e (sym same)))
           (was.by_channel k);
       listing = listing_more channel it before.by_channel after.by_channel more was.listing;
       rows = let rows_before = was.rows in omega (arith, rows, rows_before, length-append run (it ∷ []));
-      last = last ∙ sym (ap (last_or 0) (map-append (λ (x : Item). x.row.number) run (it ∷ [])) ∙ last_or-add 0 it.row.number (map (λ x. x.row.number) run));
-      octets = octets ∙ ap (λ n. n + length it.row.octets) was.octets ∙ sym (sum_by_push (λ (x : Item). length x.row.octets) run it);
+      last = last ∙ sym (ap (last_or 0) (map-append (λ (x : Item). x.number) run (it ∷ [])) ∙ last_or-add 0 it.number (map (λ x. x.number) run));
+      octets = octets ∙ ap (λ n. n + it.length) was.octets ∙ sym (sum_by_push (λ (x : Item). x.length) run it);
     }
 
 no_run : (run : List Item) → 0 ≡ length run → run ≡ []
@@ -118,7 +118,7 @@ whole_so_far l items s whole = record {
 
 -- the row goes in order
 pub kept_more : {A : Type 0} → (l : LineState) (items : List Item) (it : Item) (before after : Splitter A) → IsSplitSoFar l items before → before.run.rows ≡ 0
-    → after.stretches.items ≡ before.stretches.items → after.kept ≡ before.kept ++ it ∷ [] → after.machine ≡ (routed_at before.machine it).after → after.run ≡ before.run
+    → after.stretches.items ≡ before.stretches.items → after.kept ≡ before.kept ++ it ∷ [] → after.machine ≡ (routing before.machine it).after → after.run ≡ before.run
     → IsSplitSoFar l (items ++ it ∷ []) after
 kept_more l items it before after s rows stretches kept machine run =
     let none : s.run ≡ [] = no_run s.run (sym rows ∙ s.run_is.rows) in
@@ -128,7 +128,7 @@ kept_more l items it before after s rows stretches kept machine run =
       is = ap (λ is. is ++ it ∷ []) (s.is ∙ ap (λ r. s.before ++ (before.kept ++ r)) none ∙ ap (λ k. s.before ++ k) (append-nil before.kept))
           ∙ append_assoc s.before before.kept (it ∷ []) ∙ ap (λ k. s.before ++ k) (sym (append-nil (before.kept ++ it ∷ [])) ∙ ap (λ k. k ++ []) (sym kept));
       split = subst (λ ss. IsSplit l s.before ss) (sym stretches) s.split;
-      machine = machine ∙ ap (λ m. (routed_at m it).after) s.machine ∙ sym (ap (line_after (line_after l s.before)) kept ∙ line-append (line_after l s.before) before.kept (it ∷ []));
+      machine = machine ∙ ap (λ m. (routing m it).after) s.machine ∙ sym (ap (line_after (line_after l s.before)) kept ∙ line-append (line_after l s.before) before.kept (it ∷ []));
       run_is = subst (λ r. IsRunOf after.machine [] r) (sym run) (run_none before.machine after.machine s.run before.run s.run_is none);
     }
 

@@ -2,16 +2,16 @@
 use Rattle.std.proofs.Common.{◌≡◌, ◌∙◌, sym, ap, subst, ℕ, ◌+◌, ◌<◌, List, [], ◌∷◌, ◌++◌, length, drop, get_or, append_assoc}
 use Rattle.std.proofs.lemmas.List.{drop_more}
 use Rattle.line_model.specs.declared.interface.Interface.{Interface}
-use Rattle.line_model.specs.basics.Records.{Row, Item, Piece}
+use Rattle.line_model.specs.basics.Records.{Item, Piece}
 use Rattle.restart_epochs.specs.Coming.{Comes, HasNext}
 use Rattle.restart_epochs.specs.Cutting.{Cutting, StandsFor}
-use Rattle.restart_epochs.specs.Stretches.{HasTakenAll, IsSplit, MayCome, StretchView, line_after, rows_alone}
+use Rattle.restart_epochs.specs.Stretches.{HasTakenAll, IsSplit, MayCome, StretchView, line_after}
 use Rattle.restart_epochs.proofs.Stretched.{all_come, come_first, come_next, line_taken, stretch_line, taken_both, taken_none}
 
 -- the stretches may be given to the cutter
 pub record MayTake (c : Cutting) (stretches : List StretchView) : Type 0 where
   pub interface : Interface
-  pub rows : List Row
+  pub rows : List Item
   pub items : List Item
   pub stands : StandsFor interface rows c
   pub split : IsSplit c.line items stretches
@@ -24,7 +24,7 @@ pub record Remains (start c : Cutting) (items : List Item) (stretches : List Str
   pub coming : Comes c.interface c.last c.octets rest
   pub taken : (after : Cutting) (then : List Piece) → HasTakenAll rest c after now then → HasTakenAll items start after out then
 
-pub may_begin : (i : Interface) (rows : List Row) (items : List Item) (c : Cutting) (stretches : List StretchView) → StandsFor i rows c → IsSplit c.line items stretches → MayCome c items → MayTake c stretches
+pub may_begin : (i : Interface) (rows : List Item) (items : List Item) (c : Cutting) (stretches : List StretchView) → StandsFor i rows c → IsSplit c.line items stretches → MayCome c items → MayTake c stretches
 may_begin i rows items c stretches stands split come = record { interface = i; rows = rows; items = items; stands = stands; split = split; coming = all_come c items come }
 
 pub remains_begin : (c : Cutting) (items : List Item) (stretches : List StretchView) (out : List Piece) → IsSplit c.line items stretches → MayCome c items → Remains c c items stretches out out
@@ -51,7 +51,7 @@ heads c items s stretches split come =
       split = split.4;
     }
 
-pub first_next : (c : Cutting) (s : StretchView) (stretches left : List StretchView) → MayTake c left → left ≡ s ∷ stretches → (i : Interface) × (rows : List Row) × (run : List Item) × StandsFor i rows c × HasNext c s run
+pub first_next : (c : Cutting) (s : StretchView) (stretches left : List StretchView) → MayTake c left → left ≡ s ∷ stretches → (i : Interface) × (rows : List Item) × (run : List Item) × StandsFor i rows c × HasNext c s run
 first_next c s stretches left may e =
     let h = heads c may.items s stretches (subst (IsSplit c.line may.items) e may.split) may.coming in
     (may.interface, may.rows, h.run, may.stands, h.next)
@@ -64,9 +64,9 @@ next_stretch ss n s lt is = drop_more ss n s lt ∙ ap (λ t. t ∷ drop (n + 1)
 abbrev pub TookStretch : StretchView → (c now : Cutting) → (out out' : List Piece) → Type 0
 TookStretch s c now out out' = (run : List Item) → HasNext c s run → HasTakenAll (s.kept ++ run) c now out out'
 
-behind_line : (i : Interface) (rows : List Row) (c now : Cutting) (items : List Item) (s : StretchView) (stretches : List StretchView) (out out' : List Piece) → StandsFor i rows c → (h : Heads c items s stretches) → HasTakenAll (s.kept ++ h.run) c now out out' → IsSplit now.line h.rest stretches
+behind_line : (i : Interface) (rows : List Item) (c now : Cutting) (items : List Item) (s : StretchView) (stretches : List StretchView) (out out' : List Piece) → StandsFor i rows c → (h : Heads c items s stretches) → HasTakenAll (s.kept ++ h.run) c now out out' → IsSplit now.line h.rest stretches
 behind_line i rows c now items s stretches out out' stands h took =
-    let line = line_taken i rows c now out out' (s.kept ++ h.run) stands h.next.coming took ∙ stretch_line c.line s.kept h.run h.next.handed.handed in
+    let line = line_taken i rows c now out out' (s.kept ++ h.run) stands took ∙ stretch_line c.line s.kept h.run h.next.handed.handed in
     subst (λ l. IsSplit l h.rest stretches) (sym line) h.split
 
 behind_coming : (c now : Cutting) (items : List Item) (s : StretchView) (stretches : List StretchView) (out out' : List Piece) → Comes c.interface c.last c.octets items → (h : Heads c items s stretches) → HasTakenAll (s.kept ++ h.run) c now out out' → Comes now.interface now.last now.octets h.rest
@@ -78,7 +78,7 @@ may_more c now s stretches left out out' may e took =
     let t = took h.run h.next in
     record {
       interface = may.interface;
-      rows = may.rows ++ rows_alone (s.kept ++ h.run);
+      rows = may.rows ++ (s.kept ++ h.run);
       items = h.rest;
       stands = t.stands may.interface may.rows may.stands;
       split = behind_line may.interface may.rows c now may.items s stretches out out' may.stands h t;

@@ -1,5 +1,5 @@
 -- What one more row does to the observer, by its route.
-use Rattle.std.proofs.Common.{◌≡◌, ◌∙◌, sym, ap, refl, ℕ, Bool, true, false, true≢false, ◌&&◌, cond, not, List, [], ◌∷◌, ◌++◌, length, Option, Some, None}
+use Rattle.std.proofs.Common.{◌≡◌, ◌∙◌, sym, ap, refl, ℕ, Bool, true, false, true≢false, ◌&&◌, cond, not, List, [], ◌∷◌, ◌++◌, Option, Some, None}
 use Rattle.std.proofs.lemmas.Bool.{and_parts}
 use Rattle.line_model.specs.declared.interface.Interface.{Interface}
 use Rattle.line_model.specs.declared.packet.Class.{Class}
@@ -8,9 +8,9 @@ use Rattle.line_model.specs.declared.state.RState.{RState}
 use Rattle.line_model.specs.declared.state.RState.TheVariants.{R1, R2, R3}
 use Rattle.line_model.specs.declared.route.Route.{Route}
 use Rattle.line_model.specs.declared.route.Route.TheVariants.{Pass, Found, Leave, Enter, ToChannel}
-use Rattle.line_model.specs.basics.Records.{Row}
-use Rattle.line_model.specs.basics.Octets.{channel_of}
-use Rattle.line_model.specs.packets.Classes.{class_of}
+use Rattle.line_model.specs.basics.Records.{Item}
+use Rattle.line_model.specs.packets.Says.{packet_channel}
+use Rattle.line_model.specs.packets.Classes.{packet_class}
 use Rattle.line_model.specs.channels.RestartMachine.{LineState, line_step}
 use Rattle.line_model.specs.channels.Channels.{Channel}
 use Rattle.line_model.specs.observer.Machine.{Observer, routed, after_routed, line_moved}
@@ -33,38 +33,38 @@ alike R2 w j x k n h = absurd (true≢false (sym h))
 alike R3 w j x k n h = absurd (true≢false (sym h))
 
 -- a row that goes to its channel finds r1
-pub in_r1 : (i : Interface) (l : LineState) (r : Row) → is_to_channel (routing i l r).route ≡ true → is_ready l ≡ true
-in_r1 i l r h = to_channel_route (routing i l r).route (is_ready l) _ h (fits l r.side (class_of i r.octets) (length r.octets))
+pub in_r1 : (l : LineState) (r : Item) → is_to_channel (routing l r).route ≡ true → is_ready l ≡ true
+in_r1 l r h = to_channel_route (routing l r).route (is_ready l) _ h (fits l r.side (packet_class r.packet) r.length)
 
-pub routed_to : (i : Interface) (l : LineState) (r : Row) → is_to_channel (routing i l r).route ≡ true → routed (x25 i) l r ≡ Some (channel_of r.octets)
+pub routed_to : (i : Interface) (l : LineState) (r : Item) → is_to_channel (routing l r).route ≡ true → routed (x25 i) l r ≡ Some (packet_channel r.packet)
 routed_to i l r h =
-    let ready = in_r1 i l r h in
-    let there = alike l.state l.owed l.joining r.side (class_of i r.octets) (length r.octets) ready in
-    ap (λ b. cond b (channel_in_r1 i r) None) ready ∙ handed_to (routing i (line_in_r1 false) r).route (channel_of r.octets) (sym there ∙ h)
+    let ready = in_r1 l r h in
+    let there = alike l.state l.owed l.joining r.side (packet_class r.packet) r.length ready in
+    ap (λ b. cond b (channel_in_r1 r) None) ready ∙ handed_to (routing (line_in_r1 false) r).route (packet_channel r.packet) (sym there ∙ h)
 
 none_at : (b : Bool) (o : Option ℕ) → (b ≡ true → o ≡ None) → cond b o None ≡ None
 none_at true o h = h refl
 none_at false o h = refl
 
-pub routed_none : (i : Interface) (l : LineState) (r : Row) → is_to_channel (routing i l r).route ≡ false → routed (x25 i) l r ≡ None
+pub routed_none : (i : Interface) (l : LineState) (r : Item) → is_to_channel (routing l r).route ≡ false → routed (x25 i) l r ≡ None
 routed_none i l r h =
-    none_at (is_ready l) (channel_in_r1 i r)
-    (λ ready. handed_none (routing i (line_in_r1 false) r).route (channel_of r.octets) (sym (alike l.state l.owed l.joining r.side (class_of i r.octets) (length r.octets) ready) ∙ h))
+    none_at (is_ready l) (channel_in_r1 r)
+    (λ ready. handed_none (routing (line_in_r1 false) r).route (packet_channel r.packet) (sym (alike l.state l.owed l.joining r.side (packet_class r.packet) r.length ready) ∙ h))
 
 -- what a row on a channel leaves
-pub record OnChannel (i : Interface) (rs : List Row) (r : Row) : Type 0 where
+pub record OnChannel (i : Interface) (rs : List Item) (r : Item) : Type 0 where
   pub ready : is_ready (observer i rs).line ≡ true
   pub line : (observer i (rs ++ r ∷ [])).line ≡ (observer i rs).line
   pub epoch : (observer i (rs ++ r ∷ [])).epoch ≡ (observer i rs).epoch
-  pub channel : (place_of i rs r).channel ≡ Some (channel_of r.octets)
+  pub channel : (place_of i rs r).channel ≡ Some (packet_channel r.packet)
   pub leaves : (place_of i rs r).leaves ≡ false
 
-pub on_channel : (i : Interface) (rs : List Row) (r : Row) → is_to_channel (routing i (observer i rs).line r).route ≡ true → OnChannel i rs r
+pub on_channel : (i : Interface) (rs : List Item) (r : Item) → is_to_channel (routing (observer i rs).line r).route ≡ true → OnChannel i rs r
 on_channel i rs r h =
     let o = observer i rs in
     let to = routed_to i o.line r h in
     record {
-      ready = in_r1 i o.line r h;
+      ready = in_r1 o.line r h;
       line = ap (λ p. p.line) (observer_more i rs r) ∙ ap (λ q. (after_routed (x25 i) o r q).line) to;
       epoch = ap (λ p. p.epoch) (observer_more i rs r) ∙ ap (λ q. (after_routed (x25 i) o r q).epoch) to;
       channel = to;
@@ -78,19 +78,19 @@ moved_line i o l true true = refl
 moved_line i o l true false = refl
 
 -- what a row of the line part leaves
-pub record OnLine (i : Interface) (rs : List Row) (r : Row) : Type 0 where
-  pub line : (observer i (rs ++ r ∷ [])).line ≡ (routing i (observer i rs).line r).after
-  pub epoch : (observer i (rs ++ r ∷ [])).epoch ≡ (line_moved (x25 i) (observer i rs) (routing i (observer i rs).line r).after (is_ready (observer i rs).line) (is_ready (routing i (observer i rs).line r).after)).epoch
+pub record OnLine (i : Interface) (rs : List Item) (r : Item) : Type 0 where
+  pub line : (observer i (rs ++ r ∷ [])).line ≡ (routing (observer i rs).line r).after
+  pub epoch : (observer i (rs ++ r ∷ [])).epoch ≡ (line_moved (x25 i) (observer i rs) (routing (observer i rs).line r).after (is_ready (observer i rs).line) (is_ready (routing (observer i rs).line r).after)).epoch
   pub channel : (place_of i rs r).channel ≡ None
-  pub leaves : (place_of i rs r).leaves ≡ (is_ready (observer i rs).line && not (is_ready (routing i (observer i rs).line r).after))
+  pub leaves : (place_of i rs r).leaves ≡ (is_ready (observer i rs).line && not (is_ready (routing (observer i rs).line r).after))
 
-pub on_line : (i : Interface) (rs : List Row) (r : Row) → is_to_channel (routing i (observer i rs).line r).route ≡ false → OnLine i rs r
+pub on_line : (i : Interface) (rs : List Item) (r : Item) → is_to_channel (routing (observer i rs).line r).route ≡ false → OnLine i rs r
 on_line i rs r h =
     let o = observer i rs in
     let to = routed_none i o.line r h in
     let moved = ap (λ q. after_routed (x25 i) o r q) to in
     record {
-      line = ap (λ p. p.line) (observer_more i rs r ∙ moved) ∙ moved_line i o (routing i o.line r).after (is_ready o.line) (is_ready (routing i o.line r).after);
+      line = ap (λ p. p.line) (observer_more i rs r ∙ moved) ∙ moved_line i o (routing o.line r).after (is_ready o.line) (is_ready (routing o.line r).after);
       epoch = ap (λ p. p.epoch) (observer_more i rs r ∙ moved);
       channel = to;
       leaves = ap (λ q. leaves_routed (x25 i) o.line r q) to;

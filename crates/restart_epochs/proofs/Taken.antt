@@ -1,20 +1,18 @@
 -- A cutter that took a row by its route.
-use Rattle.std.proofs.Common.{◌≡◌, ◌∙◌, sym, ap, subst, refl, ℕ, ◌+◌, ◌<◌, ◌≤◌, true, List, [], ◌++◌, length, false, Option, Some, arith, append-nil, append_assoc, Result, Ok, Err, OnOk, option_to_list}
+use Rattle.std.proofs.Common.{◌≡◌, ◌∙◌, sym, ap, subst, refl, ℕ, ◌+◌, ◌<◌, ◌≤◌, true, List, [], ◌++◌, false, Option, Some, arith, append-nil, append_assoc, Result, Ok, Err, OnOk, option_to_list}
 use Rattle.line_model.specs.declared.interface.Interface.{Interface}
 use Rattle.line_model.specs.declared.finding.Finding.{Finding}
-use Rattle.line_model.specs.declared.packet.Packet.{Packet}
 use Rattle.line_model.specs.declared.route.Route.{Route}
 use Rattle.line_model.specs.declared.route.Route.TheVariants.{ToChannel, Leave, Enter, Found, Pass}
-use Rattle.line_model.specs.basics.Records.{Row, Item, Piece}
-use Rattle.line_model.specs.basics.Octets.{channel_of}
-use Rattle.line_model.specs.packets.Classes.{class_of, packet_of, packet_class}
-use Rattle.line_model.specs.channels.RestartMachine.{LineState, Routing, line_step}
-use Rattle.line_model.specs.pieces.Plans.{item_of}
+use Rattle.line_model.specs.basics.Records.{Item, Piece}
+use Rattle.line_model.specs.basics.Bounds.{IsSaid}
+use Rattle.line_model.specs.packets.Says.{packet_channel}
+use Rattle.line_model.specs.packets.Classes.{packet_class}
+use Rattle.line_model.specs.channels.RestartMachine.{LineState}
 use Rattle.line_model.specs.observer.Observer.{routing, is_ready}
-use Rattle.line_model.proofs.PacketClass.{class_is}
 use Rattle.restart_epochs.specs.OpenRows.{OpenRows, rows_of}
 use Rattle.restart_epochs.specs.declared.walk.Step.{Step}
-use Rattle.restart_epochs.specs.Walks.{epoch_after, route_finding, routed_at, turn_of, IsAdvanced, IsSameWalk, IsStep}
+use Rattle.restart_epochs.specs.Walks.{epoch_after, route_finding, turn_of, IsAdvanced, IsSameWalk, IsStep}
 use Rattle.restart_epochs.specs.declared.walk.EpochWalk.{EpochWalk}
 use Rattle.restart_epochs.specs.Cutting.{Cutting, StandsFor, pieces_out, ended_by, given_after, HasTurned, IsCutting, IsKeptOn, IsStepped, IsLeft, IsTaken, IsTakenBy, IsCounted, given_of}
 use Rattle.restart_epochs.proofs.Routes.{is_to_channel, fits, fits_route, leaves_at, enters_at, is_quiet, quiet_at, quiet_line}
@@ -22,56 +20,33 @@ use Rattle.restart_epochs.proofs.KeptLine.{kept_line}
 use Rattle.restart_epochs.proofs.Bounds.{kept_bounds, stepped_bounds, left_bounds}
 use Rattle.restart_epochs.proofs.Pushes.{Pushed, pushed_on_channel, pushed_quietly, pushed_entering, pushed_leaving}
 
--- a step of the restart machine on a packet, as the walk has it
-as_routed : (i : Interface) (l : LineState) (r : Row) (p : Packet) (step : Routing) → p ≡ packet_of i r.octets → step ≡ line_step l r.side (packet_class p) (length r.octets) → step ≡ routing i l r
-as_routed i l r p step e h = h ∙ ap (λ k. line_step l r.side k (length r.octets)) (sym (class_is i r.octets p e))
+fits_here : (l : LineState) (item : Item) → fits_route (is_ready l) (is_ready (routing l item).after) (routing l item).route ≡ true
+fits_here l item = fits l item.side (packet_class item.packet) item.length
 
-fits_here : (i : Interface) (l : LineState) (r : Row) (step : Routing) → step ≡ routing i l r → fits_route (is_ready l) (is_ready step.after) step.route ≡ true
-fits_here i l r step h = ap (λ s. fits_route (is_ready l) (is_ready s.after) s.route) h ∙ fits l r.side (class_of i r.octets) (length r.octets)
+takes_quietly : (i : Interface) (rs : List Item) (c c' : Cutting) (item : Item) (found : List Finding) → StandsFor i rs c → IsSaid i item → is_quiet (routing c.line item).route ≡ true → found ≡ route_finding item (routing c.line item).route
+    → IsStepped item (routing c.line item).after c.epoch found c c' → Pushed i rs item [] c'
+takes_quietly i rs c c' item found s said quiet f h =
+    let step = routing c.line item in
+    let same = quiet_at (is_ready c.line) (is_ready step.after) step.route quiet (fits_here c.line item) in
+    pushed_quietly i rs item c c' (is_ready c.line) s said (quiet_line step.route quiet) refl same (subst (λ l. IsStepped item step.after c.epoch l c c') f h)
 
--- what the cutter was told of the row
-pub record Told (c : Cutting) (item : Item) (step : Routing) : Type 0 where
-  pub packet : item.packet ≡ packet_of c.interface item.row.octets
-  pub stepped : step ≡ line_step c.line item.row.side (packet_class item.packet) (length item.row.octets)
-
-pub routed_by : (i : Interface) (rs : List Row) (c : Cutting) (item : Item) (step : Routing) → StandsFor i rs c → Told c item step → step ≡ routing i c.line item.row
-routed_by i rs c item step s t = as_routed i c.line item.row item.packet step (t.packet ∙ ap (λ j. packet_of j item.row.octets) s.interface) t.stepped
-
-pub takes_channel : (i : Interface) (rs : List Row) (c c' : Cutting) (item : Item) (step : Routing) → StandsFor i rs c → Told c item step → is_to_channel step.route ≡ true → IsKeptOn (channel_of item.row.octets) item c c' → Pushed i rs item.row [] c'
-takes_channel i rs c c' item step s t to kept =
-    let routed = routed_by i rs c item step s t in
-    let is : item ≡ item_of i item.row = λ j. record { row = item.row; packet = (t.packet ∙ ap (λ q. packet_of q item.row.octets) s.interface) j } in
-    pushed_on_channel i rs item.row c c' s (ap (λ q. is_to_channel q.route) (sym routed) ∙ to) (subst (λ x. IsKeptOn (channel_of item.row.octets) x c c') is kept)
-
-pub takes_quietly : (i : Interface) (rs : List Row) (c c' : Cutting) (item : Item) (step : Routing) (found : List Finding) → StandsFor i rs c → Told c item step → is_quiet step.route ≡ true → found ≡ route_finding item.row step.route
-    → IsStepped item.row step.after c.epoch found c c' → Pushed i rs item.row [] c'
-takes_quietly i rs c c' item step found s t quiet f h =
-    let routed = routed_by i rs c item step s t in
-    let same = quiet_at (is_ready c.line) (is_ready step.after) step.route quiet (fits_here i c.line item.row step routed) in
-    pushed_quietly i rs item.row c c' (is_ready c.line) s (ap (λ q. is_to_channel q.route) (sym routed) ∙ quiet_line step.route quiet) refl (ap (λ q. is_ready q.after) (sym routed) ∙ same)
-    (subst (λ q. IsStepped item.row q.after c.epoch (route_finding item.row q.route) c c') routed (subst (λ l. IsStepped item.row step.after c.epoch l c c') f h))
-
-pub takes_entering : (i : Interface) (rs : List Row) (c c' : Cutting) (item : Item) (step : Routing) (found : List Finding) → StandsFor i rs c → Told c item step → step.route ≡ Enter → found ≡ route_finding item.row step.route
-    → IsStepped item.row step.after (c.epoch + 1) found c c' → Pushed i rs item.row [] c'
-takes_entering i rs c c' item step found s t enter f h =
-    let routed = routed_by i rs c item step s t in
-    let both = enters_at (is_ready c.line) (is_ready step.after) step.route enter (fits_here i c.line item.row step routed) in
-    pushed_entering i rs item.row c c' s (ap (λ q. is_to_channel q.route) (sym routed) ∙ ap is_to_channel enter) both.0 (ap (λ q. is_ready q.after) (sym routed) ∙ both.1)
-    (subst (λ q. IsStepped item.row q.after (c.epoch + 1) (route_finding item.row q.route) c c') routed (subst (λ l. IsStepped item.row step.after (c.epoch + 1) l c c') f h))
+takes_entering : (i : Interface) (rs : List Item) (c c' : Cutting) (item : Item) (found : List Finding) → StandsFor i rs c → IsSaid i item → (routing c.line item).route ≡ Enter → found ≡ route_finding item (routing c.line item).route
+    → IsStepped item (routing c.line item).after (c.epoch + 1) found c c' → Pushed i rs item [] c'
+takes_entering i rs c c' item found s said enter f h =
+    let step = routing c.line item in
+    let both = enters_at (is_ready c.line) (is_ready step.after) step.route enter (fits_here c.line item) in
+    pushed_entering i rs item c c' s said (ap is_to_channel enter) both.0 both.1 (subst (λ l. IsStepped item step.after (c.epoch + 1) l c c') f h)
 
 -- r1 is entered from another state
-pub enters_unready : (i : Interface) (rs : List Row) (c : Cutting) (item : Item) (step : Routing) → StandsFor i rs c → Told c item step → step.route ≡ Enter → is_ready c.line ≡ false
-enters_unready i rs c item step s t enter =
-    let routed = routed_by i rs c item step s t in
-    (enters_at (is_ready c.line) (is_ready step.after) step.route enter (fits_here i c.line item.row step routed)).0
+pub enters_unready : (l : LineState) (item : Item) → (routing l item).route ≡ Enter → is_ready l ≡ false
+enters_unready l item enter = (enters_at (is_ready l) (is_ready (routing l item).after) (routing l item).route enter (fits_here l item)).0
 
-pub takes_leaving : (i : Interface) (rs : List Row) (c c' : Cutting) (item : Item) (step : Routing) (code : Option ℕ) (found : List Finding) → StandsFor i rs c → Told c item step → step.route ≡ Leave code → found ≡ route_finding item.row step.route
-    → IsLeft item.row step.after found c c' → Pushed i rs item.row (pieces_out c.interface c.epoch (Some item.row.number) (rows_of c.open_rows) c.given c.open_rows.channels) c'
-takes_leaving i rs c c' item step code found s t leave f h =
-    let routed = routed_by i rs c item step s t in
-    let both = leaves_at (is_ready c.line) (is_ready step.after) step.route code leave (fits_here i c.line item.row step routed) in
-    pushed_leaving i rs item.row c c' s (ap (λ q. is_to_channel q.route) (sym routed) ∙ ap is_to_channel leave) both.0 (ap (λ q. is_ready q.after) (sym routed) ∙ both.1)
-    (subst (λ q. IsLeft item.row q.after (route_finding item.row q.route) c c') routed (subst (λ l. IsLeft item.row step.after l c c') f h))
+takes_leaving : (i : Interface) (rs : List Item) (c c' : Cutting) (item : Item) (code : Option ℕ) (found : List Finding) → StandsFor i rs c → IsSaid i item → (routing c.line item).route ≡ Leave code → found ≡ route_finding item (routing c.line item).route
+    → IsLeft item (routing c.line item).after found c c' → Pushed i rs item (pieces_out c.interface c.epoch (Some item.number) (rows_of c.open_rows) c.given c.open_rows.channels) c'
+takes_leaving i rs c c' item code found s said leave f h =
+    let step = routing c.line item in
+    let both = leaves_at (is_ready c.line) (is_ready step.after) step.route code leave (fits_here c.line item) in
+    pushed_leaving i rs item c c' s said (ap is_to_channel leave) both.0 both.1 (subst (λ l. IsLeft item step.after l c c') f h)
 
 pub on_ok : {T E : Type 0} (r : Result T E) (P Q : Type 0) → OnOk r P → (P → Q) → OnOk r Q
 on_ok (Ok _) P Q p f = f p
@@ -82,7 +57,7 @@ on_ok_both (Ok _) P S Q p s f = f p s
 on_ok_both (Err _) P S Q _ _ f = tt
 
 -- a row that was pushed was taken
-taken : (item : Item) (c c' : Cutting) (new out out' : List Piece) → ((i : Interface) (rs : List Row) → StandsFor i rs c → Pushed i rs item.row new c') → out' ≡ out ++ new → IsCounted item.row c c' → IsTaken item c c' out out'
+taken : (item : Item) (c c' : Cutting) (new out out' : List Piece) → ((i : Interface) (rs : List Item) → StandsFor i rs c → Pushed i rs item new c') → out' ≡ out ++ new → IsCounted item c c' → IsTaken item c c' out out'
 taken item c c' new out out' h e counted = record {
   stands = λ i rs s. (h i rs s).stands;
   given = λ i rs ps s was. e ∙ ap (λ l. l ++ new) was ∙ append_assoc ps (given_of i rs) new ∙ ap (λ l. ps ++ l) (sym (h i rs s).given);
@@ -94,27 +69,27 @@ taken item c c' new out out' h e counted = record {
 
 -- what became of the cutter
 abbrev pub WentBy : Route → (c c' : Cutting) (item : Item) → (line : LineState) → Type 0
-WentBy ToChannel c c' item line = IsKeptOn (channel_of item.row.octets) item c c'
-WentBy (Leave code) c c' item line = IsLeft item.row line (route_finding item.row (Leave code)) c c'
-WentBy Enter c c' item line = IsStepped item.row line (c.epoch + 1) [] c c'
-WentBy (Found state code) c c' item line = IsStepped item.row line c.epoch (route_finding item.row (Found state code)) c c'
-WentBy Pass c c' item line = IsStepped item.row line c.epoch [] c c'
+WentBy ToChannel c c' item line = IsKeptOn (packet_channel item.packet) item c c'
+WentBy (Leave code) c c' item line = IsLeft item line (route_finding item (Leave code)) c c'
+WentBy Enter c c' item line = IsStepped item line (c.epoch + 1) [] c c'
+WentBy (Found state code) c c' item line = IsStepped item line c.epoch (route_finding item (Found state code)) c c'
+WentBy Pass c c' item line = IsStepped item line c.epoch [] c c'
 
-went_by : (c c' : Cutting) (item : Item) (step : Step) → IsStep c.line c.epoch item step → IsTakenBy item step c c' → (route : Route) → (routed_at c.line item).route ≡ route → WentBy route c c' item (routed_at c.line item).after
+went_by : (c c' : Cutting) (item : Item) (step : Step) → IsStep c.line c.epoch item step → IsTakenBy item step c c' → (route : Route) → (routing c.line item).route ≡ route → WentBy route c c' item (routing c.line item).after
 went_by c c' item step is t route e = at route e
-    (subst (λ turn. HasTurned turn item c.open_rows c'.open_rows) (is.turn ∙ ap (turn_of item.row.octets) e) t.open_rows)
-    (t.given ∙ ap (λ turn. given_after turn c.given c.open_rows) (is.turn ∙ ap (turn_of item.row.octets) e))
+    (subst (λ turn. HasTurned turn item c.open_rows c'.open_rows) (is.turn ∙ ap (turn_of item.packet) e) t.open_rows)
+    (t.given ∙ ap (λ turn. given_after turn c.given c.open_rows) (is.turn ∙ ap (turn_of item.packet) e))
     (t.epoch ∙ is.epoch ∙ ap (epoch_after c.epoch) e)
-    (t.findings ∙ ap (λ l. c.findings ++ l) (is.finding ∙ ap (route_finding item.row) e))
+    (t.findings ∙ ap (λ l. c.findings ++ l) (is.finding ∙ ap (route_finding item) e))
   where
-    line : c'.line ≡ (routed_at c.line item).after
+    line : c'.line ≡ (routing c.line item).after
     line = t.line ∙ is.machine
 
-    at : (q : Route) → (routed_at c.line item).route ≡ q → HasTurned (turn_of item.row.octets q) item c.open_rows c'.open_rows → c'.given ≡ given_after (turn_of item.row.octets q) c.given c.open_rows → c'.epoch ≡ epoch_after c.epoch q → c'.findings ≡ c.findings ++ route_finding item.row q
-        → WentBy q c c' item (routed_at c.line item).after
+    at : (q : Route) → (routing c.line item).route ≡ q → HasTurned (turn_of item.packet q) item c.open_rows c'.open_rows → c'.given ≡ given_after (turn_of item.packet q) c.given c.open_rows → c'.epoch ≡ epoch_after c.epoch q → c'.findings ≡ c.findings ++ route_finding item q
+        → WentBy q c c' item (routing c.line item).after
     at ToChannel to turned given epoch findings = record {
       counted = t.counted;
-      line = line ∙ kept_line c.line item.row.side (packet_class item.packet) (length item.row.octets) (ap is_to_channel to);
+      line = line ∙ kept_line c.line item.side (packet_class item.packet) item.length (ap is_to_channel to);
       epoch = epoch;
       given = given;
       findings = findings ∙ append-nil c.findings;
@@ -126,35 +101,35 @@ went_by c c' item step is t route e = at route e
     at Pass to turned given epoch findings = record { counted = t.counted; line = line; epoch = epoch; given = given; findings = findings; open_rows = turned }
 
 -- the cutter stands for one more row, and these pieces came to be known whole
-pub takes : (i : Interface) (rs : List Row) (c c' : Cutting) (item : Item) (step : Step) → StandsFor i rs c → item.packet ≡ packet_of c.interface item.row.octets → IsStep c.line c.epoch item step → IsTakenBy item step c c'
-    → Pushed i rs item.row (ended_by step.turn c.interface c.epoch item.row.number c.given c.open_rows) c'
-takes i rs c c' item step s packet is t = at (routed_at c.line item).route refl (went_by c c' item step is t (routed_at c.line item).route refl)
+pub takes : (i : Interface) (rs : List Item) (c c' : Cutting) (item : Item) (step : Step) → StandsFor i rs c → IsSaid c.interface item → IsStep c.line c.epoch item step → IsTakenBy item step c c'
+    → Pushed i rs item (ended_by step.turn c.interface c.epoch item.number c.given c.open_rows) c'
+takes i rs c c' item step s known is t = at (routing c.line item).route refl (went_by c c' item step is t (routing c.line item).route refl)
   where
-    told : Told c item (routed_at c.line item)
-    told = record { packet = packet; stepped = refl }
+    said : IsSaid i item
+    said = subst (λ j. IsSaid j item) s.interface known
 
-    now : (q : Route) → (routed_at c.line item).route ≡ q → Pushed i rs item.row (ended_by (turn_of item.row.octets q) c.interface c.epoch item.row.number c.given c.open_rows) c'
-        → Pushed i rs item.row (ended_by step.turn c.interface c.epoch item.row.number c.given c.open_rows) c'
-    now q e = subst (λ turn. Pushed i rs item.row (ended_by turn c.interface c.epoch item.row.number c.given c.open_rows) c') (sym (is.turn ∙ ap (turn_of item.row.octets) e))
+    now : (q : Route) → (routing c.line item).route ≡ q → Pushed i rs item (ended_by (turn_of item.packet q) c.interface c.epoch item.number c.given c.open_rows) c'
+        → Pushed i rs item (ended_by step.turn c.interface c.epoch item.number c.given c.open_rows) c'
+    now q e = subst (λ turn. Pushed i rs item (ended_by turn c.interface c.epoch item.number c.given c.open_rows) c') (sym (is.turn ∙ ap (turn_of item.packet) e))
 
-    at : (q : Route) → (routed_at c.line item).route ≡ q → WentBy q c c' item (routed_at c.line item).after → Pushed i rs item.row (ended_by step.turn c.interface c.epoch item.row.number c.given c.open_rows) c'
-    at ToChannel e w = now ToChannel e (takes_channel i rs c c' item (routed_at c.line item) s told (ap is_to_channel e) w)
-    at (Leave code) e w = now (Leave code) e (takes_leaving i rs c c' item (routed_at c.line item) code (route_finding item.row (Leave code)) s told e (ap (route_finding item.row) (sym e)) w)
-    at Enter e w = now Enter e (takes_entering i rs c c' item (routed_at c.line item) [] s told e (ap (route_finding item.row) (sym e)) w)
-    at (Found state code) e w = now (Found state code) e (takes_quietly i rs c c' item (routed_at c.line item) (route_finding item.row (Found state code)) s told (ap is_quiet e) (ap (route_finding item.row) (sym e)) w)
-    at Pass e w = now Pass e (takes_quietly i rs c c' item (routed_at c.line item) [] s told (ap is_quiet e) (ap (route_finding item.row) (sym e)) w)
+    at : (q : Route) → (routing c.line item).route ≡ q → WentBy q c c' item (routing c.line item).after → Pushed i rs item (ended_by step.turn c.interface c.epoch item.number c.given c.open_rows) c'
+    at ToChannel e w = now ToChannel e (pushed_on_channel i rs item c c' s said (ap is_to_channel e) w)
+    at (Leave code) e w = now (Leave code) e (takes_leaving i rs c c' item code (route_finding item (Leave code)) s said e (ap (route_finding item) (sym e)) w)
+    at Enter e w = now Enter e (takes_entering i rs c c' item [] s said e (ap (route_finding item) (sym e)) w)
+    at (Found state code) e w = now (Found state code) e (takes_quietly i rs c c' item (route_finding item (Found state code)) s said (ap is_quiet e) (ap (route_finding item) (sym e)) w)
+    at Pass e w = now Pass e (takes_quietly i rs c c' item [] s said (ap is_quiet e) (ap (route_finding item) (sym e)) w)
 
 -- it stays within its bounds
-pub taken_bounds : (c c' : Cutting) (item : Item) (step : Step) → IsCutting c → item.packet ≡ packet_of c.interface item.row.octets → c.last < item.row.number → item.row.number ≤ 999999999 → c.octets + length item.row.octets ≤ 2147483648
+pub taken_bounds : (c c' : Cutting) (item : Item) (step : Step) → IsCutting c → IsSaid c.interface item → c.last < item.number → item.number ≤ 999999999 → c.octets + item.length ≤ 2147483648
     → IsStep c.line c.epoch item step → IsTakenBy item step c c' → IsCutting c'
-taken_bounds c c' item step h packet rising number octets is t = at (routed_at c.line item).route (went_by c c' item step is t (routed_at c.line item).route refl)
+taken_bounds c c' item step h said rising number octets is t = at (routing c.line item).route (went_by c c' item step is t (routing c.line item).route refl)
   where
-    at : (q : Route) → WentBy q c c' item (routed_at c.line item).after → IsCutting c'
-    at ToChannel w = kept_bounds c c' (channel_of item.row.octets) item h w (record { packet = packet; channel = refl }) rising number octets
-    at (Leave code) w = left_bounds c c' item.row (routed_at c.line item).after (route_finding item.row (Leave code)) h w rising number octets
-    at Enter w = stepped_bounds c c' item.row (routed_at c.line item).after (c.epoch + 1) [] h w (omega arith) rising number octets
-    at (Found state code) w = stepped_bounds c c' item.row (routed_at c.line item).after c.epoch (route_finding item.row (Found state code)) h w (omega arith) rising number octets
-    at Pass w = stepped_bounds c c' item.row (routed_at c.line item).after c.epoch [] h w (omega arith) rising number octets
+    at : (q : Route) → WentBy q c c' item (routing c.line item).after → IsCutting c'
+    at ToChannel w = kept_bounds c c' (packet_channel item.packet) item h w (record { said = said; channel = refl }) rising number octets
+    at (Leave code) w = left_bounds c c' item (routing c.line item).after (route_finding item (Leave code)) h w rising number octets
+    at Enter w = stepped_bounds c c' item (routing c.line item).after (c.epoch + 1) [] h w (omega arith) rising number octets
+    at (Found state code) w = stepped_bounds c c' item (routing c.line item).after c.epoch (route_finding item (Found state code)) h w (omega arith) rising number octets
+    at Pass w = stepped_bounds c c' item (routing c.line item).after c.epoch [] h w (omega arith) rising number octets
 
 -- ---- by what the parts of a cutter did
 
@@ -172,7 +147,7 @@ cutting_of w given rows last octets = record {
 }
 
 pub taken_by : {A : Type 0} → (c : Cutting) (w v u : EpochWalk A) (given given' : ℕ) (rows rows' : OpenRows) (last octets last' octets' : ℕ) (item : Item) (step : Step) → cutting_of w given rows last octets ≡ c
-    → IsSameWalk w v → IsAdvanced step v u → HasTurned step.turn item rows rows' → given' ≡ given_after step.turn given rows → last' ≡ item.row.number → octets' ≡ octets + length item.row.octets → IsTakenBy item step c (cutting_of u given' rows' last' octets')
+    → IsSameWalk w v → IsAdvanced step v u → HasTurned step.turn item rows rows' → given' ≡ given_after step.turn given rows → last' ≡ item.number → octets' ≡ octets + item.length → IsTakenBy item step c (cutting_of u given' rows' last' octets')
 taken_by c w v u given given' rows rows' last octets last' octets' item step view same on turned count at_last at_octets = subst (λ q. IsTakenBy item step q (cutting_of u given' rows' last' octets')) view
     (record {
       counted = record { interface = on.interface ∙ same.interface; packets = on.packets ∙ ap (λ n. n + 1) same.packets; last = at_last; octets = at_octets };
@@ -184,12 +159,12 @@ taken_by c w v u given given' rows rows' last octets last' octets' item step vie
     })
 
 pub pushed_by : {A : Type 0} → (c : Cutting) (w v u : EpochWalk A) (given given' : ℕ) (rows rows' : OpenRows) (last octets last' octets' : ℕ) (item : Item) (step : Step) (out out' : List Piece) → cutting_of w given rows last octets ≡ c
-    → item.packet ≡ packet_of c.interface item.row.octets → IsStep w.machine w.epoch item step → IsSameWalk w v → IsAdvanced step v u → HasTurned step.turn item rows rows' → given' ≡ given_after step.turn given rows → last' ≡ item.row.number → octets' ≡ octets + length item.row.octets
-    → out' ≡ out ++ ended_by step.turn v.interface v.epoch item.row.number given rows → IsTaken item c (cutting_of u given' rows' last' octets') out out'
-pushed_by c w v u given given' rows rows' last octets last' octets' item step out out' view packet is same on turned count at_last at_octets e =
+    → IsSaid c.interface item → IsStep w.machine w.epoch item step → IsSameWalk w v → IsAdvanced step v u → HasTurned step.turn item rows rows' → given' ≡ given_after step.turn given rows → last' ≡ item.number → octets' ≡ octets + item.length
+    → out' ≡ out ++ ended_by step.turn v.interface v.epoch item.number given rows → IsTaken item c (cutting_of u given' rows' last' octets') out out'
+pushed_by c w v u given given' rows rows' last octets last' octets' item step out out' view said is same on turned count at_last at_octets e =
     let new = cutting_of u given' rows' last' octets' in
     let t = taken_by c w v u given given' rows rows' last octets last' octets' item step view same on turned count at_last at_octets in
-    taken item c new (ended_by step.turn c.interface c.epoch item.row.number c.given c.open_rows) out out'
-    (λ i rs s. takes i rs c new item step s packet (subst (λ q. IsStep q.line q.epoch item step) view is) t)
-    (e ∙ (λ j. out ++ ended_by step.turn (same.interface j) (same.epoch j) item.row.number given rows)
-    ∙ ap (λ q. out ++ ended_by step.turn q.interface q.epoch item.row.number q.given q.open_rows) view) t.counted
+    taken item c new (ended_by step.turn c.interface c.epoch item.number c.given c.open_rows) out out'
+    (λ i rs s. takes i rs c new item step s said (subst (λ q. IsStep q.line q.epoch item step) view is) t)
+    (e ∙ (λ j. out ++ ended_by step.turn (same.interface j) (same.epoch j) item.number given rows)
+    ∙ ap (λ q. out ++ ended_by step.turn q.interface q.epoch item.number q.given q.open_rows) view) t.counted

@@ -4,6 +4,8 @@ use Rattle.std.specs.Prelude.{All, sum_by}
 use Rattle.std.specs.List.Sorted.{IsStrictlyIncreasing}
 use Rattle.std.proofs.lemmas.List.Sums.{sum_by-cons}
 use Rattle.line_model.specs.basics.Records.{Row}
+use Rattle.line_model.specs.declared.interface.Interface.{Interface}
+use Rattle.line_model.specs.packets.Says.{item_of}
 use Rattle.line_model.proofs.Rising.{RisesFrom, rises-from_index}
 use Rattle.restart_epochs.specs.Cutting.{Cutting, IsCounted}
 
@@ -21,8 +23,8 @@ all_may_come c rs last octets rising numbers few = record {
   octets = omega (arith, octets, few);
 }
 
-pub rest_may_come : (before after : Cutting) (r : Row) (rs : List Row) → MayCome before (r ∷ rs) → IsCounted r before after → MayCome after rs
-rest_may_come before after r rs m counted = record {
+pub rest_may_come : (i : Interface) (before after : Cutting) (r : Row) (rs : List Row) → MayCome before (r ∷ rs) → IsCounted (item_of i r) before after → MayCome after rs
+rest_may_come i before after r rs m counted = record {
   rising = subst (λ n. RisesFrom n (map (λ x. x.number) rs)) (sym counted.last) m.rising.1;
   numbers = λ k x lt. m.numbers (suc k) x (omega arith);
   octets = let all = m.octets in omega (arith, counted.octets, all, sum_by-cons (λ (x : Row). length x.octets) r rs);

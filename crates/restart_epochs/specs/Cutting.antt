@@ -1,8 +1,8 @@
 -- A trace that falls into pieces, row by row (profile).
-use Rattle.std.specs.Prelude.{◌≡◌, ◌≢◌, ◌⊎◌, ℕ, Bool, true, false, ◌+◌, ◌<◌, ◌≤◌, ◌^◌, List, [], ◌∷◌, ◌++◌, length, map, filter, is_some, All, Option, Some, None, option_to_list}
+use Rattle.std.specs.Prelude.{◌≡◌, ◌≢◌, ◌⊎◌, ℕ, Bool, true, false, ◌+◌, ◌<◌, ◌≤◌, ◌^◌, List, [], ◌∷◌, ◌++◌, length, filter, is_some, All, Option, Some, None, option_to_list}
 use Rattle.line_model.specs.declared.interface.Interface.{Interface}
 use Rattle.line_model.specs.declared.finding.Finding.{Finding}
-use Rattle.line_model.specs.basics.Records.{Row, Item, Piece}
+use Rattle.line_model.specs.basics.Records.{Item, Piece}
 use Rattle.line_model.specs.channels.RestartMachine.{LineState}
 use Rattle.line_model.specs.channels.Channels.{Channel}
 use Rattle.line_model.specs.observer.Machine.{Observer, walk}
@@ -10,23 +10,23 @@ use Rattle.line_model.specs.pieces.Pieces.{Placed, placed, piece_rows, piece_end
 use Rattle.line_model.specs.pieces.Plan.{has_some}
 use Rattle.std.specs.List.{range_with_len, AllByRecursion}
 use Rattle.line_model.specs.observer.Observer.{x25, start, is_ready, line_in_r1}
-use Rattle.line_model.specs.pieces.Plans.{plan, item_of, line_findings}
-use Rattle.line_model.specs.basics.Bounds.{IsItem, all_octets}
+use Rattle.line_model.specs.pieces.Plans.{plan, line_findings}
+use Rattle.line_model.specs.basics.Bounds.{AreSaid, IsItem, all_octets}
 use Rattle.restart_epochs.specs.OpenRows.{OpenRows, no_rows, rows_of, IsSame, HasMore}
 use Rattle.restart_epochs.specs.declared.walk.Step.{Step}
 use Rattle.restart_epochs.specs.declared.walk.Turn.{Turn}
 use Rattle.restart_epochs.specs.declared.walk.Turn.TheVariants.{ToChannel, Ends, Stays}
 
 -- the observer of an interface after some rows
-abbrev pub observer : Interface → List Row → Observer LineState Channel
+abbrev pub observer : Interface → List Item → Observer LineState Channel
 observer i rs = walk (x25 i) (start i) rs
 
 -- the rows with their epochs and channels
-abbrev pub places : Interface → List Row → List (Placed Row)
+abbrev pub places : Interface → List Item → List (Placed Item)
 places i rs = placed (x25 i) (start i) rs
 
 -- the pieces whose epoch a row has left: they are known whole
-abbrev pub given_of : Interface → List Row → List Piece
+abbrev pub given_of : Interface → List Item → List Piece
 given_of i rs = filter (λ p. is_some p.end) (plan i rs)
 
 -- what a cutter keeps: the restart machine, the epoch, how many pieces and rows there were, the number of the last
@@ -46,7 +46,7 @@ pub record Cutting : Type 0 where
 abbrev pub no_cutting : Interface → Cutting
 no_cutting i = record { interface = i; line = line_in_r1 i.join; epoch = 1; given = 0; packets = 0; last = 0; octets = 0; findings = []; open_rows = no_rows }
 
--- rows of a channel, with their packets, that are no more than these
+-- rows of a channel that are no more than these
 pub record IsLane (i : Interface) (k packets octets : ℕ) (items : List Item) : Type 0 where
   pub few_rows : length items ≤ packets
   pub few_octets : all_octets items ≤ octets
@@ -74,7 +74,7 @@ pub record IsUnchanged (before after : Cutting) : Type 0 where
   pub open_rows : IsSame before.open_rows after.open_rows
 
 -- each epoch before the last was left, the last one where the line is not in r1; nothing lies beyond it
-pub record EndsOf (ps : List (Placed Row)) (epoch : ℕ) (ready : Bool) : Type 0 where
+pub record EndsOf (ps : List (Placed Item)) (epoch : ℕ) (ready : Bool) : Type 0 where
   pub begun : 1 ≤ epoch
   pub ended : (e : ℕ) → 1 ≤ e → e < epoch → is_some (piece_end e ps) ≡ true
   pub left : ready ≡ false → is_some (piece_end epoch ps) ≡ true
@@ -83,21 +83,22 @@ pub record EndsOf (ps : List (Placed Row)) (epoch : ℕ) (ready : Bool) : Type 0
   pub later_end : (e : ℕ) → epoch < e → piece_end e ps ≡ None
 
 -- the channels that have rows in an epoch
-abbrev pub channels_in : Interface → List (Placed Row) → ℕ → List ℕ
+abbrev pub channels_in : Interface → List (Placed Item) → ℕ → List ℕ
 channels_in i ps e = filter (λ k. has_some (piece_rows e k ps)) (range_with_len 1 i.svc)
 
 -- the rows of a channel in the last epoch, if it is open
-abbrev pub rows_if : (ready : Bool) → Interface → List (Placed Row) → (epoch channel : ℕ) → List Item
-rows_if true i ps e k = map (item_of i) (piece_rows e k ps)
+abbrev pub rows_if : (ready : Bool) → Interface → List (Placed Item) → (epoch channel : ℕ) → List Item
+rows_if true i ps e k = piece_rows e k ps
 rows_if false i ps e k = []
 
 -- the channels that have rows in the last epoch, if it is open
-abbrev pub channels_if : (ready : Bool) → Interface → List (Placed Row) → (epoch : ℕ) → List ℕ
+abbrev pub channels_if : (ready : Bool) → Interface → List (Placed Item) → (epoch : ℕ) → List ℕ
 channels_if true i ps e = channels_in i ps e
 channels_if false i ps e = []
 
--- the cutter was given these rows of an interface
-pub record StandsFor (i : Interface) (rs : List Row) (c : Cutting) : Type 0 where
+-- the cutter was given what rows of an interface say
+pub record StandsFor (i : Interface) (rs : List Item) (c : Cutting) : Type 0 where
+  pub said : AreSaid i rs
   pub interface : c.interface ≡ i
   pub line : c.line ≡ (observer i rs).line
   pub epoch : c.epoch ≡ (observer i rs).epoch
@@ -109,8 +110,8 @@ pub record StandsFor (i : Interface) (rs : List Row) (c : Cutting) : Type 0 wher
   pub epochs : EndsOf (places i rs) (observer i rs).epoch (is_ready (observer i rs).line)
 
 -- of any rows of an interface that the cutter was given
-abbrev pub OfCut : Cutting → (Interface → List Row → Type 0) → Type 0
-OfCut c Fact = (i : Interface) (rs : List Row) → StandsFor i rs c → Fact i rs
+abbrev pub OfCut : Cutting → (Interface → List Item → Type 0) → Type 0
+OfCut c Fact = (i : Interface) (rs : List Item) → StandsFor i rs c → Fact i rs
 
 -- the pieces of an epoch with these channels, from an id on
 abbrev pub pieces_out : Interface → (epoch : ℕ) → (end : Option ℕ) → (ℕ → List Item) → (id : ℕ) → List ℕ → List Piece
@@ -123,15 +124,15 @@ ended_by Ends i e number given rows = pieces_out i e (Some number) (rows_of rows
 ended_by _ i e number given rows = []
 
 -- a row was counted
-pub record IsCounted (r : Row) (before after : Cutting) : Type 0 where
+pub record IsCounted (r : Item) (before after : Cutting) : Type 0 where
   pub interface : after.interface ≡ before.interface
   pub packets : after.packets ≡ before.packets + 1
   pub last : after.last ≡ r.number
-  pub octets : after.octets ≡ before.octets + length r.octets
+  pub octets : after.octets ≡ before.octets + r.length
 
 -- a row was kept on its channel
 pub record IsKeptOn (channel : ℕ) (item : Item) (before after : Cutting) : Type 0 where
-  pub counted : IsCounted item.row before after
+  pub counted : IsCounted item before after
   pub line : after.line ≡ before.line
   pub epoch : after.epoch ≡ before.epoch
   pub given : after.given ≡ before.given
@@ -139,7 +140,7 @@ pub record IsKeptOn (channel : ℕ) (item : Item) (before after : Cutting) : Typ
   pub open_rows : HasMore channel item before.open_rows after.open_rows
 
 -- a row stepped the restart machine, which did not leave r1
-pub record IsStepped (r : Row) (machine : LineState) (next_epoch : ℕ) (found : List Finding) (before after : Cutting) : Type 0 where
+pub record IsStepped (r : Item) (machine : LineState) (next_epoch : ℕ) (found : List Finding) (before after : Cutting) : Type 0 where
   pub counted : IsCounted r before after
   pub line : after.line ≡ machine
   pub epoch : after.epoch ≡ next_epoch
@@ -152,7 +153,7 @@ abbrev pub IsEmptied : OpenRows → OpenRows → Type 0
 IsEmptied before after = (k : ℕ) → (rows_of after k ≡ []) ⊎ ((rows_of after k ≡ rows_of before k) × AllByRecursion (λ j. j ≢ k) before.channels)
 
 -- a row left r1, and the pieces of its epoch were given out
-pub record IsLeft (r : Row) (machine : LineState) (found : List Finding) (before after : Cutting) : Type 0 where
+pub record IsLeft (r : Item) (machine : LineState) (found : List Finding) (before after : Cutting) : Type 0 where
   pub counted : IsCounted r before after
   pub line : after.line ≡ machine
   pub epoch : after.epoch ≡ before.epoch
@@ -174,7 +175,7 @@ given_after _ given rows = given
 
 -- the row of a step was taken
 pub record IsTakenBy (item : Item) (step : Step) (before after : Cutting) : Type 0 where
-  pub counted : IsCounted item.row before after
+  pub counted : IsCounted item before after
   pub line : after.line ≡ step.machine
   pub epoch : after.epoch ≡ step.epoch
   pub findings : after.findings ≡ before.findings ++ option_to_list step.finding
@@ -190,7 +191,7 @@ pub record HasAppended (out out_after known known_after : List Piece) : Type 0 w
 -- a row was taken: of any rows that were taken before, the cutter stands for them and this one, and the pieces that are
 -- known whole came to stand behind those that were
 pub record IsTaken (item : Item) (before after : Cutting) (out out_after : List Piece) : Type 0 where
-  pub stands : (i : Interface) (rs : List Row) → StandsFor i rs before → StandsFor i (rs ++ item.row ∷ []) after
-  pub given : (i : Interface) (rs : List Row) (ps : List Piece) → StandsFor i rs before → out ≡ ps ++ given_of i rs → out_after ≡ ps ++ given_of i (rs ++ item.row ∷ [])
-  pub appended : (i : Interface) (rs : List Row) → StandsFor i rs before → HasAppended out out_after (given_of i rs) (given_of i (rs ++ item.row ∷ []))
-  pub counted : IsCounted item.row before after
+  pub stands : (i : Interface) (rs : List Item) → StandsFor i rs before → StandsFor i (rs ++ item ∷ []) after
+  pub given : (i : Interface) (rs : List Item) (ps : List Piece) → StandsFor i rs before → out ≡ ps ++ given_of i rs → out_after ≡ ps ++ given_of i (rs ++ item ∷ [])
+  pub appended : (i : Interface) (rs : List Item) → StandsFor i rs before → HasAppended out out_after (given_of i rs) (given_of i (rs ++ item ∷ []))
+  pub counted : IsCounted item before after

@@ -5,4 +5,3 @@ pub mod Stretches
 pub mod Coming
 pub mod Splits
 pub mod Walks
-pub mod HandedOn

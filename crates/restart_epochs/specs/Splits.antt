@@ -16,7 +16,7 @@ pub record IsRunOf {A : Type 0} (l : LineState) (run : List Item) (r : Run A) : 
   pub by_channel : (k : ℕ) → rows_of r.by_channel k ≡ on_channel k run
   pub listing : IsListing r.by_channel
   pub rows : r.rows ≡ length run
-  pub last : r.last ≡ last_or 0 (map (λ it. it.row.number) run)
+  pub last : r.last ≡ last_or 0 (map (λ it. it.number) run)
   pub octets : r.octets ≡ all_octets run
 
 -- these rows were split so far

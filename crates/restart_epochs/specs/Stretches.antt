@@ -2,17 +2,16 @@
 use Rattle.std.specs.Prelude.{◌≡◌, ◌≢◌, ℕ, ◌+◌, ◌≤◌, ◌^◌, ◌==◌, cond, List, [], ◌∷◌, ◌++◌, length, map, filter, take, drop, All}
 use Rattle.std.specs.List.{AllByRecursion}
 use Rattle.std.specs.List.Sorted.{IsStrictlyIncreasing}
-use Rattle.line_model.specs.basics.Bounds.{all_octets}
-use Rattle.line_model.specs.basics.Octets.{channel_of}
-use Rattle.line_model.specs.basics.Records.{Row, Item, Piece}
+use Rattle.line_model.specs.basics.Bounds.{AreSaid, all_octets}
+use Rattle.line_model.specs.packets.Says.{packet_channel}
+use Rattle.line_model.specs.basics.Records.{Item, Piece}
 use Rattle.line_model.specs.channels.RestartMachine.{LineState}
 use Rattle.line_model.specs.declared.interface.Interface.{Interface}
 use Rattle.line_model.specs.declared.route.Route.TheVariants.{ToChannel}
-use Rattle.line_model.specs.packets.Classes.{packet_of}
 use Rattle.line_model.specs.text.Text.{last_or}
 use Rattle.restart_epochs.specs.Cutting.{Cutting, HasAppended, StandsFor, given_of}
 use Rattle.restart_epochs.specs.OpenRows.{OpenRows, rows_of, with_channel, IsSame}
-use Rattle.restart_epochs.specs.Walks.{routed_at}
+use Rattle.line_model.specs.observer.Observer.{routing}
 use Rattle.restart_epochs.specs.declared.stretch.Part.{Part}
 
 -- rows of a channel
@@ -41,23 +40,23 @@ rows_on k (p ∷ ps) = cond (p.channel == k) (p.items ++ rows_on k ps) (rows_on 
 
 -- the rows of a channel among others
 abbrev pub on_channel : ℕ → List Item → List Item
-on_channel k items = filter (λ it. channel_of it.row.octets == k) items
+on_channel k items = filter (λ it. packet_channel it.packet == k) items
 
 -- the restart machine after some rows
 abbrev pub line_after : LineState → List Item → LineState
 line_after l [] = l
-line_after l (it ∷ its) = line_after (routed_at l it).after its
+line_after l (it ∷ its) = line_after (routing l it).after its
 
 -- a restart machine hands each of these rows on to its channel
 abbrev pub AreHandedOn : LineState → List Item → Type 0
-AreHandedOn l items = AllByRecursion (λ it. (routed_at l it).route ≡ ToChannel) items
+AreHandedOn l items = AllByRecursion (λ it. (routing l it).route ≡ ToChannel) items
 
 -- the rows that a restart machine hands on are those that a stretch has by channel
 pub record IsRun (l : LineState) (run : List Item) (s : StretchView) : Type 0 where
   pub handed : AreHandedOn l run
   pub by_channel : (k : ℕ) → rows_on k s.parts ≡ on_channel k run
   pub rows : s.rows ≡ length run
-  pub last : s.last ≡ last_or 0 (map (λ it. it.row.number) run)
+  pub last : s.last ≡ last_or 0 (map (λ it. it.number) run)
   pub octets : s.octets ≡ all_octets run
 
 -- rows as a restart machine takes them: of each stretch those in order, and then those that it hands on
@@ -67,22 +66,18 @@ IsSplit l items (s ∷ ss) = (run : List Item) × (rest : List Item) × (items �
 
 -- rows that a cutter may take, one after the other
 pub record MayCome (c : Cutting) (items : List Item) : Type 0 where
-  pub rising : IsStrictlyIncreasing (c.last ∷ map (λ it. it.row.number) items)
-  pub numbers : All (λ it. it.row.number ≤ 999999999) items
+  pub rising : IsStrictlyIncreasing (c.last ∷ map (λ it. it.number) items)
+  pub numbers : All (λ it. it.number ≤ 999999999) items
   pub octets : c.octets + all_octets items ≤ 2 ^ 31
-  pub packets : All (λ it. it.packet ≡ packet_of c.interface it.row.octets) items
-
--- the rows alone
-abbrev pub rows_alone : List Item → List Row
-rows_alone items = map (λ it. it.row) items
+  pub said : AreSaid c.interface items
 
 -- a cutter took these rows: of any that it took before, it stands for them and these, and the pieces that are known whole were appended
 pub record HasTakenAll (items : List Item) (before after : Cutting) (out out_after : List Piece) : Type 0 where
   pub interface : after.interface ≡ before.interface
-  pub last : after.last ≡ last_or before.last (map (λ it. it.row.number) items)
+  pub last : after.last ≡ last_or before.last (map (λ it. it.number) items)
   pub octets : after.octets ≡ before.octets + all_octets items
-  pub stands : (i : Interface) (rs : List Row) → StandsFor i rs before → StandsFor i (rs ++ rows_alone items) after
-  pub appended : (i : Interface) (rs : List Row) → StandsFor i rs before → HasAppended out out_after (given_of i rs) (given_of i (rs ++ rows_alone items))
+  pub stands : (i : Interface) (rs : List Item) → StandsFor i rs before → StandsFor i (rs ++ items) after
+  pub appended : (i : Interface) (rs : List Item) → StandsFor i rs before → HasAppended out out_after (given_of i rs) (given_of i (rs ++ items))
 
 -- a channel that gets rows stands among the channels
 abbrev pub with_rows : (added : List Item) → (was : List Item) → ℕ → List ℕ → List ℕ

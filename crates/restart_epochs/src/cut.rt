@@ -2,6 +2,7 @@
 
 ghost use Rattle.std.specs.Prelude.{◌≡◌, ◌≤◌, ◌∷◌, ◌^◌, All, IfErr, IfOk, length, map, sum_by};
 ghost use Rattle.std.specs.List.Sorted.{IsStrictlyIncreasing};
+ghost use Rattle.line_model.specs.packets.Says.{items_of};
 ghost use Rattle.line_model.specs.pieces.Plans.{plan, line_findings};
 ghost use Rattle.line_model.specs.declared.fault.Fault.TheVariants.{Memory};
 
@@ -13,9 +14,8 @@ use packet_decode::rows::decode_all;
 use std::alloc::Allocator;
 use std::thread::Threads;
 
-/// Cuts the rows of a trace into pieces by epoch and logical channel (profile). The pieces have the rows with the
-/// packets that their octets are, which are decoded by the threads of all processors where there are many rows. Refuses
-/// for want of memory alone.
+/// Cuts the rows of a trace into pieces by epoch and logical channel (profile). The pieces have what the rows say; the
+/// threads of all processors decode the rows where there are many. Fails only when memory is refused.
 pub fn cut<A: Allocator + Copy + Send + Sync>(
     rt: &(impl Threads + Sync),
     interface: &Interface,
@@ -24,9 +24,10 @@ pub fn cut<A: Allocator + Copy + Send + Sync>(
     requires rising { IsStrictlyIncreasing (0 ∷ map (λ r. r.number) rows.items) }
     requires numbers { All (λ r. r.number ≤ 999999999) rows.items }
     requires octets { sum_by (λ r. length r.octets) rows.items ≤ 2 ^ 31 }
-    ensures pieces { IfOk result (λ cut. cut.pieces.items ≡ plan interface.now rows.items) }
+    ensures pieces { IfOk result (λ cut. cut.pieces.items
+        ≡ plan interface.now (items_of interface.now rows.items)) }
     ensures interface_findings { IfOk result (λ cut. cut.interface_findings.items
-        ≡ line_findings interface.now rows.items) }
+        ≡ line_findings interface.now (items_of interface.now rows.items)) }
     ensures packets { IfOk result (λ cut. cut.packets ≡ length rows.items) }
     ensures few { IfOk result (λ cut. length cut.pieces.items ≤ cut.packets) }
     ensures refused { IfErr result (λ fault. fault ≡ Memory) }
@@ -36,7 +37,7 @@ pub fn cut<A: Allocator + Copy + Send + Sync>(
     let mut cutter = Cutter::new(alloc, interface);
     let mut pieces = Vec::new(alloc);
     for (row, packet) in rows.into_iter().zip(packets) {
-        cutter.push(&row.with_packet(packet), &mut pieces)?;
+        cutter.push(&row.item(packet), &mut pieces)?;
     }
     let Cut {
         pieces: mut open,

@@ -1,7 +1,7 @@
 //! The cutter: a trace falls into pieces by epoch and logical channel, row by row.
 
 ghost use Rattle.std.specs.Prelude.{◌≡◌, ◌<◌, ◌≤◌, ◌+◌, ◌^◌, ◌++◌, ◌∷◌, [], List, length, IfErr, IfOk, OnOk};
-ghost use Rattle.line_model.specs.packets.Classes.{packet_of};
+ghost use Rattle.line_model.specs.basics.Bounds.{IsSaid};
 ghost use Rattle.restart_epochs.specs.Cutting.{IsUnchanged};
 
 use crate::channel_table::ChannelTable;
@@ -92,22 +92,22 @@ impl<A: Allocator + Copy> Cutter<A> {
     /// Takes the next row, and appends the pieces of the epoch that it ends, if it leaves r1. A refusal
     /// for memory changes nothing.
     pub fn push(&mut self, item: &ItemRef<'_>, out: &mut Vec<Piece<A>, A>) -> Result<(), Fault>
-        requires packet { item.now.packet ≡ packet_of self.old.interface item.now.row.octets }
-        requires rising { self.old.last < item.now.row.number }
-        requires number { item.now.row.number ≤ 999999999 }
-        requires octets { self.old.octets + length item.now.row.octets ≤ 2 ^ 31 }
-        // Of any rows that it was given: it stands for them and this one.
+        requires said { IsSaid self.old.interface item.now }
+        requires rising { self.old.last < item.now.number }
+        requires number { item.now.number ≤ 999999999 }
+        requires octets { self.old.octets + item.now.length ≤ 2 ^ 31 }
+        // Of any rows that it was given: it represents them and this one.
         ensures stands { OfCut self.old (λ i rows.
-            OnOk result (StandsFor i (rows ++ item.now.row ∷ []) self.new)) }
+            OnOk result (StandsFor i (rows ++ item.now ∷ []) self.new)) }
         // The pieces that are known whole came to stand behind those that were.
-        ensures given { (i : AnyInterface) (rows : List records.Row) (pieces : List records.Piece)
+        ensures given { (i : AnyInterface) (rows : List records.Item) (pieces : List records.Piece)
             → StandsFor i rows self.old → out.old.items ≡ pieces ++ given_of i rows
-            → OnOk result (out.new.items ≡ pieces ++ given_of i (rows ++ item.now.row ∷ [])) }
+            → OnOk result (out.new.items ≡ pieces ++ given_of i (rows ++ item.now ∷ [])) }
         // Whatever else was taken out of the list: the pieces that came to be known whole are appended.
         ensures appended { OfCut self.old (λ i rows.
             OnOk result (HasAppended out.old.items out.new.items
-            (given_of i rows) (given_of i (rows ++ item.now.row ∷ [])))) }
-        ensures counted { OnOk result (IsCounted item.now.row self.old self.new) }
+            (given_of i rows) (given_of i (rows ++ item.now ∷ [])))) }
+        ensures counted { OnOk result (IsCounted item.now self.old self.new) }
         ensures refused { IfErr result (λ fault. (fault ≡ Memory)
             × IsUnchanged self.old self.new × (out.new.items ≡ out.old.items)) }
     {
@@ -115,7 +115,7 @@ impl<A: Allocator + Copy> Cutter<A> {
         self.pieces.turn(&self.walk, step.turn, item, out)?;
         self.walk.advance(step);
         self.last = item.number;
-        self.octets += item.octets.len() as u32;
+        self.octets += item.length as u32;
         Ok(())
     }
 

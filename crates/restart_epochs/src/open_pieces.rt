@@ -37,7 +37,7 @@ impl<A: Allocator + Copy> OpenPieces<A> {
         ensures rows { OnOk result (HasTurned turn item.now self.old.rows self.new.rows) }
         ensures count { OnOk result (self.new.given ≡ given_after turn self.old.given self.old.rows) }
         ensures given { OnOk result (out.new.items ≡ out.old.items
-            ++ ended_by turn walk.now.interface walk.now.epoch item.now.row.number self.old.given self.old.rows) }
+            ++ ended_by turn walk.now.interface walk.now.epoch item.now.number self.old.given self.old.rows) }
         ensures refused { OnErr result ((self.new.given ≡ self.old.given)
             × IsSame self.old.rows self.new.rows × (out.new.items ≡ out.old.items)) }
     {

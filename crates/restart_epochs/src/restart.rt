@@ -1,10 +1,12 @@
 //! The restart machine.
 
-ghost use Rattle.std.specs.Prelude.{◌≡◌, false, true};
+ghost use Rattle.std.specs.Prelude.{◌≡◌, ℕ, false, true, IfSome};
 ghost use Rattle.std.specs.Bool.{OnTrue};
+ghost use Rattle.line_model.specs.declared.route.Route.TheVariants.{ToChannel};
+ghost use Rattle.line_model.specs.declared.state.Side.{Side as AnySide};
 ghost use Rattle.line_model.specs.packets.Classes.{packet_class};
+ghost use Rattle.line_model.specs.packets.Says.{packet_channel};
 ghost use Rattle.line_model.specs.observer.Observer.{line_in_r1};
-ghost use Rattle.restart_epochs.specs.HandedOn.{IsHandedOn};
 ghost use Rattle.line_model.specs.channels.RestartMachine.{restart_fault, restart_move, restart_error, restart_step, passes_joining, line_step};
 
 use line_model::diagnostic::{PACKET_TOO_LONG, PACKET_TOO_SHORT};
@@ -45,6 +47,16 @@ fn fault(class: Class, length: usize) -> Option<u8>
     }
 }
 
+/// The logical channel of a packet, 0 where it is on none that is assigned.
+pub fn packet_channel(packet: &Packet) -> u16
+    ensures { result ≡ packet_channel packet.now }
+{
+    match packet {
+        Packet::Channel { channel, .. } => *channel,
+        _ => 0,
+    }
+}
+
 impl Restart {
     /// The machine before the first row.
     pub fn new() -> Self
@@ -82,15 +94,36 @@ impl Restart {
         self.state
     }
 
-    /// Takes one row, and says where it goes.
+    /// Goes past one row, and returns where it goes.
     pub fn step(&mut self, packet: &Packet, length: usize, side: Side) -> Route
         ensures { record { route = result; after = self.new }
             ≡ line_step self.old side (packet_class packet.now) length }
     {
-        let class = packet.class();
-        if self.hands_on(class) {
+        if self.hands_on(packet).is_some() {
             return Route::ToChannel;
         }
+        self.step_by_table(packet.class(), length, side)
+    }
+
+    /// Fast path: the logical channel of a packet in r1, where each that is on one goes to it (X.25 clause 3).
+    #[inline(always)]
+    pub(crate) fn hands_on(&self, packet: &Packet) -> Option<u16>
+        ensures channel { IfSome result (λ channel. channel ≡ packet_channel packet.now) }
+        ensures step { IfSome result (λ _. (side : AnySide) (length : ℕ)
+            → record { route = ToChannel; after = self.now }
+            ≡ line_step self.now side (packet_class packet.now) length) }
+    {
+        match packet {
+            Packet::Channel { channel, .. } if self.state == RState::R1 => Some(*channel),
+            _ => None,
+        }
+    }
+
+    /// Goes past one row of a class, and returns where it goes.
+    pub(crate) fn step_by_table(&mut self, class: Class, length: usize, side: Side) -> Route
+        ensures { record { route = result; after = self.new }
+            ≡ line_step self.old side class length }
+    {
         let name = self.state.name();
         let action = match side {
             Side::T => table_t(name, class),
@@ -105,16 +138,6 @@ impl Restart {
             Route::Pass
         } else {
             self.act(class, length, side, action)
-        }
-    }
-
-    /// Whether a packet goes to its channel as most do: data or RR in r1, where no indication is owed.
-    pub(crate) fn hands_on(&self, class: Class) -> bool
-        ensures { OnTrue result (IsHandedOn self.now class) }
-    {
-        match self.state {
-            RState::R1 if !self.owed => matches!(class, Class::Data | Class::Rr),
-            _ => false,
         }
     }
 
@@ -171,7 +194,7 @@ impl Restart {
         }
     }
 
-    /// Tells an error: the DTE's has the DCE restart.
+    /// An error: the DTE's has the DCE restart.
     fn fail(&mut self, side: Side, code: u8) -> Route
         ensures { record { route = result; after = self.new }
             ≡ restart_error self.old side code }

@@ -7,14 +7,13 @@ ghost use Rattle.line_model.specs.declared.route.Route.TheVariants.{ToChannel};
 ghost use Rattle.restart_epochs.specs.OpenRows.{IsListing};
 ghost use Rattle.restart_epochs.specs.Splits.{AreParts, IsRunOf, IsSplitSoFar, IsSplitWhole};
 ghost use Rattle.restart_epochs.specs.Stretches.{IsRun, IsSplit};
-ghost use Rattle.restart_epochs.specs.Walks.{routed_at};
+ghost use Rattle.line_model.specs.observer.Observer.{routing};
 
 use crate::channel_table::ChannelTable;
 use crate::kept_rows::{keep_row, take_first};
-use crate::restart::{Restart, Route};
+use crate::restart::{Restart, Route, packet_channel};
 use crate::stretch::{Part, Stretch};
 use line_model::items::{ItemRef, Items};
-use packet_decode::decode::logical_channel;
 use std::alloc::{AllocError, Allocator, Global};
 use std::mem;
 
@@ -66,9 +65,9 @@ impl<A: Allocator + Copy> Run<A> {
     /// Takes a row that the restart machine hands on. A count that grows past its type is refused as memory is.
     fn push(&mut self, alloc: A, item: &ItemRef<'_>) -> Result<(), AllocError>
         ensures { (l : LineState) (run : List records.Item) → IsRunOf l run self.old
-            → (routed_at l item.now).route ≡ ToChannel → OnOk result (IsRunOf l (run ++ item.now ∷ []) self.new) }
+            → (routing l item.now).route ≡ ToChannel → OnOk result (IsRunOf l (run ++ item.now ∷ []) self.new) }
     {
-        let Ok(length) = u32::try_from(item.octets.len()) else {
+        let Ok(length) = u32::try_from(item.length) else {
             return Err(AllocError);
         };
         let (Some(rows), Some(octets)) = (self.rows.checked_add(1), self.octets.checked_add(length))
@@ -77,7 +76,7 @@ impl<A: Allocator + Copy> Run<A> {
         };
         keep_row(
             alloc,
-            logical_channel(item.octets),
+            packet_channel(&item.packet),
             item,
             &mut self.by_channel,
         )?;
@@ -178,7 +177,7 @@ impl<A: Allocator + Copy> Splitter<A> {
         item: &ItemRef<'_>,
     ) -> Result<(), AllocError>
         ensures { (l : LineState) (items : List records.Item) → IsSplitSoFar l items self.old
-            → machine ≡ (routed_at self.old.machine item.now).after
+            → machine ≡ (routing self.old.machine item.now).after
             → OnOk result (IsSplitSoFar l (items ++ item.now ∷ []) self.new) }
     {
         self.end_run()?;
@@ -193,7 +192,7 @@ impl<A: Allocator + Copy> Splitter<A> {
             → OnOk result (IsSplitSoFar l (items ++ item.now ∷ []) self.new) }
     {
         let mut machine = self.machine;
-        let route = machine.step(&item.packet, item.octets.len(), item.side);
+        let route = machine.step(&item.packet, item.length, item.side);
         if let Route::ToChannel = route {
             if self.in_order == 0 {
                 return self.run.push(*self.kept.allocator(), item);

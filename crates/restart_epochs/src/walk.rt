@@ -1,17 +1,16 @@
 //! The walk over the rows of a trace, but for what stands on the logical channels: the restart machine, the epoch, and
 //! what it found.
 
-ghost use Rattle.std.specs.Prelude.{option_to_list, ◌≡◌, ℕ, ◌<◌, ◌+◌, ◌^◌, List, ◌++◌, IfOk, IfSome, OnOk, OnErr};
-ghost use Rattle.std.specs.Vec.{vec_len, vec_capacity};
+ghost use Rattle.std.specs.Prelude.{option_to_list, ◌≡◌, ◌<◌, ◌+◌, ◌^◌, ◌++◌, IfOk, OnOk, OnErr};
 ghost use Rattle.line_model.specs.observer.Observer.{line_in_r1};
-ghost use Rattle.restart_epochs.specs.Walks.{epoch_after, handing_on, route_finding, turn_of, IsAdvanced, IsFresh, IsSameWalk, IsStep};
+ghost use Rattle.restart_epochs.specs.Walks.{epoch_after, route_finding, turn_of, HasRoom, IsAdvanced, IsFresh, IsSameWalk, IsStep};
 
-use crate::restart::{Restart, Route};
+use crate::restart::{Restart, Route, packet_channel};
 use line_model::finding::{Code, Finding};
 use line_model::interface::Interface;
 use line_model::items::ItemRef;
-use line_model::state::{Side, StateName};
-use packet_decode::decode::logical_channel;
+use line_model::packet::Packet;
+use line_model::state::StateName;
 use std::alloc::{AllocError, Allocator, Global};
 
 /// What a row does to the logical channels.
@@ -67,47 +66,49 @@ impl<A: Allocator> EpochWalk<A> {
         }
     }
 
-    /// What the next row does to the walk, with room for what it finds. The walk stays where it is.
+    /// Returns what the next row does to the walk, which stays where it is, with room for what the row finds. Fails only
+    /// when memory is refused.
+    #[inline(always)]
     pub fn step(&mut self, item: &ItemRef<'_>) -> Result<Step, AllocError>
         requires epochs { self.old.epoch + 1 < 2 ^ 32 }
         ensures step { IfOk result (IsStep self.old.machine self.old.epoch item.now) }
         ensures same { IsSameWalk self.old self.new }
-        ensures room { OnOk result (vec_len self.new.findings < vec_capacity self.new.findings) }
+        ensures room { IfOk result (λ step. HasRoom self.new step) }
+    {
+        if let Some(channel) = self.machine.hands_on(&item.packet) {
+            return Ok(Step {
+                machine: self.machine,
+                epoch: self.epoch,
+                finding: None,
+                turn: Turn::ToChannel(channel),
+            });
+        }
+        self.step_by_table(item)
+    }
+
+    /// The step of a row by the table of the restart machine.
+    #[inline(never)]
+    fn step_by_table(&mut self, item: &ItemRef<'_>) -> Result<Step, AllocError>
+        requires epochs { self.old.epoch + 1 < 2 ^ 32 }
+        ensures step { IfOk result (IsStep self.old.machine self.old.epoch item.now) }
+        ensures same { IsSameWalk self.old self.new }
+        ensures room { IfOk result (λ step. HasRoom self.new step) }
     {
         self.findings.reserve(1)?;
         let mut machine = self.machine;
-        let route = machine.step(&item.packet, item.octets.len(), item.side);
+        let route = machine.step_by_table(item.packet.class(), item.length, item.side);
         Ok(Step {
             machine,
             epoch: next_epoch(self.epoch, route),
-            finding: finding_of(route, item.number, item.side),
-            turn: turn_by(route, item.octets),
+            finding: finding_of(route, item),
+            turn: turn_by(route, &item.packet),
         })
     }
 
-    /// The logical channel of a row that goes there as most do, data or a receive ready in r1: its step is a
-    /// `handing_on`. `None`: the row is for `step`.
-    pub fn usual_channel(&self, item: &ItemRef<'_>) -> Option<u16>
-        ensures { IfSome result (λ channel. IsStep self.now.machine self.now.epoch item.now
-            (handing_on self.now channel)) }
-    {
-        if !self.machine.hands_on(item.packet.class()) {
-            return None;
-        }
-        Some(logical_channel(item.octets))
-    }
-
-    /// Goes past a row that leaves the walk as it is, as one does that `usual_channel` has a channel for.
-    pub fn count_row(&mut self)
-        requires packets { self.old.packets + 1 < 2 ^ 32 }
-        ensures { self.new ≡ record self.old { packets = self.old.packets + 1 } }
-    {
-        self.packets += 1;
-    }
-
     /// Goes past the row of a step.
+    #[inline(always)]
     pub fn advance(&mut self, step: Step)
-        requires room { vec_len self.old.findings < vec_capacity self.old.findings }
+        requires room { HasRoom self.old step }
         requires packets { self.old.packets + 1 < 2 ^ 32 }
         ensures { IsAdvanced step self.old self.new }
     {
@@ -116,7 +117,7 @@ impl<A: Allocator> EpochWalk<A> {
         }
         self.machine = step.machine;
         self.epoch = step.epoch;
-        self.count_row();
+        self.packets += 1;
     }
 }
 
@@ -143,22 +144,19 @@ fn next_epoch(epoch: u32, route: Route) -> u32
 }
 
 /// What a row does to the logical channels, by its route.
-fn turn_by(route: Route, octets: &[u8]) -> Turn
-    ensures { result ≡ turn_of octets.now route }
+fn turn_by(route: Route, packet: &Packet) -> Turn
+    ensures { result ≡ turn_of packet.now route }
 {
     match route {
-        Route::ToChannel => Turn::ToChannel(logical_channel(octets)),
+        Route::ToChannel => Turn::ToChannel(packet_channel(packet)),
         Route::Leave(_) => Turn::Ends,
         _ => Turn::Stays,
     }
 }
 
-/// The finding of the restart machine on the row of a number and a side, if its route has one.
-fn finding_of(route: Route, number: u32, side: Side) -> Option<Finding>
-    // Whatever octets the row has.
-    ensures { (octets : List ℕ)
-        → option_to_list result
-        ≡ route_finding (record { number = number; side = side; octets = octets }) route }
+/// The finding of the restart machine on a row, if its route has one.
+fn finding_of(route: Route, item: &ItemRef<'_>) -> Option<Finding>
+    ensures { option_to_list result ≡ route_finding item.now route }
 {
     let (state, code) = match route {
         Route::Found(state, code) => (state, code),
@@ -166,8 +164,8 @@ fn finding_of(route: Route, number: u32, side: Side) -> Option<Finding>
         _ => return None,
     };
     Some(Finding {
-        packet: number,
-        side,
+        packet: item.number,
+        side: item.side,
         state,
         code: Code::Number(code),
     })

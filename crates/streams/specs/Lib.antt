@@ -1,3 +1,4 @@
 pub mod FirstBytes
 pub mod LastBytes
 pub mod OpenFaults
+pub mod Shown

@@ -1,33 +1,36 @@
-//! Readers and writers of the system as sources and sinks.
+//! Readers and writers as sources and sinks. They show the bytes that the readers and writers show: those over memory do,
+//! and those of the system hide theirs.
 
-ghost use Rattle.std.specs.Prelude.{◌≡◌, ◌≤◌, ◌^◌, IfErr, length};
+ghost use Rattle.std.specs.Prelude.{◌≡◌, ◌≤◌, ◌^◌, IsTrue, OnErr, OnOk, length};
+ghost use Rattle.line_model.specs.basics.Device.{Gives};
 ghost use Rattle.streams.specs.LastBytes.{last_read};
-ghost use Rattle.streams.specs.OpenFaults.{IsByItsReason};
+ghost use Rattle.streams.specs.Shown.{still_shows};
 
 use crate::first_bytes::FirstBytes;
-use crate::input::{Input, LastText, OpenFault, OpenRefusal};
+use crate::input::{Input, LastText, OpenRefusal};
 use crate::last_bytes::LastBytes;
+use crate::opener::Opener;
 use crate::output::Output;
 use crate::progress::{Progress, ShowProgress};
+use crate::shown_reader::ShownReader;
 use line_model::device::{Sink, Source};
 use line_model::history::Count;
 use std::alloc::{AllocError, Global};
-use std::fs::OpenFile;
-use std::io::{ErrorKind, Read, Write};
-use std::rt::Files;
+use std::io;
+use std::io::{Read, Write};
+use std::snapshot::Snapshot;
 use std::time::Clock;
-use std::{fs, io};
 
-/// Standard input, or the file that was opened in its place, as a source that does not tell its bytes. Each read is one
-/// of the reader's, into the room that keeps its last bytes.
+/// Standard input, or the file that was opened in its place, as a source. Each read is one of the reader's, into the room
+/// that keeps its last bytes.
 #[derive(Drop)]
-pub struct FileInput<'a, R: Files + Clock, I: Read + Drop, W: Write + Drop> {
+pub struct FileInput<'a, R: Opener + Clock, I: Read + Drop, W: Write + Drop> {
     alloc: Global,
     system: &'a R,
-    standard: I,
+    standard: ShownReader<I>,
     // That standard input is a terminal is still to be printed.
     is_terminal: bool,
-    file: Option<R::File>,
+    file: Option<ShownReader<R::File>>,
     // The name of the file; none where memory for it was refused.
     name: Option<String>,
     begun: FirstBytes,
@@ -39,8 +42,8 @@ pub struct FileInput<'a, R: Files + Clock, I: Read + Drop, W: Write + Drop> {
     failures: Count,
 }
 
-impl<'a, R: Files + Clock, I: Read + Drop, W: Write + Drop> FileInput<'a, R, I, W> {
-    /// Standard input, the system that has the files and the clock, and the progress that is shown. Where standard input
+impl<'a, R: Opener + Clock, I: Read + Drop, W: Write + Drop> FileInput<'a, R, I, W> {
+    /// Standard input, the system that opens files and has a clock, and the progress that is shown. Where standard input
     /// is a terminal, that is printed once, before it is read.
     pub fn new(
         alloc: Global,
@@ -49,13 +52,14 @@ impl<'a, R: Files + Clock, I: Read + Drop, W: Write + Drop> FileInput<'a, R, I, 
         is_terminal: bool,
         progress: Progress<W>,
     ) -> Self
+        ensures left { ⟦<FileInput<'a, R, I, W> as Source>⟧.left result ≡ I.remaining standard }
         ensures calls { ⟦<FileInput<'a, R, I, W> as Source>⟧.calls result ≡ 0 }
         ensures failures { ⟦<FileInput<'a, R, I, W> as Source>⟧.failures result ≡ 0 }
     {
         FileInput {
             alloc,
             system,
-            standard,
+            standard: ShownReader::new(standard),
             is_terminal,
             file: None,
             name: None,
@@ -71,6 +75,11 @@ impl<'a, R: Files + Clock, I: Read + Drop, W: Write + Drop> FileInput<'a, R, I, 
     /// Reads from standard input. Where it is a terminal, that is printed once.
     fn read_standard(&mut self) -> io::Result<()>
         ensures few { length (last_read self.new.last_bytes) ≤ 2 ^ 16 }
+        ensures given { OnOk result (Gives self.old.standard.left self.new.standard.left
+            (last_read self.new.last_bytes)) }
+        ensures failed { OnErr result (self.new.standard.left ≡ self.old.standard.left) }
+        ensures before { self.new.standard.before ≡ self.old.standard.left }
+        ensures file { self.new.file ≡ self.old.file }
         ensures calls { self.new.calls ≡ self.old.calls }
         ensures failures { self.new.failures ≡ self.old.failures }
     {
@@ -78,17 +87,23 @@ impl<'a, R: Files + Clock, I: Read + Drop, W: Write + Drop> FileInput<'a, R, I, 
             self.is_terminal = false;
             self.progress.print_terminal();
         }
-        self.last_bytes.read(&mut self.standard)
+        self.standard.read(&mut self.last_bytes)
     }
 
     /// Reads from the file that was opened, else from standard input.
     fn read_some(&mut self) -> io::Result<()>
         ensures few { length (last_read self.new.last_bytes) ≤ 2 ^ 16 }
+        ensures given { OnOk result (Gives (⟦<FileInput<'a, R, I, W> as Source>⟧.left self.old)
+            (⟦<FileInput<'a, R, I, W> as Source>⟧.left self.new) (last_read self.new.last_bytes)) }
+        ensures failed { OnErr result (⟦<FileInput<'a, R, I, W> as Source>⟧.left self.new
+            ≡ ⟦<FileInput<'a, R, I, W> as Source>⟧.left self.old) }
+        ensures before { ⟦<FileInput<'a, R, I, W> as Source>⟧.before self.new
+            ≡ ⟦<FileInput<'a, R, I, W> as Source>⟧.left self.old }
         ensures calls { self.new.calls ≡ self.old.calls }
         ensures failures { self.new.failures ≡ self.old.failures }
     {
         match &mut self.file {
-            Some(file) => self.last_bytes.read(file),
+            Some(file) => file.read(&mut self.last_bytes),
             None => self.read_standard(),
         }
     }
@@ -96,6 +111,8 @@ impl<'a, R: Files + Clock, I: Read + Drop, W: Write + Drop> FileInput<'a, R, I, 
     /// Passes the latest bytes on: the first ones are kept, and progress is shown.
     fn pass_on_latest(&mut self)
         ensures last_bytes { self.new.last_bytes ≡ self.old.last_bytes }
+        ensures standard { self.new.standard ≡ self.old.standard }
+        ensures file { self.new.file ≡ self.old.file }
         ensures calls { self.new.calls ≡ self.old.calls }
         ensures failures { self.new.failures ≡ self.old.failures }
     {
@@ -105,13 +122,14 @@ impl<'a, R: Files + Clock, I: Read + Drop, W: Write + Drop> FileInput<'a, R, I, 
     }
 }
 
-impl<R: Files + Clock, I: Read + Drop, W: Write + Drop> Source for FileInput<'_, R, I, W> {
-    ghost use Rattle.std.specs.Prelude.{None};
+impl<R: Opener + Clock, I: Read + Drop, W: Write + Drop> Source for FileInput<'_, R, I, W> {
+    ghost use Rattle.std.specs.Option.{option_map_or};
     ghost use Rattle.streams.specs.LastBytes.{last_read};
+    ghost use Rattle.streams.specs.Shown.{Left};
 
-    ghost left = { λ s. None };
+    ghost left = { λ s. option_map_or (λ (f : Left). f.left) s.file s.standard.left };
 
-    ghost before = { λ s. None };
+    ghost before = { λ s. option_map_or (λ (f : Left). f.before) s.file s.standard.before };
 
     ghost last_given = { λ s. last_read s.last_bytes };
 
@@ -139,45 +157,16 @@ impl<R: Files + Clock, I: Read + Drop, W: Write + Drop> Source for FileInput<'_,
     }
 }
 
-/// The number by which the system says that a directory is no file.
-const IS_A_DIRECTORY: i32 = 21;
+impl<R: Opener + Clock, I: Read + Drop, W: Write + Drop> Input for FileInput<'_, R, I, W> {
+    ghost use Rattle.std.specs.Prelude.{option_map, string_bytes};
 
-/// Why a file could not be opened, by the system's error.
-fn open_refusal(reason: io::Error) -> OpenRefusal
-    ensures { IsByItsReason result }
-{
-    let fault = match reason.kind() {
-        ErrorKind::NotFound | ErrorKind::NotADirectory => OpenFault::Missing,
-        ErrorKind::PermissionDenied => OpenFault::Denied,
-        ErrorKind::IsADirectory => OpenFault::Directory,
-        _ => OpenFault::Refused,
-    };
-    OpenRefusal { fault, reason }
-}
-
-/// Opens a file for reading, which is no directory.
-fn open_file<R: Files>(files: &R, name: &str) -> Result<R::File, OpenRefusal>
-    ensures { IfErr result IsByItsReason }
-{
-    let file = fs::open(files, name).map_err(open_refusal)?;
-    match file.metadata() {
-        Ok(metadata) if metadata.is_dir() => {
-            Err(open_refusal(io::Error::from_raw_os_error(IS_A_DIRECTORY)))
-        }
-        _ => Ok(file),
-    }
-}
-
-impl<R: Files + Clock, I: Read + Drop, W: Write + Drop> Input for FileInput<'_, R, I, W> {
-    ghost use Rattle.std.specs.Prelude.{None, option_map, string_bytes};
-
-    ghost named = { λ s name. None };
+    ghost named = { λ s name. R.named s.system.now name };
 
     ghost name_of = { λ s. option_map string_bytes s.name };
 
     fn open(&mut self, name: &str) -> Result<(), OpenRefusal> {
-        let file = open_file(self.system, name)?;
-        self.file = Some(file);
+        let file = self.system.open(name)?;
+        self.file = Some(ShownReader::new(file));
         self.name = String::from_str(self.alloc, name).ok();
         Ok(())
     }
@@ -213,22 +202,28 @@ impl<R: Files + Clock, I: Read + Drop, W: Write + Drop> Input for FileInput<'_, 
     }
 }
 
-/// A writer of the system as a sink, which does not tell its bytes. Each write is one of the writer's, unbuffered, so nothing is left to flush.
+/// A writer as a sink. Each write is one of the writer's, unbuffered, so nothing is left to flush.
 #[derive(Drop)]
 pub struct WriteSink<W: Write + Drop> {
     writer: W,
+    // The writer as it was when this was made. Contracts alone see it.
+    first: Snapshot<W>,
     // What the system said of the last write that failed.
     failure: Option<io::Error>,
     failures: Count,
+    ghost shows: { IsTrue (still_shows (W.contents first.value) (W.contents writer)) },
 }
 
 impl<W: Write + Drop> WriteSink<W> {
     /// A sink over a writer.
     pub fn new(writer: W) -> Self
-        ensures { ⟦<WriteSink<W> as Sink>⟧.failures result ≡ 0 }
+        ensures taken { ⟦<WriteSink<W> as Sink>⟧.taken result ≡ W.contents writer }
+        ensures failures { ⟦<WriteSink<W> as Sink>⟧.failures result ≡ 0 }
     {
+        let first = Snapshot::of(&writer);
         WriteSink {
             writer,
+            first,
             failure: None,
             failures: Count::new(),
         }
@@ -236,9 +231,9 @@ impl<W: Write + Drop> WriteSink<W> {
 }
 
 impl<W: Write + Drop> Sink for WriteSink<W> {
-    ghost use Rattle.std.specs.Prelude.{None};
+    ghost use Rattle.streams.specs.Shown.{shown};
 
-    ghost taken = { λ s. None };
+    ghost taken = { λ s. shown (W.contents s.first.value) (W.contents s.writer) };
 
     ghost failures = { λ s. s.failures };
 

@@ -1,7 +1,7 @@
 //! The last bytes that a reader gave, where they were read.
 
-ghost use Rattle.std.specs.Prelude.{◌≡◌, ℕ, ◌+◌, ◌≤◌, ◌^◌, List, [], ◌++◌, IfOk, OnOk, length, true};
-ghost use Rattle.std.specs.Io.KnownBytes.{Consumes};
+ghost use Rattle.std.specs.Prelude.{◌≡◌, ℕ, ◌+◌, ◌<◌, ◌≤◌, ◌^◌, List, [], ◌++◌, IfOk, OnErr, OnOk, length, true};
+ghost use Rattle.std.specs.Io.KnownBytes.{Consumes, IsAtEnd, Keeps};
 ghost use Rattle.streams.specs.LastBytes.{HasRead, IsEndOf, bytes_of, last_read};
 
 use crate::stretch::Stretch;
@@ -104,6 +104,7 @@ impl LastBytes {
     /// The full stretch becomes the one before, which is let go and filled next.
     fn turn(&mut self)
         requires { length self.old.latest ≡ 2 ^ 16 }
+        ensures room { self.new.latest ≡ [] }
         ensures end { (given : List ℕ) → IsEndOf given self.old → IsEndOf given self.new }
         ensures few { self.old.whole ≡ true → length (bytes_of self.old) ≤ 2 ^ 16 → self.new.whole ≡ true }
     {
@@ -119,6 +120,7 @@ impl LastBytes {
     fn make_room(&mut self)
         ensures end { (given : List ℕ) → IsEndOf given self.old → IsEndOf given self.new }
         ensures few { self.old.whole ≡ true → length (bytes_of self.old) ≤ 2 ^ 16 → self.new.whole ≡ true }
+        ensures room { length self.new.latest < 2 ^ 16 }
     {
         if self.latest_stretch().len() == CHUNK {
             self.turn();
@@ -129,6 +131,9 @@ impl LastBytes {
     fn fill<R: Read>(&mut self, from: &mut R) -> io::Result<()>
         ensures grown { HasRead self.old self.new }
         ensures given { OnOk result (Consumes (R.remaining from.old) (R.remaining from.new) (last_read self.new)) }
+        ensures ended { length self.old.latest < 2 ^ 16 → last_read self.new ≡ []
+            → OnOk result (IsAtEnd (R.remaining from.new)) }
+        ensures kept { OnErr result (Keeps (R.remaining from.old) (R.remaining from.new)) }
         ensures at_most { length self.new.latest ≤ 2 ^ 16 }
     {
         self.start = self.latest_stretch().len();
@@ -144,6 +149,9 @@ impl LastBytes {
         ensures end { (given : List ℕ) → IsEndOf given self.old
             → IsEndOf (given ++ last_read self.new) self.new }
         ensures given { OnOk result (Consumes (R.remaining from.old) (R.remaining from.new) (last_read self.new)) }
+        // Nothing is read only at the end.
+        ensures ended { last_read self.new ≡ [] → OnOk result (IsAtEnd (R.remaining from.new)) }
+        ensures kept { OnErr result (Keeps (R.remaining from.old) (R.remaining from.new)) }
         ensures at_most { length (last_read self.new) ≤ 2 ^ 16 }
         // While there are few, it has them all.
         ensures few { self.old.whole ≡ true → length (bytes_of self.old) ≤ 2 ^ 16

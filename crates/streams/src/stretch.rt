@@ -1,7 +1,7 @@
 //! A stretch of bytes that reads fill.
 
-ghost use Rattle.std.specs.Prelude.{◌≡◌, ℕ, ◌≤◌, ◌^◌, ◌++◌, List, [], length, OnErr, OnOk};
-ghost use Rattle.std.specs.Io.KnownBytes.{Consumes};
+ghost use Rattle.std.specs.Prelude.{◌≡◌, ℕ, ◌<◌, ◌≤◌, ◌^◌, ◌++◌, List, [], length, OnErr, OnOk};
+ghost use Rattle.std.specs.Io.KnownBytes.{Consumes, IsAtEnd, Keeps};
 
 use line_model::device::CHUNK;
 use std::io;
@@ -63,7 +63,11 @@ impl Stretch {
     pub fn fill<R: Read>(&mut self, from: &mut R) -> io::Result<()>
         ensures grown { (more : List ℕ) × (self.new ≡ self.old ++ more)
             × OnOk result (Consumes (R.remaining from.old) (R.remaining from.new) more) }
+        // Where there is room, nothing is read only at the end.
+        ensures ended { length self.old < 2 ^ 16 → self.new ≡ self.old
+            → OnOk result (IsAtEnd (R.remaining from.new)) }
         ensures same { OnErr result (self.new ≡ self.old) }
+        ensures kept { OnErr result (Keeps (R.remaining from.old) (R.remaining from.new)) }
         ensures few { length self.new ≤ 2 ^ 16 }
     {
         let n = from.read(&mut self.bytes[self.len..])?;

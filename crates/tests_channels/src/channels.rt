@@ -1,7 +1,8 @@
 //! The rows of one channel of recorded interfaces: their findings and calls are those of reports that were made elsewhere.
 
-ghost use Rattle.std.specs.Prelude.{◌+◌, ◌≤◌, ◌*◌, length, All, IfOk, OnOk};
+ghost use Rattle.std.specs.Prelude.{◌≡◌, ◌+◌, ◌≤◌, ◌*◌, length, All, IfOk, OnOk};
 ghost use Rattle.line_model.specs.basics.Bounds.{IsItem, all_octets};
+ghost use Rattle.line_model.specs.packets.Says.{packet_channel};
 
 use crate::calls::{Call, PLAIN_CALL, calls_are};
 use crate::checks::holds_at;
@@ -10,10 +11,12 @@ use channel_run::run::run_piece;
 use hex::decode as hex_decode;
 use line_model::finding::{Code, Finding, Xcode};
 use line_model::interface::Interface;
-use line_model::items::{ItemRef, Items};
+use line_model::items::Items;
+use line_model::packet::Packet;
 use line_model::piece::{Piece, PieceReport};
+use line_model::row::Row;
 use line_model::state::{Side, StateName};
-use packet_decode::decode::{decode, logical_channel};
+use packet_decode::decode::decode;
 use std::alloc::{Allocator, Global};
 use std::process::Abort;
 use std::test::Fail;
@@ -52,17 +55,27 @@ fn add_item<A: Allocator + Copy>(
     ensures few { OnOk result (length items.new ≤ length items.old + 1) }
 {
     let (number, side, digits) = line;
-    let octets = hex_decode(alloc, digits.as_bytes())?;
-    if octets.len() > 4200 || logical_channel(&octets) != channel {
-        return Ok(());
-    }
-    items.push(&ItemRef {
+    let row = Row {
         number: *number,
         side: *side,
-        octets: octets.as_slice(),
-        packet: decode(interface, &octets),
-    })?;
+        octets: hex_decode(alloc, digits.as_bytes())?,
+    };
+    let packet = decode(interface, row.octets.as_slice());
+    if row.octets.len() > 4200 || channel_of(&packet) != channel {
+        return Ok(());
+    }
+    items.push(&row.item(packet))?;
     Ok(())
+}
+
+/// The logical channel of a packet, 0 where it is on none that is assigned.
+fn channel_of(packet: &Packet) -> u16
+    ensures { result ≡ packet_channel packet.now }
+{
+    match packet {
+        Packet::Channel { channel, .. } => *channel,
+        _ => 0,
+    }
 }
 
 /// The rows of a channel among some lines.

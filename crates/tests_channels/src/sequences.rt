@@ -29,12 +29,36 @@ fn completes(
     }
 }
 
+/// A packet with Q 0 is put by its length, where its side has begun no sequence with Q 1.
+fn put_length(assembler: &mut Assembler<Global>, more: bool, length: usize) -> bool {
+    let is_unqualified = assembler.is_unqualified(Side::T);
+    if is_unqualified {
+        assembler.put_unqualified(Side::T, more, false, length);
+    }
+    is_unqualified
+}
+
+/// Whether a packet with Q 1 has another Q bit than the sequence begun.
+fn is_mixed(assembler: &mut Assembler<Global>) -> Result<bool, Fail> {
+    match assembler.put(Side::T, &field(true, false, b"e"))? {
+        Put::Mixed => Ok(true),
+        Put::Going => Ok(false),
+        Put::Complete(_) => Ok(false),
+    }
+}
+
 #[test]
-fn sequence_has_the_octets_that_were_put(rt: HostRuntime) -> Result<(), Fail> {
+fn packets_are_joined_by_their_octets_or_their_length(rt: HostRuntime) -> Result<(), Fail> {
     for qualified in &[false, true] {
         let mut assembler = Assembler::new(rt.alloc(), 4, 16);
         let _ = assembler.put(Side::T, &field(*qualified, true, b"abcd"))?;
         assert!(rt; completes(&mut assembler, &field(*qualified, false, b"e"), b"abcde")?);
+    }
+    // A packet of the full size with M 1 begins a sequence.
+    for (more, length, begins) in &[(true, 4, true), (true, 3, false), (false, 4, false)] {
+        let mut assembler = Assembler::new(rt.alloc(), 4, 16);
+        assert!(rt; put_length(&mut assembler, *more, *length));
+        assert!(rt; is_mixed(&mut assembler)? == *begins);
     }
     Ok(())
 }

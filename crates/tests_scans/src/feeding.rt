@@ -1,10 +1,10 @@
 //! Worked traces that are read in steps of any size while workers take their pieces.
 
 ghost use Rattle.std.specs.Prelude.{◌≡◌, Some};
-ghost use Rattle.trace_scan.specs.TextCuts.{trace_plan_as_read};
+ghost use Rattle.line_model.specs.traces.Traces.{trace_plan};
 
 use line_model::fault::Fault;
-use line_model::items::{ItemRef, KeptItem};
+use line_model::items::ItemRef;
 use line_model::packet::Packet;
 use line_model::piece::{Piece, Plan};
 use std::alloc::Global;
@@ -41,7 +41,7 @@ fn read_by<P: Plan + TraceText + Send + Sync, R: Threads + Wait + Clock + Sync>(
     least: usize,
 ) -> Option<Result<Read, Fault>>
     requires text { P.text ≡ Some text.now }
-    requires plan { P.pieces ≡ Some (trace_plan_as_read text.now) }
+    requires plan { P.pieces ≡ Some (trace_plan text.now) }
 {
     let mut source = CutSource::new(text, cuts);
     let queues = BlockQueues::<P, Global>::new(alloc, least).ok()?;
@@ -208,33 +208,28 @@ fn cut(alloc: Global, first: &[u8], rest: &[u8]) -> Result<[Vec<Piece>; 3], Fail
     Ok([early, late, last])
 }
 
-/// Whether this is a row on its channel, by its number and octets.
-fn is_row(item: &ItemRef<'_>, channel: u16, row: &(u32, &[u8])) -> bool {
+/// What a row says: its number, its length, and the octets that say more.
+type Row = (u32, usize, &'static [u8]);
+
+/// Whether this is a row on its channel.
+fn is_row(item: &ItemRef<'_>, channel: u16, row: &Row) -> bool {
     matches!(item.packet, Packet::Channel { channel: own, .. } if own == channel)
         && item.number == row.0
-        && item.octets == row.1
+        && item.length == row.1
+        && item.octets == row.2
 }
 
-/// Whether this is a row on its channel, once its octets are written to a list.
-fn is_kept(item: &KeptItem<'_>, channel: u16, row: &(u32, &[u8]), octets: &mut Vec<u8>) -> bool {
-    match item.unfold(octets) {
-        Ok(()) => is_row(&item.with_octets(octets), channel, row),
-        Err(_) => false,
-    }
-}
-
-/// Whether this is the piece of an id, with these rows on its channel, by their numbers and octets.
-fn is_piece(piece: &Piece, id: u32, end: Option<u32>, channel: u16, rows: &[(u32, &[u8])]) -> bool {
+/// Whether this is the piece of an id, with these rows on its channel.
+fn is_piece(piece: &Piece, id: u32, end: Option<u32>, channel: u16, rows: &[Row]) -> bool {
     if piece.id != id || piece.end != end || piece.channel != channel {
         return false;
     }
     if piece.items.len() != rows.len() {
         return false;
     }
-    let mut octets = Vec::new(*piece.items.allocator());
     let mut same = true;
     for (item, row) in piece.items.iter().zip(rows) {
-        same = same && is_kept(&item, channel, row, &mut octets);
+        same = same && is_row(&item, channel, row);
     }
     same
 }
@@ -256,18 +251,18 @@ fn are_closed(pieces: &[Piece]) -> bool {
     let [one, three] = pieces else {
         return false;
     };
-    let call: &[u8] = &[0x10, 3, 0x0B, 0, 0];
-    let accepted: &[u8] = &[0x10, 3, 0x0F];
-    is_piece(one, 0, Some(4), 1, &[(2, &[0x10, 1, 0x0B, 0, 0])])
-        && is_piece(three, 1, Some(4), 3, &[(1, call), (3, accepted)])
+    let call: Row = (1, 5, &[0x10, 3, 0x0B, 0, 0]);
+    let accepted: Row = (3, 3, &[0x10, 3, 0x0F]);
+    is_piece(one, 0, Some(4), 1, &[(2, 5, &[0x10, 1, 0x0B, 0, 0])])
+        && is_piece(three, 1, Some(4), 3, &[call, accepted])
 }
 
-/// Whether this is the piece behind the restart: user data with Q 0 is left out, and that with Q 1 is kept.
+/// Whether this is the piece behind the restart: data with Q 0 says its length alone, and that with Q 1 its octets.
 fn is_open(pieces: &[Piece]) -> bool {
-    let unread: &[u8] = &[0x10, 1, 0, 0xAA, 0, 0];
-    let qualified: &[u8] = &[0x90, 1, 0, 0xAA, 0xBB, 0xCC];
+    let unqualified: Row = (6, 6, &[]);
+    let qualified: Row = (7, 6, &[0x90, 1, 0, 0xAA, 0xBB, 0xCC]);
     match pieces {
-        [open] => is_piece(open, 2, None, 1, &[(6, unread), (7, qualified)]),
+        [open] => is_piece(open, 2, None, 1, &[unqualified, qualified]),
         _ => false,
     }
 }
@@ -288,9 +283,7 @@ fn check_cut(
 }
 
 #[test]
-fn rows_of_a_text_that_is_cut_anywhere_come_with_their_octets_and_packets(
-    rt: HostRuntime,
-) -> Result<(), Fail> {
+fn rows_of_a_text_that_is_cut_anywhere_say_the_same(rt: HostRuntime) -> Result<(), Fail> {
     let text = CUT;
     for at in 0..text.len() {
         let (first, rest) = text.split_at(at);

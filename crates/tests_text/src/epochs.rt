@@ -8,7 +8,6 @@ mod refused;
 use crate::checks::holds_for;
 use line_model::finding::{Code, Finding};
 use line_model::interface::Interface;
-use line_model::items::ItemRef;
 use line_model::piece::Piece;
 use line_model::row::Row;
 use line_model::state::Side;
@@ -32,17 +31,17 @@ pub(crate) const PLAIN: Interface = Interface {
 
 /// Pushes the next row.
 fn push(cutter: &mut Cutter, side: Side, octets: &[u8], out: &mut Vec<Piece>) -> Result<(), Fail> {
-    let (interface, last) = (cutter.interface(), cutter.last());
+    let last = cutter.last();
     if last >= 1000 || cutter.octets() >= 1000 || octets.len() >= 1000 {
         return Err("more rows than a test has")?;
     }
-    let item = ItemRef {
+    let row = Row {
         number: last + 1,
         side,
-        octets,
-        packet: decode(&interface, octets),
+        octets: octets.to_vec(*out.allocator())?,
     };
-    cutter.push(&item, out)?;
+    let packet = decode(&cutter.interface(), row.octets.as_slice());
+    cutter.push(&row.item(packet), out)?;
     Ok(())
 }
 

@@ -8,7 +8,7 @@ mod rows;
 use crate::checks::{holds_at, holds_for};
 use line_model::fault::{Fault, Kind};
 use line_model::interface::Interface;
-use line_model::row::Row;
+use line_model::row::{ReadRow, Row};
 use line_model::state::Side;
 use std::alloc::Global;
 use std::process::Abort;
@@ -91,15 +91,15 @@ fn the_first_faulty_line_is_told(rt: HostRuntime) -> Result<(), Fail> {
     Ok(())
 }
 
-fn is_wanted(row: &Row<Global>, number: u32, side: Side, octets: &[u8]) -> bool {
+fn is_wanted(row: &ReadRow<Global>, number: u32, side: Side, octets: &[u8]) -> bool {
     row.number == number && row.side == side && row.octets.as_slice() == octets
 }
 
-/// Appends a row of a number below 256: the number, the side, how many octets it has, and those.
-fn tell(row: &Row<Global>, told: &mut Vec<u8, Global>) -> Result<(), Fault> {
+/// Appends a row of a number below 256: the number, the side, how many octets it has, and those that were read.
+fn tell(row: &ReadRow<Global>, told: &mut Vec<u8, Global>) -> Result<(), Fault> {
     told.push((row.number % 256) as u8)?;
     told.push(if row.side == Side::T { b'T' } else { b'N' })?;
-    told.push((row.octets.len() % 256) as u8)?;
+    told.push((row.length % 256) as u8)?;
     told.extend_from_slice(row.octets.as_slice())?;
     Ok(())
 }
@@ -107,7 +107,7 @@ fn tell(row: &Row<Global>, told: &mut Vec<u8, Global>) -> Result<(), Fault> {
 /// Tells the rows that end in these bytes, which are taken one by one into one row.
 fn take_ended(
     lines: &mut Lines<Global>,
-    row: &mut Row<Global>,
+    row: &mut ReadRow<Global>,
     bytes: &[u8],
     told: &mut Vec<u8, Global>,
 ) -> Result<(), Fault> {
@@ -125,10 +125,11 @@ fn take_ended(
 }
 
 /// A row without octets, for those that are taken.
-fn blank(alloc: Global) -> Row<Global> {
-    Row {
+fn blank(alloc: Global) -> ReadRow<Global> {
+    ReadRow {
         number: 0,
         side: Side::N,
+        length: 0,
         octets: Vec::new(alloc),
     }
 }
@@ -136,7 +137,7 @@ fn blank(alloc: Global) -> Row<Global> {
 /// Tells the last row of a text.
 fn take_last(
     lines: Lines<Global>,
-    row: &mut Row<Global>,
+    row: &mut ReadRow<Global>,
     told: &mut Vec<u8, Global>,
 ) -> Result<(), Fault> {
     if lines.end_row(row)?.has_row {
@@ -163,17 +164,28 @@ fn take_rows(
     take_last(lines, &mut row, told)
 }
 
-/// Texts, the rows that are told of them, and their faults. The second has rows that end with a chunk of 64 bytes.
-const ONE_BY_ONE: [(&[u8], &[u8], Option<Fault>); 6] = [
+/// Texts, their rows as they are read, and their faults. The second has rows that end with a chunk of 64 bytes. The third
+/// has data with Q 0 and with Q 1, and packets of each length around four octets.
+const ONE_BY_ONE: [(&[u8], &[u8], Option<Fault>); 8] = [
     (
         b"# first\nX25 1 MOD 8 WIN 2 SIZE 128 PVC 0 SVC 4\n1 T 10010b0000\n2 N 10010F\n# between\n3 T 100100deadBEEF\n7 N -\n# last\n12 N 10",
-        b"\x01T\x05\x10\x01\x0b\x00\x00\x02N\x03\x10\x01\x0f\x03T\x07\x10\x01\x00\xde\xad\xbe\xef\x07N\x00\x0cN\x01\x10",
+        b"\x01T\x05\x10\x01\x0b\x00\x00\x02N\x03\x10\x01\x0f\x03T\x07\x10\x01\x00\xde\x07N\x00\x0cN\x01\x10",
         None,
     ),
     (
         b"X25 1 MOD 8 WIN 2 SIZE 128 PVC 0 SVC 4\n1 T 0123456789abcdefABCD\n12 N 23456789abcdefABCDEF9876543210fedcbaFEDCBA0123456789abcdef\n13 T 0123456789abcdefABCDEF9876543210fedcbaFEDCBA0123456789abcdefABCD\n14 N 0123456789abcdefABCDEF98765432\n15 T 0123456789abcdefABCDEF9876543210\n16 N 0123456789abcdefABCDEF9876543210fe\n17 T 01\n18 N 0123456789abcdefABCDEF9876543210fedcbaFEDCBA0123456789abcdefABCDEF\n",
         b"\x01T\n\x01#Eg\x89\xab\xcd\xef\xab\xcd\x0cN\x1d#Eg\x89\xab\xcd\xef\xab\xcd\xef\x98vT2\x10\xfe\xdc\xba\xfe\xdc\xba\x01#Eg\x89\xab\xcd\xef\x0dT \x01#Eg\x89\xab\xcd\xef\xab\xcd\xef\x98vT2\x10\xfe\xdc\xba\xfe\xdc\xba\x01#Eg\x89\xab\xcd\xef\xab\xcd\x0eN\x0f\x01#Eg\x89\xab\xcd\xef\xab\xcd\xef\x98vT2\x0fT\x10\x01#Eg\x89\xab\xcd\xef\xab\xcd\xef\x98vT2\x10\x10N\x11\x01#Eg\x89\xab\xcd\xef\xab\xcd\xef\x98vT2\x10\xfe\x11T\x01\x01\x12N!\x01#Eg\x89\xab\xcd\xef\xab\xcd\xef\x98vT2\x10\xfe\xdc\xba\xfe\xdc\xba\x01#Eg\x89\xab\xcd\xef\xab\xcd\xef",
         None,
+    ),
+    (
+        b"X25 1 MOD 8 WIN 2 SIZE 128 PVC 0 SVC 4\n1 T 100102AB\n2 N 100104\n3 T 1001\n4 N 900100aBcDeF01\n5 T 10010601020304050607080910111213\n6 N 100108000102030405060708090a0b0c0d0e0f101112131415161718191a1b1c\n7 T 90010aFFFEFDFCFBFAF9F8F7F6F5F4F3F2F1F0EFEEEDECEBEAE9E8E7E6E5E4E3\n8 N 10010EEFEEEDECEBEAE9E8E7E6E5E4E3E2E1E0DFDEDDDCDBDAD9D8D7D6D5D4D3D2\n9 T 90010Cafaeadacabaaa9a8a7a6a5a4a3a2a1a09f9e9d9c9b9a9998979695949392\n10 N 10010b4567\n11 T 10\n12 N -\n13 T 7F0300deadbeef\n14 N 800300dead\n15 T 10010Ade\n",
+        b"\x01T\x04\x10\x01\x02\xab\x02N\x03\x10\x01\x04\x03T\x02\x10\x01\x04N\x07\x90\x01\x00\xab\xcd\xef\x01\x05T\x10\x10\x01\x06\x01\x06N \x10\x01\x08\x00\x07T \x90\x01\n\xff\xfe\xfd\xfc\xfb\xfa\xf9\xf8\xf7\xf6\xf5\xf4\xf3\xf2\xf1\xf0\xef\xee\xed\xec\xeb\xea\xe9\xe8\xe7\xe6\xe5\xe4\xe3\x08N!\x10\x01\x0e\xef\x09T!\x90\x01\x0c\xaf\xae\xad\xac\xab\xaa\xa9\xa8\xa7\xa6\xa5\xa4\xa3\xa2\xa1\xa0\x9f\x9e\x9d\x9c\x9b\x9a\x99\x98\x97\x96\x95\x94\x93\x92\nN\x05\x10\x01\x0bEg\x0bT\x01\x10\x0cN\x00\x0dT\x07\x7f\x03\x00\xde\x0eN\x05\x80\x03\x00\xde\xad\x0fT\x04\x10\x01\n\xde",
+        None,
+    ),
+    (
+        b"X25 1 MOD 8 WIN 2 SIZE 128 PVC 0 SVC 4\n1 T 1001000102030405060708090a0b0c0d0e0f\n2 N 100102101112131415161718191a1b1c1d1e1f2021222324252627g8\n3 T 1001000102030405060708090a0b0c0d0e0f\n",
+        b"\x01T\x12\x10\x01\x00\x01",
+        Some(Fault::Trace(3, Kind::Hex)),
     ),
     (HEADER, b"", None),
     (
@@ -219,16 +231,21 @@ fn rows_are_taken_one_by_one(rt: HostRuntime) {
 }
 
 /// Whether a row is taken out of these bytes.
-fn takes(lines: &mut Lines<Global>, row: &mut Row<Global>, bytes: &[u8]) -> Result<bool, Fault> {
+fn takes(
+    lines: &mut Lines<Global>,
+    row: &mut ReadRow<Global>,
+    bytes: &[u8],
+) -> Result<bool, Fault> {
     Ok(lines.next_row(bytes, row)?.is_some())
 }
 
 #[test]
 fn room_of_the_octets_is_used_again(rt: HostRuntime) -> Result<(), Fail> {
-    let mut row = Row {
+    let mut row = ReadRow {
         number: 0,
         side: Side::N,
-        octets: Vec::with_capacity(rt.alloc(), 4)?,
+        length: 0,
+        octets: Vec::with_capacity(rt.alloc(), 16)?,
     };
     let mut lines = Lines::new(rt.alloc());
     assert!(rt; takes(&mut lines, &mut row, HEADER) == Ok(false));
@@ -236,6 +253,6 @@ fn room_of_the_octets_is_used_again(rt: HostRuntime) -> Result<(), Fail> {
     assert!(rt; is_wanted(&row, 1, Side::T, b"\x01\x02\x03\x04"));
     assert!(rt; takes(&mut lines, &mut row, b"2 N 05\n") == Ok(true));
     assert!(rt; is_wanted(&row, 2, Side::N, b"\x05"));
-    assert!(rt; row.octets.capacity() == 4);
+    assert!(rt; row.octets.capacity() == 16);
     Ok(())
 }

@@ -2,9 +2,14 @@
 
 mod runs;
 
-use crate::words::runs::run;
+use crate::words::runs::{NamedText, run, run_in_memory};
 use command_line::options::parse;
+use std::alloc::Global;
+use std::process::Abort;
+use std::sync::Wait;
 use std::test::Fail;
+use std::thread::Threads;
+use std::time::Clock;
 use tests_devices::Cuts;
 
 /// A header.
@@ -47,7 +52,32 @@ fn the_status_follows_the_scan(rt: HostRuntime) -> Result<(), Fail> {
             assert_eq!(rt; ran.told.as_slice(), told.as_bytes());
         }
     }
+    files_are_read_by_their_names(&rt, rt.alloc());
     Ok(())
+}
+
+/// The file of the name is read and not standard input; one of another name is not opened.
+fn files_are_read_by_their_names<R: Threads + Wait + Clock + Abort + Sync>(rt: &R, alloc: Global) {
+    let file = NamedText {
+        name: "day.trace",
+        text: b"X25 1 MOD 8 WIN 2 SIZE 128 PVC 0 SVC 4\n1 T -\n",
+    };
+    for (name, status, report, told) in [
+        ("day.trace", 1, "F 1 T - 38\nP 0 -\nZ 1 1 0 0 0\n", ""),
+        ("-", 2, "", "x25scan: line 1: kind 22\n"),
+        (
+            "night.trace",
+            3,
+            "",
+            "x25scan: cannot open night.trace: no such file\n",
+        ),
+    ] {
+        let words = ["x25scan", "--alone", name];
+        let ran = run_in_memory(rt, alloc, words.as_slice(), b"no trace\n", &file);
+        assert_eq!(rt; ran.status, status, "at {name}");
+        assert_eq!(rt; ran.taken.as_slice(), report.as_bytes());
+        assert!(rt; ran.told.as_slice().starts_with(told.as_bytes()));
+    }
 }
 
 #[test]

@@ -51,8 +51,9 @@ fn add_row(interface: &Interface, items: &mut Items) -> Result<(), AllocError>
     items.push(&ItemRef {
         number: 1,
         side: Side::T,
-        octets: &[],
         packet: Packet::Short,
+        length: 0,
+        octets: &[],
     })?;
     Ok(())
 }

@@ -2,33 +2,28 @@
 use Rattle.std.proofs.Common.{◌≡◌, ◌∙◌, sym, ap, subst, refl, ℕ, false, not, List, [], ◌∷◌, ◌++◌, cond, append-nil, append_assoc, Result, Ok, Err, Some}
 use Rattle.std.specs.Prelude.{IfOk}
 use Rattle.std.specs.Result.{result_ok}
-use Rattle.std.proofs.lemmas.List.{map-append}
 use Rattle.line_model.specs.declared.interface.Interface.{Interface}
-use Rattle.line_model.specs.declared.packet.Packet.{Packet}
-use Rattle.line_model.specs.basics.Records.{Row, Item}
+use Rattle.line_model.specs.basics.Records.{Row, Item, ReadRow}
 use Rattle.line_model.specs.channels.RestartMachine.{LineState}
-use Rattle.line_model.specs.packets.Classes.{packet_of}
+use Rattle.line_model.specs.packets.Says.{item_read, items_of, read_row}
 use Rattle.line_model.specs.pieces.Plan.{has_some}
 use Rattle.line_model.specs.text.Text.{early_rows}
 use Rattle.trace_text.specs.Blocks.{IsAtRows, IsBlock, IsSpanOf, first_number}
 use Rattle.trace_text.specs.Progress.{Progress}
-use Rattle.trace_text.specs.StandsFor.{StandsFor, TakesRow, ReadsChunk}
+use Rattle.trace_text.specs.StandsFor.{StandsFor, ReadsChunk}
 use Rattle.trace_text.specs.declared.lines.block.BlockSpan.{BlockSpan}
 use Rattle.trace_text.proofs.Headings.{heading_alone}
 use Rattle.restart_epochs.specs.Splits.{IsSplitSoFar}
 use Rattle.restart_epochs.specs.Stretches.{IsSplit}
 use Rattle.restart_epochs.specs.declared.splitter.Splitter.{Splitter}
-use Rattle.trace_scan.specs.Unread.{as_read}
-use Rattle.trace_scan.specs.TextBlocks.{AreRead, HasReadTo, IsReadAs, items_as_read}
+use Rattle.trace_scan.specs.TextBlocks.{AreRead, HasReadTo, IsReadAs}
 use Rattle.trace_scan.specs.declared.blocks.BlockRows.{BlockRows}
 use Rattle.trace_scan.specs.declared.blocks.RowsSoFar.{RowsSoFar}
 use Rattle.trace_scan.specs.declared.blocks.Start.{Start}
+use Rattle.live_report.proofs.ChunkLemmas.{ReadsRow}
+use Rattle.trace_scan.proofs.Rows.{row_said}
 
 -- ---- one more row
-
-items_more : (i : Interface) (rs : List Row) (row : Row) (item : Item) → item ≡ record { row = as_read i row; packet = packet_of i row.octets } → items_as_read i rs ++ item ∷ [] ≡ items_as_read i (rs ++ row ∷ [])
-items_more i rs row item is =
-    ap (λ t. items_as_read i rs ++ t ∷ []) is ∙ sym (map-append (λ (r : Row). record { row = as_read i r; packet = packet_of i r.octets }) rs (row ∷ []))
 
 first_more : (rs : List Row) (row : Row) → cond (not (has_some rs)) row.number (first_number rs) ≡ first_number (rs ++ row ∷ [])
 first_more [] row = refl
@@ -38,16 +33,13 @@ some_with : (rs : List Row) (row : Row) → false ≡ not (has_some (rs ++ row �
 some_with [] row = refl
 some_with (r ∷ rs) row = refl
 
-pub row_added : {A : Type 0} (l : LineState) (rs : List Row) (r : RowsSoFar A) (row kept : Row) (first : ℕ) (splitter : Splitter A) (item : Item) (packet : Packet) → AreRead l rs r → first ≡ cond r.is_empty kept.number r.first → IsSplitSoFar l (items_as_read r.interface rs ++ item ∷ []) splitter
-    → item ≡ record { row = kept; packet = packet } → kept ≡ as_read r.interface row → packet ≡ packet_of r.interface row.octets → AreRead {A = A} l (rs ++ row ∷ []) (record { interface = r.interface; is_empty = false; first = first; splitter = splitter })
-row_added l rs r row kept first splitter item packet are first_is split item_is kept_is packet_is =
-    let i = r.interface in
-    let number : kept.number ≡ row.number = ap (λ (k : Row). k.number) kept_is in
-    record {
-      empty = some_with rs row;
-      first = first_is ∙ (λ k. cond (are.empty k) (number k) (are.first k)) ∙ first_more rs row;
-      split = subst (λ items. IsSplitSoFar l items splitter) (items_more i rs row item (item_is ∙ (λ k. record { row = kept_is k; packet = packet_is k }))) split;
-    }
+pub row_added : {A : Type 0} (l : LineState) (rs : List Row) (r : RowsSoFar A) (next : Row) (row : ReadRow) (first : ℕ) (splitter : Splitter A) (item : Item) → AreRead l rs r → row ≡ read_row next → first ≡ cond r.is_empty row.number r.first → item ≡ item_read r.interface row
+    → IsSplitSoFar l (items_of r.interface rs ++ item ∷ []) splitter → AreRead {A = A} l (rs ++ next ∷ []) (record { interface = r.interface; is_empty = false; first = first; splitter = splitter })
+row_added l rs r next row first splitter item are row_is first_is item_is split = record {
+  empty = some_with rs next;
+  first = first_is ∙ (λ k. cond (are.empty k) ((row_is k).number) (are.first k)) ∙ first_more rs next;
+  split = subst (λ items. IsSplitSoFar l items splitter) (ap (λ t. items_of r.interface rs ++ t ∷ []) item_is ∙ row_said r.interface rs next row row_is) split;
+}
 
 -- ---- the rows of some bytes
 
@@ -60,13 +52,13 @@ pub record ReadSome {A : Type 0} (l : LineState) (text bytes : List ℕ) (lines 
 pub read_none : {A : Type 0} (l : LineState) (text bytes : List ℕ) (lines : Progress) (r : RowsSoFar A) → HasReadTo l text lines r → ReadSome l text bytes lines r bytes
 read_none l text bytes lines r to = record { read = []; whole = refl; to = subst (λ x. HasReadTo l x lines r) (sym (append-nil text)) to }
 
-pub read_row : {A : Type 0} (l : LineState) (text bytes rest left : List ℕ) (row : Row) (lines after : Progress) (r next : RowsSoFar A) → ReadSome l text bytes lines r rest → TakesRow lines after rest left row → ((rs : List Row) → AreRead l rs r → AreRead l (rs ++ row ∷ []) next) → ReadSome l text bytes after next left
-read_row l text bytes rest left row lines after r next s t add = record {
-  read = s.read ++ t.taken;
-  whole = s.whole ∙ ap (λ x. s.read ++ x) t.whole ∙ sym (append_assoc s.read t.taken left);
-  to = subst (λ x. HasReadTo l x after next) (append_assoc text s.read t.taken) (record {
-    reads = t.stands (text ++ s.read) s.to.reads;
-    rows = subst (λ rs. AreRead l rs next) (sym (t.rows (text ++ s.read) s.to.reads)) (add (early_rows (text ++ s.read)) s.to.rows);
+pub row_read : {A : Type 0} (l : LineState) (text bytes rest left : List ℕ) (row : ReadRow) (lines after : Progress) (r next : RowsSoFar A) → ReadSome l text bytes lines r rest → ReadsRow lines after rest left row → ((rs : List Row) (last : Row) → AreRead l rs r → row ≡ read_row last → AreRead l (rs ++ last ∷ []) next) → ReadSome l text bytes after next left
+row_read l text bytes rest left row lines after r next s t add = record {
+  read = s.read ++ t.1.taken;
+  whole = s.whole ∙ ap (λ x. s.read ++ x) t.1.whole ∙ sym (append_assoc s.read t.1.taken left);
+  to = subst (λ x. HasReadTo l x after next) (append_assoc text s.read t.1.taken) (record {
+    reads = t.1.stands (text ++ s.read) s.to.reads;
+    rows = subst (λ rs. AreRead l rs next) (sym (t.1.rows (text ++ s.read) s.to.reads)) (add (early_rows (text ++ s.read)) t.0 s.to.rows t.2);
   });
 }
 
@@ -91,11 +83,11 @@ pub read_heading : {A : Type 0} (l : LineState) (i : Interface) (lines : Progres
 read_heading l i lines r at none = record { reads = at.stands; rows = subst (λ rs. AreRead l rs r) (sym (heading_alone i at.heading at.is)) none }
 
 -- what the splitter split is of the rows under the header of the block
-pub split_under : {A : Type 0} (l : LineState) (i : Interface) (text : List ℕ) (lines : Progress) (r : RowsSoFar A) → r.interface ≡ i → HasReadTo l text lines r → IsSplitSoFar l (items_as_read i (early_rows text)) r.splitter
-split_under l i text lines r same to = subst (λ j. IsSplitSoFar l (items_as_read j (early_rows text)) r.splitter) same to.rows.split
+pub split_under : {A : Type 0} (l : LineState) (i : Interface) (text : List ℕ) (lines : Progress) (r : RowsSoFar A) → r.interface ≡ i → HasReadTo l text lines r → IsSplitSoFar l (items_of i (early_rows text)) r.splitter
+split_under l i text lines r same to = subst (λ j. IsSplitSoFar l (items_of j (early_rows text)) r.splitter) same to.rows.split
 
 pub read_as : {A : Type 0} (start : Start) (heading bytes : List ℕ) (span : BlockSpan) (b : BlockRows A) → IsBlock start.interface bytes (early_rows (heading ++ bytes)) × IsSpanOf bytes (early_rows (heading ++ bytes)) span → b.span ≡ span
-    → IsSplit start.machine (items_as_read start.interface (early_rows (heading ++ bytes))) b.stretches.items → IsReadAs start bytes b
+    → IsSplit start.machine (items_of start.interface (early_rows (heading ++ bytes))) b.stretches.items → IsReadAs start bytes b
 read_as start heading bytes span b ends span_is split = record {
   rows = early_rows (heading ++ bytes);
   block = ends.0;

@@ -2,20 +2,24 @@
 use Rattle.std.proofs.Common.{◌≡◌, ◌∙◌, sym, ap, subst, ℕ, ◌+◌, List, ◌++◌, length, Option, Some, length-append}
 use Rattle.std.specs.Prelude.{IfSome, MatchOption}
 use Rattle.line_model.specs.basics.Records.{Row, Piece}
+use Rattle.line_model.specs.packets.Says.{items_of}
 use Rattle.line_model.specs.text.Text.{early_rows}
+use Rattle.line_model.proofs.Saying.{items_more}
 use Rattle.trace_text.specs.Blocks.{HasPassed, IsBlock, IsSpanOf}
 use Rattle.trace_text.specs.FedBytes.{fed_length}
 use Rattle.trace_text.specs.Progress.{Progress, bytes_fed}
 use Rattle.trace_text.specs.StandsFor.{StandsFor}
-use Rattle.restart_epochs.specs.Cutting.{HasAppended}
+use Rattle.restart_epochs.specs.Cutting.{HasAppended, given_of}
 use Rattle.restart_epochs.specs.Stretches.{IsSplit}
 use Rattle.trace_scan.specs.declared.blocks.BlockRows.{BlockRows}
 use Rattle.trace_scan.specs.declared.blocks.Start.{Start}
 use Rattle.trace_scan.specs.declared.text_cutter.RowCutter.{RowCutter}
 use Rattle.trace_scan.specs.declared.text_cutter.TextCutter.{TextCutter}
-use Rattle.trace_scan.specs.TextBlocks.{BlockView, IsReadAs, items_as_read}
-use Rattle.trace_scan.specs.TextCuts.{AreCut, HasCut, HasTaken, IsCutTo, IsTrace, given_as_read, known_pieces}
-use Rattle.trace_scan.proofs.Heads.{cut_of, early_trace, known_under}
+use Rattle.trace_scan.specs.TextBlocks.{BlockView, IsReadAs}
+use Rattle.trace_scan.specs.TextCuts.{AreCut, HasCut, HasTaken, IsCutTo, given_in, known_pieces}
+use Rattle.live_report.specs.Observing.{AreItems}
+use Rattle.live_report.proofs.ChunkLemmas.{early_trace}
+use Rattle.trace_scan.proofs.Heads.{cut_of, known_under}
 use Rattle.trace_scan.proofs.Firsts.{appended_as}
 
 -- a row cutter is where rows were read after
@@ -34,9 +38,9 @@ pub record Passes {A : Type 0} (text bytes : List ℕ) (lines after : Progress) 
   pub reads : StandsFor lines text
   pub header : lines.interface ≡ Some f.interface
   pub passed : HasPassed lines after text bytes rs
-  pub before : HasCut (early_rows text) f
-  pub trace : IsTrace (early_rows text ++ rs)
-  pub split : IsSplit f.cutter.line (items_as_read f.interface rs) rows.stretches.items
+  pub before : HasCut (items_of f.interface (early_rows text)) f
+  pub trace : AreItems f.interface (items_of f.interface (early_rows text) ++ items_of f.interface rs)
+  pub split : IsSplit f.cutter.line (items_of f.interface rs) rows.stretches.items
 
 pub passes : {A : Type 0} (text bytes : List ℕ) (start : Start) (c : TextCutter A) (lines after : Progress) (rows : BlockRows A) (f : RowCutter A) → HasTaken text c → IsReadAs start bytes rows → lines ≡ c.lines → c.row_cutter ≡ Some f → IsAt start f
     → ((rs : List Row) → StandsFor lines text → lines.interface ≡ Some f.interface → IsBlock f.interface bytes rs → IsSpanOf bytes rs rows.span → HasPassed lines after text bytes rs) → Passes text bytes c.lines after rows f
@@ -50,28 +54,29 @@ passes text bytes start c lines after rows f t read is_lines is_cutter at pass =
       header = cut.header;
       passed = subst (λ l. HasPassed l after text bytes read.rows) is_lines there;
       before = cut.cut;
-      trace = subst IsTrace there.rows_are (early_trace (text ++ bytes) there.stands.sound);
-      split = subst (λ i. IsSplit f.cutter.line (items_as_read i read.rows) rows.stretches.items) (sym at.interface)
-          (subst (λ l. IsSplit l (items_as_read start.interface read.rows) rows.stretches.items) (sym at.machine) read.split);
+      trace = subst (AreItems f.interface) (ap (items_of f.interface) there.rows_are ∙ items_more f.interface (early_rows text) read.rows) (early_trace f.interface (text ++ bytes) there.stands.sound);
+      split = subst (λ i. IsSplit f.cutter.line (items_of i read.rows) rows.stretches.items) (sym at.interface)
+          (subst (λ l. IsSplit l (items_of start.interface read.rows) rows.stretches.items) (sym at.machine) read.split);
     }
 
 -- its rows were cut
-pub block_taken : {A : Type 0} (text bytes : List ℕ) (lines after : Progress) (rows : BlockRows A) (f next : RowCutter A) (c : TextCutter A) → (p : Passes text bytes lines after rows f) → HasCut (early_rows text ++ p.rs) next → next.interface ≡ f.interface
+pub block_taken : {A : Type 0} (text bytes : List ℕ) (lines after : Progress) (rows : BlockRows A) (f next : RowCutter A) (c : TextCutter A) → (p : Passes text bytes lines after rows f) → HasCut (items_of f.interface (early_rows text) ++ items_of f.interface p.rs) next → next.interface ≡ f.interface
     → c.lines ≡ after → c.row_cutter ≡ Some next → HasTaken (text ++ bytes) c
 block_taken text bytes lines after rows f next c p cut kept is_lines is_cutter =
     let header : c.lines.interface ≡ Some next.interface = ap (λ l. l.interface) is_lines ∙ p.passed.interface ∙ p.header ∙ ap Some (sym kept) in
-    let all : HasCut (early_rows (text ++ bytes)) next = subst (λ rs. HasCut rs next) (sym p.passed.rows_are) cut in
+    let all : HasCut (items_of next.interface (early_rows (text ++ bytes))) next =
+    subst (λ i. HasCut (items_of i (early_rows (text ++ bytes))) next) (sym kept) (subst (λ items. HasCut items next) (sym (ap (items_of f.interface) p.passed.rows_are ∙ items_more f.interface (early_rows text) p.rs)) cut) in
     record {
       reads = subst (λ l. StandsFor l (text ++ bytes)) (sym is_lines) p.passed.stands;
       cut = subst (AreCut (early_rows (text ++ bytes)) c.lines.interface) (sym is_cutter) (header, all);
     }
 
 pub block_pieces : {A : Type 0} (text bytes : List ℕ) (lines after : Progress) (rows : BlockRows A) (f : RowCutter A) (out out_after : List Piece) → (p : Passes text bytes lines after rows f)
-    → HasAppended out out_after (given_as_read f.interface (early_rows text)) (given_as_read f.interface (early_rows text ++ p.rs)) → HasAppended out out_after (known_pieces text) (known_pieces (text ++ bytes))
+    → HasAppended out out_after (given_in f.interface text) (given_of f.interface (items_of f.interface (early_rows text) ++ items_of f.interface p.rs)) → HasAppended out out_after (known_pieces text) (known_pieces (text ++ bytes))
 block_pieces text bytes lines after rows f out out_after p more =
-    appended_as out out_after (known_pieces text) (known_pieces (text ++ bytes)) (given_as_read f.interface (early_rows text)) (given_as_read f.interface (early_rows text ++ p.rs))
+    appended_as out out_after (known_pieces text) (known_pieces (text ++ bytes)) (given_in f.interface text) (given_of f.interface (items_of f.interface (early_rows text) ++ items_of f.interface p.rs))
     (known_under lines text f.interface p.reads p.header)
-    (known_under after (text ++ bytes) f.interface p.passed.stands (p.passed.interface ∙ p.header) ∙ ap (given_as_read f.interface) p.passed.rows_are) more
+    (known_under after (text ++ bytes) f.interface p.passed.stands (p.passed.interface ∙ p.header) ∙ ap (given_of f.interface) (ap (items_of f.interface) p.passed.rows_are ∙ items_more f.interface (early_rows text) p.rs)) more
 
 -- ---- a block that was read apart
 

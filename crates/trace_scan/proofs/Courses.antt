@@ -4,6 +4,7 @@ use Rattle.std.specs.Prelude.{IfOk, IfErr, IfSome}
 use Rattle.std.specs.Option.{option_map}
 use Rattle.line_model.specs.work.Book.{KnownPlan}
 use Rattle.line_model.specs.basics.Records.{Piece}
+use Rattle.line_model.specs.traces.Traces.{trace_plan}
 use Rattle.line_model.specs.text.Text.{early, fault}
 use Rattle.line_model.specs.declared.fault.Fault.{Fault}
 use Rattle.line_model.specs.declared.fault.Fault.TheVariants.{Memory, Trace, Read as ReadFailed}
@@ -17,7 +18,7 @@ use Rattle.shared_work.specs.declared.queue.rule.Record.{Record}
 use Rattle.workers.specs.Workers.{HasFed}
 use Rattle.trace_text.specs.Progress.{Progress}
 use Rattle.trace_scan.specs.TextBlocks.{StandsAt}
-use Rattle.trace_scan.specs.TextCuts.{trace_plan_as_read, HasTaken, IsPlanOf}
+use Rattle.trace_scan.specs.TextCuts.{HasTaken, IsPlanOf}
 use Rattle.trace_scan.specs.Readings.{HasJudgedNone, HasRead, IsFedTextOf, IsJudged, IsPlanBegunSo, IsReadOf, IsReadingFault, IsRefusal, IsRefusedText}
 use Rattle.trace_scan.specs.declared.feeding.Read.{Read}
 use Rattle.trace_scan.specs.declared.text_cutter.TextCutter.{TextCutter}
@@ -51,11 +52,11 @@ nothing_fed known queue pass judge sent tail c judged taken none no_ends no_piec
 
 -- ---- the plan of the text
 
-pub plan_begun : (left : Option (List ℕ)) (text : List ℕ) → BeginsSo left text → IsPlanOf (option_map trace_plan_as_read left) text
+pub plan_begun : (left : Option (List ℕ)) (text : List ℕ) → BeginsSo left text → IsPlanOf (option_map trace_plan left) text
 plan_begun None text h = tt
-plan_begun (Some all) text h = (h.0, ap trace_plan_as_read h.1)
+plan_begun (Some all) text h = (h.0, ap trace_plan h.1)
 
-pub plan_expected : (plan : KnownPlan) (known left : Option (List ℕ)) → known ≡ left → plan ≡ option_map trace_plan_as_read known → MayBeFed left (IsPlanBegunSo plan known)
+pub plan_expected : (plan : KnownPlan) (known left : Option (List ℕ)) → known ≡ left → plan ≡ option_map trace_plan known → MayBeFed left (IsPlanBegunSo plan known)
 plan_expected plan known left e planned text begins = record { planned = planned; begins = subst (λ l. BeginsSo l text) (sym e) begins }
 
 -- what is left of a text that was judged stands at its end
@@ -85,12 +86,12 @@ all_taken (Some whole) left after asked text taken judge sent tail e source judg
     begins.1 ∙ ap (λ l. taken ++ l) none ∙ append-nil taken
 
 -- the plan is that of what was taken
-pub plan_whole : (plan : KnownPlan) (known : Option (List ℕ)) (taken : List ℕ) → plan ≡ option_map trace_plan_as_read known → IfSome known (λ whole. whole ≡ taken) → IfSome plan (λ ps. ps ≡ trace_plan_as_read taken)
-plan_whole plan known taken e h = subst (λ ps. IfSome ps (λ l. l ≡ trace_plan_as_read taken)) (sym e) (at known h)
+pub plan_whole : (plan : KnownPlan) (known : Option (List ℕ)) (taken : List ℕ) → plan ≡ option_map trace_plan known → IfSome known (λ whole. whole ≡ taken) → IfSome plan (λ ps. ps ≡ trace_plan taken)
+plan_whole plan known taken e h = subst (λ ps. IfSome ps (λ l. l ≡ trace_plan taken)) (sym e) (at known h)
   where
-    at : (o : Option (List ℕ)) → IfSome o (λ whole. whole ≡ taken) → IfSome (option_map trace_plan_as_read o) (λ ps. ps ≡ trace_plan_as_read taken)
+    at : (o : Option (List ℕ)) → IfSome o (λ whole. whole ≡ taken) → IfSome (option_map trace_plan o) (λ ps. ps ≡ trace_plan taken)
     at None h = tt
-    at (Some whole) h = ap trace_plan_as_read h
+    at (Some whole) h = ap trace_plan h
 
 -- the text that a source told is what was taken
 pub told_taken : (known left after asked : Option (List ℕ)) (text taken all : List ℕ) → known ≡ left → IsAllGiven left after asked text → IfSome known (λ whole. whole ≡ taken) → left ≡ Some all → taken ≡ text

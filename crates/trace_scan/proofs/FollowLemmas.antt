@@ -61,10 +61,11 @@ follow_refusal given bytes rest (Trace line kind) sound few h = (decided_before 
 follow_refusal given bytes rest Write sound few h = h
 follow_refusal given bytes rest _ sound few h = absurd h
 
-told_of : (before taken : Option (List ℕ)) (well : Type 0) (given rest : List ℕ) (f : Fault) → HasFirst before taken (found_text given) → (well → HasFindingsAtLine before taken given f) → IsToldOf before taken well given rest f
-told_of before taken well given rest (Trace line kind) first all = (first, all)
-told_of before taken well given rest Write first all = inl first
-told_of before taken well given rest _ first all = first
+told_of : (before taken : Option (List ℕ)) (well : Type 0) (given rest : List ℕ) (f : Fault) → IsReportFault f → HasFirst before taken (found_text given) → (well → HasFindingsAtLine before taken given f) → IsToldOf before taken well given rest f
+told_of before taken well given rest (Trace line kind) kinds first all = (first, all)
+told_of before taken well given rest Read kinds first all = absurd kinds
+told_of before taken well given rest Write kinds first all = inl first
+told_of before taken well given rest _ kinds first all = first
 
 -- all of some bytes are a first part of them
 all_first : (before taken : Option (List ℕ)) (bytes : List ℕ) → taken ≡ with_more before bytes → HasFirst before taken bytes
@@ -80,7 +81,7 @@ record Stop (before taken : Option (List ℕ)) (well : Type 0) (given : List ℕ
   pub told : (rest : List ℕ) → IsToldOf before taken well given rest f
 
 stop_failed : (before taken : Option (List ℕ)) (well : Type 0) (given : List ℕ) → early given ≡ None → HasFindings before taken given → Stop before taken well given Read
-stop_failed before taken well given sound told = record { refusal = λ rest. sound; told = λ rest. all_first before taken (found_text given) told }
+stop_failed before taken well given sound told = record { refusal = λ rest. sound; told = λ rest. told }
 
 stop_is : {A C : Type 0} (m : Machine C A) (before taken : Option (List ℕ)) (x z : ℕ) (g : Follower A C) (fed last : List ℕ) (f : Fault) → early fed ≡ None → length last ≤ 2 ^ 16 → IsFollowStop m before taken x z g fed last f → Stop before taken (z ≡ x) (fed ++ last) f
 stop_is m before taken x z g fed last f sound few (inl why) =
@@ -88,7 +89,7 @@ stop_is m before taken x z g fed last f sound few (inl why) =
     (subst (λ xs. Stop before taken (z ≡ x) (fed ++ xs) Read) (sym why.none) (subst (λ xs. Stop before taken (z ≡ x) xs Read) (sym (append-nil fed)) (stop_failed before taken (z ≡ x) fed sound why.stands.told)))
 stop_is m before taken x z g fed last f sound few (inr why) = record {
   refusal = λ rest. follow_refusal fed last rest f sound few why.refusal;
-  told = λ rest. told_of before taken (z ≡ x) (fed ++ last) rest f why.first why.at_line;
+  told = λ rest. told_of before taken (z ≡ x) (fed ++ last) rest f why.kinds why.first why.at_line;
 }
 
 pub stop_kinds : {A C : Type 0} (m : Machine C A) (before taken : Option (List ℕ)) (x z : ℕ) (g : Follower A C) (fed last : List ℕ) (f : Fault) → IsFollowStop m before taken x z g fed last f → IsScanFault f

@@ -1,10 +1,4 @@
-mod Fronts
-mod HeardAlike
-mod StepsAlike
-mod ReadAlike
-mod ReadRows
 pub mod Rows
-pub mod ItemsCut
 pub mod BlockReads
 pub mod BlockTakes
 pub mod InterfaceLemmas

@@ -1,17 +1,18 @@
 -- The parts of a text that are taken in order.
-use Rattle.std.proofs.Common.{◌≡◌, ◌∙◌, sym, ap, subst, refl, ℕ, ◌+◌, ◌-◌, List, [], ◌++◌, length, take, Option, Some, None, append-nil, append_assoc, length-append, arith}
+use Rattle.std.proofs.Common.{◌≡◌, ◌∙◌, sym, ap, subst, refl, ℕ, ◌+◌, ◌-◌, List, ◌++◌, length, take, Option, Some, None, append_assoc, length-append, arith}
 use Rattle.std.proofs.Math.Seq.{take-append_seam}
 use Rattle.std.specs.Prelude.{IfSome}
 use Rattle.std.specs.Option.{option_map}
 use Rattle.line_model.specs.work.Book.{KnownPlan}
 use Rattle.line_model.specs.basics.Records.{Piece}
+use Rattle.line_model.specs.traces.Traces.{trace_plan}
 use Rattle.trace_text.specs.Progress.{Progress, bytes_fed}
 use Rattle.trace_text.specs.FedBytes.{fed_length}
 use Rattle.trace_text.specs.Sources.{BeginsSo}
 use Rattle.shared_work.specs.queue.Passes.{PassView, QueueId}
 use Rattle.workers.specs.Workers.{HasFed}
 use Rattle.trace_scan.specs.TextBlocks.{StandsAt}
-use Rattle.trace_scan.specs.TextCuts.{HasTaken, IsPlanOf, known_pieces, trace_plan_as_read}
+use Rattle.trace_scan.specs.TextCuts.{HasTaken, IsPlanOf, known_pieces}
 use Rattle.trace_text.specs.StandsFor.{StandsFor}
 use Rattle.trace_scan.specs.Readings.{HasFedOn, IsFedSoFar, IsJudged}
 use Rattle.trace_scan.specs.declared.text_cutter.TextCutter.{TextCutter}
@@ -29,7 +30,7 @@ begins_more (Some whole) taken bytes place begins at s =
     (s.rest, s.is ∙ ap (λ xs. (xs ++ bytes) ++ s.rest) (same_front s.before taken (bytes ++ s.rest) begins.0 whole_is (s.place_is ∙ at)))
 
 -- the plan of a text that begins so
-pub planned_so : (plan : KnownPlan) (known : Option (List ℕ)) (text : List ℕ) → plan ≡ option_map trace_plan_as_read known → BeginsSo known text → IsPlanOf plan text
+pub planned_so : (plan : KnownPlan) (known : Option (List ℕ)) (text : List ℕ) → plan ≡ option_map trace_plan known → BeginsSo known text → IsPlanOf plan text
 planned_so plan known text e begins = subst (λ ps. IsPlanOf ps text) (sym e) (plan_begun known text begins)
 
 -- how many bytes were taken

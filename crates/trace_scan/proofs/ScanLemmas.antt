@@ -5,20 +5,21 @@ use Rattle.line_model.specs.text.Text.{early, fault, head, rows}
 use Rattle.line_model.specs.traces.Traces.{trace_report}
 use Rattle.line_model.specs.basics.Records.{Report}
 use Rattle.line_model.specs.observer.Report.{report_of}
+use Rattle.line_model.specs.packets.Says.{items_of}
 use Rattle.line_model.specs.declared.interface.Interface.{Interface}
 use Rattle.line_model.specs.declared.totals.Summary.{Summary}
 use Rattle.line_model.specs.declared.fault.Fault.{Fault}
 use Rattle.line_model.specs.declared.fault.Fault.TheVariants.{Memory, Trace, Read, Write}
 use Rattle.live_report.specs.Reports.{IsRefusal as IsReportRefusal, IsReportFault, IsReported, IsTaken}
 use Rattle.trace_text.specs.ObserverAnswers.{IsReportOf}
-use Rattle.trace_text.specs.Sources.{HasFailed, IsFedAll, IsFedUpTo, IsRefusedBy}
+use Rattle.trace_text.specs.Sources.{HasFailed, IsFedAll, IsRefusedBy}
 use Rattle.trace_text.specs.StandsFor.{IsFaultOf, IsTextFault}
 use Rattle.trace_text.proofs.DecidedLemmas.{all_sound}
 use Rattle.live_report.proofs.LawLemmas.{no_fault_so_far}
 use Rattle.trace_scan.specs.Readings.{IsRefusal}
 use Rattle.trace_scan.specs.Scan.{IsPartTaken, IsScanFault}
 
-pub report_is : (text : List ℕ) (i : Interface) (made : Report) → fault text ≡ None → head text ≡ Some i → made ≡ report_of i (rows text) → IsReportOf text made
+pub report_is : (text : List ℕ) (i : Interface) (made : Report) → fault text ≡ None → head text ≡ Some i → made ≡ report_of i (items_of i (rows text)) → IsReportOf text made
 report_is text i made sound h is = record { sound = sound; interface = i; header = h; report = is }
 
 -- ---- where the whole text was read

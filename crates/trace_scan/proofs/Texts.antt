@@ -8,50 +8,52 @@ use Rattle.line_model.specs.declared.fault.Fault.TheVariants.{Memory}
 use Rattle.line_model.specs.work.Book.{KnownPlan}
 use Rattle.line_model.specs.pieces.Plans.{plan, line_findings}
 use Rattle.line_model.specs.basics.Records.{Row, Piece}
+use Rattle.line_model.specs.packets.Says.{items_of}
+use Rattle.line_model.specs.traces.Traces.{trace_plan}
+use Rattle.line_model.proofs.Saying.{items_more}
 use Rattle.line_model.specs.text.Text.{early, early_head, early_rows, fault, head, rows}
+use Rattle.restart_epochs.specs.Cutting.{given_of}
 use Rattle.restart_epochs.proofs.Heads.{given_first}
-use Rattle.trace_scan.specs.Unread.{all_as_read}
-use Rattle.trace_scan.proofs.ReadAlike.{more_read}
 use Rattle.trace_text.specs.StandsFor.{IsFaultOf}
 use Rattle.trace_text.proofs.Grows.{head_stays, rows_first}
 use Rattle.workers.specs.Workers.{ArePlanned}
-use Rattle.trace_scan.specs.TextCuts.{trace_plan_as_read, given_as_read, IsPlanOf, known_of, known_pieces}
+use Rattle.trace_scan.specs.TextCuts.{IsPlanOf, known_of, known_pieces}
 use Rattle.trace_scan.specs.Readings.{IsCutOf, IsReadOf}
 use Rattle.trace_scan.specs.declared.feeding.Read.{Read}
 use Rattle.trace_scan.proofs.Nexts.{given_next}
 
-pub plan_of_head : (text : List ℕ) (i : Interface) → head text ≡ Some i → trace_plan_as_read text ≡ plan i (all_as_read i (rows text))
-plan_of_head text i h = ap (λ (o : Option Interface). elim o as (λ _. List Piece) [ None ↦ [] | Some j ↦ plan j (all_as_read j (rows text)) ]) h
+pub plan_of_head : (text : List ℕ) (i : Interface) → head text ≡ Some i → trace_plan text ≡ plan i (items_of i (rows text))
+plan_of_head text i h = ap (λ (o : Option Interface). elim o as (λ _. List Piece) [ None ↦ [] | Some j ↦ plan j (items_of j (rows text)) ]) h
 
 stands_first : (known : KnownPlan) (i : Interface) (given : List ℕ) (rs : List Row) → early given ≡ None → early_head given ≡ Some i → early_rows given ≡ rs → IsPlanOf known given
-    → IfSome known (λ ps. (rest : List Piece) × (given_as_read i rs ++ rest ≡ ps))
+    → IfSome known (λ ps. (rest : List Piece) × (given_of i (items_of i rs) ++ rest ≡ ps))
 stands_first None i given rs sound e same h = tt
 stands_first (Some ps) i given rs sound e same h =
     let all = rows_first given h.0 sound in
-    let first = given_first i (all_as_read i rs) (all_as_read i all.0) in
-    (first.0, first.1 ∙ ap (plan i) (sym (more_read i rs all.0)) ∙ ap (λ l. plan i (all_as_read i (l ++ all.0))) (sym same) ∙ ap (λ l. plan i (all_as_read i l)) (sym all.1) ∙ sym (plan_of_head (given ++ h.0) i (head_stays given h.0 i sound e)) ∙ sym h.1)
+    let first = given_first i (items_of i rs) (items_of i all.0) in
+    (first.0, first.1 ∙ ap (plan i) (sym (items_more i rs all.0)) ∙ ap (λ l. plan i (items_of i (l ++ all.0))) (sym same) ∙ ap (λ l. plan i (items_of i l)) (sym all.1) ∙ sym (plan_of_head (given ++ h.0) i (head_stays given h.0 i sound e)) ∙ sym h.1)
 
-ends_with : (known : KnownPlan) (i : Interface) (text : List ℕ) (rs : List Row) → head text ≡ Some i → rows text ≡ rs → IfSome known (λ ps. ps ≡ trace_plan_as_read text) → IfSome known (λ ps. (rest : List Piece) × (given_as_read i rs ++ rest ≡ ps))
+ends_with : (known : KnownPlan) (i : Interface) (text : List ℕ) (rs : List Row) → head text ≡ Some i → rows text ≡ rs → IfSome known (λ ps. ps ≡ trace_plan text) → IfSome known (λ ps. (rest : List Piece) × (given_of i (items_of i rs) ++ rest ≡ ps))
 ends_with None i text rs e same h = tt
 ends_with (Some ps) i text rs e same h =
-    let first = given_first i (all_as_read i rs) [] in
-    (first.0, first.1 ∙ ap (plan i) (append-nil (all_as_read i rs)) ∙ ap (λ l. plan i (all_as_read i l)) (sym same) ∙ sym (plan_of_head text i e) ∙ sym h)
+    let first = given_first i (items_of i rs) [] in
+    (first.0, first.1 ∙ ap (plan i) (append-nil (items_of i rs)) ∙ ap (λ l. plan i (items_of i l)) (sym same) ∙ sym (plan_of_head text i e) ∙ sym h)
 
-pub plan_is : (known : KnownPlan) (text : List ℕ) (i j : Interface) (rs : List Row) → head text ≡ Some i → j ≡ i → rows text ≡ rs → IfSome known (λ ps. ps ≡ trace_plan_as_read text) → IfSome known (λ ps. ps ≡ plan j (all_as_read j rs))
-plan_is None text i j rs e same told h = tt
-plan_is (Some ps) text i j rs e same told h = h ∙ plan_of_head text i e ∙ (λ k. plan (sym same k) (all_as_read (sym same k) (told k)))
+pub plan_is : (known : KnownPlan) (text : List ℕ) (i j : Interface) (rs : List Row) → head text ≡ Some i → j ≡ i → rows text ≡ rs → IfSome known (λ ps. ps ≡ trace_plan text) → IfSome known (λ ps. ps ≡ plan j (items_of j rs))
+plan_is None text i j rs e same is h = tt
+plan_is (Some ps) text i j rs e same is h = h ∙ plan_of_head text i e ∙ (λ k. plan (sym same k) (items_of (sym same k) (is k)))
 
-pub read_of : {A : Type 0} (text : List ℕ) (i j : Interface) (rs : List Row) (fed : List Piece) (r : Read A) → fault text ≡ None → head text ≡ Some i → j ≡ i → rows text ≡ rs → IsCutOf j rs fed r → IsReadOf text fed r
-read_of text i j rs fed r sound e same told cut =
+pub read_of : {A : Type 0} (text : List ℕ) (i j : Interface) (rs : List Row) (fed : List Piece) (r : Read A) → fault text ≡ None → head text ≡ Some i → j ≡ i → rows text ≡ rs → IsCutOf j (items_of j rs) fed r → IsReadOf text fed r
+read_of text i j rs fed r sound e same is cut =
     let here : j ≡ r.interface = sym cut.interface in
     record {
       sound = sound;
       header = e ∙ ap Some (sym same ∙ here);
       cut = record {
         interface = refl;
-        all = cut.all ∙ (λ k. plan (here k) (all_as_read (here k) (sym told k)));
-        interface_findings = cut.interface_findings ∙ (λ k. line_findings (here k) (sym told k));
-        packets = cut.packets ∙ ap (λ (l : List Row). length l) (sym told);
+        all = cut.all ∙ (λ k. plan (here k) (items_of (here k) (sym is k)));
+        interface_findings = cut.interface_findings ∙ (λ k. line_findings (here k) (items_of (here k) (sym is k)));
+        packets = cut.packets ∙ (λ k. length (items_of (here k) (sym is k)));
         pieces = cut.pieces;
       };
     }
@@ -74,10 +76,10 @@ pub part_next : (known : KnownPlan) (text part : List ℕ) (pieces : List Piece)
 part_next known text part pieces n sound count more planned = at (early_head (text ++ part)) refl
   where
     at : (o : Option Interface) → early_head (text ++ part) ≡ o → ArePlanned known n pieces
-    at None h = none_next known pieces n (nothing_more (known_pieces text) pieces (sym more ∙ ap (λ o. known_of o (early_rows (text ++ part))) h))
-    at (Some i) h = given_next known i (early_rows (text ++ part)) (known_pieces text) pieces n count (sym more ∙ ap (λ o. known_of o (early_rows (text ++ part))) h)
+    at None h = none_next known pieces n (nothing_more (known_pieces text) pieces (sym more ∙ ap (λ o. known_of o (text ++ part)) h))
+    at (Some i) h = given_next known i (items_of i (early_rows (text ++ part))) (known_pieces text) pieces n count (sym more ∙ ap (λ o. known_of o (text ++ part)) h)
         (stands_first known i (text ++ part) (early_rows (text ++ part)) sound h refl planned)
 
 -- those that are known whole with the last line
-pub line_next : (known : KnownPlan) (text : List ℕ) (i : Interface) (pieces : List Piece) (n : ℕ) → head text ≡ Some i → n ≡ length (known_pieces text) → given_as_read i (rows text) ≡ known_pieces text ++ pieces → IfSome known (λ ps. ps ≡ trace_plan_as_read text) → ArePlanned known n pieces
-line_next known text i pieces n header count more planned = given_next known i (rows text) (known_pieces text) pieces n count (sym more) (ends_with known i text (rows text) header refl planned)
+pub line_next : (known : KnownPlan) (text : List ℕ) (i : Interface) (pieces : List Piece) (n : ℕ) → head text ≡ Some i → n ≡ length (known_pieces text) → given_of i (items_of i (rows text)) ≡ known_pieces text ++ pieces → IfSome known (λ ps. ps ≡ trace_plan text) → ArePlanned known n pieces
+line_next known text i pieces n header count more planned = given_next known i (items_of i (rows text)) (known_pieces text) pieces n count (sym more) (ends_with known i text (rows text) header refl planned)

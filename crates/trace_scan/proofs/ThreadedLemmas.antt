@@ -1,6 +1,7 @@
 -- Where reading and working stop, and what the workers' reports are.
-use Rattle.std.proofs.Common.{◌≡◌, ◌∙◌, sym, ap, subst, refl, ℕ, true, List, [], map, length, take, Option, Some, None, Result, Ok, Err, ◌⊎◌, inl, inr}
-use Rattle.std.specs.Prelude.{All, IfErr, IfOk, IfSome, MatchResult, is_some, is_ok, slice_get}
+use Rattle.std.proofs.Common.{◌≡◌, ◌∙◌, sym, ap, subst, refl, ℕ, true, List, [], ◌∷◌, length, take, Option, Some, None, Result, Ok, Err, ◌⊎◌, inl, inr}
+use Rattle.std.specs.Prelude.{IfErr, IfOk, IfSome, MatchResult, is_some, is_ok}
+use Rattle.std.specs.List.Sorted.{IsStrictlyIncreasing}
 use Rattle.line_model.specs.declared.fault.Fault.{Fault}
 use Rattle.line_model.specs.declared.fault.Fault.TheVariants.{Memory, Trace, Read as ReadFailed, Write, Start}
 use Rattle.trace_scan.specs.declared.feeding.Read.{Read}
@@ -10,12 +11,13 @@ use Rattle.trace_scan.specs.Scan.{IsPartTaken}
 use Rattle.trace_scan.specs.declared.threaded.ScanParts.{ScanParts}
 use Rattle.trace_scan.specs.Threaded.{AreScanParts, IsStopFault, IsStopped, IsWorkedFault}
 use Rattle.line_model.specs.declared.totals.Totals.{Totals}
-use Rattle.line_model.specs.declared.interface.Interface.{Interface}
-use Rattle.line_model.specs.basics.Records.{Row, Piece, PieceReport}
+use Rattle.line_model.specs.basics.Records.{Item, Piece}
+use Rattle.line_model.specs.packets.Says.{items_of}
+use Rattle.line_model.proofs.Saying.{all_said, said_numbers}
 use Rattle.line_model.specs.basics.Device.{with_more}
 use Rattle.line_model.specs.text.Text.{fault, rows}
 use Rattle.line_model.specs.traces.Traces.{trace_report}
-use Rattle.line_model.specs.pieces.Plans.{plan, channel_totals, value}
+use Rattle.line_model.specs.pieces.Plans.{plan, channel_totals}
 use Rattle.line_model.specs.work.Book.{KnownPlan, AreOf}
 use Rattle.line_model.proofs.Posts.{whole}
 use Rattle.line_model.proofs.TextLemmas.{early-nothing}
@@ -28,9 +30,6 @@ use Rattle.workers.specs.declared.gathering.Gathered.{Gathered}
 use Rattle.workers.specs.Gathers.{IsWhole}
 use Rattle.trace_scan.specs.Readings.{IsReadOf}
 use Rattle.trace_scan.specs.Threaded.{trace_totals}
-use Rattle.trace_scan.specs.Unread.{all_as_read}
-use Rattle.trace_scan.proofs.ReadAlike.{plan_read}
-use Rattle.std.proofs.lemmas.List.{length-map}
 use Rattle.trace_scan.proofs.ScanLemmas.{memory_refused}
 
 -- ---- which faults there are
@@ -119,28 +118,27 @@ parts_are (Ok t) o g known workers before after asked failed fed both h m =
     let read = subst (λ p. IsOutcome before after asked failed fed p) both.0 h in
     record { fed = fed; whole = subst (λ q. MatchResult q (IsWhole known workers fed) (λ f. f ≡ Memory)) both.1 m; told = λ text told. read.told text told; of_text = read.of_text }
 
--- the values of pieces that were fed are those of the plan
-of_plan : (i : Interface) (rs : List Row) (fed : List Piece) (reports : List PieceReport) → fed ≡ plan i (all_as_read i rs) → AreOf (Some fed) reports → AreOf (Some (plan i rs)) reports
-of_plan i rs fed reports e h = record { distinct = h.distinct; values = subst (λ vs. All (λ r. slice_get vs r.id ≡ Some r) reports) (ap (λ ps. map value ps) e ∙ plan_read i rs) h.values }
-
--- as many pieces were fed
-as_many : (i : Interface) (rs : List Row) (fed : List Piece) → fed ≡ plan i (all_as_read i rs) → length fed ≡ length (plan i rs)
-as_many i rs fed e = sym (length-map fed value) ∙ ap (λ (l : List PieceReport). length l) (ap (λ ps. map value ps) e ∙ plan_read i rs) ∙ length-map (plan i rs) value
-
--- the reports are those of the walk over the rows of the text that was read
+-- the pieces that were fed are those of the plan, so the reports are those of the walk over what the rows of the text say
 pub of_walk : {A : Type 0} (known : KnownPlan) (workers : ℕ) (text : List ℕ) (fed : List Piece) (read : Read A) (g : Gathered A)
-    → IsReadOf text fed read → IsWhole known workers fed g → IsOfWalk read.interface (rows text) g.reports.items read.interface_findings.items read.packets read.pieces
-of_walk known workers text fed read g r w = record {
-  rising = text_rises text r.sound;
-  values = permuted_posts (plan read.interface (rows text)) g.reports.items (of_plan read.interface (rows text) fed g.reports.items r.cut.all w.of_fed) (w.number ∙ as_many read.interface (rows text) fed r.cut.all);
-  line_is = r.cut.interface_findings;
-  packets_are = r.cut.packets;
-  pieces_are = r.cut.pieces ∙ as_many read.interface (rows text) fed r.cut.all;
-}
+    → IsReadOf text fed read → IsWhole known workers fed g → IsOfWalk read.interface (items_of read.interface (rows text)) g.reports.items read.interface_findings.items read.packets read.pieces
+of_walk known workers text fed read g r w =
+    let items : List Item = items_of read.interface (rows text) in
+    let of_fed : AreOf (Some (plan read.interface items)) g.reports.items = subst (λ ps. AreOf (Some ps) g.reports.items) r.cut.all w.of_fed in
+    let count : length fed ≡ length (plan read.interface items) = ap (λ (ps : List Piece). length ps) r.cut.all in
+    record {
+      said = all_said read.interface (rows text);
+      rising = subst (λ ns. IsStrictlyIncreasing (0 ∷ ns)) (sym (said_numbers read.interface (rows text))) (text_rises text r.sound);
+      values = permuted_posts (plan read.interface items) g.reports.items of_fed (w.number ∙ count);
+      line_is = r.cut.interface_findings;
+      packets_are = r.cut.packets;
+      pieces_are = r.cut.pieces ∙ count;
+    }
 
 pub totals_are : {A : Type 0} (known : KnownPlan) (workers : ℕ) (text : List ℕ) (fed : List Piece) (read : Read A) (g : Gathered A) → IsReadOf text fed read → IsWhole known workers fed g → g.totals ≡ trace_totals text
 totals_are known workers text fed read g r w =
+    let items : List Item = items_of read.interface (rows text) in
+    let of_fed : AreOf (Some (plan read.interface items)) g.reports.items = subst (λ ps. AreOf (Some ps) g.reports.items) r.cut.all w.of_fed in
     w.sums
-    ∙ whole (plan read.interface (rows text)) g.reports.items (of_plan read.interface (rows text) fed g.reports.items r.cut.all w.of_fed) (w.number ∙ as_many read.interface (rows text) fed r.cut.all)
-    ∙ totals_law read.interface (rows text)
-    ∙ sym (ap (λ o. elim o as (λ _. Totals) [ None ↦ record { posts = 0; findings = 0; octets = 0; segments = 0 } | Some i ↦ channel_totals i (rows text) ]) r.header)
+    ∙ whole (plan read.interface items) g.reports.items of_fed (w.number ∙ ap (λ (ps : List Piece). length ps) r.cut.all)
+    ∙ totals_law read.interface items (all_said read.interface (rows text))
+    ∙ sym (ap (λ o. elim o as (λ _. Totals) [ None ↦ record { posts = 0; findings = 0; octets = 0; segments = 0 } | Some i ↦ channel_totals i (items_of i (rows text)) ]) r.header)

@@ -1,5 +1,5 @@
 -- What one more row does to the observer of a header, and what it counts.
-use Rattle.std.proofs.Common.{◌≡◌, ◌≢◌, ◌∙◌, sym, ap, subst, refl, ℕ, ◌+◌, ◌-◌, ◌≤◌, ◌&&◌, Bool, true, false, not, cond, List, [], ◌∷◌, ◌++◌, map, length, sum, Option, Some, None, arith, append-nil, append_assoc, length-append, length-drop, sum_by}
+use Rattle.std.proofs.Common.{◌≡◌, ◌≢◌, ◌∙◌, sym, ap, subst, refl, ℕ, ◌+◌, ◌≤◌, ◌&&◌, Bool, true, false, not, cond, List, [], ◌∷◌, ◌++◌, map, length, sum, Option, Some, None, arith, append-nil, append_assoc, length-append, sum_by}
 use Rattle.std.specs.List.{filter_map, flat_map}
 use Rattle.std.specs.Option.{option_to_list}
 use Rattle.std.specs.Prelude.{IfSome}
@@ -11,24 +11,23 @@ use Rattle.line_model.specs.declared.event.Event.{Event}
 use Rattle.line_model.specs.declared.finding.Finding.{Finding}
 use Rattle.line_model.specs.declared.route.Route.{Route}
 use Rattle.line_model.specs.declared.route.Route.TheVariants.{ToChannel, Leave, Enter, Found, Pass}
-use Rattle.line_model.specs.basics.Octets.{channel_of}
-use Rattle.line_model.specs.basics.Records.{Row, Item}
+use Rattle.line_model.specs.basics.Records.{Item}
 use Rattle.line_model.specs.channels.Channels.{Channel, fresh, is_open}
-use Rattle.line_model.specs.channels.RestartMachine.{LineState, line_step}
+use Rattle.line_model.specs.channels.RestartMachine.{LineState}
 use Rattle.line_model.specs.observer.Machine.{Observer, after, after_routed, line_moved, routed, walk}
 use Rattle.line_model.specs.observer.MachineEvents.{stamp, closed_events, row_events as all_row_events, row_events_routed, walk_events}
 use Rattle.line_model.specs.observer.Observer.{x25, start, routing, is_ready, route_found, restart_end_if, restart_end, event_of, events}
 use Rattle.line_model.specs.observer.Report.{findings_of, report_of}
-use Rattle.line_model.specs.packets.Classes.{header_length, packet_of}
-use Rattle.line_model.proofs.PacketClass.{class_is}
+use Rattle.line_model.specs.packets.Classes.{packet_class}
+use Rattle.line_model.specs.packets.Says.{packet_channel}
 use Rattle.channel_run.specs.Run.{row_events}
 use Rattle.live_report.specs.Uncounted.{LeftOut, counts_data, has_finding, is_data, left_out, left_out_at, left_out_by, reason_by, reason_of_state, user_octets}
 use Rattle.live_report.specs.declared.uncounted.Reason.{Reason}
 use Rattle.live_report.specs.declared.uncounted.Reason.TheVariants.{Finding as Finds, Restart as Restarts}
 use Rattle.restart_epochs.specs.Cutting.{observer}
 use Rattle.restart_epochs.specs.declared.walk.Turn.TheVariants.{ToChannel as GoesToChannel}
-use Rattle.line_model.specs.basics.Bounds.{IsItem}
-use Rattle.restart_epochs.specs.Walks.{channel_in, epoch_after, route_finding, routed_at, turn_of, IsStep}
+use Rattle.line_model.specs.basics.Bounds.{IsItem, IsSaid}
+use Rattle.restart_epochs.specs.Walks.{channel_in, epoch_after, route_finding, turn_of, IsStep}
 use Rattle.restart_epochs.specs.declared.walk.Step.{Step}
 use Rattle.restart_epochs.specs.declared.walk.Turn.{Turn}
 use Rattle.restart_epochs.proofs.Epochs.{observer_more}
@@ -41,16 +40,16 @@ use Rattle.trace_scan.specs.Tried.{events_after, states_after, uncounted_in}
 -- ---- the events of one more row
 
 -- the events that the walk over some rows has of the next one
-abbrev pub told_of : Interface → List Row → Row → List Event
-told_of i rs r = map event_of (all_row_events (x25 i) (observer i rs) r)
+abbrev pub events_at : Interface → List Item → Item → List Event
+events_at i rs r = map event_of (all_row_events (x25 i) (observer i rs) r)
 
-events_more : (i : Interface) (rs : List Row) (r : Row) → events i (rs ++ r ∷ []) ≡ events i rs ++ told_of i rs r
+events_more : (i : Interface) (rs : List Item) (r : Item) → events i (rs ++ r ∷ []) ≡ events i rs ++ events_at i rs r
 events_more i rs r =
     ap (map event_of) (events_append (x25 i) (start i) rs (r ∷ []))
     ∙ map-append event_of (walk_events (x25 i) (start i) rs) (all_row_events (x25 i) (observer i rs) r ++ [])
     ∙ ap (λ l. events i rs ++ map event_of l) (append-nil (all_row_events (x25 i) (observer i rs) r))
 
-left_from : (i : Interface) (o : Observer LineState Channel) (rs : List Row) (r : Row) → left_out i o (rs ++ r ∷ []) ≡ left_out i o rs ++ left_out_at i (walk (x25 i) o rs) r
+left_from : (i : Interface) (o : Observer LineState Channel) (rs : List Item) (r : Item) → left_out i o (rs ++ r ∷ []) ≡ left_out i o rs ++ left_out_at i (walk (x25 i) o rs) r
 left_from i o [] r = append-nil (left_out_at i o r)
 left_from i o (x ∷ rs) r =
     ap (λ ds. left_out_at i o x ++ ds) (left_from i (after (x25 i) o x) rs r)
@@ -70,25 +69,25 @@ left_if true false true why n = record { packets = refl; octets = refl }
 left_if true false false why n = record { packets = refl; octets = refl }
 
 -- where a logical channel takes the row
-left_on : (i : Interface) (o : Observer LineState Channel) (r : Row) (k : ℕ) → routed (x25 i) o.line r ≡ Some k → IsLeft (left_out_at i o r) (uncounted_in i r (row_events i o.epoch k (o.states k) r))
+left_on : (i : Interface) (o : Observer LineState Channel) (r : Item) (k : ℕ) → routed (x25 i) o.line r ≡ Some k → IsLeft (left_out_at i o r) (uncounted_in i r (row_events i o.epoch k (o.states k) r))
 left_on i o r k to =
     let es : List Event = row_events i o.epoch k (o.states k) r in
-    subst (λ q. IsLeft (left_out_by (cond (is_data (packet_of i r.octets)) (reason_by i q o r) None) (user_octets i r.octets)) (uncounted_in i r es)) (sym to)
-    (left_if (is_data (packet_of i r.octets)) (counts_data es) (has_finding es) (reason_of_state (o.states k).state (o.states k).owed) (user_octets i r.octets))
+    subst (λ q. IsLeft (left_out_by (cond (is_data r.packet) (reason_by i q o r) None) (user_octets i r.length)) (uncounted_in i r es)) (sym to)
+    (left_if (is_data r.packet) (counts_data es) (has_finding es) (reason_of_state (o.states k).state (o.states k).owed) (user_octets i r.length))
 
 left_in_restart : (b : Bool) (n : ℕ) → IsLeft (left_out_by (cond b (Some Restarts) None) n) (cond (b && true) (n ∷ []) [])
 left_in_restart true n = record { packets = refl; octets = refl }
 left_in_restart false n = record { packets = refl; octets = refl }
 
 -- where none takes it
-left_untaken : (i : Interface) (o : Observer LineState Channel) (r : Row) → routed (x25 i) o.line r ≡ None → IsLeft (left_out_at i o r) (uncounted_in i r [])
+left_untaken : (i : Interface) (o : Observer LineState Channel) (r : Item) → routed (x25 i) o.line r ≡ None → IsLeft (left_out_at i o r) (uncounted_in i r [])
 left_untaken i o r to =
-    subst (λ q. IsLeft (left_out_by (cond (is_data (packet_of i r.octets)) (reason_by i q o r) None) (user_octets i r.octets)) (uncounted_in i r [])) (sym to)
-    (left_in_restart (is_data (packet_of i r.octets)) (user_octets i r.octets))
+    subst (λ q. IsLeft (left_out_by (cond (is_data r.packet) (reason_by i q o r) None) (user_octets i r.length)) (uncounted_in i r [])) (sym to)
+    (left_in_restart (is_data r.packet) (user_octets i r.length))
 
 -- ---- the end of calls, where r1 is left, is no finding
 
-ends_none : {X : Type 0} → (f : Event → Option X) → ((e k : ℕ) (r : Row) (b : Bool) → filter_map f (map event_of (stamp e (Some k) r (restart_end_if b))) ≡ []) → (o : Observer LineState Channel) (r : Row) (ks : List ℕ)
+ends_none : {X : Type 0} → (f : Event → Option X) → ((e k : ℕ) (r : Item) (b : Bool) → filter_map f (map event_of (stamp e (Some k) r (restart_end_if b))) ≡ []) → (o : Observer LineState Channel) (r : Item) (ks : List ℕ)
     → filter_map f (map event_of (flat_map (λ k. stamp o.epoch (Some k) r (restart_end (o.states k))) ks)) ≡ []
 ends_none f none o r [] = refl
 ends_none f none o r (k ∷ ks) =
@@ -99,77 +98,64 @@ ends_none f none o r (k ∷ ks) =
     ∙ ap (λ l. l ++ filter_map f (map event_of rest)) (none o.epoch k r (is_open (o.states k)))
     ∙ ends_none f none o r ks
 
-closed_none : {X : Type 0} → (f : Event → Option X) → ((e k : ℕ) (r : Row) (b : Bool) → filter_map f (map event_of (stamp e (Some k) r (restart_end_if b))) ≡ []) → (i : Interface) (o : Observer LineState Channel) (r : Row) (b a : Bool)
+closed_none : {X : Type 0} → (f : Event → Option X) → ((e k : ℕ) (r : Item) (b : Bool) → filter_map f (map event_of (stamp e (Some k) r (restart_end_if b))) ≡ []) → (i : Interface) (o : Observer LineState Channel) (r : Item) (b a : Bool)
     → filter_map f (map event_of (closed_events (x25 i) o r b a)) ≡ []
 closed_none f none i o r true false = ends_none f none o r (x25 i).channels
 closed_none f none i o r true true = refl
 closed_none f none i o r false a = refl
 
-end_found : (e k : ℕ) (r : Row) (b : Bool) → findings_of (map event_of (stamp e (Some k) r (restart_end_if b))) ≡ []
+end_found : (e k : ℕ) (r : Item) (b : Bool) → findings_of (map event_of (stamp e (Some k) r (restart_end_if b))) ≡ []
 end_found e k r true = refl
 end_found e k r false = refl
 
 -- ---- by the step of a row
 
--- the restart machine on the next row of a walk
-pub routed_by : (i : Interface) (rs : List Row) (item : Item) (line : LineState) → line ≡ (observer i rs).line → item.packet ≡ packet_of i item.row.octets → routed_at line item ≡ routing i (observer i rs).line item.row
-routed_by i rs item line l p =
-    ap (λ k. line_step line item.row.side k (length item.row.octets)) (sym (class_is i item.row.octets item.packet p))
-    ∙ ap (λ x. routing i x item.row) l
-
--- what one more row leaves, and what it tells
-pub record Steps (i : Interface) (rs : List Row) (r : Row) (step : Step) : Type 0 where
+-- what one more row leaves, and its events
+pub record Steps (i : Interface) (rs : List Item) (r : Item) (step : Step) : Type 0 where
   pub line : (observer i (rs ++ r ∷ [])).line ≡ step.machine
   pub epoch : (observer i (rs ++ r ∷ [])).epoch ≡ step.epoch
   pub states : step.epoch ≡ (observer i rs).epoch → (k : ℕ) → (observer i (rs ++ r ∷ [])).states k ≡ states_after step.turn i (observer i rs).states r k
   pub renewed : step.epoch ≢ (observer i rs).epoch → (k : ℕ) → (observer i (rs ++ r ∷ [])).states k ≡ fresh i step.epoch k
   pub next : step.epoch ≤ (observer i rs).epoch + 1
-  pub found : findings_of (told_of i rs r) ≡ option_to_list step.finding ++ findings_of (events_after step.turn i (observer i rs).epoch (observer i rs).states r)
+  pub found : findings_of (events_at i rs r) ≡ option_to_list step.finding ++ findings_of (events_after step.turn i (observer i rs).epoch (observer i rs).states r)
   pub left : IsLeft (left_out_at i (observer i rs) r) (uncounted_in i r (events_after step.turn i (observer i rs).epoch (observer i rs).states r))
 
 -- a turn that goes to no channel
-abbrev IsQuietTurn : Interface → Observer LineState Channel → Row → Turn → Type 0
+abbrev IsQuietTurn : Interface → Observer LineState Channel → Item → Turn → Type 0
 IsQuietTurn i o r t = (states_after t i o.states r ≡ o.states) × (events_after t i o.epoch o.states r ≡ [])
 
 same_moved : (i : Interface) (o : Observer LineState Channel) (l : LineState) (b : Bool) → line_moved (x25 i) o l b b ≡ record { epoch = o.epoch; line = l; states = o.states }
 same_moved i o l true = refl
 same_moved i o l false = refl
 
-pub steps : (i : Interface) (rs : List Row) (item : Item) (line : LineState) (epoch : ℕ) (step : Step) → line ≡ (observer i rs).line → epoch ≡ (observer i rs).epoch → item.packet ≡ packet_of i item.row.octets → IsStep line epoch item step
-    → Steps i rs item.row step
-steps i rs item line epoch step same_line same_epoch packet is = at (routing i o.line r).route refl
+pub steps : (i : Interface) (rs : List Item) (r : Item) (line : LineState) (epoch : ℕ) (step : Step) → line ≡ (observer i rs).line → epoch ≡ (observer i rs).epoch → IsStep line epoch r step → Steps i rs r step
+steps i rs r line epoch step same_line same_epoch is = at (routing o.line r).route refl
   where
-    r : Row
-    r = item.row
-
     o : Observer LineState Channel
     o = observer i rs
 
     now : Observer LineState Channel
     now = observer i (rs ++ r ∷ [])
 
-    routed : routed_at line item ≡ routing i o.line r
-    routed = routed_by i rs item line same_line packet
+    machine : step.machine ≡ (routing o.line r).after
+    machine = is.machine ∙ ap (λ l. (routing l r).after) same_line
 
-    machine : step.machine ≡ (routing i o.line r).after
-    machine = is.machine ∙ ap (λ x. x.after) routed
+    turn : (q : Route) → (routing o.line r).route ≡ q → step.turn ≡ turn_of r.packet q
+    turn q e = is.turn ∙ ap (λ l. turn_of r.packet (routing l r).route) same_line ∙ ap (turn_of r.packet) e
 
-    turn : (q : Route) → (routing i o.line r).route ≡ q → step.turn ≡ turn_of r.octets q
-    turn q e = is.turn ∙ ap (λ x. turn_of r.octets x.route) routed ∙ ap (turn_of r.octets) e
+    epoch_is : (q : Route) → (routing o.line r).route ≡ q → step.epoch ≡ epoch_after o.epoch q
+    epoch_is q e = is.epoch ∙ ap (λ l. epoch_after epoch (routing l r).route) same_line ∙ ap (epoch_after epoch) e ∙ ap (λ n. epoch_after n q) same_epoch
 
-    epoch_is : (q : Route) → (routing i o.line r).route ≡ q → step.epoch ≡ epoch_after o.epoch q
-    epoch_is q e = is.epoch ∙ ap (λ x. epoch_after epoch x.route) routed ∙ ap (epoch_after epoch) e ∙ ap (λ n. epoch_after n q) same_epoch
+    finding : (q : Route) → (routing o.line r).route ≡ q → option_to_list step.finding ≡ route_finding r q
+    finding q e = is.finding ∙ ap (λ l. route_finding r (routing l r).route) same_line ∙ ap (route_finding r) e
 
-    finding : (q : Route) → (routing i o.line r).route ≡ q → option_to_list step.finding ≡ route_finding r q
-    finding q e = is.finding ∙ ap (λ x. route_finding r x.route) routed ∙ ap (route_finding r) e
-
-    on_its_channel : (routing i o.line r).route ≡ ToChannel → Steps i rs r step
+    on_its_channel : (routing o.line r).route ≡ ToChannel → Steps i rs r step
     on_its_channel e =
-        let to : is_to_channel (routing i o.line r).route ≡ true = ap is_to_channel e in
+        let to : is_to_channel (routing o.line r).route ≡ true = ap is_to_channel e in
         let on = on_channel i rs r to in
         let goes = routed_to i o.line r to in
         let moved = observer_more i rs r ∙ ap (after_routed (x25 i) o r) goes in
-        let kept = kept_line o.line r.side _ (length r.octets) to in
+        let kept = kept_line o.line r.side (packet_class r.packet) r.length to in
         let same : step.epoch ≡ o.epoch = epoch_is ToChannel e in
         let here = turn ToChannel e in
         record {
@@ -180,26 +166,26 @@ steps i rs item line epoch step same_line same_epoch packet is = at (routing i o
           next = omega (arith, same);
           found = ap (λ q. findings_of (map event_of (row_events_routed (x25 i) o r q))) goes ∙ ap (λ t. findings_of (events_after t i o.epoch o.states r)) (sym here)
               ∙ ap (λ l. l ++ findings_of (events_after step.turn i o.epoch o.states r)) (sym (finding ToChannel e));
-          left = subst (λ t. IsLeft (left_out_at i o r) (uncounted_in i r (events_after t i o.epoch o.states r))) (sym here) (left_on i o r (channel_of r.octets) goes);
+          left = subst (λ t. IsLeft (left_out_at i o r) (uncounted_in i r (events_after t i o.epoch o.states r))) (sym here) (left_on i o r (packet_channel r.packet) goes);
         }
 
     -- the events of a row that goes to no channel
-    found_on_line : (q : Route) → (routing i o.line r).route ≡ q → is_to_channel (routing i o.line r).route ≡ false → findings_of (told_of i rs r) ≡ option_to_list step.finding
+    found_on_line : (q : Route) → (routing o.line r).route ≡ q → is_to_channel (routing o.line r).route ≡ false → findings_of (events_at i rs r) ≡ option_to_list step.finding
     found_on_line q e to =
-        let own = stamp o.epoch None r (route_found r (routing i o.line r).route) in
-        let closed = closed_events (x25 i) o r (is_ready o.line) (is_ready (routing i o.line r).after) in
+        let own = stamp o.epoch None r (route_found r (routing o.line r).route) in
+        let closed = closed_events (x25 i) o r (is_ready o.line) (is_ready (routing o.line r).after) in
         ap (λ n. findings_of (map event_of (row_events_routed (x25 i) o r n))) (routed_none i o.line r to)
         ∙ ap findings_of (map-append event_of own closed) ∙ filter_map-append _ (map event_of own) (map event_of closed)
-        ∙ ap (λ l. findings_of (map event_of own) ++ l) (closed_none _ end_found i o r (is_ready o.line) (is_ready (routing i o.line r).after))
+        ∙ ap (λ l. findings_of (map event_of own) ++ l) (closed_none _ end_found i o r (is_ready o.line) (is_ready (routing o.line r).after))
         ∙ append-nil (findings_of (map event_of own))
-        ∙ found_here o.epoch r (routing i o.line r).route ∙ ap (route_finding r) e ∙ sym (finding q e)
+        ∙ found_here o.epoch r (routing o.line r).route ∙ ap (route_finding r) e ∙ sym (finding q e)
 
-    moved_by : is_to_channel (routing i o.line r).route ≡ false → now ≡ line_moved (x25 i) o (routing i o.line r).after (is_ready o.line) (is_ready (routing i o.line r).after)
+    moved_by : is_to_channel (routing o.line r).route ≡ false → now ≡ line_moved (x25 i) o (routing o.line r).after (is_ready o.line) (is_ready (routing o.line r).after)
     moved_by to = observer_more i rs r ∙ ap (after_routed (x25 i) o r) (routed_none i o.line r to)
 
-    stays : (q : Route) → (routing i o.line r).route ≡ q → is_to_channel q ≡ false → now ≡ record { epoch = o.epoch; line = (routing i o.line r).after; states = o.states } → step.epoch ≡ o.epoch → IsQuietTurn i o r step.turn → Steps i rs r step
+    stays : (q : Route) → (routing o.line r).route ≡ q → is_to_channel q ≡ false → now ≡ record { epoch = o.epoch; line = (routing o.line r).after; states = o.states } → step.epoch ≡ o.epoch → IsQuietTurn i o r step.turn → Steps i rs r step
     stays q e goes moved same quiet =
-        let to : is_to_channel (routing i o.line r).route ≡ false = ap is_to_channel e ∙ goes in
+        let to : is_to_channel (routing o.line r).route ≡ false = ap is_to_channel e ∙ goes in
         record {
           line = ap (λ n. n.line) moved ∙ sym machine;
           epoch = ap (λ n. n.epoch) moved ∙ sym same;
@@ -210,9 +196,9 @@ steps i rs item line epoch step same_line same_epoch packet is = at (routing i o
           left = subst (λ es. IsLeft (left_out_at i o r) (uncounted_in i r es)) (sym quiet.1) (left_untaken i o r (routed_none i o.line r to));
         }
 
-    enters : (routing i o.line r).route ≡ Enter → now ≡ record { epoch = o.epoch + 1; line = (routing i o.line r).after; states = fresh i (o.epoch + 1) } → Steps i rs r step
+    enters : (routing o.line r).route ≡ Enter → now ≡ record { epoch = o.epoch + 1; line = (routing o.line r).after; states = fresh i (o.epoch + 1) } → Steps i rs r step
     enters e moved =
-        let to : is_to_channel (routing i o.line r).route ≡ false = ap is_to_channel e in
+        let to : is_to_channel (routing o.line r).route ≡ false = ap is_to_channel e in
         let later : step.epoch ≡ o.epoch + 1 = epoch_is Enter e in
         let quiet : IsQuietTurn i o r step.turn = subst (IsQuietTurn i o r) (sym (turn Enter e)) (refl, refl) in
         record {
@@ -225,73 +211,73 @@ steps i rs item line epoch step same_line same_epoch packet is = at (routing i o
           left = subst (λ es. IsLeft (left_out_at i o r) (uncounted_in i r es)) (sym quiet.1) (left_untaken i o r (routed_none i o.line r to));
         }
 
-    at : (q : Route) → (routing i o.line r).route ≡ q → Steps i rs r step
+    at : (q : Route) → (routing o.line r).route ≡ q → Steps i rs r step
     at ToChannel e = on_its_channel e
     at (Leave code) e =
-        let both = leaves_at (is_ready o.line) (is_ready (routing i o.line r).after) (routing i o.line r).route code e (fits o.line r.side _ (length r.octets)) in
-        stays (Leave code) e refl (moved_by (ap is_to_channel e) ∙ (λ t. line_moved (x25 i) o (routing i o.line r).after (both.0 t) (both.1 t))) (epoch_is (Leave code) e)
+        let both = leaves_at (is_ready o.line) (is_ready (routing o.line r).after) (routing o.line r).route code e (fits o.line r.side (packet_class r.packet) r.length) in
+        stays (Leave code) e refl (moved_by (ap is_to_channel e) ∙ (λ t. line_moved (x25 i) o (routing o.line r).after (both.0 t) (both.1 t))) (epoch_is (Leave code) e)
         (subst (IsQuietTurn i o r) (sym (turn (Leave code) e)) (refl, refl))
     at Enter e =
-        let both = enters_at (is_ready o.line) (is_ready (routing i o.line r).after) (routing i o.line r).route e (fits o.line r.side _ (length r.octets)) in
-        enters e (moved_by (ap is_to_channel e) ∙ (λ t. line_moved (x25 i) o (routing i o.line r).after (both.0 t) (both.1 t)))
+        let both = enters_at (is_ready o.line) (is_ready (routing o.line r).after) (routing o.line r).route e (fits o.line r.side (packet_class r.packet) r.length) in
+        enters e (moved_by (ap is_to_channel e) ∙ (λ t. line_moved (x25 i) o (routing o.line r).after (both.0 t) (both.1 t)))
     at (Found state code) e =
-        let same = quiet_at (is_ready o.line) (is_ready (routing i o.line r).after) (routing i o.line r).route (ap is_quiet e) (fits o.line r.side _ (length r.octets)) in
+        let same = quiet_at (is_ready o.line) (is_ready (routing o.line r).after) (routing o.line r).route (ap is_quiet e) (fits o.line r.side (packet_class r.packet) r.length) in
         stays (Found state code) e refl
-        (moved_by (ap is_to_channel e) ∙ ap (λ b. line_moved (x25 i) o (routing i o.line r).after (is_ready o.line) b) same ∙ same_moved i o (routing i o.line r).after (is_ready o.line))
+        (moved_by (ap is_to_channel e) ∙ ap (λ b. line_moved (x25 i) o (routing o.line r).after (is_ready o.line) b) same ∙ same_moved i o (routing o.line r).after (is_ready o.line))
         (epoch_is (Found state code) e) (subst (IsQuietTurn i o r) (sym (turn (Found state code) e)) (refl, refl))
     at Pass e =
-        let same = quiet_at (is_ready o.line) (is_ready (routing i o.line r).after) (routing i o.line r).route (ap is_quiet e) (fits o.line r.side _ (length r.octets)) in
+        let same = quiet_at (is_ready o.line) (is_ready (routing o.line r).after) (routing o.line r).route (ap is_quiet e) (fits o.line r.side (packet_class r.packet) r.length) in
         stays Pass e refl
-        (moved_by (ap is_to_channel e) ∙ ap (λ b. line_moved (x25 i) o (routing i o.line r).after (is_ready o.line) b) same ∙ same_moved i o (routing i o.line r).after (is_ready o.line))
+        (moved_by (ap is_to_channel e) ∙ ap (λ b. line_moved (x25 i) o (routing o.line r).after (is_ready o.line) b) same ∙ same_moved i o (routing o.line r).after (is_ready o.line))
         (epoch_is Pass e) (subst (IsQuietTurn i o r) (sym (turn Pass e)) (refl, refl))
 
 -- ---- what one more row counts
 
-findings_more : (i : Interface) (rs : List Row) (r : Row) → (report_of i (rs ++ r ∷ [])).findings ≡ (report_of i rs).findings ++ findings_of (told_of i rs r)
-findings_more i rs r = ap findings_of (events_more i rs r) ∙ filter_map-append _ (events i rs) (told_of i rs r)
+findings_more : (i : Interface) (rs : List Item) (r : Item) → (report_of i (rs ++ r ∷ [])).findings ≡ (report_of i rs).findings ++ findings_of (events_at i rs r)
+findings_more i rs r = ap findings_of (events_more i rs r) ∙ filter_map-append _ (events i rs) (events_at i rs r)
 
-pub count_more : (i : Interface) (rs : List Row) (r : Row) → length (report_of i (rs ++ r ∷ [])).findings ≡ length (report_of i rs).findings + length (findings_of (told_of i rs r))
-count_more i rs r = ap (λ (l : List Finding). length l) (findings_more i rs r) ∙ length-append (report_of i rs).findings (findings_of (told_of i rs r))
+pub count_more : (i : Interface) (rs : List Item) (r : Item) → length (report_of i (rs ++ r ∷ [])).findings ≡ length (report_of i rs).findings + length (findings_of (events_at i rs r))
+count_more i rs r = ap (λ (l : List Finding). length l) (findings_more i rs r) ∙ length-append (report_of i rs).findings (findings_of (events_at i rs r))
 
-pub packets_more : (i : Interface) (rs : List Row) (r : Row) → length (left_out i (start i) (rs ++ r ∷ [])) ≡ length (left_out i (start i) rs) + length (left_out_at i (observer i rs) r)
+pub packets_more : (i : Interface) (rs : List Item) (r : Item) → length (left_out i (start i) (rs ++ r ∷ [])) ≡ length (left_out i (start i) rs) + length (left_out_at i (observer i rs) r)
 packets_more i rs r = ap (λ (l : List LeftOut). length l) (left_from i (start i) rs r) ∙ length-append (left_out i (start i) rs) (left_out_at i (observer i rs) r)
 
-pub octets_more : (i : Interface) (rs : List Row) (r : Row)
+pub octets_more : (i : Interface) (rs : List Item) (r : Item)
     → sum_by (λ (d : LeftOut). d.octets) (left_out i (start i) (rs ++ r ∷ [])) ≡ sum_by (λ (d : LeftOut). d.octets) (left_out i (start i) rs) + sum_by (λ (d : LeftOut). d.octets) (left_out_at i (observer i rs) r)
 octets_more i rs r =
     ap (sum_by (λ (d : LeftOut). d.octets)) (left_from i (start i) rs r) ∙ sum_by-append (λ (d : LeftOut). d.octets) (left_out i (start i) rs) (left_out_at i (observer i rs) r)
 
-pub one_uncounted : (i : Interface) (r : Row) (es : List Event) → length (uncounted_in i r es) ≤ 1
-one_uncounted i r es = at (is_data (packet_of i r.octets) && not (counts_data es))
+pub one_uncounted : (i : Interface) (r : Item) (es : List Event) → length (uncounted_in i r es) ≤ 1
+one_uncounted i r es = at (is_data r.packet && not (counts_data es))
   where
-    at : (b : Bool) → length (cond b (user_octets i r.octets ∷ []) []) ≤ 1
+    at : (b : Bool) → length (cond b (user_octets i r.length ∷ []) []) ≤ 1
     at true = omega arith
     at false = omega arith
 
-pub few_uncounted : (i : Interface) (r : Row) (es : List Event) → sum (uncounted_in i r es) ≤ length r.octets
-few_uncounted i r es = at (is_data (packet_of i r.octets) && not (counts_data es))
+pub few_uncounted : (i : Interface) (r : Item) (es : List Event) → sum (uncounted_in i r es) ≤ r.length
+few_uncounted i r es = at (is_data r.packet && not (counts_data es))
   where
-    at : (b : Bool) → sum (cond b (user_octets i r.octets ∷ []) []) ≤ length r.octets
-    at true = omega (arith, length-drop (header_length i) r.octets)
+    at : (b : Bool) → sum (cond b (user_octets i r.length ∷ []) []) ≤ r.length
+    at true = omega arith
     at false = omega arith
 
 -- ---- what is needed of a step before it is taken
 
-pub item_of_turn : (i : Interface) (item : Item) (line : LineState) (epoch : ℕ) (step : Step) → item.packet ≡ packet_of i item.row.octets → IsStep line epoch item step → IfSome (channel_in step.turn) (λ k. IsItem i k item)
-item_of_turn i item line epoch step packet is = subst (λ t. IfSome (channel_in t) (λ k. IsItem i k item)) (sym is.turn) (at (routed_at line item).route)
+pub item_of_turn : (i : Interface) (item : Item) (line : LineState) (epoch : ℕ) (step : Step) → IsSaid i item → IsStep line epoch item step → IfSome (channel_in step.turn) (λ k. IsItem i k item)
+item_of_turn i item line epoch step said is = subst (λ t. IfSome (channel_in t) (λ k. IsItem i k item)) (sym is.turn) (at (routing line item).route)
   where
-    at : (q : Route) → IfSome (channel_in (turn_of item.row.octets q)) (λ k. IsItem i k item)
-    at ToChannel = record { packet = packet; channel = refl }
+    at : (q : Route) → IfSome (channel_in (turn_of item.packet q)) (λ k. IsItem i k item)
+    at ToChannel = record { said = said; channel = refl }
     at (Leave code) = tt
     at Enter = tt
     at (Found state code) = tt
     at Pass = tt
 
--- where a channel takes the row, the restart machine finds nothing
+-- where a row goes to a channel, the restart machine finds nothing
 pub none_found : (item : Item) (line : LineState) (epoch : ℕ) (step : Step) → IsStep line epoch item step → (k : ℕ) → step.turn ≡ GoesToChannel k → option_to_list step.finding ≡ []
-none_found item line epoch step is k e = is.finding ∙ at (routed_at line item).route (sym is.turn ∙ e)
+none_found item line epoch step is k e = is.finding ∙ at (routing line item).route (sym is.turn ∙ e)
   where
-    at : (q : Route) → turn_of item.row.octets q ≡ GoesToChannel k → route_finding item.row q ≡ []
+    at : (q : Route) → turn_of item.packet q ≡ GoesToChannel k → route_finding item q ≡ []
     at ToChannel h = refl
     at (Leave code) h = absurd cc
     at Enter h = refl

@@ -9,73 +9,96 @@ use Rattle.std.proofs.lemmas.Grind.{flat_map-append}
 use Rattle.std.proofs.lemmas.List.{take_more}
 use Rattle.std.proofs.lemmas.List.Elements.{filter_map-append}
 use Rattle.line_model.specs.declared.interface.Interface.{Interface}
-use Rattle.line_model.specs.basics.Records.{Row}
+use Rattle.line_model.specs.basics.Records.{Row, ReadRow}
+use Rattle.line_model.specs.packets.Says.{is_unqualified, items_of, read_octets, read_row}
+use Rattle.line_model.proofs.Saying.{said_count}
 use Rattle.channel_run.specs.declared.run.Channel.{Ghosts as Machine}
 use Rattle.trace_scan.specs.Tried.{HasWalked, tally_of}
 use Rattle.trace_scan.specs.TriedLines.{tried_by}
-use Rattle.trace_scan.specs.Trials.{AreTrials}
+use Rattle.trace_scan.specs.Trials.{AreTrials, IsTrace, SaidRows, with_row}
 use Rattle.trace_scan.specs.declared.trial.Trial.{Trial}
+use Rattle.trace_scan.proofs.Rows.{row_said}
+use Rattle.trace_scan.proofs.WalkedLemmas.{few_rows}
 
 -- one more header
-pub trials_push : {A C : Type 0} (m : Machine C A) (rs : List Row) (is : List Interface) (ts : List (Trial A C)) (i : Interface) (t : Trial A C) → AreTrials m rs is ts → HasWalked m i rs t → AreTrials m rs (is ++ i ∷ []) (ts ++ t ∷ [])
-trials_push m rs [] [] i t all w = (w, tt)
-trials_push m rs [] (u ∷ ts) i t all w = absurd all
-trials_push m rs (j ∷ is) [] i t all w = absurd all
-trials_push m rs (j ∷ is) (u ∷ ts) i t all w = (all.0, trials_push m rs is ts i t all.1 w)
+pub trials_push : {A C : Type 0} (m : Machine C A) (items : SaidRows) (is : List Interface) (ts : List (Trial A C)) (i : Interface) (t : Trial A C) → AreTrials m items is ts → HasWalked m i (items i) t → AreTrials m items (is ++ i ∷ []) (ts ++ t ∷ [])
+trials_push m items [] [] i t all w = (w, tt)
+trials_push m items [] (u ∷ ts) i t all w = absurd all
+trials_push m items (j ∷ is) [] i t all w = absurd all
+trials_push m items (j ∷ is) (u ∷ ts) i t all w = (all.0, trials_push m items is ts i t all.1 w)
 
--- the first n trials took one more row
-abbrev pub AreOnWay : {A C : Type 0} → Machine C A → (n : ℕ) → List Row → Row → List Interface → List (Trial A C) → Type 0
-AreOnWay m zero rs r is ts = AreTrials m rs is ts
-AreOnWay m (suc n) rs r [] [] = Unit {0}
-AreOnWay m (suc n) rs r (i ∷ is) (t ∷ ts) = HasWalked m i (rs ++ r ∷ []) t × AreOnWay m n rs r is ts
-AreOnWay m (suc n) rs r _ _ = ⊥
+-- the first n trials walked a row more
+abbrev pub AreOnWay : {A C : Type 0} → Machine C A → (n : ℕ) → SaidRows → SaidRows → List Interface → List (Trial A C) → Type 0
+AreOnWay m zero items more is ts = AreTrials m items is ts
+AreOnWay m (suc n) items more [] [] = Unit {0}
+AreOnWay m (suc n) items more (i ∷ is) (t ∷ ts) = HasWalked m i (more i) t × AreOnWay m n items more is ts
+AreOnWay m (suc n) items more _ _ = ⊥
 
 -- the header of the next one, and that it has not taken the row
-pub record IsNext {A C : Type 0} (m : Machine C A) (rs : List Row) (t : Trial A C) : Type 0 where
+pub record IsNext {A C : Type 0} (m : Machine C A) (items : SaidRows) (t : Trial A C) : Type 0 where
   pub header : Interface
-  pub walked : HasWalked m header rs t
+  pub walked : HasWalked m header (items header) t
 
-pub next_on_way : {A C : Type 0} (m : Machine C A) (n : ℕ) (rs : List Row) (r : Row) (is : List Interface) (ts : List (Trial A C)) (d : Trial A C) → n < length ts → AreOnWay m n rs r is ts → IsNext m rs (get_or ts n d)
-next_on_way m zero rs r [] [] d lt all = absurd (omega arith)
-next_on_way m zero rs r (i ∷ is) (t ∷ ts) d lt all = record { header = i; walked = all.0 }
-next_on_way m zero rs r [] (t ∷ ts) d lt all = absurd all
-next_on_way m zero rs r (i ∷ is) [] d lt all = absurd all
-next_on_way m (suc n) rs r [] [] d lt all = absurd (omega arith)
-next_on_way m (suc n) rs r (i ∷ is) (t ∷ ts) d lt all = next_on_way m n rs r is ts d (omega arith) all.1
-next_on_way m (suc n) rs r [] (t ∷ ts) d lt all = absurd all
-next_on_way m (suc n) rs r (i ∷ is) [] d lt all = absurd all
+pub next_on_way : {A C : Type 0} (m : Machine C A) (n : ℕ) (items more : SaidRows) (is : List Interface) (ts : List (Trial A C)) (d : Trial A C) → n < length ts → AreOnWay m n items more is ts → IsNext m items (get_or ts n d)
+next_on_way m zero items more [] [] d lt all = absurd (omega arith)
+next_on_way m zero items more (i ∷ is) (t ∷ ts) d lt all = record { header = i; walked = all.0 }
+next_on_way m zero items more [] (t ∷ ts) d lt all = absurd all
+next_on_way m zero items more (i ∷ is) [] d lt all = absurd all
+next_on_way m (suc n) items more [] [] d lt all = absurd (omega arith)
+next_on_way m (suc n) items more (i ∷ is) (t ∷ ts) d lt all = next_on_way m n items more is ts d (omega arith) all.1
+next_on_way m (suc n) items more [] (t ∷ ts) d lt all = absurd all
+next_on_way m (suc n) items more (i ∷ is) [] d lt all = absurd all
 
 -- it takes the row
-pub one_on_way : {A C : Type 0} (m : Machine C A) (n : ℕ) (rs : List Row) (r : Row) (is : List Interface) (ts : List (Trial A C)) (d t : Trial A C) → n < length ts → AreOnWay m n rs r is ts
-    → ((i : Interface) → HasWalked m i rs (get_or ts n d) → HasWalked m i (rs ++ r ∷ []) t) → AreOnWay m (suc n) rs r is (set ts n t)
-one_on_way m zero rs r [] [] d t lt all next = absurd (omega arith)
-one_on_way m zero rs r (i ∷ is) (u ∷ ts) d t lt all next = (next i all.0, all.1)
-one_on_way m zero rs r [] (u ∷ ts) d t lt all next = absurd all
-one_on_way m zero rs r (i ∷ is) [] d t lt all next = absurd all
-one_on_way m (suc n) rs r [] [] d t lt all next = absurd (omega arith)
-one_on_way m (suc n) rs r (i ∷ is) (u ∷ ts) d t lt all next = (all.0, one_on_way m n rs r is ts d t (omega arith) all.1 next)
-one_on_way m (suc n) rs r [] (u ∷ ts) d t lt all next = absurd all
-one_on_way m (suc n) rs r (i ∷ is) [] d t lt all next = absurd all
+pub one_on_way : {A C : Type 0} (m : Machine C A) (n : ℕ) (items more : SaidRows) (is : List Interface) (ts : List (Trial A C)) (d t : Trial A C) → n < length ts → AreOnWay m n items more is ts
+    → ((i : Interface) → HasWalked m i (items i) (get_or ts n d) → HasWalked m i (more i) t) → AreOnWay m (suc n) items more is (set ts n t)
+one_on_way m zero items more [] [] d t lt all next = absurd (omega arith)
+one_on_way m zero items more (i ∷ is) (u ∷ ts) d t lt all next = (next i all.0, all.1)
+one_on_way m zero items more [] (u ∷ ts) d t lt all next = absurd all
+one_on_way m zero items more (i ∷ is) [] d t lt all next = absurd all
+one_on_way m (suc n) items more [] [] d t lt all next = absurd (omega arith)
+one_on_way m (suc n) items more (i ∷ is) (u ∷ ts) d t lt all next = (all.0, one_on_way m n items more is ts d t (omega arith) all.1 next)
+one_on_way m (suc n) items more [] (u ∷ ts) d t lt all next = absurd all
+one_on_way m (suc n) items more (i ∷ is) [] d t lt all next = absurd all
 
 -- all took it
-pub all_on_way : {A C : Type 0} (m : Machine C A) (n : ℕ) (rs : List Row) (r : Row) (is : List Interface) (ts : List (Trial A C)) → length ts ≤ n → AreOnWay m n rs r is ts → AreTrials m (rs ++ r ∷ []) is ts
-all_on_way m zero rs r [] [] le all = tt
-all_on_way m zero rs r (i ∷ is) (t ∷ ts) le all = absurd (omega arith)
-all_on_way m zero rs r [] (t ∷ ts) le all = absurd all
-all_on_way m zero rs r (i ∷ is) [] le all = absurd all
-all_on_way m (suc n) rs r [] [] le all = tt
-all_on_way m (suc n) rs r (i ∷ is) (t ∷ ts) le all = (all.0, all_on_way m n rs r is ts (omega arith) all.1)
-all_on_way m (suc n) rs r [] (t ∷ ts) le all = absurd all
-all_on_way m (suc n) rs r (i ∷ is) [] le all = absurd all
+pub all_on_way : {A C : Type 0} (m : Machine C A) (n : ℕ) (items more : SaidRows) (is : List Interface) (ts : List (Trial A C)) → length ts ≤ n → AreOnWay m n items more is ts → AreTrials m more is ts
+all_on_way m zero items more [] [] le all = tt
+all_on_way m zero items more (i ∷ is) (t ∷ ts) le all = absurd (omega arith)
+all_on_way m zero items more [] (t ∷ ts) le all = absurd all
+all_on_way m zero items more (i ∷ is) [] le all = absurd all
+all_on_way m (suc n) items more [] [] le all = tt
+all_on_way m (suc n) items more (i ∷ is) (t ∷ ts) le all = (all.0, all_on_way m n items more is ts (omega arith) all.1)
+all_on_way m (suc n) items more [] (t ∷ ts) le all = absurd all
+all_on_way m (suc n) items more (i ∷ is) [] le all = absurd all
 
 -- what they counted
-pub tried_all : {A C : Type 0} (m : Machine C A) (rs : List Row) (is : List Interface) (ts : List (Trial A C)) → AreTrials m rs is ts → map tried_by ts ≡ map (λ (h : Interface). record { header = h; tally = tally_of h rs }) is
-tried_all m rs [] [] all = refl
-tried_all m rs (i ∷ is) (t ∷ ts) all =
-    let own : tried_by t ≡ record { header = i; tally = tally_of i rs } = λ j. record { header = all.0.interface j; tally = all.0.tally j } in
-    (λ j. own j ∷ tried_all m rs is ts all.1 j)
-tried_all m rs [] (t ∷ ts) all = absurd all
-tried_all m rs (i ∷ is) [] all = absurd all
+pub tried_all : {A C : Type 0} (m : Machine C A) (items : SaidRows) (is : List Interface) (ts : List (Trial A C)) → AreTrials m items is ts → map tried_by ts ≡ map (λ (h : Interface). record { header = h; tally = tally_of h (items h) }) is
+tried_all m items [] [] all = refl
+tried_all m items (i ∷ is) (t ∷ ts) all =
+    let own : tried_by t ≡ record { header = i; tally = tally_of i (items i) } = λ j. record { header = all.0.interface j; tally = all.0.tally j } in
+    (λ j. own j ∷ tried_all m items is ts all.1 j)
+tried_all m items [] (t ∷ ts) all = absurd all
+tried_all m items (i ∷ is) [] all = absurd all
+
+-- what rows say, and one more, under each header
+pub rows_said : (rs : List Row) (r : Row) (row : ReadRow) → row ≡ read_row r → with_row (λ i. items_of i rs) row ≡ (λ i. items_of i (rs ++ r ∷ []))
+rows_said rs r row is = λ k i. row_said i rs r row is k
+
+-- a trace has few rows
+pub few_rows_next : (i : Interface) (rs : List Row) (r : Row) → IsTrace (rs ++ r ∷ []) → length rs + 1 ≤ 999999999
+few_rows_next i rs r sound =
+    let few = few_rows i (items_of i (rs ++ r ∷ [])) (sound i) in
+    omega (arith, few, said_count i (rs ++ r ∷ []), length-append rs (r ∷ []))
+
+-- the front of a row is read
+pub front_kept : (format : ℕ) (xs : List ℕ) → (bits 6 5 (octet 1 (read_octets xs)) == format) ≡ (bits 6 5 (octet 1 xs) == format)
+front_kept format xs = ap (λ n. bits 6 5 n == format) (at (is_unqualified xs) xs)
+  where
+    at : (b : Bool) (ys : List ℕ) → octet 1 (cond b (take 4 ys) ys) ≡ octet 1 ys
+    at true [] = refl
+    at true (y ∷ ys) = refl
+    at false ys = refl
 
 -- ---- the headers, one after the other
 
@@ -92,8 +115,8 @@ kept_more f xs i d lt = ap (filter_map f) (take_more xs i d lt) ∙ filter_map-a
 pub mapped_more : {X Y : Type 0} (f : X → List Y) (xs : List X) (i : ℕ) (d : X) → i < length xs → flat_map f (take (i + 1) xs) ≡ flat_map f (take i xs) ++ f (get_or xs i d)
 mapped_more f xs i d lt = ap (flat_map f) (take_more xs i d lt) ∙ flat_map-append f (take i xs) (get_or xs i d ∷ []) ∙ ap (λ l. flat_map f (take i xs) ++ l) (append-nil (f (get_or xs i d)))
 
-pub headers_more : {A C : Type 0} (m : Machine C A) (headers first later all : List Interface) (ts : List (Trial A C)) → all ≡ first ++ later → AreTrials m [] ((headers ++ first) ++ later) ts → AreTrials m [] (headers ++ all) ts
-headers_more m headers first later all ts is h = subst (λ hs. AreTrials m [] hs ts) (append_assoc headers first later ∙ ap (λ l. headers ++ l) (sym is)) h
+pub headers_more : {A C : Type 0} (m : Machine C A) (headers first later all : List Interface) (ts : List (Trial A C)) → all ≡ first ++ later → AreTrials m (λ _. []) ((headers ++ first) ++ later) ts → AreTrials m (λ _. []) (headers ++ all) ts
+headers_more m headers first later all ts is h = subst (λ hs. AreTrials m (λ _. []) hs ts) (append_assoc headers first later ∙ ap (λ l. headers ++ l) (sym is)) h
 
 -- a list that was written in place has its length
 none_left : {X : Type 0} (xs : List X) (n : ℕ) → length xs ≤ n → drop n xs ≡ []

@@ -15,15 +15,16 @@ use Rattle.trace_scan.specs.declared.trial.Trial.{Trial}
 use Rattle.trace_scan.specs.declared.tried_lines.Tried.{Tried}
 use Rattle.trace_scan.proofs.ScanLemmas.{end_refused, report_scan}
 use Rattle.line_model.specs.declared.interface.Interface.{Interface}
-use Rattle.line_model.specs.basics.Records.{Row}
+use Rattle.line_model.specs.basics.Records.{Row, ReadRow}
+use Rattle.line_model.specs.packets.Says.{items_of}
 use Rattle.line_model.specs.text.Text.{early_head, early_rows, fault, rows}
 use Rattle.channel_run.specs.declared.run.Channel.{Ghosts as Machine}
 use Rattle.trace_text.specs.Progress.{Progress}
-use Rattle.trace_text.specs.StandsFor.{IsFaultOf, IsTextFault, StandsFor, ReadsChunk, TakesRow}
-use Rattle.trace_scan.specs.Trials.{AreTrials, AreTried, HasTaken, IsTriedText}
+use Rattle.trace_text.specs.StandsFor.{IsFaultOf, IsTextFault, StandsFor, ReadsChunk}
+use Rattle.trace_scan.specs.Trials.{AreTrials, AreTried, HasTaken, IsTriedText, SaidRows}
 use Rattle.trace_scan.specs.declared.trials.Trials.{Trials}
 use Rattle.trace_scan.specs.declared.tried_text.TriedText.{TriedText}
-use Rattle.trace_scan.proofs.Heads.{header_stays}
+use Rattle.live_report.proofs.ChunkLemmas.{ReadsRow, header_stays}
 
 -- the header that is known stays
 pub tried_stays : {A C : Type 0} (m : Machine C A) (rs : List Row) (before after : Option Interface) (trials : Option (Trials A C)) → ((i : Interface) → before ≡ Some i → after ≡ Some i) → AreTried m rs before trials → AreTried m rs after trials
@@ -49,15 +50,15 @@ next_tried m text more t after h kept =
     tried_stays m (early_rows text) t.lines.interface after.interface t.trials (λ i is. header_stays t.lines after text more i h.reads is kept) h.tried
 
 -- the next row was read and tried
-pub course_row : {A C : Type 0} (m : Machine C A) (text chunk rest left : List ℕ) (row : Row) (after : Progress) (t next : TriedText A C) → (c : Course m text chunk rest t) → next.lines ≡ after → TakesRow t.lines after rest left row
-    → AreTried m (early_rows (text ++ c.read) ++ row ∷ []) after.interface next.trials → Course m text chunk left next
+pub course_row : {A C : Type 0} (m : Machine C A) (text chunk rest left : List ℕ) (row : ReadRow) (after : Progress) (t next : TriedText A C) → (c : Course m text chunk rest t) → next.lines ≡ after → (takes : ReadsRow t.lines after rest left row)
+    → AreTried m (early_rows (text ++ c.read) ++ takes.0 ∷ []) after.interface next.trials → Course m text chunk left next
 course_row m text chunk rest left row after t next c same takes tried = record {
-  read = c.read ++ takes.taken;
-  whole = c.whole ∙ ap (λ x. c.read ++ x) takes.whole ∙ sym (append_assoc c.read takes.taken left);
-  taken = subst (λ x. HasTaken m x next) (append_assoc text c.read takes.taken) (record {
-    reads = subst (λ l. StandsFor l ((text ++ c.read) ++ takes.taken)) (sym same) (takes.stands (text ++ c.read) c.taken.reads);
-    tried = subst (λ l. AreTried m (early_rows ((text ++ c.read) ++ takes.taken)) l.interface next.trials) (sym same)
-        (subst (λ rs. AreTried m rs after.interface next.trials) (sym (takes.rows (text ++ c.read) c.taken.reads)) tried);
+  read = c.read ++ takes.1.taken;
+  whole = c.whole ∙ ap (λ x. c.read ++ x) takes.1.whole ∙ sym (append_assoc c.read takes.1.taken left);
+  taken = subst (λ x. HasTaken m x next) (append_assoc text c.read takes.1.taken) (record {
+    reads = subst (λ l. StandsFor l ((text ++ c.read) ++ takes.1.taken)) (sym same) (takes.1.stands (text ++ c.read) c.taken.reads);
+    tried = subst (λ l. AreTried m (early_rows ((text ++ c.read) ++ takes.1.taken)) l.interface next.trials) (sym same)
+        (subst (λ rs. AreTried m rs after.interface next.trials) (sym (takes.1.rows (text ++ c.read) c.taken.reads)) tried);
   });
 }
 
@@ -94,14 +95,14 @@ no_write f h w = subst IsTextFault w h
 
 -- the lines of a text whose trials are these
 pub lines_of_trials : {A C : Type 0} (m : Machine C A) (text : List ℕ) (ts : List (Trial A C)) (tried : List Tried) → (t : IsTriedText m text ts)
-    → ((is : List Interface) (rs : List Row) → AreTrials m rs is ts → IsPermutation (map (λ (h : Interface). record { header = h; tally = tally_of h rs }) is) tried)
+    → ((is : List Interface) (items : SaidRows) → AreTrials m items is ts → IsPermutation (map (λ (h : Interface). record { header = h; tally = tally_of h (items h) }) is) tried)
     → IsNonDecreasingBy rank tried → AreTriedLines text (tried_text tried) (fewest tried)
 lines_of_trials m text ts tried t all sorted = record {
   sound = t.sound;
   interface = t.interface;
   header = t.header;
   tried = tried;
-  all = all (headers_tried t.interface (rows text)) (rows text) t.trials;
+  all = all (headers_tried t.interface (rows text)) (λ i. items_of i (rows text)) t.trials;
   sorted = sorted;
   whole = refl;
   first = refl;

@@ -7,7 +7,7 @@ use Rattle.std.proofs.lemmas.List.Elements.{All-head, All-tail}
 use Rattle.line_model.specs.declared.interface.Interface.{Interface}
 use Rattle.line_model.specs.declared.event.Event.{Event}
 use Rattle.line_model.specs.declared.finding.Finding.{Finding}
-use Rattle.line_model.specs.basics.Records.{Row}
+use Rattle.line_model.specs.basics.Records.{Item}
 use Rattle.line_model.specs.channels.Channels.{Channel, fresh}
 use Rattle.line_model.specs.observer.Report.{findings_of}
 use Rattle.line_model.proofs.Rising.{RisesFrom, rises-from_index}
@@ -21,7 +21,7 @@ use Rattle.restart_epochs.specs.declared.walk.EpochWalk.{EpochWalk}
 use Rattle.restart_epochs.specs.declared.walk.Step.{Step}
 use Rattle.restart_epochs.specs.declared.walk.Turn.{Turn}
 use Rattle.restart_epochs.specs.declared.walk.Turn.TheVariants.{ToChannel}
-use Rattle.trace_scan.specs.TextCuts.{IsTrace}
+use Rattle.live_report.specs.Observing.{AreItems}
 use Rattle.trace_scan.specs.Tried.{AreLanesOf, HasWalked, IsFew, IsLaneOf, events_after, states_after, tally_of, uncounted_in}
 use Rattle.trace_scan.specs.declared.trial.Tally.{Tally}
 use Rattle.trace_scan.specs.declared.trial.Trial.{Trial}
@@ -29,21 +29,21 @@ use Rattle.trace_scan.proofs.TrialLemmas.{Steps, count_more, few_uncounted, octe
 
 -- ---- a trace has few rows
 
-rises_below : (n b : ℕ) (rs : List Row) → b ≤ n → RisesFrom b (map (λ (r : Row). r.number) rs) → All (λ (r : Row). r.number ≤ n) rs → b + length rs ≤ n
+rises_below : (n b : ℕ) (rs : List Item) → b ≤ n → RisesFrom b (map (λ (r : Item). r.number) rs) → All (λ (r : Item). r.number ≤ n) rs → b + length rs ≤ n
 rises_below n b [] le h all = omega arith
 rises_below n b (r ∷ rs) le h all =
-    let first : r.number ≤ n = All-head (λ (x : Row). x.number ≤ n) r rs all in
-    let more = rises_below n r.number rs first h.1 (All-tail (λ (x : Row). x.number ≤ n) r rs all) in
+    let first : r.number ≤ n = All-head (λ (x : Item). x.number ≤ n) r rs all in
+    let more = rises_below n r.number rs first h.1 (All-tail (λ (x : Item). x.number ≤ n) r rs all) in
     omega (arith, h.0, more)
 
-pub few_rows : (rs : List Row) → IsTrace rs → length rs ≤ 999999999
-few_rows rs t = let few = rises_below 999999999 0 rs (omega arith) (rises-from_index (0 ∷ map (λ (r : Row). r.number) rs) t.rising) t.numbers in omega (arith, few)
+pub few_rows : (i : Interface) (rs : List Item) → AreItems i rs → length rs ≤ 999999999
+few_rows i rs t = let few = rises_below 999999999 0 rs (omega arith) (rises-from_index (0 ∷ map (λ (r : Item). r.number) rs) t.rising) t.numbers in omega (arith, few)
 
-pub few_next : (rs : List Row) (r : Row) → IsTrace (rs ++ r ∷ []) → length rs + 1 ≤ 999999999
-few_next rs r t = let few = few_rows (rs ++ r ∷ []) t in omega (arith, few, length-append rs (r ∷ []))
+pub few_next : (i : Interface) (rs : List Item) (r : Item) → AreItems i (rs ++ r ∷ []) → length rs + 1 ≤ 999999999
+few_next i rs r t = let few = few_rows i (rs ++ r ∷ []) t in omega (arith, few, length-append rs (r ∷ []))
 
-pub few_octets : (rs : List Row) (r : Row) → IsTrace (rs ++ r ∷ []) → sum_by (λ (x : Row). length x.octets) rs + length r.octets ≤ 2 ^ 31
-few_octets rs r t = let few = t.octets in omega (arith, few, sum_by_push (λ (x : Row). length x.octets) rs r)
+pub few_octets : (i : Interface) (rs : List Item) (r : Item) → AreItems i (rs ++ r ∷ []) → sum_by (λ (x : Item). x.length) rs + r.length ≤ 2 ^ 31
+few_octets i rs r t = let few = t.octets in omega (arith, few, sum_by_push (λ (x : Item). x.length) rs r)
 
 -- ---- the lanes
 
@@ -56,7 +56,7 @@ same_lanes m i e states after lanes same h k = subst (λ c. IsLaneOf m i e k c (
 -- ---- a row was taken
 
 -- what becomes of a trial by the step of a row: `turned` has the lanes before a further epoch makes them fresh
-pub record Takes {A C : Type 0} (m : Machine C A) (states : ℕ → Channel) (r : Row) (step : Step) (before after : Trial A C) (turned : OpenLanes C) : Type 0 where
+pub record Takes {A C : Type 0} (m : Machine C A) (states : ℕ → Channel) (r : Item) (step : Step) (before after : Trial A C) (turned : OpenLanes C) : Type 0 where
   pub interface : after.walk.interface ≡ before.walk.interface
   pub line : after.walk.machine ≡ step.machine
   pub epoch : after.walk.epoch ≡ step.epoch
@@ -66,12 +66,12 @@ pub record Takes {A C : Type 0} (m : Machine C A) (states : ℕ → Channel) (r 
   pub renewed : step.epoch ≢ before.walk.epoch → after.lanes ≡ no_lanes
 
 -- what is counted of a row with these events, if it has one finding at the most
-pub record Counts (i : Interface) (r : Row) (found : List Finding) (es : List Event) (before after : Tally) : Type 0 where
+pub record Counts (i : Interface) (r : Item) (found : List Finding) (es : List Event) (before after : Tally) : Type 0 where
   pub findings : after.findings ≡ before.findings + length (found ++ findings_of es)
   pub packets : after.packets ≡ before.packets + length (uncounted_in i r es)
   pub octets : after.octets ≡ before.octets + sum (uncounted_in i r es)
 
-pub lanes_after : {A C : Type 0} (m : Machine C A) (i : Interface) (rs : List Row) (r : Row) (step : Step) (before after : Trial A C) (turned : OpenLanes C) → HasWalked m i rs before → Steps i rs r step
+pub lanes_after : {A C : Type 0} (m : Machine C A) (i : Interface) (rs : List Item) (r : Item) (step : Step) (before after : Trial A C) (turned : OpenLanes C) → HasWalked m i rs before → Steps i rs r step
     → Takes m (observer i rs).states r step before after turned → AreLanesOf m i (observer i (rs ++ r ∷ [])).epoch (observer i (rs ++ r ∷ [])).states after.lanes
 lanes_after {A} {C} m i rs r step before after turned w s t = at (eqb step.epoch (observer i rs).epoch) refl
   where
@@ -92,12 +92,12 @@ lanes_after {A} {C} m i rs r step before after turned w s t = at (eqb step.epoch
         (fresh_lanes m i step.epoch (observer i (rs ++ r ∷ [])).states (s.renewed other)))
 
 -- a row has one finding at the most
-one_of_channel : (i : Interface) (e k : ℕ) (c : Channel) (r : Row) → length (findings_of (row_events i e k c r)) ≤ 1
+one_of_channel : (i : Interface) (e k : ℕ) (c : Channel) (r : Item) → length (findings_of (row_events i e k c r)) ≤ 1
 one_of_channel i e k c r =
     let first : Option Finding = slice_get (findings_of (row_events i e k c r)) 0 in
     subst (λ (l : List Finding). length l ≤ 1) (one_finding i e k c r (row_events i e k c r) first refl refl) (at_most_one first)
 
-pub one_after : (i : Interface) (rs : List Row) (r : Row) (step : Step) → ((k : ℕ) → step.turn ≡ ToChannel k → option_to_list step.finding ≡ []) → length (option_to_list step.finding ++ findings_of (events_after step.turn i (observer i rs).epoch (observer i rs).states r)) ≤ 1
+pub one_after : (i : Interface) (rs : List Item) (r : Item) (step : Step) → ((k : ℕ) → step.turn ≡ ToChannel k → option_to_list step.finding ≡ []) → length (option_to_list step.finding ++ findings_of (events_after step.turn i (observer i rs).epoch (observer i rs).states r)) ≤ 1
 one_after i rs r step none = at step.turn refl
   where
     at : (t : Turn) → step.turn ≡ t → length (option_to_list step.finding ++ findings_of (events_after t i (observer i rs).epoch (observer i rs).states r)) ≤ 1
@@ -107,7 +107,7 @@ one_after i rs r step none = at step.turn refl
         subst (λ (l : List Finding). length (l ++ findings_of (row_events i o.epoch k (o.states k) r)) ≤ 1) (sym (none k e)) one
     at t e = let one = at_most_one step.finding in omega (arith, one, length-append (option_to_list step.finding) [])
 
-pub tally_after : (i : Interface) (rs : List Row) (r : Row) (step : Step) (before after : Tally) → before ≡ tally_of i rs → Steps i rs r step
+pub tally_after : (i : Interface) (rs : List Item) (r : Item) (step : Step) (before after : Tally) → before ≡ tally_of i rs → Steps i rs r step
     → Counts i r (option_to_list step.finding) (events_after step.turn i (observer i rs).epoch (observer i rs).states r) before after → after ≡ tally_of i (rs ++ r ∷ [])
 tally_after i rs r step before after was s c =
     let findings : after.findings ≡ (tally_of i (rs ++ r ∷ [])).findings =
@@ -118,7 +118,7 @@ tally_after i rs r step before after was s c =
     c.octets ∙ (λ j. (was j).octets + sym s.left.octets j) ∙ sym (octets_more i rs r) in
     λ j. record { findings = findings j; packets = packets j; octets = octets j }
 
-pub few_after : (i : Interface) (rs : List Row) (r : Row) (found : List Finding) (es : List Event) (epoch packets next_epoch next_packets : ℕ) (before after : Tally) → IsFew rs epoch packets before → length (found ++ findings_of es) ≤ 1
+pub few_after : (i : Interface) (rs : List Item) (r : Item) (found : List Finding) (es : List Event) (epoch packets next_epoch next_packets : ℕ) (before after : Tally) → IsFew rs epoch packets before → length (found ++ findings_of es) ≤ 1
     → next_epoch ≤ epoch + 1 → next_packets ≡ packets + 1 → Counts i r found es before after → IsFew (rs ++ r ∷ []) next_epoch next_packets after
 few_after i rs r found es epoch packets next_epoch next_packets before after few one epochs rows c =
     let one_packet = one_uncounted i r es in
@@ -128,10 +128,10 @@ few_after i rs r found es epoch packets next_epoch next_packets before after few
       rows = omega (arith, few.rows, rows, length-append rs (r ∷ []));
       findings = omega (arith, few.findings, c.findings, one, length-append rs (r ∷ []));
       uncounted = omega (arith, few.uncounted, c.packets, one_packet, length-append rs (r ∷ []));
-      octets = omega (arith, few.octets, c.octets, octets, sum_by_push (λ (x : Row). length x.octets) rs r);
+      octets = omega (arith, few.octets, c.octets, octets, sum_by_push (λ (x : Item). x.length) rs r);
     }
 
-pub walked_after : {A C : Type 0} (m : Machine C A) (i : Interface) (rs : List Row) (r : Row) (step : Step) (before after : Trial A C) (turned : OpenLanes C) → HasWalked m i rs before → Steps i rs r step
+pub walked_after : {A C : Type 0} (m : Machine C A) (i : Interface) (rs : List Item) (r : Item) (step : Step) (before after : Trial A C) (turned : OpenLanes C) → HasWalked m i rs before → Steps i rs r step
     → length (option_to_list step.finding ++ findings_of (events_after step.turn i (observer i rs).epoch (observer i rs).states r)) ≤ 1
     → Takes m (observer i rs).states r step before after turned
     → Counts i r (option_to_list step.finding) (events_after step.turn i (observer i rs).epoch (observer i rs).states r) before.tally after.tally
@@ -148,16 +148,16 @@ walked_after m i rs r step before after turned w s one t c = record {
 
 -- ---- as the calls of one row have it
 
-pub lanes_under : {A C : Type 0} (m : Machine C A) (i : Interface) (rs : List Row) (t : Trial A C) (v : EpochWalk A) → HasWalked m i rs t → v.interface ≡ t.walk.interface → v.epoch ≡ t.walk.epoch → AreLanesOf m v.interface v.epoch (observer i rs).states t.lanes
+pub lanes_under : {A C : Type 0} (m : Machine C A) (i : Interface) (rs : List Item) (t : Trial A C) (v : EpochWalk A) → HasWalked m i rs t → v.interface ≡ t.walk.interface → v.epoch ≡ t.walk.epoch → AreLanesOf m v.interface v.epoch (observer i rs).states t.lanes
 lanes_under m i rs t v w interface epoch =
     subst (λ j. AreLanesOf m j v.epoch (observer i rs).states t.lanes) (sym (interface ∙ w.interface))
     (subst (λ e. AreLanesOf m i e (observer i rs).states t.lanes) (sym (epoch ∙ w.epoch)) w.lanes)
 
-pub turned_under : {A C : Type 0} (m : Machine C A) (i j : Interface) (e f : ℕ) (turn : Turn) (states : ℕ → Channel) (r : Row) (turned : OpenLanes C) → i ≡ j → e ≡ f → AreLanesOf m i e (states_after turn i states r) turned → AreLanesOf m j f (states_after turn j states r) turned
+pub turned_under : {A C : Type 0} (m : Machine C A) (i j : Interface) (e f : ℕ) (turn : Turn) (states : ℕ → Channel) (r : Item) (turned : OpenLanes C) → i ≡ j → e ≡ f → AreLanesOf m i e (states_after turn i states r) turned → AreLanesOf m j f (states_after turn j states r) turned
 turned_under m i j e f turn states r turned interface epoch h =
     subst (λ k. AreLanesOf m k f (states_after turn k states r) turned) interface (subst (λ n. AreLanesOf m i n (states_after turn i states r) turned) epoch h)
 
-pub counts_under : (i j : Interface) (r : Row) (found : List Finding) (es fs : List Event) (before mid made after : Tally) → j ≡ i → fs ≡ es → mid ≡ before → after ≡ made → length (found ++ findings_of es) ≤ 1
+pub counts_under : (i j : Interface) (r : Item) (found : List Finding) (es fs : List Event) (before mid made after : Tally) → j ≡ i → fs ≡ es → mid ≡ before → after ≡ made → length (found ++ findings_of es) ≤ 1
     → (length (found ++ findings_of fs) ≤ 1 → made.findings ≡ mid.findings + length (found ++ findings_of fs)) → made.packets ≡ mid.packets + length (uncounted_in j r fs) → made.octets ≡ mid.octets + sum (uncounted_in j r fs)
     → Counts i r found es before after
 counts_under i j r found es fs before mid made after interface events was now one findings packets octets = record {

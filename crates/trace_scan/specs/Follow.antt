@@ -21,9 +21,10 @@ IsFollowRefusal given rest Write = early given ≡ None
 IsFollowRefusal given rest _ = ⊥
 
 -- what the sink took at a refusal: a first part of the lines of what was found in the bytes that were given, or of the report where they
--- are a whole text; at a faulty line all those lines, if it stood well
+-- are a whole text; at a faulty line all those lines, if it did not fail; where the source failed all of them
 abbrev pub IsToldOf : (before taken : Option (List ℕ)) (well : Type 0) (given rest : List ℕ) → Fault → Type 0
 IsToldOf before taken well given rest (Trace line kind) = HasFirst before taken (found_text given) × (well → HasFindings before taken given)
+IsToldOf before taken well given rest Read = HasFindings before taken given
 IsToldOf before taken well given rest Write = HasFirst before taken (found_text given) ⊎ ((rest ≡ []) × (fault given ≡ None) × HasFirst before taken (trace_report given))
 IsToldOf before taken well given rest _ = HasFirst before taken (found_text given)
 

@@ -1,4 +1,3 @@
-pub mod Unread
 pub mod TextCuts
 pub mod TextBlocks
 pub mod Readings

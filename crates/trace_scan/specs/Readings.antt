@@ -1,9 +1,11 @@
 -- What was read of a source.
 use Rattle.std.specs.Prelude.{◌≡◌, ℕ, ◌⊎◌, List, [], ◌++◌, length, Option, Some, None, Result, Err, IfOk, IfErr, MatchOption}
-use Rattle.line_model.specs.basics.Records.{Row, Piece}
+use Rattle.line_model.specs.basics.Records.{Item, Piece}
 use Rattle.line_model.specs.declared.interface.Interface.{Interface}
 use Rattle.line_model.specs.text.Text.{early, fault, head, rows}
 use Rattle.line_model.specs.pieces.Plans.{plan, line_findings}
+use Rattle.line_model.specs.packets.Says.{items_of}
+use Rattle.line_model.specs.traces.Traces.{trace_plan}
 use Rattle.trace_text.specs.Decided.{NoneDecidedButLast}
 use Rattle.std.specs.Option.{option_map}
 use Rattle.line_model.specs.work.Book.{KnownPlan}
@@ -14,15 +16,14 @@ use Rattle.line_model.specs.declared.fault.Fault.{Fault}
 use Rattle.line_model.specs.declared.fault.Fault.TheVariants.{Memory, Trace, Read as ReadFailed, Write, Start}
 use Rattle.shared_work.specs.queue.Passes.{PassView, QueueId}
 use Rattle.workers.specs.Workers.{HasFed}
-use Rattle.trace_scan.specs.Unread.{all_as_read}
-use Rattle.trace_scan.specs.TextCuts.{IsFedTo, trace_plan_as_read}
+use Rattle.trace_scan.specs.TextCuts.{IsFedTo}
 use Rattle.trace_scan.specs.declared.text_cutter.TextCutter.{TextCutter}
 use Rattle.trace_scan.specs.declared.feeding.Read.{Read}
 
--- this is what the rows of an interface say, and the pieces of their plan were fed, all and in order, with the rows as their channels read them
-pub record IsCutOf {A : Type 0} (i : Interface) (rs : List Row) (fed : List Piece) (r : Read A) : Type 0 where
+-- this was read of what rows of an interface say, and the pieces of their plan were fed, all and in order
+pub record IsCutOf {A : Type 0} (i : Interface) (rs : List Item) (fed : List Piece) (r : Read A) : Type 0 where
   pub interface : r.interface ≡ i
-  pub all : fed ≡ plan i (all_as_read i rs)
+  pub all : fed ≡ plan i rs
   pub interface_findings : r.interface_findings.items ≡ line_findings i rs
   pub packets : r.packets ≡ length rs
   pub pieces : r.pieces ≡ length fed
@@ -31,7 +32,7 @@ pub record IsCutOf {A : Type 0} (i : Interface) (rs : List Row) (fed : List Piec
 pub record IsReadOf {A : Type 0} (text : List ℕ) (fed : List Piece) (r : Read A) : Type 0 where
   pub sound : fault text ≡ None
   pub header : head text ≡ Some r.interface
-  pub cut : IsCutOf r.interface (rows text) fed r
+  pub cut : IsCutOf r.interface (items_of r.interface (rows text)) fed r
 
 -- what a refusal says of the bytes that were given: the first faulty line is told as soon as they show it, else at the end of the text, and
 -- all but at most the last 65,536 show none; where memory ran out so too; the source failed while they showed none; the sink failed on the
@@ -85,7 +86,7 @@ pub record IsFedTextOf {A : Type 0} (known : Option (List ℕ)) (queue : QueueId
 
 -- the text that a source tells begins so, and the plan is that of it
 pub record IsPlanBegunSo (plan : KnownPlan) (known : Option (List ℕ)) (text : List ℕ) : Type 0 where
-  pub planned : plan ≡ option_map trace_plan_as_read known
+  pub planned : plan ≡ option_map trace_plan known
   pub begins : BeginsSo known text
 
 -- after this text was fed, the next bytes of it were refused

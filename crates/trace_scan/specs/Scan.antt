@@ -1,5 +1,5 @@
 -- What a scan of one thread answers.
-use Rattle.std.specs.Prelude.{◌≡◌, List, ℕ, Option, Some, None, take}
+use Rattle.std.specs.Prelude.{◌≡◌, List, ℕ, Option, None, take}
 use Rattle.line_model.specs.basics.Device.{with_more}
 use Rattle.line_model.specs.text.Text.{fault}
 use Rattle.line_model.specs.traces.Traces.{trace_report}

@@ -1,9 +1,8 @@
 -- Blocks of a text that are read apart.
-use Rattle.std.specs.Prelude.{◌≡◌, ℕ, List, ◌++◌, length, map, not, Option, IfSome}
-use Rattle.line_model.specs.declared.interface.Interface.{Interface}
-use Rattle.line_model.specs.basics.Records.{Row, Item}
+use Rattle.std.specs.Prelude.{◌≡◌, ℕ, List, ◌++◌, length, not, Option, IfSome}
+use Rattle.line_model.specs.basics.Records.{Row}
 use Rattle.line_model.specs.channels.RestartMachine.{LineState}
-use Rattle.line_model.specs.packets.Classes.{packet_of}
+use Rattle.line_model.specs.packets.Says.{items_of}
 use Rattle.line_model.specs.pieces.Plan.{has_some}
 use Rattle.line_model.specs.text.Text.{early_rows}
 use Rattle.restart_epochs.specs.Splits.{IsSplitSoFar}
@@ -11,7 +10,6 @@ use Rattle.restart_epochs.specs.Stretches.{IsSplit}
 use Rattle.trace_text.specs.Blocks.{IsBlock, IsSpanOf, first_number}
 use Rattle.trace_text.specs.Progress.{Progress}
 use Rattle.trace_text.specs.StandsFor.{StandsFor}
-use Rattle.trace_scan.specs.Unread.{as_read}
 use Rattle.trace_scan.specs.declared.blocks.BlockRows.{BlockRows}
 use Rattle.trace_scan.specs.declared.blocks.Start.{Start}
 use Rattle.trace_scan.specs.declared.blocks.RowsSoFar.{RowsSoFar}
@@ -34,22 +32,18 @@ pub record IsBlockAt (known : Option (List ℕ)) (place : ℕ) (block : BlockVie
   pub place_is : block.place ≡ place
   pub stands : IfSome known (λ whole. StandsAt whole place block.bytes)
 
--- rows as their channels read them, each with its packet
-abbrev pub items_as_read : Interface → List Row → List Item
-items_as_read i rs = map (λ r. record { row = as_read i r; packet = packet_of i r.octets }) rs
-
 -- the rows of a block that is read after a header, and split as a restart machine takes them
 pub record IsReadAs {A : Type 0} (start : Start) (bytes : List ℕ) (r : BlockRows A) : Type 0 where
   pub rows : List Row
   pub block : IsBlock start.interface bytes rows
   pub span_is : IsSpanOf bytes rows r.span
-  pub split : IsSplit start.machine (items_as_read start.interface rows) r.stretches.items
+  pub split : IsSplit start.machine (items_of start.interface rows) r.stretches.items
 
 -- these rows were read, and are split as a restart machine takes them
 pub record AreRead {A : Type 0} (l : LineState) (rs : List Row) (r : RowsSoFar A) : Type 0 where
   pub empty : r.is_empty ≡ not (has_some rs)
   pub first : r.first ≡ first_number rs
-  pub split : IsSplitSoFar l (items_as_read r.interface rs) r.splitter
+  pub split : IsSplitSoFar l (items_of r.interface rs) r.splitter
 
 -- a text was read so far, and the rows of the lines that an LF ended
 pub record HasReadTo {A : Type 0} (l : LineState) (text : List ℕ) (lines : Progress) (r : RowsSoFar A) : Type 0 where

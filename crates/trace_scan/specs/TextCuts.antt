@@ -1,44 +1,38 @@
 -- How far a text was read, and its rows cut.
-use Rattle.std.specs.Prelude.{◌≡◌, ℕ, ◌≤◌, ◌^◌, List, [], ◌∷◌, ◌++◌, length, map, sum_by, All, Option, Some, None, IfSome}
-use Rattle.std.specs.List.Sorted.{IsStrictlyIncreasing}
+use Rattle.std.specs.Prelude.{◌≡◌, ℕ, List, [], ◌++◌, length, map, Option, Some, None, IfSome}
 use Rattle.line_model.specs.declared.interface.Interface.{Interface}
 use Rattle.line_model.specs.work.Book.{KnownPlan}
-use Rattle.line_model.specs.basics.Records.{Row, Piece}
-use Rattle.line_model.specs.pieces.Plans.{plan}
-use Rattle.line_model.specs.text.Text.{early_head, early_rows, head, last_or, rows}
+use Rattle.line_model.specs.basics.Bounds.{all_octets}
+use Rattle.line_model.specs.basics.Records.{Row, Item, Piece}
+use Rattle.line_model.specs.packets.Says.{items_of}
+use Rattle.line_model.specs.text.Text.{early_head, early_rows, last_or}
+use Rattle.line_model.specs.traces.Traces.{trace_plan}
 use Rattle.restart_epochs.specs.Cutting.{Cutting, StandsFor as IsCutterOf, given_of}
-use Rattle.trace_scan.specs.Unread.{all_as_read}
 use Rattle.shared_work.specs.queue.Passes.{PassView}
 use Rattle.trace_text.specs.Progress.{Progress}
 use Rattle.trace_text.specs.StandsFor.{StandsFor}
 use Rattle.trace_scan.specs.declared.text_cutter.RowCutter.{RowCutter}
 use Rattle.trace_scan.specs.declared.text_cutter.TextCutter.{TextCutter}
 
--- rows as a text has them: their numbers rise, and they have few octets
-pub record IsTrace (rs : List Row) : Type 0 where
-  pub rising : IsStrictlyIncreasing (0 ∷ map (λ r. r.number) rs)
-  pub numbers : All (λ r. r.number ≤ 999999999) rs
-  pub octets : sum_by (λ r. length r.octets) rs ≤ 2 ^ 31
-
--- a cutter that was given these rows has counted them
-pub record IsCounting (rs : List Row) (c : Cutting) : Type 0 where
+-- a cutter that was given what these rows say has counted them
+pub record IsCounting (rs : List Item) (c : Cutting) : Type 0 where
   pub last : c.last ≡ last_or 0 (map (λ r. r.number) rs)
-  pub octets : c.octets ≡ sum_by (λ r. length r.octets) rs
+  pub octets : c.octets ≡ all_octets rs
 
--- the cutter was given these rows as their channels read them
-pub record HasCut {A : Type 0} (rs : List Row) (f : RowCutter A) : Type 0 where
-  pub stands : IsCutterOf f.interface (all_as_read f.interface rs) f.cutter
+-- the cutter was given what these rows say
+pub record HasCut {A : Type 0} (rs : List Item) (f : RowCutter A) : Type 0 where
+  pub stands : IsCutterOf f.interface rs f.cutter
   pub counting : IsCounting rs f.cutter
 
 -- a text was read so far, and the rows of the lines that an LF ended were cut
 pub record IsCutTo {A : Type 0} (text : List ℕ) (lines : Progress) (f : RowCutter A) : Type 0 where
   pub reads : StandsFor lines text
   pub header : lines.interface ≡ Some f.interface
-  pub cut : HasCut (early_rows text) f
+  pub cut : HasCut (items_of f.interface (early_rows text)) f
 
 -- of any rows that it was given
-abbrev pub OfCut : {A : Type 0} → RowCutter A → (List Row → Type 0) → Type 0
-OfCut f Fact = (before : List Row) → HasCut before f → Fact before
+abbrev pub OfCut : {A : Type 0} → RowCutter A → (List Item → Type 0) → Type 0
+OfCut f Fact = (before : List Item) → HasCut before f → Fact before
 
 -- of any text that was read so far
 abbrev pub OfCutTo : {A : Type 0} → Progress → RowCutter A → (List ℕ → Type 0) → Type 0
@@ -47,7 +41,7 @@ OfCutTo lines f Fact = (text : List ℕ) → IsCutTo text lines f → Fact text
 -- the rows were cut, if there are any
 abbrev pub AreCut : {A : Type 0} → List Row → Option Interface → Option (RowCutter A) → Type 0
 AreCut rows head None = rows ≡ []
-AreCut rows head (Some f) = (head ≡ Some f.interface) × HasCut rows f
+AreCut rows head (Some f) = (head ≡ Some f.interface) × HasCut (items_of f.interface rows) f
 
 -- it was given this text
 pub record HasTaken {A : Type 0} (text : List ℕ) (c : TextCutter A) : Type 0 where
@@ -58,22 +52,18 @@ pub record HasTaken {A : Type 0} (text : List ℕ) (c : TextCutter A) : Type 0 w
 abbrev pub OfTaken : {A : Type 0} → TextCutter A → (List ℕ → Type 0) → Type 0
 OfTaken c Fact = (text : List ℕ) → HasTaken text c → Fact text
 
--- the pieces of some rows that are known whole, with the rows as their channels read them
-abbrev pub given_as_read : Interface → List Row → List Piece
-given_as_read i rs = given_of i (all_as_read i rs)
+-- the pieces of a text under a header that are known whole
+abbrev pub given_in : Interface → List ℕ → List Piece
+given_in i text = given_of i (items_of i (early_rows text))
 
--- the plan of a text, with the rows as their channels read them
-abbrev pub trace_plan_as_read : List ℕ → List Piece
-trace_plan_as_read x = elim (head x) [ None ↦ [] | Some i ↦ plan i (all_as_read i (rows x)) ]
-
--- the pieces of some rows that are known whole, where there is a header
-abbrev pub known_of : Option Interface → List Row → List Piece
-known_of None rs = []
-known_of (Some i) rs = given_as_read i rs
+-- the same, where there is a header
+abbrev pub known_of : Option Interface → List ℕ → List Piece
+known_of None text = []
+known_of (Some i) text = given_in i text
 
 -- the pieces of a text that are known whole
 abbrev pub known_pieces : List ℕ → List Piece
-known_pieces text = known_of (early_head text) (early_rows text)
+known_pieces text = known_of (early_head text) text
 
 -- it was given this text, and the pieces that are known whole were fed
 pub record IsFedTo {A : Type 0} (text : List ℕ) (fed : PassView) (c : TextCutter A) : Type 0 where
@@ -83,4 +73,4 @@ pub record IsFedTo {A : Type 0} (text : List ℕ) (fed : PassView) (c : TextCutt
 
 -- the plan, where it is known, is that of a text that begins so
 abbrev pub IsPlanOf : KnownPlan → List ℕ → Type 0
-IsPlanOf plan text = IfSome plan (λ ps. (rest : List ℕ) × (ps ≡ trace_plan_as_read (text ++ rest)))
+IsPlanOf plan text = IfSome plan (λ ps. (rest : List ℕ) × (ps ≡ trace_plan (text ++ rest)))

@@ -4,6 +4,7 @@ use Rattle.line_model.specs.declared.fault.Fault.{Fault}
 use Rattle.line_model.specs.declared.fault.Fault.TheVariants.{Memory, Trace, Read, Write, Start}
 use Rattle.line_model.specs.basics.Records.{Piece}
 use Rattle.line_model.specs.work.Book.{KnownPlan}
+use Rattle.line_model.specs.packets.Says.{items_of}
 use Rattle.line_model.specs.pieces.Plans.{channel_totals}
 use Rattle.line_model.specs.text.Text.{head, rows}
 use Rattle.line_model.specs.declared.totals.Totals.{Totals}
@@ -14,7 +15,7 @@ use Rattle.trace_scan.specs.declared.threaded.ScanParts.{ScanParts}
 
 -- the totals over the channels of a text, those of nothing where it has no header
 abbrev pub trace_totals : List ℕ → Totals
-trace_totals x = elim (head x) [ None ↦ record { posts = 0; findings = 0; octets = 0; segments = 0 } | Some i ↦ channel_totals i (rows x) ]
+trace_totals x = elim (head x) [ None ↦ record { posts = 0; findings = 0; octets = 0; segments = 0 } | Some i ↦ channel_totals i (items_of i (rows x)) ]
 
 -- these pieces were fed: those of a text that was read, the one that the source tells if it does; and each of them was run and posted once
 pub record AreScanParts {A : Type 0} (plan : KnownPlan) (workers : ℕ) (before after asked : Option (List ℕ)) (t : ScanParts A) : Type 0 where

@@ -5,6 +5,7 @@ use Rattle.line_model.specs.basics.Device.{with_more}
 use Rattle.line_model.specs.basics.Records.{Row}
 use Rattle.line_model.specs.basics.Written.{HasFront}
 use Rattle.line_model.specs.declared.interface.Interface.{Interface}
+use Rattle.line_model.specs.packets.Says.{items_of}
 use Rattle.line_model.specs.text.Text.{fault, head, rows}
 use Rattle.trace_scan.specs.Headers.{headers_tried}
 use Rattle.trace_scan.specs.Tried.{tally_of}
@@ -79,7 +80,7 @@ fewest (t ∷ ts) = t.tally.findings
 
 -- each header that is tried on some rows, with what they count under it
 abbrev pub tried_on : Interface → List Row → List Tried
-tried_on i rs = map (λ h. record { header = h; tally = tally_of h rs }) (headers_tried i rs)
+tried_on i rs = map (λ h. record { header = h; tally = tally_of h (items_of h rs) }) (headers_tried i rs)
 
 -- of a text without a fault: the line of each header that is tried on it, once and best first, and the findings of the first
 pub record AreTriedLines (text bytes : List ℕ) (findings : ℕ) : Type 0 where

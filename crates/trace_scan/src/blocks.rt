@@ -3,13 +3,13 @@
 ghost use Rattle.std.specs.Prelude.{◌≡◌, ◌++◌, ◌∷◌, [], List, ℕ, IfSome, OnOk, cond};
 ghost use Rattle.line_model.specs.channels.RestartMachine.{LineState};
 ghost use Rattle.line_model.specs.basics.Records as records;
+ghost use Rattle.line_model.specs.packets.Says.{read_row};
 ghost use Rattle.trace_scan.specs.TextBlocks.{AreRead, HasReadTo, IsReadAs};
 
-use crate::text_cutter::packet_of_row;
-use crate::unread::leave_out_unread;
+use crate::text_cutter::item_of_row;
 use line_model::fault::Fault;
 use line_model::interface::Interface;
-use line_model::row::Row;
+use line_model::row::ReadRow;
 use line_model::state::Side;
 use restart_epochs::restart::Restart;
 use restart_epochs::splitter::Splitter;
@@ -61,7 +61,7 @@ impl<P: TraceText, A: Allocator> Model for Block<P, A> {
     ghost invariant = { λ b. IfSome P.text (λ whole. StandsAt whole b.place b.bytes.items) };
 }
 
-/// The rows of a block as their channels read them, by channel, and what the reader of the text has to know of it.
+/// What the rows of a block say, by channel, and what the reader of the text has to know of it.
 #[derive(Drop)]
 pub struct BlockRows<A: Allocator = Global> {
     pub span: BlockSpan,
@@ -117,17 +117,17 @@ impl<A: Allocator + Copy> RowsSoFar<A> {
         if self.is_empty { number } else { self.first }
     }
 
-    /// Adds a row. User data that the row's channel does not read is left out, in the row too.
-    fn add(&mut self, row: &mut Row<A>) -> Result<(), AllocError>
+    /// Adds a row.
+    fn add(&mut self, row: &ReadRow<A>) -> Result<(), AllocError>
         ensures interface { self.new.interface ≡ self.old.interface }
-        ensures added { (l : LineState) (rows : List records.Row) → AreRead l rows self.old
-            → OnOk result (AreRead l (rows ++ row.old ∷ []) self.new) }
+        ensures added { (l : LineState) (rows : List records.Row) (next : records.Row)
+            → AreRead l rows self.old → row.now ≡ read_row next
+            → OnOk result (AreRead l (rows ++ next ∷ []) self.new) }
     {
-        let packet = packet_of_row(&self.interface, row);
-        leave_out_unread(&packet, row)?;
         self.first = self.first_with(row.number);
         self.is_empty = false;
-        self.splitter.push(&row.with_packet(packet))
+        let item = item_of_row(&self.interface, row);
+        self.splitter.push(&item)
     }
 
     /// Adds the rows of the lines that an LF of these bytes ends, each read into the place of the one before.
@@ -135,7 +135,7 @@ impl<A: Allocator + Copy> RowsSoFar<A> {
         &mut self,
         bytes: &[u8],
         lines: &mut Lines<A>,
-        row: &mut Row<A>,
+        row: &mut ReadRow<A>,
     ) -> Result<(), Fault>
         ensures interface { self.new.interface ≡ self.old.interface }
         ensures added { (l : LineState) (text : List ℕ) → HasReadTo l text lines.old self.old
@@ -150,15 +150,16 @@ impl<A: Allocator + Copy> RowsSoFar<A> {
     }
 }
 
-/// The rows of a block that is read after this. `None`: a line is faulty, the last line has no LF, or memory is wanted.
+/// The rows of a block that is read after this. `None`: a line is faulty, the last line has no LF, or memory is refused.
 fn rows_of<A: Allocator + Copy>(alloc: A, start: &Start, bytes: &[u8]) -> Option<BlockRows<A>>
     ensures { IfSome result (IsReadAs start.now bytes.now) }
 {
     let mut lines = Lines::at_rows(alloc, &start.interface);
     let mut rows = RowsSoFar::new(alloc, start);
-    let mut row = Row {
+    let mut row = ReadRow {
         number: 0,
         side: Side::T,
+        length: 0,
         octets: Vec::new(alloc),
     };
     rows.add_lines(bytes, &mut lines, &mut row).ok()?;

@@ -6,13 +6,14 @@ ghost use Rattle.line_model.specs.text.Text.{fault};
 ghost use Rattle.line_model.specs.declared.fault.Fault.TheVariants.{Memory};
 ghost use Rattle.line_model.specs.pieces.Plans.{plan};
 ghost use Rattle.line_model.specs.basics.Records as records;
-ghost use Rattle.trace_scan.specs.Unread.{all_as_read};
+ghost use Rattle.line_model.specs.traces.Traces.{trace_plan};
+ghost use Rattle.restart_epochs.specs.Cutting.{given_of};
 ghost use Rattle.trace_text.specs.FedBytes.{fed_length};
 ghost use Rattle.trace_text.specs.Progress.{bytes_fed};
 ghost use Rattle.trace_text.specs.StandsFor.{IsFaultOf, IsTextFault};
 ghost use Rattle.workers.specs.Workers.{HasFed};
 ghost use Rattle.trace_scan.specs.TextBlocks.{StandsAt};
-ghost use Rattle.trace_scan.specs.TextCuts.{HasCut, HasTaken, IsFedTo, given_as_read, trace_plan_as_read};
+ghost use Rattle.trace_scan.specs.TextCuts.{HasCut, HasTaken, IsFedTo};
 ghost use Rattle.trace_scan.specs.Readings.{HasFedOn, HasJudgedNone, HasRead, IsCutOf, IsFedSoFar, IsFedTextOf, IsOutcome, IsPlanBegunSo, IsReadOf, IsRefusedText};
 
 use crate::block_queues::BlockQueues;
@@ -54,15 +55,15 @@ fn feed_open_epoch<P: Plan, A: Allocator + Copy, R: Wait + Clock>(
 ) -> Result<Read<A>, Fault>
     requires queue { pass.old.queue ≡ work.now.queue }
     requires open { pass.old.record_of.ends ≡ 0 }
-    requires ready { (rows : List records.Row) × HasCut rows row_cutter
-        × (pass.old.record_of.fed ≡ length (given_as_read row_cutter.interface rows))
-        × (pass.old.pieces ≡ given_as_read row_cutter.interface rows)
-        × IfSome P.pieces (λ ps. ps ≡ plan row_cutter.interface (all_as_read row_cutter.interface rows)) }
+    requires ready { (items : List records.Item) × HasCut items row_cutter
+        × (pass.old.record_of.fed ≡ length (given_of row_cutter.interface items))
+        × (pass.old.pieces ≡ given_of row_cutter.interface items)
+        × IfSome P.pieces (λ ps. ps ≡ plan row_cutter.interface items) }
     ensures queue { pass.new.queue ≡ pass.old.queue }
     ensures kept { HasFed pass.old.record_of pass.new.record_of }
-    ensures cut { (rows : List records.Row) → HasCut rows row_cutter
-        → pass.old.pieces ≡ given_as_read row_cutter.interface rows
-        → IfOk result (IsCutOf row_cutter.interface rows pass.new.pieces) }
+    ensures cut { (items : List records.Item) → HasCut items row_cutter
+        → pass.old.pieces ≡ given_of row_cutter.interface items
+        → IfOk result (IsCutOf row_cutter.interface items pass.new.pieces) }
     ensures memory { IfErr result (λ fault. fault ≡ Memory) }
 {
     let RowCutter { interface, cutter } = row_cutter;
@@ -93,7 +94,7 @@ fn finish<P: Plan, A: Allocator + Copy, R: Wait + Clock>(
     requires queue { pass.old.queue ≡ work.now.queue }
     requires open { pass.old.record_of.ends ≡ 0 }
     requires ready { (given : List ℕ) × IsFedTo given pass.old text
-        × IfSome P.pieces (λ ps. ps ≡ trace_plan_as_read given) }
+        × IfSome P.pieces (λ ps. ps ≡ trace_plan given) }
     ensures queue { pass.new.queue ≡ pass.old.queue }
     ensures kept { HasFed pass.old.record_of pass.new.record_of }
     ensures read { (given : List ℕ) → IsFedTo given pass.old text
@@ -136,7 +137,7 @@ struct FedText<'a, P: Plan + TraceText, A: Allocator, R> {
 impl<'a, P: Plan + TraceText, A: Allocator + Copy, R: Wait + Clock> FedText<'a, P, A, R> {
     /// Takes the line that had not ended, with these bytes after it, or hands it out as a block.
     fn take_lines(&mut self, bytes: &[u8], pass: &mut FeederPass<A>) -> Result<(), Fault>
-        requires plan { P.pieces ≡ option_map trace_plan_as_read P.text }
+        requires plan { P.pieces ≡ option_map trace_plan P.text }
         requires ready { IsFedSoFar P.text self.old.taken.work.now.queue pass.old self.old.taken.text }
         requires place { IfSome P.text (λ whole. StandsAt whole self.old.sent
             (self.old.tail.items ++ bytes.now)) }
@@ -205,7 +206,7 @@ fn take_rest<'a, P: Plan + TraceText, A: Allocator + Copy, R: Wait + Clock>(
     fed: FedText<'a, P, A, R>,
     pass: &mut FeederPass<A>,
 ) -> Result<TakenText<'a, P, A, R>, Fault>
-    requires plan { P.pieces ≡ option_map trace_plan_as_read P.text }
+    requires plan { P.pieces ≡ option_map trace_plan P.text }
     requires ready { IsFedSoFar P.text fed.taken.work.now.queue pass.old fed.taken.text }
     requires place { IfSome P.text (λ whole. StandsAt whole fed.sent fed.tail.items) }
     ensures fed { HasFedOn pass.old pass.new }
@@ -238,7 +239,7 @@ fn read_all<P: Plan + TraceText, A: Allocator + Copy, S: Source, R: Wait + Clock
     requires none { pass.old.pieces ≡ [] }
     requires begun { HasJudgedNone fed.judge fed.sent fed.tail.items × HasTaken [] fed.taken.text }
     requires text { P.text ≡ S.left source.old }
-    requires plan { P.pieces ≡ option_map trace_plan_as_read P.text }
+    requires plan { P.pieces ≡ option_map trace_plan P.text }
     ensures queue { pass.new.queue ≡ pass.old.queue }
     ensures kept { HasFed pass.old.record_of pass.new.record_of }
     ensures read { HasRead (S.left source.old) (S.left source.new) (S.before source.new)
@@ -266,7 +267,7 @@ pub struct ReadingTask<'a, P: Plan + TraceText, A: Allocator, S> {
 impl<'a, P: Plan + TraceText, A: Allocator + Copy, S: Source> Feed<P, A>
     for ReadingTask<'a, P, A, S> {
     // The plan is that of the bytes that the source tells.
-    ghost can_feed = { λ task. (P.text ≡ S.left task.source.now) × (P.pieces ≡ option_map trace_plan_as_read P.text) };
+    ghost can_feed = { λ task. (P.text ≡ S.left task.source.now) × (P.pieces ≡ option_map trace_plan P.text) };
 
     ghost feed_gives = { λ task fed after. (after.source.ghost_name ≡ task.source.ghost_name) × IsOutcome (S.left task.source.now) (S.left after.source.now) (S.before after.source.now) (S.failures task.source.now < S.failures after.source.now) fed after.outcome × (S.calls task.source.now < S.calls after.source.now) × (S.calls after.source.now ≤ S.calls task.source.now + (2 ^ 30 + 1)) };
 

@@ -69,7 +69,8 @@ pub fn follow<A: Allocator + Copy, S: Source, K: Sink>(
     ensures kinds { IfErr result IsScanFault }
     ensures read_failed { result ≡ Err Fault.Read → S.failures source.old < S.failures source.new }
     ensures write_failed { result ≡ Err Fault.Write → K.failures sink.old < K.failures sink.new }
-    // What the sink has at a refusal are first lines of what was found in the bytes that were given.
+    // What the sink has at a refusal are first lines of what was found in the bytes that were given: where the source failed
+    // all of them, and so at a faulty line where the sink did not fail.
     ensures taken { (text : List ℕ) → S.left source.old ≡ Some text
         → IfErr result (IsRefusedBy (IsToldOf (K.taken sink.old) (K.taken sink.new)
         (K.failures sink.new ≡ K.failures sink.old)) text (S.left source.new)

@@ -18,4 +18,3 @@ mod trials;
 mod tried_lines;
 mod tried_text;
 pub mod trying;
-pub mod unread;

@@ -6,7 +6,7 @@ ghost use Rattle.line_model.specs.declared.fault.Fault.TheVariants.{Memory};
 ghost use Rattle.trace_text.specs.Progress.{bytes_fed};
 ghost use Rattle.trace_scan.specs.Readings.{HasFedOn, IsFedSoFar};
 ghost use Rattle.trace_scan.specs.TextBlocks.{IsBlockAt, StandsAt};
-ghost use Rattle.trace_scan.specs.TextCuts.{trace_plan_as_read};
+ghost use Rattle.line_model.specs.traces.Traces.{trace_plan};
 
 use crate::block_queues::MOST_BLOCKS;
 use crate::blocks::{Block, ReadBlock, TraceText};
@@ -33,7 +33,7 @@ pub struct TakenText<'a, P: Plan + TraceText, A: Allocator, R> {
 impl<'a, P: Plan + TraceText, A: Allocator + Copy, R: Wait + Clock> TakenText<'a, P, A, R> {
     /// Takes bytes that stand after those that were taken. They were judged, so only memory can be wanted.
     pub fn take_bytes(&mut self, bytes: &[u8], pass: &mut FeederPass<A>) -> Result<(), Fault>
-        requires plan { P.pieces ≡ option_map trace_plan_as_read P.text }
+        requires plan { P.pieces ≡ option_map trace_plan P.text }
         requires ready { IsFedSoFar P.text self.old.work.now.queue pass.old self.old.text }
         requires place { IfSome P.text (λ whole. StandsAt whole (bytes_fed self.old.text.lines) bytes.now) }
         ensures fed { HasFedOn pass.old pass.new }
@@ -51,7 +51,7 @@ impl<'a, P: Plan + TraceText, A: Allocator + Copy, R: Wait + Clock> TakenText<'a
 
     /// Takes a block that was read, and stands after the bytes that were taken.
     fn take_block(&mut self, block: &ReadBlock<P, A>, pass: &mut FeederPass<A>) -> Result<(), Fault>
-        requires plan { P.pieces ≡ option_map trace_plan_as_read P.text }
+        requires plan { P.pieces ≡ option_map trace_plan P.text }
         requires ready { IsFedSoFar P.text self.old.work.now.queue pass.old self.old.text }
         requires place { IsBlockAt P.text (bytes_fed self.old.text.lines) block.now }
         ensures fed { HasFedOn pass.old pass.new }
@@ -68,7 +68,7 @@ impl<'a, P: Plan + TraceText, A: Allocator + Copy, R: Wait + Clock> TakenText<'a
 
     /// Takes the next block that is out, and waits for it.
     fn take_next(&mut self, pass: &mut FeederPass<A>) -> Result<(), Fault>
-        requires plan { P.pieces ≡ option_map trace_plan_as_read P.text }
+        requires plan { P.pieces ≡ option_map trace_plan P.text }
         requires ready { IsFedSoFar P.text self.old.work.now.queue pass.old self.old.text }
         ensures fed { HasFedOn pass.old pass.new }
         ensures taken { OnOk result (IsFedSoFar P.text self.old.work.now.queue pass.new self.new.text) }
@@ -83,7 +83,7 @@ impl<'a, P: Plan + TraceText, A: Allocator + Copy, R: Wait + Clock> TakenText<'a
 
     /// Takes the blocks that were read, up to one that was not.
     fn take_ready(&mut self, pass: &mut FeederPass<A>) -> Result<(), Fault>
-        requires plan { P.pieces ≡ option_map trace_plan_as_read P.text }
+        requires plan { P.pieces ≡ option_map trace_plan P.text }
         requires ready { IsFedSoFar P.text self.old.work.now.queue pass.old self.old.text }
         ensures fed { HasFedOn pass.old pass.new }
         ensures taken { OnOk result (IsFedSoFar P.text self.old.work.now.queue pass.new self.new.text) }
@@ -103,7 +103,7 @@ impl<'a, P: Plan + TraceText, A: Allocator + Copy, R: Wait + Clock> TakenText<'a
 
     /// Takes the blocks that are out, up to this place of the text, and waits for each.
     pub fn take_up_to(&mut self, place: u32, pass: &mut FeederPass<A>) -> Result<(), Fault>
-        requires plan { P.pieces ≡ option_map trace_plan_as_read P.text }
+        requires plan { P.pieces ≡ option_map trace_plan P.text }
         requires ready { IsFedSoFar P.text self.old.work.now.queue pass.old self.old.text }
         ensures fed { HasFedOn pass.old pass.new }
         ensures taken { OnOk result (IsFedSoFar P.text self.old.work.now.queue pass.new self.new.text) }
@@ -122,7 +122,7 @@ impl<'a, P: Plan + TraceText, A: Allocator + Copy, R: Wait + Clock> TakenText<'a
 
     /// Hands a block out, and takes those that were read. While too many are out it waits for the next one.
     pub fn hand_out(&mut self, block: Block<P, A>, pass: &mut FeederPass<A>) -> Result<(), Fault>
-        requires plan { P.pieces ≡ option_map trace_plan_as_read P.text }
+        requires plan { P.pieces ≡ option_map trace_plan P.text }
         requires ready { IsFedSoFar P.text self.old.work.now.queue pass.old self.old.text }
         ensures fed { HasFedOn pass.old pass.new }
         ensures taken { OnOk result (IsFedSoFar P.text self.old.work.now.queue pass.new self.new.text) }

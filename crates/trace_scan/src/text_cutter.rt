@@ -1,33 +1,36 @@
 //! A text that is cut as it is read: each row goes through the cutter as soon as its line has ended.
 
 ghost use Rattle.std.specs.Prelude.{◌≡◌, ℕ, ◌++◌, ◌∷◌, ◌+◌, ◌≤◌, ◌^◌, [], List, Option, None, Some, IfErr, IfOk, IfSome, OnOk, length};
-ghost use Rattle.line_model.specs.text.Text.{early, early_rows, fault, head, rows};
+ghost use Rattle.line_model.specs.text.Text.{early, fault, head, rows};
 ghost use Rattle.line_model.specs.basics.Records as records;
-ghost use Rattle.line_model.specs.packets.Classes.{packet_of};
+ghost use Rattle.line_model.specs.packets.Says.{item_read, items_of};
 ghost use Rattle.line_model.specs.declared.interface.Interface.{Interface as AnyInterface};
 ghost use Rattle.line_model.specs.declared.fault.Fault.TheVariants.{Memory};
 ghost use Rattle.trace_text.specs.Progress.{bytes_fed};
-ghost use Rattle.trace_text.specs.StandsFor.{last_row, IsFaultOf, IsTextFault};
-ghost use Rattle.restart_epochs.specs.Cutting.{HasAppended};
-ghost use Rattle.trace_scan.specs.TextCuts.{AreCut, HasCut, HasTaken, IsCutTo, IsTrace, OfCut, OfCutTo, OfTaken, given_as_read, known_pieces};
+ghost use Rattle.trace_text.specs.StandsFor.{IsFaultOf, IsTextFault};
+ghost use Rattle.restart_epochs.specs.Cutting.{HasAppended, given_of};
+ghost use Rattle.live_report.specs.Observing.{AreItems, last_item};
+ghost use Rattle.trace_scan.specs.TextCuts.{AreCut, HasCut, HasTaken, IsCutTo, OfCut, OfCutTo, OfTaken, given_in, known_pieces};
 
-use crate::unread::leave_out_unread;
 use line_model::fault::Fault;
 use line_model::interface::Interface;
-use line_model::packet::Packet;
+use line_model::items::ItemRef;
 use line_model::piece::Piece;
-use line_model::row::Row;
+use line_model::row::ReadRow;
 use line_model::state::Side;
 use packet_decode::decode::decode;
 use restart_epochs::cutter::Cutter;
 use std::alloc::{Allocator, Global};
 use trace_text::lines::Lines;
 
-/// The packet that the octets of a row are.
-pub(crate) fn packet_of_row<A: Allocator>(interface: &Interface, row: &Row<A>) -> Packet
-    ensures { result ≡ packet_of interface.now row.now.octets }
+/// What a row says under a header.
+pub(crate) fn item_of_row<'a, A: Allocator>(
+    interface: &Interface,
+    row: &'a ReadRow<A>,
+) -> ItemRef<'a>
+    ensures { result ≡ item_read interface.now row.now }
 {
-    decode(interface, row.octets.as_slice())
+    row.item(decode(interface, row.octets.as_slice()))
 }
 
 /// The cutter of a text whose header was read.
@@ -49,41 +52,39 @@ impl<A: Allocator + Copy> RowCutter<A> {
         }
     }
 
-    /// Cuts a row, and appends the pieces that are known whole with it. User data that the row's channel does not read is
-    /// left out, in the row too.
-    fn cut(&mut self, row: &mut Row<A>, pieces: &mut Vec<Piece<A>, A>) -> Result<(), Fault>
-        requires next { (before : List records.Row) × HasCut before self.old
-            × IsTrace (before ++ row.old ∷ []) }
+    /// Cuts a row, and appends the pieces that are known whole with it.
+    fn cut(&mut self, row: &ReadRow<A>, pieces: &mut Vec<Piece<A>, A>) -> Result<(), Fault>
+        requires next { (before : List records.Item) × HasCut before self.old
+            × AreItems self.old.interface (before ++ item_read self.old.interface row.now ∷ []) }
         ensures interface { self.new.interface ≡ self.old.interface }
         ensures cut { OfCut self.old (λ before.
-            OnOk result (HasCut (before ++ row.old ∷ []) self.new)) }
+            OnOk result (HasCut (before ++ item_read self.old.interface row.now ∷ []) self.new)) }
         ensures pieces { OfCut self.old (λ before.
             OnOk result (HasAppended pieces.old.items pieces.new.items
-            (given_as_read self.old.interface before) (given_as_read self.old.interface
-            (before ++ row.old ∷ [])))) }
+            (given_of self.old.interface before) (given_of self.old.interface
+            (before ++ item_read self.old.interface row.now ∷ [])))) }
         ensures memory { IfErr result (λ fault. fault ≡ Memory) }
     {
-        let packet = packet_of_row(&self.interface, row);
-        leave_out_unread(&packet, row)?;
-        self.cutter.push(&row.with_packet(packet), pieces)
+        let item = item_of_row(&self.interface, row);
+        self.cutter.push(&item, pieces)
     }
 
     /// Cuts the row of a last line that no LF ended, if it has one.
     fn cut_last(
         &mut self,
         has_row: bool,
-        row: &mut Row<A>,
+        row: &ReadRow<A>,
         pieces: &mut Vec<Piece<A>, A>,
     ) -> Result<(), Fault>
-        requires next { (before : List records.Row) × HasCut before self.old
-            × IsTrace (before ++ last_row has_row row.old) }
+        requires next { (before : List records.Item) × HasCut before self.old
+            × AreItems self.old.interface (before ++ last_item self.old.interface has_row row.now) }
         ensures interface { self.new.interface ≡ self.old.interface }
         ensures cut { OfCut self.old (λ before.
-            OnOk result (HasCut (before ++ last_row has_row row.old) self.new)) }
+            OnOk result (HasCut (before ++ last_item self.old.interface has_row row.now) self.new)) }
         ensures pieces { OfCut self.old (λ before.
             OnOk result (HasAppended pieces.old.items pieces.new.items
-            (given_as_read self.old.interface before) (given_as_read self.old.interface
-            (before ++ last_row has_row row.old)))) }
+            (given_of self.old.interface before) (given_of self.old.interface
+            (before ++ last_item self.old.interface has_row row.now)))) }
         ensures memory { IfErr result (λ fault. fault ≡ Memory) }
     {
         if has_row {
@@ -98,7 +99,7 @@ impl<A: Allocator + Copy> RowCutter<A> {
         &mut self,
         bytes: &[u8],
         lines: &mut Lines<A>,
-        row: &mut Row<A>,
+        row: &mut ReadRow<A>,
         pieces: &mut Vec<Piece<A>, A>,
     ) -> Result<(), Fault>
         requires { (text : List ℕ) × IsCutTo text lines.old self.old }
@@ -106,8 +107,9 @@ impl<A: Allocator + Copy> RowCutter<A> {
         ensures cut { OfCutTo lines.old self.old (λ text.
             OnOk result (IsCutTo (text ++ bytes.now) lines.new self.new)) }
         ensures pieces { OfCutTo lines.old self.old (λ text.
-            OnOk result (HasAppended pieces.old.items pieces.new.items (given_as_read self.old.interface
-            (early_rows text)) (given_as_read self.old.interface (early_rows (text ++ bytes.now))))) }
+            OnOk result (HasAppended pieces.old.items pieces.new.items
+            (given_in self.old.interface text) (given_in self.old.interface
+            (text ++ bytes.now)))) }
         ensures refused { OfCutTo lines.old self.old (λ text.
             IfErr result (IsFaultOf (early (text ++ bytes.now)))) }
         ensures size { OnOk result (bytes_fed lines.new ≡ bytes_fed lines.old + length bytes.now) }
@@ -130,7 +132,7 @@ fn row_cutter_of<A: Allocator + Copy>(
     row_cutter: Option<RowCutter<A>>,
 ) -> RowCutter<A>
     ensures cut { (rows : List records.Row) (head : Option AnyInterface) → AreCut rows head row_cutter
-        → IfSome head (λ i. i ≡ interface.now) → HasCut rows result }
+        → IfSome head (λ i. i ≡ interface.now) → HasCut (items_of interface.now rows) result }
     ensures interface { (rows : List records.Row) (head : Option AnyInterface)
         → AreCut rows head row_cutter → IfSome head (λ i. i ≡ interface.now)
         → result.interface ≡ interface.now }
@@ -146,7 +148,7 @@ fn row_cutter_of<A: Allocator + Copy>(
 pub struct TextCutter<A: Allocator = Global> {
     pub lines: Lines<A>,
     /// The last row, whose room the next one uses.
-    row: Row<A>,
+    row: ReadRow<A>,
     /// Made once the first row was read.
     row_cutter: Option<RowCutter<A>>,
 }
@@ -158,9 +160,10 @@ impl<A: Allocator + Copy> TextCutter<A> {
     {
         TextCutter {
             lines: Lines::new(alloc),
-            row: Row {
+            row: ReadRow {
                 number: 0,
                 side: Side::T,
+                length: 0,
                 octets: Vec::new(alloc),
             },
             row_cutter: None,
@@ -211,7 +214,7 @@ impl<A: Allocator + Copy> TextCutter<A> {
             unreachable!();
         };
         let mut row_cutter = RowCutter::new(*self.row.octets.allocator(), &interface);
-        row_cutter.cut(&mut self.row, pieces)?;
+        row_cutter.cut(&self.row, pieces)?;
         row_cutter.cut_lines(rest, &mut self.lines, &mut self.row, pieces)?;
         self.row_cutter = Some(row_cutter);
         Ok(())
@@ -244,10 +247,12 @@ impl<A: Allocator + Copy> TextCutter<A> {
         ensures sound { OfTaken self (λ text.
             IfOk result (λ row_cutter. (fault text ≡ None)
             × (head text ≡ Some row_cutter.interface))) }
-        ensures cut { OfTaken self (λ text. IfOk result (HasCut (rows text))) }
+        ensures cut { OfTaken self (λ text. IfOk result (λ row_cutter.
+            HasCut (items_of row_cutter.interface (rows text)) row_cutter)) }
         ensures pieces { OfTaken self (λ text.
             IfOk result (λ row_cutter. HasAppended pieces.old.items pieces.new.items
-            (known_pieces text) (given_as_read row_cutter.interface (rows text)))) }
+            (known_pieces text) (given_of row_cutter.interface
+            (items_of row_cutter.interface (rows text))))) }
         ensures refused { OfTaken self (λ text. IfErr result (IsFaultOf (fault text))) }
         ensures kinds { IfErr result IsTextFault }
     {
@@ -258,7 +263,7 @@ impl<A: Allocator + Copy> TextCutter<A> {
         } = self;
         let end = lines.end_row(&mut row)?;
         let mut row_cutter = row_cutter_of(*row.octets.allocator(), &end.interface, row_cutter);
-        row_cutter.cut_last(end.has_row, &mut row, pieces)?;
+        row_cutter.cut_last(end.has_row, &row, pieces)?;
         Ok(row_cutter)
     }
 }

@@ -2,13 +2,12 @@
 
 ghost use Rattle.std.specs.Prelude.{◌≡◌, ◌≢◌, ℕ, ◌+◌, ◌<◌, ◌≤◌, ◌⊎◌, ◌^◌, List, Some, Ok, Err, IfOk, IfErr, IfSome, is_some, is_ok, true, vec_len};
 ghost use Rattle.std.specs.Option.{option_map};
-ghost use Rattle.line_model.specs.traces.Traces.{trace_report};
+ghost use Rattle.line_model.specs.traces.Traces.{trace_plan, trace_report};
 ghost use Rattle.line_model.specs.work.Book.{sum_of};
 ghost use Rattle.live_report.specs.Reports.{IsReported, IsTaken};
 ghost use Rattle.trace_text.specs.Sources.{IsRefusedBy};
 ghost use Rattle.trace_scan.specs.Readings.{IsRefusal};
 ghost use Rattle.trace_scan.specs.Scan.{IsPartTaken};
-ghost use Rattle.trace_scan.specs.TextCuts.{trace_plan_as_read};
 ghost use Rattle.trace_scan.specs.Threaded.{AreScanParts, IsStopped, IsWorkedFault, trace_totals};
 
 use crate::block_queues::BlockQueues;
@@ -74,7 +73,7 @@ fn work_on_trace<
     R: Threads + Wait + Clock + Sync,
 >(rt: &R, alloc: A, source: &mut S, crew: Crew<'_, G>) -> Result<ScanParts<A>, Fault>
     requires text { P.text ≡ S.left source.old }
-    requires plan { P.pieces ≡ option_map trace_plan_as_read P.text }
+    requires plan { P.pieces ≡ option_map trace_plan P.text }
     requires workers { (0 < crew.workers) × (crew.workers ≤ 64) }
     requires capacity { (0 < crew.capacity) × (crew.capacity ≤ 4096) }
     ensures parts { IfOk result (AreScanParts P.pieces crew.entry.workers (S.left source.old)

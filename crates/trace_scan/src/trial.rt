@@ -9,25 +9,24 @@ ghost use Rattle.line_model.specs.declared.fault.Fault.TheVariants.{Memory};
 ghost use Rattle.line_model.specs.declared.interface.Interface.{Interface as AnyInterface};
 ghost use Rattle.line_model.specs.observer.Machine.{with_state};
 ghost use Rattle.line_model.specs.observer.Report.{findings_of};
-ghost use Rattle.line_model.specs.packets.Classes.{packet_of};
+ghost use Rattle.line_model.specs.packets.Says.{item_read};
 ghost use Rattle.line_model.specs.pieces.Plan.{has_some};
 ghost use Rattle.channel_run.specs.Run.{row_events};
 ghost use Rattle.restart_epochs.specs.OpenLanes.{no_lanes, value_at};
 ghost use Rattle.restart_epochs.specs.Walks.{channel_in};
-ghost use Rattle.trace_scan.specs.TextCuts.{IsTrace};
-ghost use Rattle.live_report.specs.Uncounted.{counts_data, is_data};
+ghost use Rattle.live_report.specs.Observing.{AreItems};
 ghost use Rattle.trace_scan.specs.Tried.{AreLanesOf, HasWalked, IsLaneOf, MayWalk, events_after, states_after, uncounted_in};
 
+use crate::text_cutter::item_of_row;
 use channel_run::run::Channel;
-use line_model::event::{Event, What};
+use line_model::event::Event;
 use line_model::fault::Fault;
 use line_model::finding::Finding;
 use line_model::interface::Interface;
 use line_model::items::ItemRef;
-use line_model::packet::{Packet, PacketKind};
-use line_model::row::Row;
-use packet_decode::decode::decode;
-use packet_decode::transfer::header_length;
+use line_model::row::ReadRow;
+use live_report::uncounted;
+use packet_decode::decode::header_length;
 use restart_epochs::channel_table::ChannelTable;
 use restart_epochs::walk::{EpochWalk, Turn};
 use std::alloc::Allocator;
@@ -88,7 +87,7 @@ impl Tally {
 }
 
 impl Tally {
-    /// Counts a row: what the restart machine found on it, and the events of the logical channel that took it.
+    /// Counts a row: what the restart machine found on it, and the events of the logical channel that it went to.
     fn count(
         &mut self,
         interface: &Interface,
@@ -96,20 +95,19 @@ impl Tally {
         finding: Option<Finding>,
         events: &[Event],
     )
-        requires packet { item.now.packet ≡ packet_of interface.now item.now.row.octets }
         requires findings { self.old.findings + 1 < 2 ^ 32 }
         requires packets { self.old.packets + 1 < 2 ^ 32 }
-        requires octets { self.old.octets + length item.now.row.octets < 2 ^ 32 }
+        requires octets { self.old.octets + item.now.length < 2 ^ 32 }
         ensures findings { length (option_to_list finding ++ findings_of events.now) ≤ 1
             → self.new.findings ≡ self.old.findings
             + length (option_to_list finding ++ findings_of events.now) }
         ensures packets { self.new.packets ≡ self.old.packets
-            + length (uncounted_in interface.now item.now.row events.now) }
+            + length (uncounted_in interface.now item.now events.now) }
         ensures octets { self.new.octets ≡ self.old.octets
-            + sum (uncounted_in interface.now item.now.row events.now) }
+            + sum (uncounted_in interface.now item.now events.now) }
     {
         self.count_finding(finding.is_some() || has_finding(events));
-        self.count_data(uncounted(interface, item, events));
+        self.count_data(octets_left_out(interface, item, events));
     }
 }
 
@@ -117,49 +115,22 @@ impl Tally {
 fn has_finding(events: &[Event]) -> bool
     ensures { result ≡ has_some (findings_of events.now) }
 {
-    for event in events {
-        if let What::Found { .. } = event.what {
-            return true;
-        }
-    }
-    false
-}
-
-/// Whether events count data.
-fn has_data(events: &[Event]) -> bool
-    ensures { result ≡ counts_data events.now }
-{
-    for event in events {
-        if let What::Data { .. } = event.what {
-            return true;
-        }
-    }
-    false
-}
-
-/// Whether a packet is a data packet on a logical channel of the interface.
-fn is_data(packet: &Packet) -> bool
-    ensures { result ≡ is_data packet.now }
-{
-    match packet {
-        Packet::Channel { kind, .. } => matches!(kind, PacketKind::Data(_)),
-        _ => false,
-    }
+    uncounted::has_finding(events)
 }
 
 /// The length of the user data of a row, where it is a data packet and its events count no data.
-fn uncounted(interface: &Interface, item: &ItemRef<'_>, events: &[Event]) -> Option<u32>
-    requires packet { item.now.packet ≡ packet_of interface.now item.now.row.octets }
-    requires octets { length item.now.row.octets < 2 ^ 32 }
-    ensures { option_to_list result ≡ uncounted_in interface.now item.now.row events.now }
+fn octets_left_out(interface: &Interface, item: &ItemRef<'_>, events: &[Event]) -> Option<u32>
+    requires octets { item.now.length < 2 ^ 32 }
+    ensures { option_to_list result ≡ uncounted_in interface.now item.now events.now }
 {
-    if is_data(&item.packet) && !has_data(events) {
-        return Some(item.octets.len().saturating_sub(header_length(interface)) as u32);
+    if uncounted::is_data(&item.packet) && !uncounted::counts_data(events) {
+        return Some(item.length.saturating_sub(header_length(interface)) as u32);
     }
     None
 }
 
-/// Takes what stands in the lane of a logical channel out of it, a fresh channel where nothing does.
+/// Removes the channel from the lane of a logical channel, and returns it; a fresh channel where the lane is empty. Fails
+/// only when memory is refused.
 fn take_out<A: Allocator + Copy, C: Channel<A>>(
     alloc: A,
     interface: &Interface,
@@ -185,7 +156,7 @@ fn take_out<A: Allocator + Copy, C: Channel<A>>(
     Ok(machine)
 }
 
-/// Has the logical channel of a row take it, and adds its events. It answers `Memory` alone.
+/// Steps the logical channel of a row, and appends its events. Fails only when memory is refused.
 fn step_lane<A: Allocator + Copy, C: Channel<A>>(
     walk: &EpochWalk<A>,
     channel: u16,
@@ -200,11 +171,11 @@ fn step_lane<A: Allocator + Copy, C: Channel<A>>(
         → AreLanesOf C.Channel walk.now.interface walk.now.epoch states lanes.old
         → OnOk result (AreLanesOf C.Channel walk.now.interface walk.now.epoch
         (with_state states channel
-        (channel_step walk.now.interface channel (states channel) item.now.row).after) lanes.new) }
+        (channel_step walk.now.interface channel (states channel) item.now).after) lanes.new) }
     ensures events { (states : ℕ → channels.Channel)
         → AreLanesOf C.Channel walk.now.interface walk.now.epoch states lanes.old
         → OnOk result (events.new.items ≡ events.old.items
-        ++ row_events walk.now.interface walk.now.epoch channel (states channel) item.now.row) }
+        ++ row_events walk.now.interface walk.now.epoch channel (states channel) item.now) }
     ensures memory { IfErr result (λ fault. fault ≡ Memory) }
 {
     let alloc = *events.allocator();
@@ -243,8 +214,8 @@ impl<A: Allocator + Copy, C: Channel<A>> Trial<A, C> {
         self.walk.interface
     }
 
-    /// Has the logical channel take a row that goes to it. The caller lends the list `events`, which has the events of
-    /// the row afterwards.
+    /// Steps the logical channel that a row goes to. The caller lends the list `events`, which has the events of the row
+    /// afterwards.
     fn turn(
         &mut self,
         turn: Turn,
@@ -260,11 +231,11 @@ impl<A: Allocator + Copy, C: Channel<A>> Trial<A, C> {
         ensures lanes { (states : ℕ → channels.Channel)
             → AreLanesOf C.Channel self.old.walk.interface self.old.walk.epoch states self.old.lanes
             → OnOk result (AreLanesOf C.Channel self.old.walk.interface self.old.walk.epoch
-            (states_after turn self.old.walk.interface states item.now.row) self.new.lanes) }
+            (states_after turn self.old.walk.interface states item.now) self.new.lanes) }
         ensures events { (states : ℕ → channels.Channel)
             → AreLanesOf C.Channel self.old.walk.interface self.old.walk.epoch states self.old.lanes
             → OnOk result (events.new.items ≡ events_after turn self.old.walk.interface
-            self.old.walk.epoch states item.now.row) }
+            self.old.walk.epoch states item.now) }
         ensures memory { IfErr result (λ fault. fault ≡ Memory) }
     {
         events.clear();
@@ -288,15 +259,15 @@ impl<A: Allocator + Copy, C: Channel<A>> Trial<A, C> {
         }
     }
 
-    /// Takes the next row. It refuses for want of memory alone, and stands for nothing then.
-    pub fn take(&mut self, row: &Row<A>, events: &mut Vec<Event, A>) -> Result<(), Fault>
-        requires next { MayWalk C.Channel IsTrace row.now self.old }
-        ensures walked { (i : AnyInterface) (rows : List records.Row)
-            → HasWalked C.Channel i rows self.old → IsTrace (rows ++ row.now ∷ [])
-            → OnOk result (HasWalked C.Channel i (rows ++ row.now ∷ []) self.new) }
+    /// Takes the next row. Fails only when memory is refused; drop the trial then.
+    pub fn take(&mut self, row: &ReadRow<A>, events: &mut Vec<Event, A>) -> Result<(), Fault>
+        requires next { MayWalk C.Channel row.now self.old }
+        ensures walked { (i : AnyInterface) (rows : List records.Item)
+            → HasWalked C.Channel i rows self.old → AreItems i (rows ++ item_read i row.now ∷ [])
+            → OnOk result (HasWalked C.Channel i (rows ++ item_read i row.now ∷ []) self.new) }
         ensures memory { IfErr result (λ fault. fault ≡ Memory) }
     {
-        let item = row.with_packet(decode(&self.walk.interface, row.octets.as_slice()));
+        let item = item_of_row(&self.walk.interface, row);
         let step = self.walk.step(&item)?;
         self.turn(step.turn, &item, events)?;
         self.tally.count(&self.walk.interface, &item, step.finding, events.as_slice());

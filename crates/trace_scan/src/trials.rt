@@ -2,12 +2,12 @@
 
 ghost use Rattle.std.specs.Prelude.{◌≡◌, ◌==◌, ◌+◌, ◌<◌, ◌^◌, ◌++◌, ◌∷◌, [], List, IfErr, IfOk, OnOk, if◌then◌else◌, option_to_list};
 ghost use Rattle.line_model.specs.basics.Octets.{bits, octet};
+ghost use Rattle.line_model.specs.packets.Says.{items_of, read_row};
 ghost use Rattle.line_model.specs.basics.Records as records;
 ghost use Rattle.line_model.specs.declared.fault.Fault.TheVariants.{Memory};
 ghost use Rattle.line_model.specs.declared.interface.Interface.{Interface as AnyInterface};
 ghost use Rattle.trace_scan.specs.Headers.{headers_of, headers_tried, headers_with, is_modulo_8, with_numbers};
-ghost use Rattle.trace_scan.specs.TextCuts.{IsTrace};
-ghost use Rattle.trace_scan.specs.Trials.{AreTrials, IsTrying, MayWalkAll, MayTry};
+ghost use Rattle.trace_scan.specs.Trials.{AreSound, AreTrials, IsTrace, IsTrying, MayWalkAll, MayTry, SaidRows, with_row};
 
 use crate::headers::{SIZES, windows, with_numbers};
 use crate::trial::Trial;
@@ -15,7 +15,7 @@ use channel_run::run::Channel;
 use line_model::event::Event;
 use line_model::fault::Fault;
 use line_model::interface::Interface;
-use line_model::row::Row;
+use line_model::row::ReadRow;
 use std::alloc::Allocator;
 
 /// Adds a trial for a header, where its numbers keep the rules.
@@ -26,8 +26,8 @@ fn push_header<A: Allocator + Copy, C: Channel<A>>(
     size: u16,
     trials: &mut Vec<Trial<A, C>, A>,
 ) -> Result<(), Fault>
-    ensures trials { (headers : List AnyInterface) → AreTrials C.Channel [] headers trials.old.items
-        → OnOk result (AreTrials C.Channel []
+    ensures trials { (headers : List AnyInterface) → AreTrials C.Channel (λ _. []) headers trials.old.items
+        → OnOk result (AreTrials C.Channel (λ _. [])
         (headers ++ option_to_list (with_numbers own.now modulus window size)) trials.new.items) }
     ensures memory { IfErr result (λ fault. fault ≡ Memory) }
 {
@@ -48,9 +48,9 @@ fn push_sizes<A: Allocator + Copy, C: Channel<A>>(
     window: u8,
     trials: &mut Vec<Trial<A, C>, A>,
 ) -> Result<(), Fault>
-    ensures trials { (headers : List AnyInterface) → AreTrials C.Channel [] headers trials.old.items
-        → OnOk result (AreTrials C.Channel [] (headers ++ headers_with own.now modulus window)
-        trials.new.items) }
+    ensures trials { (headers : List AnyInterface) → AreTrials C.Channel (λ _. []) headers trials.old.items
+        → OnOk result (AreTrials C.Channel (λ _. [])
+        (headers ++ headers_with own.now modulus window) trials.new.items) }
     ensures memory { IfErr result (λ fault. fault ≡ Memory) }
 {
     for size in SIZES {
@@ -66,7 +66,7 @@ fn trials_of<A: Allocator + Copy, C: Channel<A>>(
     modulus: u8,
 ) -> Result<Vec<Trial<A, C>, A>, Fault>
     ensures trials { IfOk result (λ trials.
-        AreTrials C.Channel [] (headers_of own.now modulus) trials.items) }
+        AreTrials C.Channel (λ _. []) (headers_of own.now modulus) trials.items) }
     ensures memory { IfErr result (λ fault. fault ≡ Memory) }
 {
     let mut trials = Vec::new(alloc);
@@ -76,16 +76,16 @@ fn trials_of<A: Allocator + Copy, C: Channel<A>>(
     Ok(trials)
 }
 
-/// Has each trial take a row.
+/// Each trial takes a row.
 fn take_all<A: Allocator + Copy, C: Channel<A>>(
     trials: &mut Vec<Trial<A, C>, A>,
-    row: &Row<A>,
+    row: &ReadRow<A>,
     events: &mut Vec<Event, A>,
 ) -> Result<(), Fault>
-    requires next { MayWalkAll C.Channel IsTrace row.now trials.old.items }
-    ensures trials { (headers : List AnyInterface) (rows : List records.Row)
-        → AreTrials C.Channel rows headers trials.old.items → IsTrace (rows ++ row.now ∷ [])
-        → OnOk result (AreTrials C.Channel (rows ++ row.now ∷ []) headers trials.new.items) }
+    requires next { MayWalkAll C.Channel row.now trials.old.items }
+    ensures trials { (headers : List AnyInterface) (items : SaidRows)
+        → AreTrials C.Channel items headers trials.old.items → AreSound (with_row items row.now)
+        → OnOk result (AreTrials C.Channel (with_row items row.now) headers trials.new.items) }
     ensures memory { IfErr result (λ fault. fault ≡ Memory) }
 {
     for trial in trials.iter_mut() {
@@ -94,7 +94,7 @@ fn take_all<A: Allocator + Copy, C: Channel<A>>(
     Ok(())
 }
 
-/// Bits 6 and 5 of the general format identifier of some octets, which stand for the modulus.
+/// Bits 6 and 5 of the general format identifier of some octets, which say the modulus.
 fn format_of(octets: &[u8]) -> u8
     ensures { result ≡ bits 6 5 (octet 1 octets.now) }
 {
@@ -178,13 +178,13 @@ impl<A: Allocator + Copy, C: Channel<A>> Trials<A, C> {
         })
     }
 
-    /// Takes the next row. It refuses for want of memory alone, and stands for nothing then.
-    pub fn take(&mut self, row: &Row<A>) -> Result<(), Fault>
-        requires next { MayTry C.Channel IsTrace row.now self.old }
-        ensures trying { (i : AnyInterface) (rows : List records.Row)
-            → IsTrying C.Channel i rows self.old
-            → IsTrace (rows ++ row.now ∷ [])
-            → OnOk result (IsTrying C.Channel i (rows ++ row.now ∷ []) self.new) }
+    /// Takes the next row. Fails only when memory is refused; drop the trials then.
+    pub fn take(&mut self, row: &ReadRow<A>) -> Result<(), Fault>
+        requires next { MayTry C.Channel row.now self.old }
+        ensures trying { (i : AnyInterface) (rows : List records.Row) (next : records.Row)
+            → IsTrying C.Channel i rows self.old → row.now ≡ read_row next
+            → IsTrace (rows ++ next ∷ [])
+            → OnOk result (IsTrying C.Channel i (rows ++ next ∷ []) self.new) }
         ensures memory { IfErr result (λ fault. fault ≡ Memory) }
     {
         take_all(&mut self.of_8, row, &mut self.events)?;
@@ -196,7 +196,7 @@ impl<A: Allocator + Copy, C: Channel<A>> Trials<A, C> {
     /// The trials with the modulus that the rows have.
     pub fn chosen(self) -> Vec<Trial<A, C>, A>
         ensures { (i : AnyInterface) (rows : List records.Row) → IsTrying C.Channel i rows self
-            → AreTrials C.Channel rows (headers_tried i rows) result.items }
+            → AreTrials C.Channel (λ j. items_of j rows) (headers_tried i rows) result.items }
     {
         if self.formats.is_modulo_8(self.own) {
             self.of_8

@@ -5,10 +5,9 @@ ghost use Rattle.std.specs.List.Sorted.{IsNonDecreasingBy, IsPermutation};
 ghost use Rattle.line_model.specs.basics.Written.{PutsTo, TakesAll, TakesFront};
 ghost use Rattle.line_model.specs.declared.fault.Fault.TheVariants.{Memory};
 ghost use Rattle.line_model.specs.declared.interface.Interface.{Interface as AnyInterface};
-ghost use Rattle.line_model.specs.basics.Records as records;
 ghost use Rattle.trace_scan.specs.TriedLines.{column, fewest, first_numbers, header_line, is_first_form, joining, named, ranges, rank, tried_by, tried_line, tried_text};
 ghost use Rattle.trace_scan.specs.Tried.{tally_of};
-ghost use Rattle.trace_scan.specs.Trials.{AreTrials};
+ghost use Rattle.trace_scan.specs.Trials.{AreTrials, SaidRows};
 
 use crate::trial::{Tally, Trial};
 use channel_run::run::Channel;
@@ -76,10 +75,10 @@ pub fn best_first<A: Allocator + Copy, C: Channel<A>>(
     alloc: A,
     trials: &[Trial<A, C>],
 ) -> Result<Vec<Tried, A>, Fault>
-    ensures all { (headers : List AnyInterface) (rows : List records.Row)
-        → AreTrials C.Channel rows headers trials.now
+    ensures all { (headers : List AnyInterface) (items : SaidRows)
+        → AreTrials C.Channel items headers trials.now
         → IfOk result (λ tried. IsPermutation
-        (map (λ h. record { header = h; tally = tally_of h rows }) headers) tried.items) }
+        (map (λ h. record { header = h; tally = tally_of h (items h) }) headers) tried.items) }
     ensures sorted { IfOk result (λ tried. IsNonDecreasingBy rank tried.items) }
     ensures memory { IfErr result (λ fault. fault ≡ Memory) }
 {

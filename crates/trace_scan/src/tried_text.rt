@@ -8,15 +8,15 @@ ghost use Rattle.line_model.specs.text.Text.{early, fault};
 ghost use Rattle.trace_text.specs.FedBytes.{fed_length};
 ghost use Rattle.trace_text.specs.Progress.{bytes_fed};
 ghost use Rattle.trace_text.specs.StandsFor.{IsFaultOf, IsTextFault, last_row};
-ghost use Rattle.trace_scan.specs.TextCuts.{IsTrace};
-ghost use Rattle.trace_scan.specs.Trials.{AreTried, HasTaken, IsTriedText, IsTrying};
+ghost use Rattle.line_model.specs.packets.Says.{read_row};
+ghost use Rattle.trace_scan.specs.Trials.{AreTried, HasTaken, IsTrace, IsTriedText, IsTrying};
 
 use crate::trial::Trial;
 use crate::trials::Trials;
 use channel_run::run::Channel;
 use line_model::fault::Fault;
 use line_model::interface::Interface;
-use line_model::row::Row;
+use line_model::row::ReadRow;
 use line_model::state::Side;
 use std::alloc::Allocator;
 use std::mem;
@@ -40,19 +40,19 @@ fn trials_or_new<A: Allocator + Copy, C: Channel<A>>(
     }
 }
 
-/// Has trials take the row of a last line that no LF ended, if it has one.
+/// The trials take the row of a last line that no LF ended, if it has one.
 fn take_last<A: Allocator + Copy, C: Channel<A>>(
     trials: &mut Trials<A, C>,
     has_row: bool,
-    row: &Row<A>,
+    row: &ReadRow<A>,
 ) -> Result<(), Fault>
-    requires next { (i : AnyInterface) × (rows : List records.Row)
-        × IsTrying C.Channel i rows trials.old
-        × IsTrace (rows ++ last_row has_row row.now) }
-    ensures trying { (i : AnyInterface) (rows : List records.Row)
-        → IsTrying C.Channel i rows trials.old
-        → IsTrace (rows ++ last_row has_row row.now)
-        → OnOk result (IsTrying C.Channel i (rows ++ last_row has_row row.now) trials.new) }
+    requires next { (i : AnyInterface) × (rows : List records.Row) × (last : records.Row)
+        × IsTrying C.Channel i rows trials.old × (has_row ≡ true → row.now ≡ read_row last)
+        × IsTrace (rows ++ last_row has_row last) }
+    ensures trying { (i : AnyInterface) (rows : List records.Row) (last : records.Row)
+        → IsTrying C.Channel i rows trials.old → (has_row ≡ true → row.now ≡ read_row last)
+        → IsTrace (rows ++ last_row has_row last)
+        → OnOk result (IsTrying C.Channel i (rows ++ last_row has_row last) trials.new) }
     ensures memory { IfErr result (λ fault. fault ≡ Memory) }
 {
     if has_row {
@@ -66,7 +66,7 @@ fn take_last<A: Allocator + Copy, C: Channel<A>>(
 pub struct TriedText<A: Allocator, C: Channel<A>> {
     lines: Lines<A>,
     /// The last row, whose room the next one uses.
-    row: Row<A>,
+    row: ReadRow<A>,
     /// Made before the first row is taken.
     trials: Option<Trials<A, C>>,
 }
@@ -78,26 +78,27 @@ impl<A: Allocator + Copy, C: Channel<A>> TriedText<A, C> {
     {
         TriedText {
             lines: Lines::new(alloc),
-            row: Row {
+            row: ReadRow {
                 number: 0,
                 side: Side::T,
+                length: 0,
                 octets: Vec::new(alloc),
             },
             trials: None,
         }
     }
 
-    /// Has the trials take the row that was read last.
+    /// The trials take the row that was read last.
     fn take_row(&mut self) -> Result<(), Fault>
         requires headed { is_some self.old.lines.interface ≡ true }
-        requires next { (rows : List records.Row)
+        requires next { (rows : List records.Row) × (next : records.Row)
             × AreTried C.Channel rows self.old.lines.interface self.old.trials
-            × IsTrace (rows ++ self.old.row ∷ []) }
+            × (self.old.row ≡ read_row next) × IsTrace (rows ++ next ∷ []) }
         ensures lines { self.new.lines ≡ self.old.lines }
-        ensures tried { (rows : List records.Row)
+        ensures tried { (rows : List records.Row) (next : records.Row)
             → AreTried C.Channel rows self.old.lines.interface self.old.trials
-            → IsTrace (rows ++ self.old.row ∷ [])
-            → OnOk result (AreTried C.Channel (rows ++ self.old.row ∷ [])
+            → self.old.row ≡ read_row next → IsTrace (rows ++ next ∷ [])
+            → OnOk result (AreTried C.Channel (rows ++ next ∷ [])
             self.old.lines.interface self.new.trials) }
         ensures memory { IfErr result (λ fault. fault ≡ Memory) }
     {

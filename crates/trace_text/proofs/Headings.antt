@@ -24,7 +24,7 @@ use Rattle.trace_text.proofs.CutLemmas.{words-found, words-none}
 use Rattle.trace_text.proofs.FeedLemmas.{early-none, rows-sound}
 use Rattle.trace_text.proofs.HeaderLemmas.{interface_with-some}
 use Rattle.trace_text.proofs.NumberLemmas.{both}
-use Rattle.trace_text.proofs.UsualRow.{lacks-append, number_lacks}
+use Rattle.trace_text.proofs.RowFront.{lacks-append, number_lacks}
 
 -- a word of at most 9 bytes
 record IsWord (word : List ℕ) : Type 0 where

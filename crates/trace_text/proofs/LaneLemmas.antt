@@ -1,9 +1,11 @@
 -- Vectors that are computed lane by lane, and the octets that 32 bytes write.
 use Rattle.std.proofs.Common.{◌≡◌, ◌∙◌, sym, ap, ap₂, refl, subst, ℕ, ◌+◌, ◌*◌, ◌/◌, ◌%◌, ◌^◌, ◌<◌, ◌≤◌, Bool, true, false, cond, List, [], ◌∷◌, map, length, take, get_or, replicate, ltb, arith, w8, get_or-take, length-take-le, inl, inr}
-use Rattle.std.specs.Prelude.{suc, zero, Some, ◌==◌}
+use Rattle.std.specs.Prelude.{◌⊎◌, suc, zero, Option, Some, None, is_some, ◌==◌}
+use Rattle.std.specs.List.{AllPass}
+use Rattle.std.proofs.lemmas.List.Elements.{All-get_or}
 use Rattle.std.specs.Int.Bits.{bit_or}
 use Rattle.std.proofs.lemmas.Nat.{le_or_l, le_or_r}
-use Rattle.hex.specs.Hex.{is_hex_digit}
+use Rattle.hex.specs.Hex.{hex_digit_value, is_hex_digit}
 use Rattle.std.specs.List.{range_with_len}
 use Rattle.std.proofs.lemmas.Bool.Decides.{nat_tests}
 use Rattle.std.proofs.lemmas.List.{get_or-map, length-map}
@@ -130,16 +132,22 @@ one_octet bytes values n i size are small few h =
     get_or-map (λ x. x * 4097 % 65536 / 256) (digits_l 65536 16 (number_l 256 values)) i 0 0 (omega (arith, h, few)) ∙ ap (λ (x : ℕ). x * 4097 % 65536 / 256) pair ∙ omega (arith, ha, hb) in
     right_octet (get_or bytes (2 * i) 0) (get_or bytes (2 * i + 1) 0) a b (get_or (pair_octets values) i 0) octet (are (2 * i) (omega (arith, h, few))) (are (2 * i + 1) (omega (arith, h, few))) ha hb
 
--- the first pairs that are values of digits
-pub block-octets : (bytes values : List ℕ) (n k : ℕ) → length bytes ≡ 32 → length values ≡ 32 → ((i : ℕ) → i < 32 → IsDigitValue (get_or bytes i 0) (get_or values i 0)) → ((i : ℕ) → i < n → get_or values i 0 < 16) → n ≤ 32 → 2 * k ≤ n →
-    AreOctets (take (2 * k) bytes) (take k (pair_octets values))
-block-octets bytes values n k size lanes are small few h =
+is_value : (o : Option ℕ) (value : ℕ) → is_some o ≡ true → ((value < 16) × (o ≡ Some value)) ⊎ ((15 < value) × (value < 256) × (o ≡ None)) → value < 16
+is_value o value h (inl r) = r.0
+is_value None value h (inr w) = cc
+is_value (Some v) value h (inr w) = cc
+
+-- the first pairs that are digits
+pub block-octets : (bytes values : List ℕ) (k : ℕ) → length bytes ≡ 32 → length values ≡ 32 → ((i : ℕ) → i < 32 → IsDigitValue (get_or bytes i 0) (get_or values i 0)) → k ≤ 16 → AllPass is_hex_digit (take (2 * k) bytes) → AreOctets (take (2 * k) bytes) (take k (pair_octets values))
+block-octets bytes values k size lanes are few hex =
     let octets : List ℕ = pair_octets values in
-    let bytes_len : length (take (2 * k) bytes) ≡ 2 * k = length-take-le (2 * k) bytes (omega (arith, size, few, h)) in
-    let octets_len : length (take k octets) ≡ k = length-take-le k octets (omega (arith, few, h)) in
+    let bytes_len : length (take (2 * k) bytes) ≡ 2 * k = length-take-le (2 * k) bytes (omega (arith, size, few)) in
+    let octets_len : length (take k octets) ≡ k = length-take-le k octets (omega (arith, few)) in
+    let small = λ (i : ℕ) (l : i < 2 * k). is_value (hex_digit_value (get_or bytes i 0)) (get_or values i 0)
+    (ap is_hex_digit (sym (get_or-take (2 * k) bytes i 0 l)) ∙ All-get_or (λ b. is_hex_digit b ≡ true) (take (2 * k) bytes) i 0 (omega (arith, l, bytes_len)) hex) (are i (omega (arith, l, few))) in
     octets-each (take (2 * k) bytes) (take k octets) (omega (arith, bytes_len, octets_len)) (λ i l.
     let less : i < k = omega (arith, l, octets_len) in
     let high : get_or (take (2 * k) bytes) (2 * i) 0 ≡ get_or bytes (2 * i) 0 = get_or-take (2 * k) bytes (2 * i) 0 (omega (arith, less)) in
     let low : get_or (take (2 * k) bytes) (2 * i + 1) 0 ≡ get_or bytes (2 * i + 1) 0 = get_or-take (2 * k) bytes (2 * i + 1) 0 (omega (arith, less)) in
     let octet : get_or (take k octets) i 0 ≡ get_or octets i 0 = get_or-take k octets i 0 less in
-    rw (high, low, octet) (one_octet bytes values n i lanes are small few (omega (arith, less, h))))
+    rw (high, low, octet) (one_octet bytes values (2 * k) i lanes are small (omega (arith, few)) (omega (arith, less))))

@@ -1,5 +1,6 @@
 -- Hex digits, and two of them as an octet (profile).
-use Rattle.std.specs.Prelude.{◌≡◌, ◌==◌, ◌⊎◌, ◌<◌, ◌≤◌, ℕ, ◌+◌, ◌*◌, List, [], ◌∷◌, ◌++◌, length, slice_index, Option, Some, None}
+use Rattle.std.specs.Prelude.{◌≡◌, ◌==◌, ◌⊎◌, ◌<◌, ◌≤◌, ℕ, ◌+◌, ◌*◌, List, [], ◌∷◌, ◌++◌, length, slice_index, drop, take, Option, Some, None}
+use Rattle.std.specs.List.{AllPass}
 use Rattle.std.specs.Option.{option_and_then}
 use Rattle.hex.specs.Hex.{hex_digit_value, is_hex_digit}
 
@@ -35,15 +36,15 @@ pub record BeginsDigits (text octets rest : List ℕ) : Type 0 where
   pub whole : text ≡ digits ++ 10 ∷ rest
   pub octets_are : AreOctets digits octets
 
--- a text begins with digits that write the octets after those before, and an LF after them
-pub record EndsDigits (before text octets rest : List ℕ) : Type 0 where
-  pub last : List ℕ
-  pub front : octets ≡ before ++ last
-  pub digits : BeginsDigits text last rest
-
--- a text begins with digits that write as many octets as a row may have, and an LF after them
-pub record BeginsOctets (text rest : List ℕ) : Type 0 where
+-- a text begins with digits that write this many octets, at least three and no more than a row may have, and an LF after them
+pub record BeginsOctets (text : List ℕ) (size : ℕ) (rest : List ℕ) : Type 0 where
   pub octets : List ℕ
   pub digits : BeginsDigits text octets rest
-  pub some : 0 < length octets
-  pub few : length octets ≤ 4200
+  pub count : length octets ≡ size
+  pub some : 3 ≤ size
+  pub few : size ≤ 4200
+
+-- the digits before the rest of a text were converted: the octets are those that they write, up to the first other byte
+pub record HasDecoded (text octets rest : List ℕ) : Type 0 where
+  pub left : rest ≡ drop (2 * length octets) text
+  pub octets_are : (m : ℕ) → m ≤ length octets → 2 * m ≤ length text → AllPass is_hex_digit (take (2 * m) text) → AreOctets (take (2 * m) text) (take m octets)

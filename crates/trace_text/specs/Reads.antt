@@ -1,16 +1,30 @@
 -- What one line says.
-use Rattle.std.specs.Prelude.{◌≡◌, ℕ, Bool, true, false, List, [], ◌∷◌, ◌++◌, Option, None, Some}
+use Rattle.std.specs.Prelude.{◌≡◌, ℕ, Bool, true, false, List, [], ◌∷◌, ◌++◌, Option, None, Some, length, if◌then◌else◌}
 use Rattle.line_model.specs.text.Header.{interface_of, number_of}
 use Rattle.line_model.specs.text.RowLine.{rising_number, row_kind, row_of, side_of}
 use Rattle.line_model.specs.text.Text.{is_comment}
 use Rattle.line_model.specs.declared.fault.Kind.{Kind}
-use Rattle.line_model.specs.basics.Records.{Row}
+use Rattle.line_model.specs.basics.Records.{ReadRow, Row}
+use Rattle.line_model.specs.packets.Says.{read_octets}
 use Rattle.line_model.specs.declared.state.Side.{Side}
 use Rattle.trace_text.specs.Cuts.{Lacks}
 use Rattle.trace_text.specs.declared.content.Content.{Content}
 use Rattle.trace_text.specs.declared.content.Content.TheVariants.{Comment, Header, Packet}
 use Rattle.trace_text.specs.declared.content.LineFault.{LineFault}
 use Rattle.trace_text.specs.declared.content.LineFault.TheVariants.{Memory, Broken}
+
+-- the row that has these octets
+abbrev pub whole_row : ReadRow → Row
+whole_row r = record { number = r.number; side = r.side; octets = r.octets }
+
+-- a row with all its octets, or as it is read
+abbrev pub kept_row : Bool → Row → ReadRow
+kept_row whole r = record {
+  number = r.number;
+  side = r.side;
+  length = length r.octets;
+  octets = if whole then r.octets else read_octets r.octets;
+}
 
 -- what a line without a fault says, and the row that it writes, if it does
 abbrev pub ReadsAs : Bool → ℕ → List ℕ → Content → Row → Type 0
@@ -48,9 +62,3 @@ pub record BeginsLine (last : ℕ) (text : List ℕ) (row : Row) (rest : List �
   pub no_comment : is_comment line ≡ false
   pub sound : row_kind last line ≡ None
   pub writes : row_of line ≡ Some row
-
--- a text begins with a line that writes some row of this number, and its LF
-pub record BeginsNumbered (last : ℕ) (text : List ℕ) (number : ℕ) (rest : List ℕ) : Type 0 where
-  pub row : Row
-  pub line : BeginsLine last text row rest
-  pub number_is : row.number ≡ number

@@ -1,15 +1,17 @@
-//! The reader of trace texts: it is fed chunks of any size, keeps the line that has not ended, and tells rows.
+//! The reader of trace texts: it is fed chunks of any size, keeps the line that has not ended, and returns rows.
 
 ghost use Rattle.std.specs.Prelude.{◌≡◌, ◌+◌, ◌≤◌, ◌<◌, ◌^◌};
 ghost use Rattle.line_model.specs.text.Text.{size_kind};
+ghost use Rattle.trace_text.specs.Reads.{kept_row, whole_row};
 
 use crate::content::{Content, LineFault};
 use crate::cuts::split_at_byte;
+use crate::digits::convert_digits;
 use crate::reading::read_line;
-use crate::usual_row::read_usual;
+use crate::row_front::read_front;
 use line_model::fault::{Fault, Kind};
 use line_model::interface::Interface;
-use line_model::row::Row;
+use line_model::row::{ReadRow, Row, is_unqualified};
 use line_model::state::Side;
 use std::alloc::{AllocError, Allocator};
 use std::marker::Model;
@@ -66,12 +68,34 @@ pub struct TextEnd {
 }
 
 /// A row to put others in. It takes no memory.
-fn blank_row<A: Allocator + Clone>(alloc: &A) -> Result<Row<A>, AllocError> {
-    Ok(Row {
+fn blank_row<A: Allocator + Clone>(alloc: &A) -> Result<ReadRow<A>, AllocError> {
+    Ok(ReadRow {
         number: 0,
         side: Side::T,
+        length: 0,
         octets: Vec::new(alloc.clone()?),
     })
+}
+
+/// The row that was read with all its octets.
+fn whole_row<A: Allocator>(row: ReadRow<A>) -> Row<A>
+    ensures { result ≡ whole_row row }
+{
+    Row {
+        number: row.number,
+        side: row.side,
+        octets: row.octets,
+    }
+}
+
+/// Sets the length of a row that has all its octets, and drops those that are not read, except where they are kept.
+fn drop_unread<A: Allocator>(row: &mut ReadRow<A>, whole: bool)
+    ensures { row.new ≡ kept_row whole (whole_row row.old) }
+{
+    row.length = row.octets.len();
+    if !whole && is_unqualified(row.octets.as_slice()) {
+        row.octets.truncate(4);
+    }
 }
 
 /// The rule on sizes that a line of so many bytes breaks, after `start` bytes; `lf` is 1 where an LF ends it.
@@ -102,6 +126,8 @@ impl<A: Allocator> Lines<A> {
     ghost use Rattle.line_model.specs.declared.fault.Kind.TheVariants.{HeaderMissing};
     ghost use Rattle.trace_text.specs.Steps.{RefusedBy, EndsLine, TakesLine, ended_kind, after_content, after_line, is_packet, with_more};
     ghost use Rattle.trace_text.specs.Reads.{ReadsAs};
+    ghost use Rattle.line_model.specs.basics.Records as records;
+    ghost use Rattle.line_model.specs.packets.Says.{read_row};
 
     /// A reader that was fed nothing. It takes no memory.
     pub fn new(alloc: A) -> Self
@@ -183,12 +209,13 @@ impl<A: Allocator> Lines<A> {
         }
     }
 
-    /// What a line says that ends here; `lf` is 1 where an LF ends it. A row is put in the place of another.
-    fn read(&self, line: &[u8], lf: usize, row: &mut Row<A>) -> Result<Content, Fault>
+    /// What a line says that ends here; `lf` is 1 where an LF ends it. A row is put in the place of another, as `read_row`
+    /// does.
+    fn read(&self, line: &[u8], lf: usize, row: &mut ReadRow<A>) -> Result<Content, Fault>
         requires { lf ≤ 1 }
         ensures reads { IfOk result (λ content.
             (ended_kind lf (record self.now { begun = line.now }) ≡ None)
-            × ReadsAs (is_some self.now.interface) self.now.last line.now content row.new) }
+            × ReadsAs (is_some self.now.interface) self.now.last line.now content (whole_row row.new)) }
         ensures refused { IfErr result (RefusedBy
             (ended_kind lf (record self.now { begun = line.now })) (self.now.ended + 1)) }
     {
@@ -230,10 +257,11 @@ impl<A: Allocator> Lines<A> {
         self.begun.clear();
     }
 
-    /// Takes the end of a line, without its LF. Tells whether the line is a row, which then is put in the place of
-    /// another.
-    fn end_line(&mut self, front: &[u8], row: &mut Row<A>) -> Result<bool, Fault>
-        ensures ok { IfOk result (EndsLine (with_more self.old front.now) self.new row.new) }
+    /// Reads the end of a line, without its LF. Returns whether the line is a row, which then is put in the place of
+    /// another, as `read_row` does.
+    fn end_line(&mut self, front: &[u8], row: &mut ReadRow<A>) -> Result<bool, Fault>
+        ensures ok { IfOk result (EndsLine (with_more self.old front.now) self.new
+            (whole_row row.new)) }
         ensures refused { IfErr result (RefusedBy (ended_kind 1 (with_more self.old front.now))
             (self.old.ended + 1)) }
         ensures kept { OnErr result (self.new.interface ≡ self.old.interface) }
@@ -253,30 +281,48 @@ impl<A: Allocator> Lines<A> {
         Ok(is_row)
     }
 
-    /// Takes the usual row that a chunk begins with, if no line is begun and the text has room for it, and returns what
-    /// is still to be read of the chunk. `None`: nothing was taken, and what the row holds is not said.
+    /// Fast path: reads the row that a chunk begins with, unless it is to be kept `whole`, and returns what is still to be
+    /// read of the chunk. `None`: nothing was read, and what the row holds is not said. The line is then read by its words.
     #[inline(never)]
-    fn take_usual<'a>(&mut self, chunk: &'a [u8], row: &mut Row<A>) -> Option<&'a [u8]>
-        ensures { MatchOption result (self.new ≡ self.old) (λ rest.
-            TakesLine self.old self.new chunk.now rest.now row.new) }
+    fn read_first<'a>(
+        &mut self,
+        chunk: &'a [u8],
+        row: &mut ReadRow<A>,
+        whole: bool,
+    ) -> Option<&'a [u8]>
+        ensures { MatchOption result (self.new ≡ self.old) (λ rest. (taken : records.Row)
+            × TakesLine self.old self.new chunk.now rest.now taken
+            × (row.new ≡ kept_row whole taken)) }
     {
-        if self.interface.is_none() || !self.begun.is_empty() {
+        if whole || self.interface.is_none() || !self.begun.is_empty() {
             return None;
         }
-        let rest = read_usual(self.last, chunk, row)?;
-        let len = chunk.len() - rest.len() - 1;
+        let front = read_front(self.last, chunk)?;
+        let len = chunk.len() - front.rest.len() - 1;
         if size_fault(self.start, 1, len).is_some() {
             return None;
         }
-        self.last = row.number;
+        convert_digits(front.digits, front.length, &mut row.octets)?;
+        row.number = front.number;
+        row.side = front.side;
+        row.length = front.length;
+        self.last = front.number;
         self.next_line(len);
-        Some(rest)
+        Some(front.rest)
     }
 
-    /// Takes lines up to the first row, or the whole chunk.
-    fn find_row<'a>(&mut self, chunk: &'a [u8], row: &mut Row<A>) -> Result<Option<&'a [u8]>, Fault>
+    /// Reads lines up to the first row, or the whole chunk. The row is put in the place of another, with all its octets
+    /// where it is to be kept `whole`.
+    fn find_row<'a>(
+        &mut self,
+        chunk: &'a [u8],
+        row: &mut ReadRow<A>,
+        whole: bool,
+    ) -> Result<Option<&'a [u8]>, Fault>
         ensures ok { IfOk result (λ next. MatchOption next (ReadsChunk self.old self.new chunk.now)
-            (λ rest. TakesRow self.old self.new chunk.now rest.now row.new)) }
+            (λ rest. (taken : records.Row)
+            × TakesRow self.old self.new chunk.now rest.now taken
+            × (row.new ≡ kept_row whole taken))) }
         ensures shorter { IfOk result (λ next.
             IfSome next (λ rest. length rest.now < length chunk.now)) }
         ensures headed { IfOk result (λ next.
@@ -294,13 +340,14 @@ impl<A: Allocator> Lines<A> {
     {
         let mut rest = chunk;
         loop {
-            if let Some(after) = self.take_usual(rest, row) {
+            if let Some(after) = self.read_first(rest, row, whole) {
                 return Ok(Some(after));
             }
             let Some((front, back)) = split_at_byte(rest, b'\n') else {
                 break;
             };
             if self.end_line(front, row)? {
+                drop_unread(row, whole);
                 return Ok(Some(back));
             }
             rest = back;
@@ -309,8 +356,9 @@ impl<A: Allocator> Lines<A> {
         Ok(None)
     }
 
-    /// Takes the text's next row out of a chunk, and puts it in the place of another, whose octets' room is used again:
+    /// Reads the text's next row out of a chunk, and puts it in the place of another, whose octets' room is used again:
     /// `Some` holds what is still to be read of the chunk. `None`: the chunk was read to its end, and has no further row.
+    /// Of data with Q 0 the hex digits after the fourth octet are validated, and not kept.
     ///
     /// ```text
     /// while let Some(rest) = lines.next_row(chunk, &mut row)? {
@@ -324,11 +372,14 @@ impl<A: Allocator> Lines<A> {
     pub fn next_row<'a>(
         &mut self,
         chunk: &'a [u8],
-        row: &mut Row<A>,
+        row: &mut ReadRow<A>,
     ) -> Result<Option<&'a [u8]>, Fault>
-        // Of any text that it stands for: it stands for the text with what was taken, which has that row more, or none.
+        // Of any text that it stands for: it stands for the text with what was taken, which has a row more, or none. The
+        // row is put in place as it is read.
         ensures ok { IfOk result (λ next. MatchOption next (ReadsChunk self.old self.new chunk.now)
-            (λ rest. TakesRow self.old self.new chunk.now rest.now row.new)) }
+            (λ rest. (taken : records.Row)
+            × TakesRow self.old self.new chunk.now rest.now taken
+            × (row.new ≡ read_row taken))) }
         ensures shorter { IfOk result (λ next.
             IfSome next (λ rest. length rest.now < length chunk.now)) }
         ensures headed { IfOk result (λ next.
@@ -355,20 +406,23 @@ impl<A: Allocator> Lines<A> {
         if let Some(fault) = self.refused {
             return Err(fault);
         }
-        let next = self.find_row(chunk, row);
+        if let Some(rest) = self.read_first(chunk, row, false) {
+            return Ok(Some(rest));
+        }
+        let next = self.find_row(chunk, row, false);
         self.refused = next.err();
         next
     }
 
-    /// Ends the text, whose last line may lack its LF. Counts its lines, and tells whether the last one is a row, which
-    /// then is put in the place of another.
-    fn end_begun(&mut self, row: &mut Row<A>) -> Result<(u32, bool), Fault>
+    /// Ends the text, whose last line may lack its LF. Counts its lines, and returns whether the last one is a row, which
+    /// then is put in the place of another, as `read_row` does.
+    fn end_begun(&mut self, row: &mut ReadRow<A>) -> Result<(u32, bool), Fault>
         ensures ok { (text : List ℕ) → StandsFor self.old text
             → IfOk result (λ end. EndsText self.new end.0 text) }
         ensures few { IfOk result (λ end. end.0 ≤ 2 ^ 30 + 1) }
         ensures row { (text : List ℕ) → StandsFor self.old text
             → IfOk result (λ end. rows_in (lines_of text) ≡ early_rows text
-            ++ last_row end.1 row.new) }
+            ++ last_row end.1 (whole_row row.new)) }
         ensures refused { (text : List ℕ) → StandsFor self.old text
             → IfErr result (IsFaultOf (fault text)) }
         ensures kinds { IfErr result IsTextFault }
@@ -383,13 +437,14 @@ impl<A: Allocator> Lines<A> {
     }
 
     /// The text has ended: its header, and whether a last line that no LF ended writes a row, which then is put in the
-    /// place of another.
-    pub fn end_row(mut self, row: &mut Row<A>) -> Result<TextEnd, Fault>
+    /// place of another, with all its octets where it is to be kept `whole`.
+    fn end_text(mut self, row: &mut ReadRow<A>, whole: bool) -> Result<TextEnd, Fault>
         ensures ok { (text : List ℕ) → StandsFor self text
             → IfOk result (λ end. (fault text ≡ None) × (head text ≡ Some end.interface)) }
         ensures row { (text : List ℕ) → StandsFor self text
-            → IfOk result (λ end. rows_of_text text ≡ early_rows text
-            ++ last_row end.has_row row.new) }
+            → IfOk result (λ end. (last : records.Row)
+            × (rows_of_text text ≡ early_rows text ++ last_row end.has_row last)
+            × (end.has_row ≡ true → row.new ≡ kept_row whole last)) }
         ensures refused { (text : List ℕ) → StandsFor self text
             → IfErr result (IsFaultOf (fault text)) }
         ensures known { (text : List ℕ) → StandsFor self text
@@ -402,10 +457,31 @@ impl<A: Allocator> Lines<A> {
             return Err(fault);
         }
         let (count, has_row) = self.end_begun(row)?;
+        drop_unread(row, whole);
         match self.interface {
             Some(interface) => Ok(TextEnd { interface, has_row }),
             None => Err(Fault::Trace(count + 1, Kind::HeaderMissing)),
         }
+    }
+
+    /// The text has ended: its header, and whether a last line that no LF ended writes a row, which then is put in the
+    /// place of another, as `next_row` does.
+    pub fn end_row(self, row: &mut ReadRow<A>) -> Result<TextEnd, Fault>
+        ensures ok { (text : List ℕ) → StandsFor self text
+            → IfOk result (λ end. (fault text ≡ None) × (head text ≡ Some end.interface)) }
+        ensures row { (text : List ℕ) → StandsFor self text
+            → IfOk result (λ end. (last : records.Row)
+            × (rows_of_text text ≡ early_rows text ++ last_row end.has_row last)
+            × (end.has_row ≡ true → row.new ≡ read_row last)) }
+        ensures refused { (text : List ℕ) → StandsFor self text
+            → IfErr result (IsFaultOf (fault text)) }
+        ensures known { (text : List ℕ) → StandsFor self text
+            → IfErr result (AreKnown (early_rows text) (rows_of_text text)) }
+        ensures kinds { IfErr result IsTextFault }
+        ensures again { (fault : Fault) → self.refused ≡ Some fault → (result ≡ Err fault)
+            × (row.new ≡ row.old) }
+    {
+        self.end_text(row, false)
     }
 }
 
@@ -434,10 +510,10 @@ impl<A: Allocator + Clone> Lines<A> {
         let mut rest = chunk;
         loop {
             let mut row = blank_row(self.begun.allocator())?;
-            let Some(after) = self.find_row(rest, &mut row)? else {
+            let Some(after) = self.find_row(rest, &mut row, true)? else {
                 return Ok(());
             };
-            out.push(row)?;
+            out.push(whole_row(row))?;
             rest = after;
         }
     }
@@ -501,11 +577,11 @@ impl<A: Allocator + Clone> Lines<A> {
             return Err(fault);
         }
         let mut row = blank_row(self.begun.allocator())?;
-        let end = self.end_row(&mut row)?;
+        let end = self.end_text(&mut row, true)?;
         if !end.has_row {
             return Ok(end.interface);
         }
-        out.push(row)?;
+        out.push(whole_row(row))?;
         Ok(end.interface)
     }
 }

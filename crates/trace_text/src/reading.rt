@@ -2,12 +2,12 @@
 
 ghost use Rattle.std.specs.Prelude.{◌≡◌, None, MatchResult};
 ghost use Rattle.line_model.specs.text.Text.{contents_kind, is_comment};
-ghost use Rattle.trace_text.specs.Reads.{ReadsAs, Breaks};
+ghost use Rattle.trace_text.specs.Reads.{ReadsAs, Breaks, whole_row};
 
 use crate::content::{Content, LineFault};
 use crate::header::read_header;
 use crate::row_line::read_row;
-use line_model::row::Row;
+use line_model::row::ReadRow;
 use std::alloc::Allocator;
 
 fn is_comment_line(line: &[u8]) -> bool
@@ -20,16 +20,16 @@ fn is_comment_line(line: &[u8]) -> bool
 }
 
 /// What a line says that stands before the header, or after it and after a row of the number `last`. A row is put in the
-/// place of another.
+/// place of another, as `read_row` does.
 #[tactic(auto, unfolding(line_model::specs::text::Text::contents_kind))]
 pub fn read_line<A: Allocator>(
     after_header: bool,
     last: u32,
     line: &[u8],
-    row: &mut Row<A>,
+    row: &mut ReadRow<A>,
 ) -> Result<Content, LineFault>
     ensures { MatchResult result
-        (λ content. (contents_kind after_header last line.now ≡ None) × ReadsAs after_header last line.now content row.new)
+        (λ content. (contents_kind after_header last line.now ≡ None) × ReadsAs after_header last line.now content (whole_row row.new))
         (Breaks (contents_kind after_header last line.now)) }
 {
     if is_comment_line(line) {

@@ -4,14 +4,14 @@ ghost use Rattle.std.specs.Prelude.{◌≡◌, None, Some, MatchResult, ◌⊎�
 ghost use Rattle.line_model.specs.declared.fault.Kind.TheVariants.{Hex};
 ghost use Rattle.trace_text.specs.declared.content.LineFault.TheVariants.{Memory, Broken};
 ghost use Rattle.line_model.specs.text.RowLine.{RowWords, octets_of, row_kind, row_of, row_words, side_of, rising_number};
-ghost use Rattle.trace_text.specs.Reads.{Breaks};
+ghost use Rattle.trace_text.specs.Reads.{Breaks, whole_row};
 
 use crate::content::LineFault;
 use crate::number::read_number;
 use crate::words::Words;
 use hex::decode_to_slice;
 use line_model::fault::Kind;
-use line_model::row::Row;
+use line_model::row::ReadRow;
 use line_model::state::Side;
 use std::alloc::Allocator;
 use std::marker::Model;
@@ -93,12 +93,12 @@ fn read_octets<A: Allocator>(word: &[u8], octets: &mut Vec<u8, A>) -> Result<(),
     }
 }
 
-/// Puts the row that a line writes after one of the number `last` in the place of another, or tells the rule that the
-/// line breaks; then the row has no meaning.
+/// Puts the row that a line writes after one of the number `last`, with all its octets, in the place of another, whose
+/// length is not set. Fails with the rule that the line breaks, or when memory is refused; then the row has no meaning.
 #[tactic(auto, unfolding(line_model::specs::text::RowLine::row_kind, line_model::specs::text::RowLine::row_of))]
-pub fn read_row<A: Allocator>(last: u32, line: &[u8], row: &mut Row<A>) -> Result<(), LineFault>
+pub fn read_row<A: Allocator>(last: u32, line: &[u8], row: &mut ReadRow<A>) -> Result<(), LineFault>
     ensures { MatchResult result (λ _. (row_kind last line.now ≡ None)
-        × (row_of line.now ≡ Some row.new)) (Breaks (row_kind last line.now)) }
+        × (row_of line.now ≡ Some (whole_row row.new))) (Breaks (row_kind last line.now)) }
 {
     let Some(fields) = split_fields(line) else {
         return Err(LineFault::Broken(Kind::LineForm));

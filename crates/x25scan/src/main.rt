@@ -10,6 +10,7 @@ use std::thread::Threads;
 use std::time::Clock;
 use streams::io::{FileInput, WriteSink};
 use streams::progress::Progress;
+use streams::system::System;
 
 /// Runs the program over the streams of the process.
 fn run_streams<R: Threads + Wait + Clock + Sync>(
@@ -17,9 +18,10 @@ fn run_streams<R: Threads + Wait + Clock + Sync>(
     threads: &R,
     words: &[&str],
 ) -> u8 {
+    let system = System::new(rt);
     let mut source = FileInput::new(
         rt.alloc(),
-        rt,
+        &system,
         rt.stdin(),
         rt.stdin().is_terminal(),
         Progress::new(rt.stderr(), rt.stderr().is_terminal()),

@@ -1,16 +1,16 @@
 // What is known of one packet: all that x25scan says of it, and its octets.
 
-const IN_A_LINE = 16;
 const BITS = { m: "M: more data of the same sequence follows", d: "D: the far side has to confirm it",
   q: "Q: data for a PAD, not for its user" };
 
 function dump(hex) {
   const lines = [];
-  for (let at = 0; at < hex.length; at += 2 * IN_A_LINE) {
-    const octets = hex.slice(at, at + 2 * IN_A_LINE).match(/../g) || [];
+  const inLine = (printing.width || window.innerWidth) < NARROW ? 8 : 16;
+  for (let at = 0; at < hex.length; at += 2 * inLine) {
+    const octets = hex.slice(at, at + 2 * inLine).match(/../g) || [];
     const text = octets.map((it) => { const code = parseInt(it, 16); return code >= 32 &&
       code < 127 ? String.fromCharCode(code) : "."; }).join("");
-    lines.push(`${(at / 2).toString(16).padStart(4, "0")}  ${octets.join(" ").padEnd(3 * IN_A_LINE)} ${text}`);
+    lines.push(`${(at / 2).toString(16).padStart(4, "0")}  ${octets.join(" ").padEnd(3 * inLine)} ${text}`);
   }
   return lines.join("\n");
 }
@@ -68,13 +68,14 @@ function factsOf(row) {
 }
 
 function showDetail(row) {
-  const close = () => { place("detail").hidden = true; };
   const arrow = row.side === 0 ? "DTE \u2192 DCE" : "DCE \u2192 DTE";
   place("detail").hidden = false;
   place("detail").replaceChildren(
     make("div", { class: "section-head" },
       make("h3", {}, `Packet ${count(row.packet)}: ${typeName(row.type)}, ${arrow}`),
-      make("button", { type: "button", click: close, "aria-label": "Close" }, "close")),
+      make("div", { class: "tools" },
+        make("a", { class: "button", href: `#packets/${row.packet}` }, "in the list of all packets"),
+        make("button", { type: "button", click: closeDetail }, "close"))),
     row.fault ? faultCard(row.fault, row.side) : "",
     make("dl", { class: "call-facts" },
       factsOf(row).map(([name, value]) => make("div", {}, make("dt", {}, name),

@@ -2,24 +2,24 @@
 
 const broken = SIDES.map((_, side) => facts.codes.reduce((sum, code) => sum + code[3][side], 0));
 
-function verdict() {
-  const [dte, dce] = broken;
-  if (!dte && !dce) return "Nobody broke the protocol.";
-  if (!dce) return `The DTE broke the protocol ${times(dte)}.`;
-  if (!dte) return `The DCE broke the protocol ${times(dce)}.`;
-  return `The DTE broke the protocol ${times(dte)}, the DCE ${times(dce)}.`;
-}
+// Whether the findings of a side are of half a recording, where they show what is missing.
+const isHalf = (side) => facts.half_counts !== null && (facts.half_counts[side] || !facts.rows_of[side]);
 
 function sideCard(side) {
   const most = Math.max(1, ...facts.codes.map((code) => Math.max(...code[3])));
   const rows = facts.codes.filter((code) => code[3][side]).map((code) => codeLine(code, side, most));
-  const kept = "None of its packets breaks the protocol.";
-  return make("div", { class: `card side ${broken[side] ? "guilty" : "clean"}` },
+  const none = facts.half_counts === null ? "The trace has no packet of it." : "None of its packets was recorded.";
+  const kept = facts.rows_of[side] ? "None of its packets breaks the protocol." : none;
+  const half = facts.half_counts?.[side];
+  const missing = half ? make("p", { class: "muted" }, `Of these, ${count(half)} ${half === 1 ? "is" : "are"} where only `,
+    `the ${SIDES[side]} was recorded, and may come from packets of the ${SIDES[1 - side]} that were not.`) : "";
+  const kind = isHalf(side) ? "half" : broken[side] ? "guilty" : "clean";
+  return make("div", { class: `card side ${kind}` },
     make("div", { class: "side-head" },
       make("h2", {}, word("side", LETTERS[side], SIDES[side])),
       make("span", { class: "big" }, count(broken[side])),
       make("span", { class: "muted" }, broken[side] === 1 ? "finding" : "findings")),
-    rows.length ? make("ul", { class: "codes" }, rows) : make("p", { class: "muted" }, kept));
+    rows.length ? make("ul", { class: "codes" }, rows) : make("p", { class: "muted" }, kept), missing);
 }
 
 function codeLine([code, name, , counts, first], side, most) {
@@ -103,15 +103,15 @@ function alarm() {
     howToTryAll(), ways);
 }
 
-function heard() {
-  if (!facts.heard.length) return null;
+function messages() {
+  if (!facts.messages.length) return null;
   return make("div", { class: "card" }, make("h2", {}, "What the reading of the capture said"),
-    make("ul", { class: "plain" }, facts.heard.map((line) => make("li", {}, line))));
+    make("ul", { class: "plain" }, facts.messages.map((line) => make("li", {}, line))));
 }
 
 function showOverview() {
   place("overview").append(
-    make("p", { class: `verdict ${broken[0] + broken[1] ? "bad" : "good"}` }, verdict()),
+    make("h1", { class: `verdict ${facts.verdict[0]}` }, facts.verdict[1]),
     make("div", { class: "sides" }, sideCard(0), sideCard(1)),
-    tiles(), alarm() ?? "", headerLine(), heard() ?? "");
+    tiles(), alarm() ?? "", headerLine(), messages() ?? "");
 }

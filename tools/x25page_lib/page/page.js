@@ -1,32 +1,9 @@
 // The start of the page: its parts, where its address leads, and its colours.
 
 const PARTS = { overview: "Overview", strip: "Channels", ladder: "Ladder", calls: "Calls", findings: "Findings",
-  accounts: "Who pays", settings: "PADs", words: "Words" };
+  waits: "Waits", use: "Use", packets: "Packets", accounts: "Who pays", settings: "PADs", words: "Words",
+  about: "About" };
 const THEMES = { auto: "Auto", light: "Light", dark: "Dark" };
-const KEY = /^(interface|call-\d+|channel-\d+)(?:\/(\d+))?$/;
-
-// The ladder that is shown first: that of the first finding, else of the first call.
-function firstKey() {
-  const [mark] = facts.marks;
-  if (mark) return [mark[4], mark[0]];
-  if (calls.length) return [`call-${calls[0].call}`, null];
-  const [key] = Object.keys(facts.ladders);
-  return key ? [key, null] : null;
-}
-
-function follow() {
-  hideHint();
-  const match = KEY.exec(decodeURIComponent(location.hash.slice(1)));
-  if (!match) return;
-  const packet = match[2] ? Number(match[2]) : null;
-  if (match[1] !== shown.key || (packet && !place(`row-${packet}`))) openLadder(match[1], packet);
-  shown.packet = packet;
-  mark();
-  const row = packet && place(`row-${packet}`);
-  // The row comes to stand above what is said of it.
-  if (row) window.scrollBy({ top: row.getBoundingClientRect().top - 0.3 * window.innerHeight });
-  else place("ladder").scrollIntoView({ block: "start" });
-}
 
 function setTheme(name) {
   document.documentElement.dataset.theme = name;
@@ -65,7 +42,7 @@ function leftOutTexts() {
   const said = [];
   const say = (many, noun, rest) => many && said.push(`${plural(many, noun)} ${many === 1 ? "is" : "are"} ${rest}`);
   if (left.level > 0) said.push("The trace is long: of the octets of each packet only the first ones are here.");
-  if (left.level > 1) said.push("Packets that show nothing special are left out, and sums stand for them.");
+  if (left.level > 1) said.push("Packets that show nothing special are left out, and their sums are shown.");
   say(left.ladders, "ladder", "left out, those without findings first.");
   say(left.restarts, "restart", "not drawn over the channels.");
   const tables = { calls: "call", marks: "finding", accounts: "account", settings: "setting" };
@@ -88,22 +65,49 @@ function showAbout() {
         make("ul", { class: "plain" }, facts.comments.map((line) => make("li", {}, line)))) : ""));
 }
 
+// Draws anew what is as wide as the page.
+function drawAll() {
+  if (place("lanes")) drawStrip();
+  drawLadder();
+  drawCharts();
+}
+
+// A page that is printed is drawn for the width of the paper.
+function listenForSizes() {
+  let width = window.innerWidth;
+  const print = (wide) => {
+    printing.width = wide;
+    drawAll();
+  };
+  window.addEventListener("resize", () => {
+    if (window.innerWidth === width || printing.width) return;
+    width = window.innerWidth;
+    drawAll();
+  });
+  window.addEventListener("beforeprint", () => print(PAPER));
+  window.addEventListener("afterprint", () => print(null));
+}
+
 function start() {
   showTop();
+  showFind();
   showOverview();
   showStrip();
   showCalls();
   showFindings();
+  showWaits();
+  showUse();
+  showPackets();
   showAccounts();
   showSettings();
   showWords();
   showAbout();
   listenForWords();
-  const first = firstKey();
-  if (first) openLadder(...first);
+  listenForSteps();
+  listenForSizes();
+  showFirst();
   showNav();
-  window.addEventListener("hashchange", follow);
-  follow();
+  if (partOfAddress()) follow();
   document.documentElement.dataset.ready = "yes";
 }
 

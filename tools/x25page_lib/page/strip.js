@@ -3,6 +3,8 @@
 const AXIS = 34;
 const NEAR = 7;
 const RIGHT = 12;
+const LANES_ON_PAPER = 800;
+const HELP = "A click opens a ladder; a drag makes that part larger. Arrow keys go from bar to bar, Enter opens one.";
 const strip = { byTime: false, from: 0, to: 0, width: 0, labels: 0, lanes: new Map(), height: 0, lane: 0, drag: null };
 
 function lastPacket(call) {
@@ -45,7 +47,9 @@ function layOut() {
   const names = facts.channels.map(String);
   if (facts.restarts.length || facts.marks.some((mark) => mark[2] === null)) names.unshift("interface");
   strip.lane = laneHeight(names.length);
-  strip.labels = 24 + 6.4 * Math.max(9, ...names.map((name) => laneName(name).length));
+  // On paper all lanes stand on one page.
+  if (printing.width) strip.lane = Math.min(strip.lane, LANES_ON_PAPER / names.length);
+  strip.labels = 24 + 6.4 * Math.max(...names.map((name) => laneName(name).length), strip.width < NARROW ? 4 : 9);
   strip.lanes = new Map(names.map((name, at) => [name, at]));
   strip.height = Math.max(1, names.length) * strip.lane;
 }
@@ -101,7 +105,10 @@ function restartsPath() {
   return path;
 }
 
-const laneName = (name) => (name === "interface" ? name : `channel ${name}`);
+function laneName(name) {
+  if (name === "interface") return strip.width < NARROW ? "line" : name;
+  return strip.width < NARROW ? `ch. ${name}` : `channel ${name}`;
+}
 
 function laneNames() {
   if (strip.lane < 10) return [];
@@ -138,21 +145,23 @@ function axis() {
         strip.byTime ? shortClock(at) : count(Math.round(at))),
       draw("text", { class: "tick-time", x, y: 24, "text-anchor": "middle" }, under));
   }
-  return draw("svg", { class: "axis", width: strip.width, height: AXIS, "aria-hidden": "true" }, ticks,
+  const size = { width: strip.width, height: AXIS, viewBox: `0 0 ${strip.width} ${AXIS}` };
+  return draw("svg", { class: "axis", ...size, "aria-hidden": "true" }, ticks,
     draw("text", { class: "tick-name", x: 0, y: 12 }, strip.byTime ? "time" : "packet"));
 }
 
 function lanes() {
   const found = calls.filter((call) => call.findings);
   const good = calls.filter((call) => !call.findings);
-  return draw("svg", { class: "lanes", width: strip.width, height: strip.height, role: "img",
-    "aria-label": "Calls, findings and restarts by channel" },
+  const size = { width: strip.width, height: strip.height, viewBox: `0 0 ${strip.width} ${strip.height}` };
+  return draw("svg", { class: "lanes", ...size, role: "img", "aria-label": "Calls, findings and restarts by channel" },
     draw("path", { class: "lane-line", d: lanesPath() }),
     draw("path", { class: "bar-good", d: barsPath(good) }),
     draw("path", { class: "bar-found", d: barsPath(found) }),
     draw("path", { class: "restart-line", d: restartsPath() }),
     draw("path", { class: "mark-found", d: marksPath() }),
-    laneNames(), barNames(), draw("rect", { class: "chosen-range", height: strip.height, y: 0, width: 0 }));
+    laneNames(), barNames(), draw("rect", { class: "chosen-range", height: strip.height, y: 0, width: 0 }),
+    draw("rect", { class: "reached", rx: 4, width: 0 }));
 }
 
 // What lies under a point: a finding, else a call.
@@ -175,7 +184,8 @@ function under(event) {
   return { ...(best || {}), channel, x };
 }
 
-function underText({ mark, call }) {
+function underText({ mark, call, restart, packet }) {
+  if (restart !== undefined) return `Packet ${count(packet)} of the ${SIDES[restart]}: a restart`;
   if (mark) return `Packet ${count(mark[0])} of the ${SIDES[mark[1]]}: code ${mark[3]}. ${mark[5]}`;
   if (!call) return "";
   const found = call.findings ? `; ${plural(call.findings, "finding")}` : "";
@@ -185,10 +195,10 @@ function underText({ mark, call }) {
 }
 
 function go({ mark, call, channel }) {
-  if (mark) location.hash = `${mark[4]}/${mark[0]}`;
-  else if (call) location.hash = `call-${call.call}`;
+  if (mark) goTo(`${mark[4]}/${mark[0]}`);
+  else if (call) goTo(`call-${call.call}`);
   else if (channel && facts.ladders[channel === "interface" ? channel : `channel-${channel}`]) {
-    location.hash = channel === "interface" ? channel : `channel-${channel}`;
+    goTo(channel === "interface" ? channel : `channel-${channel}`);
   }
 }
 
@@ -212,7 +222,7 @@ function press(event) {
 
 function move(event) {
   const at = under(event);
-  place("under").textContent = underText(at) || "A click opens a ladder; a drag makes that part larger.";
+  place("under").textContent = underText(at) || HELP;
   const chosen = place("lanes").querySelector(".chosen-range");
   if (strip.drag !== null && Math.abs(at.x - strip.drag) > NEAR) {
     chosen.setAttribute("x", Math.min(at.x, strip.drag));
@@ -229,7 +239,7 @@ function release(event) {
 }
 
 function drawStrip() {
-  strip.width = Math.max(560, place("strip-room").clientWidth);
+  strip.width = printing.width || Math.max(300, place("strip-room").clientWidth);
   layOut();
   place("axis").replaceChildren(axis());
   place("lanes").replaceChildren(lanes());
@@ -250,14 +260,14 @@ function showStrip() {
   const legend = make("p", { class: "legend" },
     make("span", { class: "key good" }, "call"), make("span", { class: "key found" }, "call with findings"),
     make("span", { class: "key mark" }, "finding"), make("span", { class: "key restart" }, "restart"));
-  const room = make("div", { id: "strip-room" }, make("div", { id: "axis" }),
-    make("div", { id: "lanes", pointerdown: press, pointermove: move, pointerup: release }));
+  const lanesRoom = make("div", { id: "lanes", tabindex: 0, role: "application", "aria-describedby": "under",
+    "aria-label": "Channels over the trace", pointerdown: press, pointermove: move, pointerup: release,
+    keydown: stripKey, focus: reachFirst, blur: leaveBars });
+  const room = make("div", { id: "strip-room" }, make("div", { id: "axis" }), lanesRoom);
   place("strip").append(make("div", { class: "section-head" }, make("h2", {}, "Channels over the trace"),
-    stripTools()), legend,
-    make("div", { class: "card flush" }, room),
-      make("p", { id: "under", class: "muted" }, "A click opens a ladder; a drag makes that part larger."),
-    leftOut(facts.left_out.calls, "call", "The lanes do not have them.") ?? "");
+    stripTools()), legend, make("div", { class: "card flush" }, room),
+  make("p", { id: "under", class: "muted", role: "status" }, HELP),
+  leftOut(facts.left_out.calls, "call", "The lanes do not have them.") ?? "");
   wholeView();
   drawStrip();
-  window.addEventListener("resize", drawStrip);
 }

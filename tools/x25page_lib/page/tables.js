@@ -14,18 +14,19 @@ function compare(a, b) {
 class Table {
   constructor(name, columns, lines, options = {}) {
     Object.assign(this, { name, columns, all: lines, lines, options, shown: AT_ONCE, by: null, falling: false });
-    this.body = make("tbody");
-    this.head = make("tr", {}, columns.map((column, at) => this.heading(column, at)));
+    this.body = make("tbody", { role: "rowgroup" });
+    this.head = make("tr", { role: "row" }, columns.map((column, at) => this.heading(column, at)));
     this.more = make("p", { class: "more" });
     this.element = make("div", { class: "table-room" },
-      make("table", { id: name }, make("thead", {}, this.head), this.body), this.more);
+      make("table", { id: name, role: "table", class: "cards" }, make("thead", { role: "rowgroup" }, this.head),
+        this.body), this.more);
     this.draw();
   }
 
   heading(column, at) {
     const act = () => this.sort(at);
     const shown = column.word ? word("field", column.word, column.name) : column.name;
-    return make("th", { class: column.style, scope: "col" },
+    return make("th", { class: column.style, scope: "col", role: "columnheader" },
       make("button", { type: "button", class: "sort", click: act }, shown));
   }
 
@@ -57,8 +58,8 @@ class Table {
     const rest = this.lines.length - this.shown;
     const act = () => { this.shown += 4 * AT_ONCE; this.draw(); };
     this.more.replaceChildren(...(rest > 0
-      ? [make("button", { type: "button", click: act },
-      `${count(Math.min(rest, 4 * AT_ONCE))} more of ${count(rest)}`)] : []));
+      ? [make("button", { type: "button", click: act }, `${count(Math.min(rest, 4 * AT_ONCE))} more of ${count(rest)}`),
+        make("span", { class: "on-paper" }, `${count(rest)} more are not printed`)] : []));
     if (!this.lines.length) this.body.append(make("tr", {},
       make("td", { colspan: this.columns.length, class: "muted" }, "None.")));
   }
@@ -66,8 +67,9 @@ class Table {
   line(line) {
     const link = this.options.link?.(line);
     const attributes = link ? { class: "linked",
-      click: (event) => event.target.closest("a, .word") || (location.hash = link) } : {};
-    return make("tr", attributes, this.columns.map((column) => make("td", { class: column.style },
+      click: (event) => event.target.closest("a, .word") || goTo(link) } : {};
+    return make("tr", { role: "row", ...attributes }, this.columns.map((column) => make("td",
+      { class: column.style, role: "cell", "data-name": column.name },
       column.show ? column.show(line) : column.value(line) ?? "-")));
   }
 }
@@ -96,18 +98,24 @@ function codesOf(call) {
 const number = (name, value, more = {}) => ({ name, value, style: "number",
   show: (it) => (value(it) === null ? "-" : count(value(it))), ...more });
 
+// The link to the ladder of a call, which says where the page has none.
+function callLink({ call }) {
+  const isThere = Object.hasOwn(facts.ladders, `call-${call}`);
+  return [make("a", { href: `#call-${call}` }, count(call)),
+    !isThere && make("small", { class: "no-ladder" }, "ladder left out")];
+}
+
 function callColumns() {
   const hasTimes = facts.times.length > 0;
   return [
-    { name: "Call", word: "call", value: (it) => it.call, style: "number",
-      show: (it) => make("a", { href: `#call-${it.call}` }, count(it.call)) },
+    { name: "Call", word: "call", value: (it) => it.call, style: "number", show: callLink },
     { name: "Findings", word: "findings", value: (it) => it.findings, falls: true, show: codesOf },
     number("Channel", (it) => it.channel, { word: "channel" }),
     { name: "From", word: "calling", value: (it) => it.calling, style: "address" },
     { name: "To", word: "called", value: (it) => it.called, style: "address" },
     { name: "By", word: "direction", value: (it) => it.direction,
       show: (it) => word("direction", it.direction, it.direction === "out" ? "DTE" : "DCE") },
-    hasTimes ? { name: "Start", value: (it) => it.start,
+    hasTimes ? { name: "Start", style: "number", value: (it) => it.start,
       show: (it) => (it.start === null ? "-" : clock(it.start).slice(hasDates ? 11 : 0).replace(" UTC", "")) }
       : number("Packets from", (it) => it.opened, { word: "opened" }),
     hasTimes ? { name: "Length", value: (it) => it.seconds, falls: true, style: "number",
@@ -121,15 +129,16 @@ function callColumns() {
   ];
 }
 
-function callTexts(call) {
-  const cause = [causeName(call.cause), causeName(call.diagnostic)];
-  return [`call ${call.call}`, `channel ${call.channel}`, call.calling, call.called, call.payer,
-    ...cause].join(" ").toLowerCase();
+// Whether a call is looked for.
+function isSought(call, filter) {
+  const numbers = { call: call.call, channel: call.channel, code: Object.keys(call.codes || {}) };
+  const texts = [call.calling, call.called, call.payer, causeName(call.cause), causeName(call.diagnostic)];
+  return filter.takes(numbers, texts.join(" "));
 }
 
 function showCalls() {
   const table = new Table("call-table", callColumns(), calls, { link: (call) => `call-${call.call}` });
-  const text = make("input", { type: "search", id: "call-filter", placeholder: "address, channel 3, cause",
+  const text = make("input", { type: "search", id: "call-filter", placeholder: "address, channel 3, call 4, cause",
     "aria-label": "Filter of calls" });
   const found = make("input", { type: "checkbox", id: "call-found" });
   const how = make("select", { id: "call-how", "aria-label": "How the call ended" },
@@ -138,8 +147,8 @@ function showCalls() {
       (explained("end", it) || [it])[0])));
   const total = make("span", { class: "muted" });
   const update = () => {
-    const words = text.value.toLowerCase().trim();
-    table.filter((call) => (!words || callTexts(call).includes(words)) && (!found.checked || call.findings) &&
+    const filter = filterOf(text.value);
+    table.filter((call) => isSought(call, filter) && (!found.checked || call.findings) &&
       (!how.value || call.how === how.value));
     const segments = table.lines.reduce((sum, call) => sum + call.segments, 0);
     total.textContent = `${plural(table.lines.length, "call")}, ${plural(segments, "segment")}`;
@@ -167,6 +176,23 @@ function showFindings() {
   const table = new Table("finding-table", columns, facts.marks, { link: (it) => `${it[4]}/${it[0]}` });
   place("findings").append(make("h2", {}, "Findings"), make("div", { class: "card flush" }, table.element),
     leftOut(facts.left_out.marks, "finding", "x25scan prints all of them.") ?? "");
+  showFoundChannels();
+}
+
+// How many findings the channels have, the most first.
+function showFoundChannels() {
+  if (!facts.found_channels.length) return;
+  const columns = [
+    { name: "Channel", word: "channel", style: "number", value: (it) => it[0],
+      show: (it) => (it[0] === null ? "none: the interface" : count(it[0])) },
+    number("Findings", (it) => it[1] + it[2], { word: "findings", falls: true }),
+    number("of the DTE", (it) => it[1], { falls: true }), number("of the DCE", (it) => it[2], { falls: true }),
+    { name: "First", value: (it) => it[3], style: "number",
+      show: (it) => make("a", { href: `#${it[4]}/${it[3]}` }, `packet ${count(it[3])}`) },
+  ];
+  const table = new Table("channel-table", columns, facts.found_channels, { link: (it) => `${it[4]}/${it[3]}` });
+  place("findings").append(make("h3", {}, "Findings by channel"), make("div", { class: "card flush" }, table.element),
+    leftOut(facts.left_out.found_channels, "channel", "x25scan --rows has all findings.") ?? "");
 }
 
 function showAccounts() {

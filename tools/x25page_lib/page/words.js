@@ -5,6 +5,9 @@ const facts = JSON.parse(document.getElementById("facts").textContent);
 const SVG = "http://www.w3.org/2000/svg";
 const SIDES = ["DTE", "DCE"];
 const LETTERS = ["T", "N"];
+// How wide the page is drawn on paper, in the units of a drawing: A4 and Letter have as much between their margins.
+const PAPER = 690;
+const printing = { width: null };
 
 function fill(element, attributes, children) {
   for (const [name, value] of Object.entries(attributes)) {
@@ -49,12 +52,12 @@ function drawnWord(topic, value, attributes, ...children) {
 
 function showHint(element) {
   const { topic, word: value } = element.dataset;
-  const told = explained(topic, value);
-  if (!told) return;
+  const meaning = explained(topic, value);
+  if (!meaning) return;
   const hint = place("hint");
   hint.replaceChildren(
-    make("p", { class: "hint-head" }, make("b", {}, value), " ", told[0]),
-    ...told[1].map((sentence) => make("p", { class: sentence.startsWith("Clause: ") ? "clause" : null }, sentence)),
+    make("p", { class: "hint-head" }, make("b", {}, value), " ", meaning[0]),
+    ...meaning[1].map((sentence) => make("p", { class: sentence.startsWith("Clause: ") ? "clause" : null }, sentence)),
   );
   hint.hidden = false;
   const box = element.getBoundingClientRect();
@@ -76,7 +79,6 @@ function listenForWords() {
   for (const name of ["pointerover", "focusin"]) document.addEventListener(name, over);
   document.addEventListener("focusout", hideHint);
   document.addEventListener("scroll", hideHint, { passive: true });
-  document.addEventListener("keydown", (event) => event.key === "Escape" && hideHint());
 }
 
 // Times. The page has seconds after the first time of the trace; that one is in nanoseconds since 1970.
@@ -125,6 +127,9 @@ const REASONS = {
 };
 const reasonName = (reason) => (Object.hasOwn(REASONS, reason) ? REASONS[reason] : reason.replaceAll("_", " "));
 
+// What a row is called: by its frame, where it has one.
+const rowName = (row) => (row.more.frame === undefined ? count(row.packet) : count(row.more.frame));
+
 // A row of the page, by name.
 function rowOf(array) {
   const [packet, side, type, before, after, time, hex, octets, more] = array;
@@ -154,6 +159,8 @@ function callOf(array) {
 
 const calls = facts.calls.map(callOf);
 const callsByNumber = new Map(calls.map((call) => [call.call, call]));
+// The packet that ended these calls is not in the trace.
+for (const number of facts.unrecorded_ends) Object.assign(callsByNumber.get(number) ?? {}, { how: "not recorded" });
 
 // What a ladder is of.
 function keyName(key) {
@@ -163,6 +170,11 @@ function keyName(key) {
   const permanent = facts.numbers.find(([name]) => name === "PVC");
   const isPermanent = permanent && number <= Number(permanent[1]);
   return `Channel ${number}, ${isPermanent ? "a permanent circuit" : "outside of calls"}`;
+}
+
+// The same in few letters.
+function shortKey(key) {
+  return key === "interface" ? "Interface" : upper(key.replace("-", " "));
 }
 
 function causeName(at) {

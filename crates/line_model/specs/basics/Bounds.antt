@@ -1,19 +1,28 @@
 -- How large the parts of a trace may be.
 use Rattle.std.specs.Prelude.{◌≡◌, ◌≤◌, ℕ, ◌+◌, ◌^◌, List, length, sum_by, All}
+use Rattle.std.specs.List.{AllByRecursion}
 use Rattle.line_model.specs.declared.interface.Interface.{Interface}
 use Rattle.line_model.specs.declared.finding.Finding.{Finding}
-use Rattle.line_model.specs.basics.Records.{Item, CallRecord}
-use Rattle.line_model.specs.basics.Octets.{channel_of}
-use Rattle.line_model.specs.packets.Classes.{packet_of}
+use Rattle.line_model.specs.basics.Records.{Row, Item, CallRecord}
+use Rattle.line_model.specs.packets.Says.{item_of, packet_channel}
 
--- a row of channel k, with the packet that its octets are
+-- what a row of an interface says
+pub record IsSaid (i : Interface) (item : Item) : Type 0 where
+  pub row : Row
+  pub says : item ≡ item_of i row
+
+-- what rows of an interface say
+abbrev pub AreSaid : Interface → List Item → Type 0
+AreSaid i items = AllByRecursion (IsSaid i) items
+
+-- what a row of channel k says
 pub record IsItem (i : Interface) (k : ℕ) (item : Item) : Type 0 where
-  pub packet : item.packet ≡ packet_of i item.row.octets
-  pub channel : channel_of item.row.octets ≡ k
+  pub said : IsSaid i item
+  pub channel : packet_channel item.packet ≡ k
 
 -- the octets of some rows, all together
 abbrev pub all_octets : List Item → ℕ
-all_octets items = sum_by (λ i. length i.row.octets) items
+all_octets items = sum_by (λ i. i.length) items
 
 -- the rows of a piece of channel k
 pub record IsPiece (i : Interface) (k : ℕ) (items : List Item) : Type 0 where

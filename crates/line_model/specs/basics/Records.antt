@@ -16,10 +16,20 @@ pub record Row : Type 0 where
   pub side : Side
   pub octets : List ℕ
 
--- a row with its packet
+-- what a row says (X.25 clause 5): its packet, how many octets it has, and those octets that say more than that
 pub record Item : Type 0 where
-  pub row : Row
+  pub number : ℕ
+  pub side : Side
   pub packet : Packet
+  pub length : ℕ
+  pub octets : List ℕ
+
+-- a row as it is read: of data with Q 0 the first four octets, of all others each octet
+pub record ReadRow : Type 0 where
+  pub number : ℕ
+  pub side : Side
+  pub length : ℕ
+  pub octets : List ℕ
 
 -- the rows of one channel in one epoch, and the row that left r1, if one did
 pub record Piece : Type 0 where

@@ -1,5 +1,5 @@
 -- What a packet on a channel does (X.25 Annexes B and C, clauses 4 to 6).
-use Rattle.std.specs.Prelude.{ℕ, Bool, true, false, List, [], ◌∷◌, ◌++◌, length, drop, Option, Some, None, unwrap_or, option_to_list, option_map, Result, Ok, Err}
+use Rattle.std.specs.Prelude.{ℕ, ◌-◌, Bool, true, false, List, [], ◌∷◌, ◌++◌, drop, Option, Some, None, unwrap_or, option_to_list, option_map, Result, Ok, Err}
 use Rattle.line_model.specs.declared.interface.Interface.{Interface}
 use Rattle.line_model.specs.declared.diagnostic.TheConstants.{INCONSISTENT_Q_BIT_SETTING}
 use Rattle.line_model.specs.declared.packet.Class.{Class}
@@ -26,9 +26,10 @@ use Rattle.line_model.specs.declared.event.How.{How}
 use Rattle.line_model.specs.declared.event.How as how
 use Rattle.line_model.specs.declared.event.What.{What}
 use Rattle.line_model.specs.declared.event.What.TheVariants.{Found, Open, Up, End, Data as DataHeard}
-use Rattle.line_model.specs.basics.Records.{Row}
+use Rattle.line_model.specs.basics.Records.{Item}
 use Rattle.line_model.specs.channels.Tables.{action}
-use Rattle.line_model.specs.packets.Classes.{class_of, data_header, receive_number, header_length}
+use Rattle.line_model.specs.packets.Classes.{header_length, packet_class}
+use Rattle.line_model.specs.packets.Says.{header_in, receive_in}
 use Rattle.line_model.specs.packets.Facilities.{fields_of}
 use Rattle.line_model.specs.channels.Channels.{Channel, AcceptedData, is_permanent, Opening, Told}
 use Rattle.line_model.specs.channels.FlowControl.{Counts, sent_by, count_data, count_receive, count_interrupt, count_confirm}
@@ -179,14 +180,15 @@ failing T s n c =
     and_then (record { reported = Found T s (Number n) ∷ []; after = c }) (after_error s)
 failing N s n c = record { reported = Found N s (Number n) ∷ []; after = c }
 
--- the data packet that octets are
-abbrev pub heard_of : Interface → Side → List ℕ → DataHeader → AcceptedData
-heard_of i x xs h = record {
-  side = x;
+-- the data packet that a row says
+abbrev pub heard_of : Interface → Item → DataHeader → AcceptedData
+heard_of i r h = record {
+  side = r.side;
   qualified = h.qualified;
   more = h.more;
   delivery = h.delivery;
-  octets = drop (header_length i) xs;
+  length = r.length - header_length i;
+  octets = drop (header_length i) r.octets;
 }
 
 -- the counts of a channel
@@ -212,10 +214,10 @@ option_found x fault = option_map (λ f. Found x D1 (Pad f)) fault
 
 -- what a message makes: its finding, and what it says of settings
 abbrev pub telling : Side → AcceptedData → (told : List Told) → (message : Option (List ℕ)) → List What
-telling x p told None = DataHeard x (length p.octets) ∷ []
+telling x p told None = DataHeard x p.length ∷ []
 telling x p told (Some m) =
     let fault : Option Xcode = message_fault x told m in
-    option_to_list (option_found x fault) ++ DataHeard x (length p.octets) ∷ settings_after fault x m
+    option_to_list (option_found x fault) ++ DataHeard x p.length ∷ settings_after fault x m
 
 -- the messages told after a packet
 abbrev pub told_after : Side → (told : List Told) → (message : Option (List ℕ)) → List Told
@@ -240,11 +242,11 @@ data_counted i x s p (Err n) c = failing x s n c
 data_counted i x s p (Ok v) c = data_alike i x s p v (is_alike p (begun (size_in_force i c x) x c.heard)) c
 
 -- a data packet by its header
-abbrev pub data_step : Interface → Side → StateName → List ℕ → Option DataHeader → Channel → Outcome
-data_step i x s xs None c = report_nothing c
-data_step i x s xs (Some h) c =
-    data_counted i x s (heard_of i x xs h)
-    (count_data i.modulus (window_in_force i c x) (counts_of c) x h.send h.receive) c
+abbrev pub data_step : Interface → StateName → Item → Option DataHeader → Channel → Outcome
+data_step i s r None c = report_nothing c
+data_step i s r (Some h) c =
+    data_counted i r.side s (heard_of i r h)
+    (count_data i.modulus (window_in_force i c r.side) (counts_of c) r.side h.send h.receive) c
 
 -- a packet that changes the counts alone
 abbrev pub counting : Side → StateName → Result Counts ℕ → Channel → Outcome
@@ -252,23 +254,22 @@ counting x s (Err n) c = failing x s n c
 counting x s (Ok v) c = report_nothing (record c { acknowledged = v.acknowledged; unconfirmed = v.unconfirmed })
 
 -- a packet whose entry is `normal`, and whose format has no fault
-abbrev pub transferring : Interface → Side → StateName → Class → List ℕ → Channel → Outcome
-transferring i x s Data xs c = data_step i x s xs (data_header i xs) c
-transferring i x s Interrupt xs c = counting x s (count_interrupt (counts_of c) x) c
-transferring i x s InterruptConfirm xs c = counting x s (count_confirm (counts_of c) x) c
-transferring i x s k xs c = counting x s (count_receive i.modulus (counts_of c) x (unwrap_or (receive_number i xs) 0)) c
+abbrev pub transferring : Interface → StateName → Class → Item → Channel → Outcome
+transferring i s Data r c = data_step i s r (header_in r.packet) c
+transferring i s Interrupt r c = counting r.side s (count_interrupt (counts_of c) r.side) c
+transferring i s InterruptConfirm r c = counting r.side s (count_confirm (counts_of c) r.side) c
+transferring i s k r c = counting r.side s (count_receive i.modulus (counts_of c) r.side (unwrap_or (receive_in r.packet) 0)) c
 
 -- what a verdict does to the channel
-abbrev pub verdict_step : Interface → Side → StateName → Class → List ℕ → Verdict → Channel → Outcome
-verdict_step i x s k xs (Fails t n) c = failing x t n c
-verdict_step i x s k xs (Moves t) c = moving x k xs t c
-verdict_step i x s k xs Transfers c = transferring i x s k xs c
-verdict_step i x s k xs EndsOwed c = report_nothing (record c { owed = false })
-verdict_step i x s k xs Nothing c = report_nothing c
+abbrev pub verdict_step : Interface → StateName → Item → Verdict → Channel → Outcome
+verdict_step i s r (Fails t n) c = failing r.side t n c
+verdict_step i s r (Moves t) c = moving r.side (packet_class r.packet) r.octets t c
+verdict_step i s r Transfers c = transferring i s (packet_class r.packet) r c
+verdict_step i s r EndsOwed c = report_nothing (record c { owed = false })
+verdict_step i s r Nothing c = report_nothing c
 
 -- what a row does to its channel
-abbrev pub channel_step : Interface → ℕ → Channel → Row → Outcome
+abbrev pub channel_step : Interface → ℕ → Channel → Item → Outcome
 channel_step i n c r =
-    let k : Class = class_of i r.octets in
-    let j : Judged = judged (is_permanent i n) r.side c.state c.owed k in
-    verdict_step i r.side j.state k r.octets (verdict j (packet_fault i n c r.side k r.octets)) c
+    let j : Judged = judged (is_permanent i n) r.side c.state c.owed (packet_class r.packet) in
+    verdict_step i j.state r (verdict j (packet_fault i n c r)) c

@@ -30,12 +30,13 @@ abbrev pub other : Side → Side
 other T = N
 other N = T
 
--- a data packet that was accepted
+-- a data packet that was accepted: how many octets of user data it has, and those octets where its Q bit is 1
 pub record AcceptedData : Type 0 where
   pub side : Side
   pub qualified : Bool
   pub more : Bool
   pub delivery : Bool
+  pub length : ℕ
   pub octets : List ℕ
 
 -- a PAD message of the call, and the side that it came from

@@ -1,5 +1,5 @@
 -- Complete packet sequences (X.25 clauses 4.3.4 and 4.3.5, Table 4-1).
-use Rattle.std.specs.Prelude.{ℕ, Bool, true, false, not, ◌==◌, ◌&&◌, List, length, reverse, take_while, flat_map}
+use Rattle.std.specs.Prelude.{ℕ, Bool, true, false, not, ◌==◌, ◌&&◌, List, reverse, take_while, flat_map}
 use Rattle.std.specs.List.{list_all}
 use Rattle.line_model.specs.declared.state.Side.{Side}
 use Rattle.line_model.specs.channels.Channels.{AcceptedData}
@@ -7,7 +7,7 @@ use Rattle.line_model.specs.channels.FlowControl.{packets_of}
 
 -- category A: more data follows, no delivery confirmation, and the full size in force
 abbrev pub is_category_a : (size : ℕ) → AcceptedData → Bool
-is_category_a size h = h.more && not h.delivery && (length h.octets == size)
+is_category_a size h = h.more && not h.delivery && (h.length == size)
 
 -- the packets of a side that begin a sequence which is not complete: those of category A at the end
 abbrev pub begun : (size : ℕ) → Side → List AcceptedData → List AcceptedData

@@ -1,6 +1,6 @@
 -- The observer of an interface: the restart machine is its line part, and each channel has a state of its own
 -- (X.25 clauses 3 to 6, by the tables of Annexes B and C).
-use Rattle.std.specs.Prelude.{ℕ, Bool, true, false, ◌&&◌, not, List, [], ◌∷◌, map, length, Option, Some, None}
+use Rattle.std.specs.Prelude.{ℕ, Bool, true, false, ◌&&◌, not, List, [], ◌∷◌, map, Option, Some, None}
 use Rattle.std.specs.List.{range_with_len}
 use Rattle.std.specs.Option.{option_map_or}
 use Rattle.line_model.specs.declared.interface.Interface.{Interface}
@@ -13,9 +13,9 @@ use Rattle.line_model.specs.declared.event.How.TheVariants.{Restart}
 use Rattle.line_model.specs.declared.event.What.{What}
 use Rattle.line_model.specs.declared.event.What.TheVariants.{Found, End}
 use Rattle.line_model.specs.declared.event.Event.{Event}
-use Rattle.line_model.specs.basics.Records.{Row}
-use Rattle.line_model.specs.basics.Octets.{channel_of}
-use Rattle.line_model.specs.packets.Classes.{class_of}
+use Rattle.line_model.specs.basics.Records.{Item}
+use Rattle.line_model.specs.packets.Classes.{packet_class}
+use Rattle.line_model.specs.packets.Says.{packet_channel}
 use Rattle.line_model.specs.channels.RestartMachine.{LineState, Routing, line_step}
 use Rattle.line_model.specs.channels.Channels.{Channel, fresh, is_permanent, is_open, is_in_transfer}
 use Rattle.line_model.specs.channels.ChannelStep.{channel_step}
@@ -24,8 +24,8 @@ use Rattle.line_model.specs.observer.MachineEvents.{RowEvent, walk_events}
 use Rattle.line_model.specs.observer.Peak.{counts, highest}
 
 -- what the restart machine does with a row
-abbrev pub routing : Interface → LineState → Row → Routing
-routing i l r = line_step l r.side (class_of i r.octets) (length r.octets)
+abbrev pub routing : LineState → Item → Routing
+routing l r = line_step l r.side (packet_class r.packet) r.length
 
 -- in r1 the rows of channels step their channels
 abbrev pub is_ready : LineState → Bool
@@ -41,11 +41,11 @@ handed route.TheVariants.ToChannel k = Some k
 handed _ k = None
 
 -- the channel that a row is handed to in r1
-abbrev pub channel_in_r1 : Interface → Row → Option ℕ
-channel_in_r1 i r = handed (routing i (line_in_r1 false) r).route (channel_of r.octets)
+abbrev pub channel_in_r1 : Item → Option ℕ
+channel_in_r1 r = handed (routing (line_in_r1 false) r).route (packet_channel r.packet)
 
 -- the finding of the restart machine
-abbrev pub route_found : Row → Route → List What
+abbrev pub route_found : Item → Route → List What
 route_found r (route.TheVariants.Found s n) = Found r.side s (Number n) ∷ []
 route_found r (route.TheVariants.Leave (Some n)) = Found r.side R1 (Number n) ∷ []
 route_found r _ = []
@@ -60,12 +60,12 @@ abbrev pub restart_end : Channel → List What
 restart_end s = restart_end_if (is_open s)
 
 -- the machine of an interface: entering r1 makes all channels fresh and begins the next epoch, leaving it ends the open calls
-abbrev pub x25 : Interface → Machine Row LineState Channel What
+abbrev pub x25 : Interface → Machine Item LineState Channel What
 x25 i = record {
-  channel = channel_in_r1 i;
+  channel = channel_in_r1;
   ready = is_ready;
-  line_after = λ l r. (routing i l r).after;
-  line_events = λ e l r. route_found r (routing i l r).route;
+  line_after = λ l r. (routing l r).after;
+  line_events = λ e l r. route_found r (routing l r).route;
   fresh = fresh i;
   channel_after = λ e k s r. (channel_step i k s r).after;
   channel_events = λ e k s r. (channel_step i k s r).reported;
@@ -78,11 +78,11 @@ abbrev pub start : Interface → Observer LineState Channel
 start i = record { epoch = 1; line = line_in_r1 i.join; states = fresh i 1 }
 
 -- an event as it is told; those of the restart machine have channel 0
-abbrev pub event_of : RowEvent Row What → Event
+abbrev pub event_of : RowEvent Item What → Event
 event_of v = record { epoch = v.epoch; channel = option_map_or (λ c. c) v.channel 0; packet = v.row.number; what = v.what }
 
 -- the events of the walk over a trace
-abbrev pub events : Interface → List Row → List Event
+abbrev pub events : Interface → List Item → List Event
 events i rs = map event_of (walk_events (x25 i) (start i) rs)
 
 -- whether a virtual channel is in p4
@@ -90,5 +90,5 @@ abbrev pub is_up : Interface → ℕ → Channel → Bool
 is_up i k s = not (is_permanent i k) && is_in_transfer s
 
 -- the greatest number of virtual channels in p4 after any row, and the first such row (profile)
-abbrev pub peak : Interface → List Row → ℕ × Option ℕ
+abbrev pub peak : Interface → List Item → ℕ × Option ℕ
 peak i rs = highest (counts (x25 i) (is_up i) (λ r. r.number) (start i) rs)

@@ -23,7 +23,7 @@ use Rattle.line_model.specs.declared.report.Peak.{Peak}
 use Rattle.line_model.specs.declared.call.SettingRecord.{SettingRecord}
 use Rattle.line_model.specs.declared.call.Account.{Account}
 use Rattle.line_model.specs.declared.totals.Summary.{Summary}
-use Rattle.line_model.specs.basics.Records.{Row}
+use Rattle.line_model.specs.basics.Records.{Item}
 use Rattle.line_model.specs.observer.Observer.{events, peak}
 use Rattle.line_model.specs.observer.Calls.{calls_of, all_lengths, segments_of}
 use Rattle.line_model.specs.observer.Accounts.{accounts_of}
@@ -55,7 +55,7 @@ abbrev pub no_summary : Summary
 no_summary = record { packets = 0; findings = 0; calls = 0; octets = 0; segments = 0 }
 
 -- the report of the walk over a trace
-abbrev pub report_of : Interface → List Row → Report
+abbrev pub report_of : Interface → List Item → Report
 report_of i rs =
     let es : List Event = events i rs in
     record {
@@ -186,5 +186,5 @@ text_of r =
     ++ summary_line r.summary
 
 -- the text of the report of a trace
-abbrev pub report : Interface → List Row → List ℕ
+abbrev pub report : Interface → List Item → List ℕ
 report i rs = text_of (report_of i rs)

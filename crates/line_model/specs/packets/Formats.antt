@@ -1,5 +1,5 @@
 -- Values in force, and faults of format (X.25 clause 5 and Annex E; the order is profile).
-use Rattle.std.specs.Prelude.{ℕ, Bool, true, false, ◌==◌, nat_lt, ◌+◌, List, [], ◌∷◌, length, Option, Some, None, option_map, option_and_then}
+use Rattle.std.specs.Prelude.{ℕ, Bool, true, false, ◌==◌, nat_lt, ◌+◌, List, [], ◌∷◌, Option, Some, None, option_map, option_and_then}
 use Rattle.std.specs.Option.{option_map_or}
 use Rattle.line_model.specs.declared.diagnostic.TheConstants.{CALL_ON_ONE_WAY_LOGICAL_CHANNEL, PACKET_TOO_SHORT, PACKET_TOO_LONG}
 use Rattle.line_model.specs.declared.interface.Interface.{Interface}
@@ -9,7 +9,8 @@ use Rattle.line_model.specs.declared.state.Side.{Side}
 use Rattle.line_model.specs.declared.state.Side.TheVariants.{T, N}
 use Rattle.line_model.specs.basics.Choice.{first_fault}
 use Rattle.line_model.specs.basics.Octets.{octet}
-use Rattle.line_model.specs.packets.Classes.{header_length}
+use Rattle.line_model.specs.basics.Records.{Item}
+use Rattle.line_model.specs.packets.Classes.{header_length, packet_class}
 use Rattle.line_model.specs.packets.Facilities.{CallFields, fields_of, call_fault, accepted_fault}
 use Rattle.line_model.specs.channels.Channels.{Channel, is_against}
 
@@ -57,23 +58,21 @@ was_fast c = option_map_or (λ f. f.fast) (opening_fields c) false
 abbrev pub is_pad_call : Channel → Bool
 is_pad_call c = option_map_or (λ f. octet 1 f.data_of_user == 1) (opening_fields c) false
 
--- the first fault of a packet's format, if any
-abbrev pub format_fault : Interface → Channel → Side → Class → List ℕ → Option ℕ
-format_fault i c x Call xs = call_fault i xs
-format_fault i c x Accepted xs = accepted_fault i (was_fast c) xs
-format_fault i c x Clear xs = first_fault ((nat_lt (length xs) 4, PACKET_TOO_SHORT) ∷ [])
-format_fault i c x Reset xs = first_fault ((nat_lt (length xs) 4, PACKET_TOO_SHORT) ∷ (nat_lt 5 (length xs), PACKET_TOO_LONG) ∷ [])
-format_fault i c x ResetConfirm xs = first_fault ((nat_lt 3 (length xs), PACKET_TOO_LONG) ∷ [])
-format_fault i c x InterruptConfirm xs = first_fault ((nat_lt 3 (length xs), PACKET_TOO_LONG) ∷ [])
-format_fault i c x Interrupt xs = first_fault ((nat_lt (length xs) 4, PACKET_TOO_SHORT) ∷ (nat_lt 35 (length xs), PACKET_TOO_LONG) ∷ [])
-format_fault i c x Rr xs =
-    first_fault ((nat_lt (length xs) (header_length i), PACKET_TOO_SHORT) ∷ (nat_lt (header_length i) (length xs), PACKET_TOO_LONG) ∷ [])
-format_fault i c x Rnr xs =
-    first_fault ((nat_lt (length xs) (header_length i), PACKET_TOO_SHORT) ∷ (nat_lt (header_length i) (length xs), PACKET_TOO_LONG) ∷ [])
-format_fault i c x Data xs =
-    first_fault ((nat_lt (length xs) (header_length i), PACKET_TOO_SHORT)
-    ∷ (nat_lt (header_length i + size_in_force i c x) (length xs), PACKET_TOO_LONG) ∷ [])
-format_fault i c x _ xs = None
+-- the first fault of the format of a packet of a class, with its length and the octets that say more, if any
+abbrev pub format_fault : Interface → Channel → Side → Class → (length : ℕ) → List ℕ → Option ℕ
+format_fault i c x Call n xs = call_fault i xs
+format_fault i c x Accepted n xs = accepted_fault i (was_fast c) xs
+format_fault i c x Clear n xs = first_fault ((nat_lt n 4, PACKET_TOO_SHORT) ∷ [])
+format_fault i c x Reset n xs = first_fault ((nat_lt n 4, PACKET_TOO_SHORT) ∷ (nat_lt 5 n, PACKET_TOO_LONG) ∷ [])
+format_fault i c x ResetConfirm n xs = first_fault ((nat_lt 3 n, PACKET_TOO_LONG) ∷ [])
+format_fault i c x InterruptConfirm n xs = first_fault ((nat_lt 3 n, PACKET_TOO_LONG) ∷ [])
+format_fault i c x Interrupt n xs = first_fault ((nat_lt n 4, PACKET_TOO_SHORT) ∷ (nat_lt 35 n, PACKET_TOO_LONG) ∷ [])
+format_fault i c x Rr n xs = first_fault ((nat_lt n (header_length i), PACKET_TOO_SHORT) ∷ (nat_lt (header_length i) n, PACKET_TOO_LONG) ∷ [])
+format_fault i c x Rnr n xs = first_fault ((nat_lt n (header_length i), PACKET_TOO_SHORT) ∷ (nat_lt (header_length i) n, PACKET_TOO_LONG) ∷ [])
+format_fault i c x Data n xs =
+    first_fault ((nat_lt n (header_length i), PACKET_TOO_SHORT)
+    ∷ (nat_lt (header_length i + size_in_force i c x) n, PACKET_TOO_LONG) ∷ [])
+format_fault i c x _ n xs = None
 
 -- a call against the direction of its channel (profile)
 abbrev pub direction_fault : Interface → (channel : ℕ) → Side → Class → Option ℕ
@@ -81,5 +80,6 @@ direction_fault i n x Call = first_fault ((is_against i x n, CALL_ON_ONE_WAY_LOG
 direction_fault i n x _ = None
 
 -- the first fault of a packet on a channel
-abbrev pub packet_fault : Interface → (channel : ℕ) → Channel → Side → Class → List ℕ → Option ℕ
-packet_fault i n c x k xs = or_other (direction_fault i n x k) (format_fault i c x k xs)
+abbrev pub packet_fault : Interface → (channel : ℕ) → Channel → Item → Option ℕ
+packet_fault i n c r =
+    or_other (direction_fault i n r.side (packet_class r.packet)) (format_fault i c r.side (packet_class r.packet) r.length r.octets)

@@ -6,8 +6,8 @@ use Rattle.line_model.specs.declared.state.Side.TheVariants.{T}
 use Rattle.line_model.specs.declared.event.Event.{Event}
 use Rattle.line_model.specs.declared.finding.Finding.{Finding}
 use Rattle.line_model.specs.declared.totals.Totals.{Totals}
-use Rattle.line_model.specs.basics.Records.{Row, Item, Piece, PieceReport}
-use Rattle.line_model.specs.packets.Classes.{packet_of}
+use Rattle.line_model.specs.basics.Records.{Item, Piece, PieceReport}
+use Rattle.line_model.specs.declared.packet.Packet.TheVariants.{Short}
 use Rattle.line_model.specs.pieces.Pieces.{Placed, placed, piece_rows, piece_end, piece_value}
 use Rattle.line_model.specs.pieces.Plan.{plan_of}
 use Rattle.line_model.specs.observer.MachineEvents.{walk_events}
@@ -18,37 +18,33 @@ use Rattle.line_model.specs.observer.Calls.{calls_of, all_lengths, segments_of}
 use Rattle.line_model.specs.observer.Report.{findings_of}
 
 -- the findings of the restart machine
-abbrev pub line_findings : Interface → List Row → List Finding
+abbrev pub line_findings : Interface → List Item → List Finding
 line_findings i rs = findings_of (map event_of (filter is_line (walk_events (x25 i) (start i) rs)))
 
--- a row with its packet
-abbrev pub item_of : Interface → Row → Item
-item_of i r = record { row = r; packet = packet_of i r.octets }
-
 -- the piece of an epoch and a channel, among the rows of the walk
-abbrev pub piece_of : Interface → List (Placed Row) → ℕ × (ℕ × ℕ) → Piece
+abbrev pub piece_of : Interface → List (Placed Item) → ℕ × (ℕ × ℕ) → Piece
 piece_of i ps p = record {
   id = p.0;
   interface = i;
   epoch = p.1.0;
   channel = p.1.1;
-  items = map (item_of i) (piece_rows p.1.0 p.1.1 ps);
+  items = piece_rows p.1.0 p.1.1 ps;
   end = option_map (λ r. r.number) (piece_end p.1.0 ps);
 }
 
 -- the pieces that have rows, by epoch and then by channel; they count from 0
-abbrev pub plan : Interface → List Row → List Piece
+abbrev pub plan : Interface → List Item → List Piece
 plan i rs = map (piece_of i (placed (x25 i) (start i) rs)) (enumerate_from 0 (plan_of (x25 i) (start i) rs))
 
 -- a row of which nothing but the number is known: that which left r1
-abbrev pub row_numbered : ℕ → Row
-row_numbered n = record { number = n; side = T; octets = [] }
+abbrev pub row_numbered : ℕ → Item
+row_numbered n = record { number = n; side = T; packet = Short; length = 0; octets = [] }
 
 -- the events of the steps over the rows of a piece alone, from the fresh channel
 abbrev pub piece_events : Piece → List Event
 piece_events p =
     map event_of
-    (piece_value (x25 p.interface) p.epoch p.channel (fresh p.interface p.epoch p.channel) (map (λ i. i.row) p.items) (option_map row_numbered p.end))
+    (piece_value (x25 p.interface) p.epoch p.channel (fresh p.interface p.epoch p.channel) p.items (option_map row_numbered p.end))
 
 -- what a piece is worth
 abbrev pub value : Piece → PieceReport
@@ -65,11 +61,11 @@ value p =
     }
 
 -- the events on channels
-abbrev pub channel_events_of : Interface → List Row → List Event
+abbrev pub channel_events_of : Interface → List Item → List Event
 channel_events_of i rs = map event_of (filter (λ v. not (is_line v)) (walk_events (x25 i) (start i) rs))
 
 -- the observer's totals over the channels
-abbrev pub channel_totals : Interface → List Row → Totals
+abbrev pub channel_totals : Interface → List Item → Totals
 channel_totals i rs =
     let es : List Event = channel_events_of i rs in
     record {

@@ -3,20 +3,21 @@ use Rattle.std.specs.Prelude.{◌≡◌, ℕ, zero, suc, List, [], ◌∷◌, �
 use Rattle.line_model.specs.declared.totals.Summary.{Summary}
 use Rattle.line_model.specs.basics.Records.{Piece}
 use Rattle.line_model.specs.text.Text.{fault, head, rows}
+use Rattle.line_model.specs.packets.Says.{items_of}
 use Rattle.line_model.specs.observer.Report.{report_of, report, no_summary}
 use Rattle.line_model.specs.pieces.Plans.{plan}
 
 -- the report of a text, nothing where it has no header
 abbrev pub trace_report : List ℕ → List ℕ
-trace_report x = elim (head x) [ None ↦ [] | Some i ↦ report i (rows x) ]
+trace_report x = elim (head x) [ None ↦ [] | Some i ↦ report i (items_of i (rows x)) ]
 
 -- its last line as numbers
 abbrev pub trace_summary : List ℕ → Summary
-trace_summary x = elim (head x) [ None ↦ no_summary | Some i ↦ (report_of i (rows x)).summary ]
+trace_summary x = elim (head x) [ None ↦ no_summary | Some i ↦ (report_of i (items_of i (rows x))).summary ]
 
 -- its pieces
 abbrev pub trace_plan : List ℕ → List Piece
-trace_plan x = elim (head x) [ None ↦ [] | Some i ↦ plan i (rows x) ]
+trace_plan x = elim (head x) [ None ↦ [] | Some i ↦ plan i (items_of i (rows x)) ]
 
 -- the text has no fault, and this is its report
 pub record IsReported (x bytes : List ℕ) : Type 0 where

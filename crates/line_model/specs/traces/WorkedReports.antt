@@ -1,7 +1,7 @@
 -- The reports of the worked traces that are not refused.
 -- tools/worked_traces.py writes this file from tests/traces/worked.
-use Rattle.std.specs.Prelude.{ℕ, List, [], ◌∷◌, ◌++◌, codes}
-use Rattle.line_model.specs.traces.Traces.{text, repeated}
+use Rattle.std.specs.Prelude.{ℕ, List, [], ◌∷◌, codes}
+use Rattle.line_model.specs.traces.Traces.{text}
 
 abbrev pub addresses_reverse_charging-report : List ℕ
 addresses_reverse_charging-report =

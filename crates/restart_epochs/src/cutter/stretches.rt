@@ -32,10 +32,8 @@ impl<A: Allocator + Copy> Cutter<A> {
         ensures memory { IfErr result (λ fault. fault ≡ Memory) }
     {
         let mut cutter = self;
-        let mut octets = Vec::new(*cutter.walk.findings.allocator());
-        for row in kept {
-            row.unfold(&mut octets)?;
-            cutter.push(&row.with_octets(octets.as_slice()), out)?;
+        for item in kept {
+            cutter.push(&item, out)?;
         }
         Ok(cutter)
     }
@@ -43,7 +41,7 @@ impl<A: Allocator + Copy> Cutter<A> {
     /// Takes the rows of a stretch: those in order one by one, and the others channel by channel, since the restart
     /// machine hands each of them on.
     fn take_stretch(self, stretch: &Stretch<A>, out: &mut Vec<Piece<A>, A>) -> Result<Self, Fault>
-        requires next { (i : AnyInterface) × (rows : List records.Row) × (run : List records.Item)
+        requires next { (i : AnyInterface) × (rows : List records.Item) × (run : List records.Item)
             × StandsFor i rows self × HasNext self stretch.now run }
         ensures taken { (run : List records.Item) → HasNext self stretch.now run
             → IfOk result (λ cutter. HasTakenAll (stretch.now.kept ++ run) self cutter out.old.items out.new.items) }
@@ -83,7 +81,7 @@ impl<A: Allocator + Copy> Cutter<A> {
         stretches: &[Stretch<A>],
         out: &mut Vec<Piece<A>, A>,
     ) -> Result<Self, Fault>
-        requires next { (i : AnyInterface) × (rows : List records.Row) × (items : List records.Item)
+        requires next { (i : AnyInterface) × (rows : List records.Item) × (items : List records.Item)
             × StandsFor i rows self × IsSplit self.line items stretches.now × MayCome self items }
         ensures taken { (items : List records.Item) → IsSplit self.line items stretches.now
             → MayCome self items → IfOk result (λ cutter. HasTakenAll items self cutter out.old.items out.new.items) }

@@ -2,7 +2,8 @@
 
 ghost use Rattle.std.specs.Prelude.{◌≡◌, ℕ, List, length, map};
 ghost use Rattle.line_model.specs.declared.interface.Interface.{Interface};
-ghost use Rattle.line_model.specs.basics.Records.{Row};
+ghost use Rattle.line_model.specs.basics.Bounds.{AreSaid};
+ghost use Rattle.line_model.specs.basics.Records.{Item};
 ghost use Rattle.line_model.specs.pieces.Plans.{plan, value, channel_totals};
 ghost use Rattle.line_model.specs.work.Book.{totals_of};
 ghost use Rattle.line_model.specs.work.Work.{Move, WorkState, at_start, Leads, Always, IsPrefixOf, StandsOnce, IsSettled, AllPosted};
@@ -16,6 +17,6 @@ pub fn schedule()
     ensures posted { Always (λ pieces s. IsSettled s → AllPosted s) }
     ensures totals { Always (λ pieces s. IsSettled s → length s.fed ≡ length pieces
         → totals_of s.posts ≡ totals_of (map value pieces)) }
-    ensures observer { (i : Interface) (rs : List Row) (capacity : ℕ) (moves : List Move) (s : WorkState) → Leads (plan i rs) capacity moves at_start s
-        → IsSettled s → length s.fed ≡ length (plan i rs) → totals_of s.posts ≡ channel_totals i rs }
+    ensures observer { (i : Interface) (rs : List Item) (capacity : ℕ) (moves : List Move) (s : WorkState) → AreSaid i rs
+        → Leads (plan i rs) capacity moves at_start s → IsSettled s → length s.fed ≡ length (plan i rs) → totals_of s.posts ≡ channel_totals i rs }
 {}

@@ -6,7 +6,7 @@ ghost use Rattle.channel_run.specs.Live.{StandsFor};
 use crate::calls::{ASKED, first_settings};
 use crate::channels::{CUT_PAIRS, Found, INTERFACE, findings_are, piece_of};
 use channel_machine::channel::PlainChannel;
-use channel_run::live::LiveChannel;
+use channel_run::live::{LiveChannel, Taken};
 use channel_run::run::Channel;
 use line_model::call::CallRecord;
 use line_model::event::{Event, How};
@@ -39,6 +39,14 @@ fn told_of<A: Allocator + Copy, C: Channel<A>>(
     ))
 }
 
+/// The finding of a row.
+fn finding_of(taken: Taken) -> Option<Finding> {
+    match taken {
+        Taken::Data(_) => None,
+        Taken::Listed(finding) => finding,
+    }
+}
+
 /// What is told of a piece at its end; and after each of its rows. A list of events is lent.
 fn followed<A: Allocator + Copy, C: Channel<A>>(
     alloc: A,
@@ -47,12 +55,9 @@ fn followed<A: Allocator + Copy, C: Channel<A>>(
     told: &mut Vec<Told, A>,
 ) -> Result<PieceReport<A>, Fault> {
     let mut live = LiveChannel::<A, C>::fresh(alloc, &piece.interface, piece.channel, piece.epoch)?;
-    let mut octets = Vec::new(alloc);
     for item in piece.items.iter() {
-        item.unfold(&mut octets)?;
-        let item = item.with_octets(&octets);
-        let finding = live.take(&item, events)?;
-        told.push(told_of(&live, alloc, piece.id, finding)?)?;
+        let taken = live.take(&item, events)?;
+        told.push(told_of(&live, alloc, piece.id, finding_of(taken))?)?;
     }
     live.end(piece.id, piece.end)
 }

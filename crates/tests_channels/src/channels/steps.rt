@@ -74,10 +74,7 @@ fn step_through<'a, C: Channel<&'a Scarce<Global>>>(
     let mut channel = C::fresh(heap, interface, 1, 1);
     let mut events = Vec::new(heap);
     let mut refused = 0u64;
-    let mut octets = Vec::new(heap);
     for item in items.iter() {
-        item.unfold(&mut octets)?;
-        let item = item.with_octets(&octets);
         let growths = step_until_taken(rt, heap, &mut channel, &item, &mut events)?;
         refused = refused.saturating_add(growths);
     }

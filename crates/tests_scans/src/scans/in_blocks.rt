@@ -2,7 +2,7 @@
 
 ghost use Rattle.std.specs.Prelude.{◌≡◌, ◌<◌, ◌≤◌};
 ghost use Rattle.std.specs.Option.{option_map};
-ghost use Rattle.trace_scan.specs.TextCuts.{trace_plan_as_read};
+ghost use Rattle.line_model.specs.traces.Traces.{trace_plan};
 
 use line_model::device::{Sink, Source};
 use line_model::fault::Fault;
@@ -66,7 +66,7 @@ pub fn read_in_blocks<
     crew: Crew<'_, G>,
 ) -> Result<Parts<A>, Fault>
     requires text { P.text ≡ S.left source.old }
-    requires plan { P.pieces ≡ option_map trace_plan_as_read P.text }
+    requires plan { P.pieces ≡ option_map trace_plan P.text }
     requires workers { (0 < crew.workers) × (crew.workers ≤ 64) }
     requires capacity { (0 < crew.capacity) × (crew.capacity ≤ 4096) }
 {
@@ -96,7 +96,7 @@ pub fn scan_in_blocks<
     R: Threads + Wait + Clock + Sync,
 >(rt: &R, alloc: A, source: &mut S, sink: &mut K, crew: Crew<'_, G>) -> Result<Scan<A>, Fault>
     requires text { P.text ≡ S.left source.old }
-    requires plan { P.pieces ≡ option_map trace_plan_as_read P.text }
+    requires plan { P.pieces ≡ option_map trace_plan P.text }
     requires workers { (0 < crew.workers) × (crew.workers ≤ 64) }
     requires capacity { (0 < crew.capacity) × (crew.capacity ≤ 4096) }
 {

@@ -2,7 +2,7 @@
 
 ghost use Rattle.std.specs.Prelude.{◌≡◌, Some};
 ghost use Rattle.std.specs.Option.{option_map};
-ghost use Rattle.trace_scan.specs.TextCuts.{trace_plan_as_read};
+ghost use Rattle.line_model.specs.traces.Traces.{trace_plan};
 
 use crate::scans::checks::{same_bytes, same_number};
 use crate::scans::held::Record;
@@ -209,7 +209,7 @@ fn read_meeting<'m, P: Plan + TraceText + Send + Sync, S: Source, R: Threads + W
     queues: &BlockQueues<P, &'m Scarce<Global>>,
 ) -> Result<Parts<&'m Scarce<Global>>, Fault>
     requires text { P.text ≡ S.left source.old }
-    requires plan { P.pieces ≡ option_map trace_plan_as_read P.text }
+    requires plan { P.pieces ≡ option_map trace_plan P.text }
 {
     let by_blocks = BlockGate {
         gate: &OpenGate,
@@ -235,7 +235,7 @@ fn scan_meeting<'m, P: Plan + TraceText + Send + Sync, R: Threads + Wait + Clock
     sink: &mut CutSink,
 ) -> Result<(), Fault>
     requires text { P.text ≡ Some text.now }
-    requires plan { P.pieces ≡ Some (trace_plan_as_read text.now) }
+    requires plan { P.pieces ≡ Some (trace_plan text.now) }
 {
     let mut source = MeetingSource {
         rest: text,

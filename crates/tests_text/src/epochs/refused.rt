@@ -27,7 +27,7 @@ fn cut_with(
     Ok((pieces, refused))
 }
 
-/// Refuses one growth of a cut, and sees that it answers want of memory. Answers whether there was such a growth.
+/// Refuses one growth of a cut, which then fails with `Memory`. Returns whether there was such a growth.
 fn check_growth(
     rt: &(impl Abort + Threads + Sync),
     heap: &Scarce<Global>,

@@ -1,7 +1,7 @@
 //! Texts that are judged, against the same texts read.
 
 use crate::checks::holds_for;
-use crate::texts::rows::{DIGITS, NUMBERS, OTHERS, line_of, with_other};
+use crate::texts::rows::{AFTER, DIGITS, NUMBERS, OTHERS, line_of, with_other};
 use crate::texts::{FAULTY_ROWS, ONE_BY_ONE, with_header};
 use line_model::row::Row;
 use std::alloc::Global;
@@ -9,7 +9,7 @@ use std::process::Abort;
 use std::test::Fail;
 use trace_text::lines::Lines;
 
-/// Lines after a header, the usual ones among them long enough to be judged in one pass.
+/// Lines after a header, the rows among them long enough to be validated in one pass.
 const JUDGED: [&[u8]; 8] = [
     b"1 T 10010b0000\n2 N 10010F\n# a comment of more than 32 bytes\n3 T -\n4 N 0123456789abcdef0123456789ABCDEF\n",
     b"1 T 10010b0000\n1 N 10010F\n3 T 0123456789abcdef0123456789ABCDEF\n",
@@ -23,9 +23,6 @@ const JUDGED: [&[u8]; 8] = [
 
 /// How many digits a row has: fewer than it may have, the most, and more; the last of these lines is too long.
 const COUNTS: [usize; 6] = [8398, 8399, 8400, 8401, 8402, 8497];
-
-/// Lines that come after those that are judged, so that these lie far from the end.
-const BEHIND: &[u8] = b"1000 N 0123456789abcdefABCDEF9876543210fedcbaFEDCBA0123456789\n1001 T -\n";
 
 /// Whether a reader that judges some bytes says and keeps the same as one that reads them.
 fn agree(
@@ -67,7 +64,7 @@ fn check_judged(rt: &impl Abort, alloc: Global, text: &[u8]) {
 /// A line after the header and before others is judged as it is read.
 fn check_line(rt: &impl Abort, alloc: Global, line: &[u8]) -> Result<(), Fail> {
     let mut text = with_header(alloc, line)?;
-    text.extend_from_slice(BEHIND)?;
+    text.extend_from_slice(AFTER)?;
     check_judged(rt, alloc, text.as_slice());
     Ok(())
 }
@@ -83,28 +80,29 @@ fn a_text_is_judged_as_it_is_read(rt: HostRuntime) -> Result<(), Fail> {
     for (text, _, _) in &ONE_BY_ONE {
         check_judged(&rt, rt.alloc(), text);
     }
-    check_judged(&rt, rt.alloc(), BEHIND);
+    check_judged(&rt, rt.alloc(), AFTER);
     Ok(())
 }
 
 #[test]
 fn a_row_is_judged_as_it_is_read(rt: HostRuntime) -> Result<(), Fail> {
-    for place in 0..DIGITS.len() {
-        let even = line_of(rt.alloc(), b"7", &DIGITS[..place])?;
+    let digits = DIGITS[1];
+    for place in 0..digits.len() {
+        let even = line_of(rt.alloc(), b"7", &digits[..place])?;
         check_line(&rt, rt.alloc(), even.as_slice())?;
         for other in OTHERS {
-            let digits = with_other(rt.alloc(), place, other)?;
-            let line = line_of(rt.alloc(), b"7", digits.as_slice())?;
+            let changed = with_other(rt.alloc(), digits, place, other)?;
+            let line = line_of(rt.alloc(), b"7", changed.as_slice())?;
             check_line(&rt, rt.alloc(), line.as_slice())?;
         }
     }
     for number in &NUMBERS {
-        let line = line_of(rt.alloc(), number, DIGITS)?;
+        let line = line_of(rt.alloc(), number, digits)?;
         check_line(&rt, rt.alloc(), line.as_slice())?;
     }
     for count in COUNTS {
-        let digits = vec![in rt.alloc(); b'7'; count]?;
-        let line = line_of(rt.alloc(), b"7", digits.as_slice())?;
+        let sevens = vec![in rt.alloc(); b'7'; count]?;
+        let line = line_of(rt.alloc(), b"7", sevens.as_slice())?;
         check_line(&rt, rt.alloc(), line.as_slice())?;
     }
     Ok(())

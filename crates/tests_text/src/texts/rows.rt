@@ -8,8 +8,16 @@ use std::process::Abort;
 use std::test::Fail;
 use trace_text::lines::Lines;
 
-/// Digits of both cases, more than two blocks of 32.
-pub const DIGITS: &[u8] = b"0123456789abcdefABCDEF9876543210fedcbaFEDCBA0123456789abcdefABCDEF9876";
+/// Digits of both cases, more than two blocks of 32: of a packet that is no data, of data with Q 0, and of data with Q 1.
+pub const DIGITS: [&[u8]; 3] = [
+    b"0123456789abcdefABCDEF9876543210fedcbaFEDCBA0123456789abcdefABCDEF9876",
+    b"1001006789abcdefABCDEF9876543210fedcbaFEDCBA0123456789abcdefABCDEF9876",
+    b"9001006789abcdefABCDEF9876543210fedcbaFEDCBA0123456789abcdefABCDEF9876",
+];
+
+/// Lines that come after those that are tested, so that these lie far from the end.
+pub const AFTER: &[u8] =
+    b"1000 N 0123456789abcdefABCDEF9876543210fedcbaFEDCBA0123456789\n1001 T -\n";
 
 /// Bytes that are no digits, beside the digits and far from them.
 pub const OTHERS: [u8; 14] = [
@@ -34,18 +42,18 @@ pub const NUMBERS: [&[u8]; 14] = [
     b"",
 ];
 
-/// Tells the rows of a line after the header, in chunks of so many bytes.
-fn tell_line(
+/// Reads the rows of lines after the header, in chunks of `size` bytes.
+fn tell_lines(
     alloc: Global,
-    line: &[u8],
+    text: &[u8],
     size: usize,
     told: &mut Vec<u8, Global>,
 ) -> Result<(), Fault> {
     let mut lines = Lines::new(alloc);
     let mut row = blank(alloc);
     take_ended(&mut lines, &mut row, HEADER, told)?;
-    let mut rest = line;
-    for _ in 0..line.len() {
+    let mut rest = text;
+    for _ in 0..text.len() {
         let (chunk, more) = rest.split_at(size.min(rest.len()));
         take_ended(&mut lines, &mut row, chunk, told)?;
         rest = more;
@@ -53,17 +61,27 @@ fn tell_line(
     take_last(lines, &mut row, told)
 }
 
-/// A line says the same as one chunk and byte by byte.
-fn check_line(rt: &impl Abort, alloc: Global, line: &[u8]) {
+/// Lines say the same in one chunk and byte by byte.
+fn check_lines(rt: &impl Abort, alloc: Global, text: &[u8]) {
     let mut whole = Vec::new(alloc);
     let mut parts = Vec::new(alloc);
-    let answer = tell_line(alloc, line, line.len(), &mut whole);
-    let again = tell_line(alloc, line, 1, &mut parts);
+    let answer = tell_lines(alloc, text, text.len(), &mut whole);
+    let again = tell_lines(alloc, text, 1, &mut parts);
     holds_for(
         rt,
         answer == again && whole.as_slice() == parts.as_slice(),
-        line,
+        text,
     );
+}
+
+/// So does a line alone, and before others.
+fn check_line(rt: &impl Abort, alloc: Global, line: &[u8]) -> Result<(), Fail> {
+    check_lines(rt, alloc, line);
+    let mut text = Vec::new(alloc);
+    text.extend_from_slice(line)?;
+    text.extend_from_slice(AFTER)?;
+    check_lines(rt, alloc, text.as_slice());
+    Ok(())
 }
 
 /// The line of a row of these digits.
@@ -77,41 +95,56 @@ pub fn line_of(alloc: Global, number: &[u8], digits: &[u8]) -> Result<Vec<u8, Gl
 }
 
 /// These digits, with another byte at a place.
-pub fn with_other(alloc: Global, place: usize, other: u8) -> Result<Vec<u8, Global>, Fail> {
-    let mut digits = Vec::new(alloc);
-    digits.extend_from_slice(&DIGITS[..place.min(DIGITS.len())])?;
-    digits.push(other)?;
-    digits.extend_from_slice(&DIGITS[place.saturating_add(1).min(DIGITS.len())..])?;
-    Ok(digits)
+pub fn with_other(
+    alloc: Global,
+    digits: &[u8],
+    place: usize,
+    other: u8,
+) -> Result<Vec<u8, Global>, Fail> {
+    let mut changed = Vec::new(alloc);
+    changed.extend_from_slice(&digits[..place.min(digits.len())])?;
+    changed.push(other)?;
+    changed.extend_from_slice(&digits[place.saturating_add(1).min(digits.len())..])?;
+    Ok(changed)
 }
 
-#[test]
-fn digits_of_each_length_are_read_in_one_pass(rt: HostRuntime) -> Result<(), Fail> {
-    for count in 0..DIGITS.len() {
-        let line = line_of(rt.alloc(), b"7", &DIGITS[..count])?;
-        check_line(&rt, rt.alloc(), line.as_slice());
-    }
-    for number in &NUMBERS {
-        let line = line_of(rt.alloc(), number, DIGITS)?;
-        check_line(&rt, rt.alloc(), line.as_slice());
+/// Rows of the first of these digits, of each length.
+fn check_lengths(rt: &impl Abort, alloc: Global, digits: &[u8]) -> Result<(), Fail> {
+    for count in 0..=digits.len() {
+        let line = line_of(alloc, b"7", &digits[..count])?;
+        check_line(rt, alloc, line.as_slice())?;
     }
     Ok(())
 }
 
-/// Puts each other byte at a place of the digits.
-fn check_place(rt: &impl Abort, alloc: Global, place: usize) -> Result<(), Fail> {
-    for other in &OTHERS {
-        let digits = with_other(alloc, place, *other)?;
-        let line = line_of(alloc, b"7", digits.as_slice())?;
-        check_line(rt, alloc, line.as_slice());
+#[test]
+fn digits_of_each_length_are_read_in_one_pass(rt: HostRuntime) -> Result<(), Fail> {
+    for digits in DIGITS {
+        check_lengths(&rt, rt.alloc(), digits)?;
+    }
+    for number in &NUMBERS {
+        let line = line_of(rt.alloc(), number, DIGITS[1])?;
+        check_line(&rt, rt.alloc(), line.as_slice())?;
+    }
+    Ok(())
+}
+
+/// Puts each other byte at each place of these digits.
+fn check_places(rt: &impl Abort, alloc: Global, digits: &[u8]) -> Result<(), Fail> {
+    for place in 0..digits.len() {
+        for other in &OTHERS {
+            let changed = with_other(alloc, digits, place, *other)?;
+            let line = line_of(alloc, b"7", changed.as_slice())?;
+            check_line(rt, alloc, line.as_slice())?;
+        }
     }
     Ok(())
 }
 
 #[test]
 fn each_other_byte_is_seen_at_each_place(rt: HostRuntime) -> Result<(), Fail> {
-    for place in 0..DIGITS.len() {
-        check_place(&rt, rt.alloc(), place)?;
+    for digits in DIGITS {
+        check_places(&rt, rt.alloc(), digits)?;
     }
     Ok(())
 }

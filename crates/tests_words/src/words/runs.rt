@@ -1,4 +1,6 @@
-//! A run of the program over the devices of the tests.
+//! Runs of the program over the devices of the tests, and over texts in memory.
+
+ghost use Rattle.streams.specs.OpenFaults.{IsByItsReason};
 
 use command_line::program::program;
 use line_model::device::{Sink, Source};
@@ -7,11 +9,13 @@ use std::io;
 use std::io::ErrorKind;
 use std::sync::Wait;
 use std::thread::Threads;
-use std::time::Clock;
+use std::time::{Clock, Duration};
 use streams::first_bytes::FirstBytes;
 use streams::input::{Input, LastText, OpenFault, OpenRefusal};
+use streams::io::{FileInput, WriteSink};
+use streams::opener::Opener;
 use streams::output::Output;
-use streams::progress::ShowProgress;
+use streams::progress::{Progress, ShowProgress};
 use tests_devices::{CutSink, CutSource, Cuts};
 
 /// The status of a run, and what was written.
@@ -22,20 +26,22 @@ pub struct Ran {
     pub told: Vec<u8, Global>,
 }
 
-/// A trace that stands for a file.
-#[derive(Clone, Copy)]
-pub struct NamedText<'a> {
-    pub name: &'a str,
-    pub text: &'a [u8],
+/// Nothing has this name.
+fn missing() -> OpenRefusal
+    ensures { IsByItsReason result }
+{
+    OpenRefusal {
+        fault: OpenFault::Missing,
+        reason: io::Error::from(ErrorKind::NotFound),
+    }
 }
 
-/// A source that cuts and fails, and beside it one file, which is cut in the same way.
+/// A source that cuts and fails, and opens no file.
 #[derive(Drop)]
 struct CutInput<'a> {
     source: CutSource<'a>,
     /// The whole text of the source.
     text: &'a [u8],
-    file: NamedText<'a>,
     begun: FirstBytes,
 }
 
@@ -64,22 +70,14 @@ impl Source for CutInput<'_> {
 }
 
 impl Input for CutInput<'_> {
-    ghost use Rattle.std.specs.Prelude.{None, Some};
+    ghost use Rattle.std.specs.Prelude.{None};
 
-    ghost named = { λ s name. Some s.file.text.now };
+    ghost named = { λ s name. None };
 
     ghost name_of = { λ s. None };
 
-    fn open(&mut self, name: &str) -> Result<(), OpenRefusal> {
-        if name != self.file.name {
-            return Err(OpenRefusal {
-                fault: OpenFault::Missing,
-                reason: io::Error::from(ErrorKind::NotFound),
-            });
-        }
-        self.source.rest = self.file.text;
-        self.text = self.file.text;
-        Ok(())
+    fn open(&mut self, _name: &str) -> Result<(), OpenRefusal> {
+        Err(missing())
     }
 
     fn name(&self) -> Option<&str> {
@@ -135,19 +133,17 @@ impl Output for CutOutput {
     }
 }
 
-/// Runs the program on its words and a text, beside a file.
-pub fn run_beside<R: Threads + Wait + Clock + Sync>(
+/// Runs the program on its words and a text.
+pub fn run<R: Threads + Wait + Clock + Sync>(
     rt: &R,
     alloc: Global,
     words: &[&str],
     text: &[u8],
-    file: NamedText<'_>,
     cuts: Cuts,
 ) -> Ran {
     let mut source = CutInput {
         source: CutSource::new(text, cuts),
         text,
-        file,
         begun: FirstBytes::new(alloc),
     };
     let mut sink = CutOutput {
@@ -162,17 +158,67 @@ pub fn run_beside<R: Threads + Wait + Clock + Sync>(
     }
 }
 
-/// Runs the program on its words and a text.
-pub fn run<R: Threads + Wait + Clock + Sync>(
+/// A text in memory, as the one file that there is, and no clock.
+#[derive(Clone, Copy)]
+pub struct NamedText<'a> {
+    pub name: &'a str,
+    pub text: &'a [u8],
+}
+
+impl<'a> Opener for NamedText<'a> {
+    ghost use Rattle.std.specs.Prelude.{None, Some, if◌then◌else◌};
+    ghost use Rattle.std.specs.Str.{bytes_eq};
+
+    type File = &'a [u8];
+
+    ghost named = { λ s name. if bytes_eq name s.name.now then Some s.text.now else None };
+
+    fn open(&self, name: &str) -> Result<&'a [u8], OpenRefusal> {
+        if name == self.name {
+            Ok(self.text)
+        } else {
+            Err(missing())
+        }
+    }
+}
+
+impl Clock for NamedText<'_> {
+    fn monotonic(&self) -> io::Result<Duration> {
+        Err(io::Error::from(ErrorKind::Unsupported))
+    }
+
+    fn since_1970(&self) -> io::Result<Duration> {
+        Err(io::Error::from(ErrorKind::Unsupported))
+    }
+}
+
+/// Runs the program on its words over texts in memory: standard input, and a file.
+pub fn run_in_memory<R: Threads + Wait + Clock + Sync>(
     rt: &R,
     alloc: Global,
     words: &[&str],
-    text: &[u8],
-    cuts: Cuts,
+    standard: &[u8],
+    file: &NamedText<'_>,
 ) -> Ran {
-    let file = NamedText {
-        name: "empty.trace",
-        text: b"",
-    };
-    run_beside(rt, alloc, words, text, file, cuts)
+    let mut taken = Vec::new(alloc);
+    let mut told = Vec::new(alloc);
+    let mut shown = Vec::new(alloc);
+    let mut source = FileInput::new(
+        alloc,
+        file,
+        standard,
+        false,
+        Progress::new(&mut shown, false),
+    );
+    let mut sink = WriteSink::new(&mut taken);
+    let mut errors = WriteSink::new(&mut told);
+    let status = program(rt, alloc, words, &mut source, &mut sink, &mut errors);
+    drop(source);
+    drop(sink);
+    drop(errors);
+    Ran {
+        status,
+        taken,
+        told,
+    }
 }

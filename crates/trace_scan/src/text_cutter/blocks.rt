@@ -7,10 +7,11 @@ ghost use Rattle.line_model.specs.basics.Records as records;
 ghost use Rattle.line_model.specs.declared.fault.Fault.TheVariants.{Memory};
 ghost use Rattle.trace_text.specs.Progress.{bytes_fed};
 ghost use Rattle.trace_text.specs.StandsFor.{IsTextFault};
-ghost use Rattle.restart_epochs.specs.Cutting.{HasAppended};
+ghost use Rattle.restart_epochs.specs.Cutting.{HasAppended, given_of};
 ghost use Rattle.restart_epochs.specs.Stretches.{IsSplit};
-ghost use Rattle.trace_scan.specs.TextBlocks.{IsReadAs, items_as_read};
-ghost use Rattle.trace_scan.specs.TextCuts.{HasCut, HasTaken, IsTrace, OfCut, OfTaken, given_as_read, known_pieces};
+ghost use Rattle.live_report.specs.Observing.{AreItems};
+ghost use Rattle.trace_scan.specs.TextBlocks.{IsReadAs};
+ghost use Rattle.trace_scan.specs.TextCuts.{HasCut, HasTaken, OfCut, OfTaken, known_pieces};
 
 use super::{RowCutter, TextCutter};
 use crate::blocks::{BlockRows, ReadBlock, Start, TraceText};
@@ -34,18 +35,19 @@ impl<A: Allocator + Copy> RowCutter<A> {
         stretches: &[Stretch<A>],
         pieces: &mut Vec<Piece<A>, A>,
     ) -> Result<Self, Fault>
-        requires next { (before : List records.Row) × (rows : List records.Row)
-            × HasCut before self × IsTrace (before ++ rows)
-            × IsSplit self.cutter.line (items_as_read self.interface rows) stretches.now }
+        requires next { (before : List records.Item) × (items : List records.Item)
+            × HasCut before self × AreItems self.interface (before ++ items)
+            × IsSplit self.cutter.line items stretches.now }
         ensures interface { IfOk result (λ cutter. cutter.interface ≡ self.interface) }
-        ensures cut { OfCut self (λ before. (rows : List records.Row) → IsTrace (before ++ rows)
-            → IsSplit self.cutter.line (items_as_read self.interface rows) stretches.now
-            → IfOk result (HasCut (before ++ rows))) }
-        ensures pieces { OfCut self (λ before. (rows : List records.Row) → IsTrace (before ++ rows)
-            → IsSplit self.cutter.line (items_as_read self.interface rows) stretches.now
+        ensures cut { OfCut self (λ before. (items : List records.Item)
+            → AreItems self.interface (before ++ items)
+            → IsSplit self.cutter.line items stretches.now
+            → IfOk result (HasCut (before ++ items))) }
+        ensures pieces { OfCut self (λ before. (items : List records.Item)
+            → AreItems self.interface (before ++ items)
+            → IsSplit self.cutter.line items stretches.now
             → IfOk result (λ cutter. HasAppended pieces.old.items pieces.new.items
-            (given_as_read self.interface before) (given_as_read self.interface
-            (before ++ rows)))) }
+            (given_of self.interface before) (given_of self.interface (before ++ items)))) }
         ensures memory { IfErr result (λ fault. fault ≡ Memory) }
     {
         let RowCutter { interface, cutter } = self;

@@ -1,8 +1,8 @@
 //! Judging a text: whether a line of it is faulty, without its rows.
 
 use crate::cuts::split_at_byte;
-use crate::judged_row::judge_usual;
 use crate::lines::{Lines, blank_row, size_fault};
+use crate::row_front::read_front;
 use line_model::fault::Fault;
 use std::alloc::Allocator;
 
@@ -15,7 +15,8 @@ impl<A: Allocator + Clone> Lines<A> {
     ghost use Rattle.trace_text.specs.StandsFor.{StandsFor, IsFaultOf, IsHeadKept, IsTextFault};
     ghost use Rattle.line_model.specs.declared.fault.Fault.{Fault};
 
-    /// Takes the usual row that a chunk begins with, as `take_usual` does, but only judges it. `None`: nothing was taken.
+    /// Fast path: validates the row that a chunk begins with, as `read_first` does, without keeping it. `None`: nothing was
+    /// read.
     #[inline(never)]
     fn judge_front<'a>(&mut self, chunk: &'a [u8]) -> Option<&'a [u8]>
         ensures { MatchOption result (self.new ≡ self.old) (λ rest. (row : records.Row)
@@ -24,14 +25,14 @@ impl<A: Allocator + Clone> Lines<A> {
         if self.interface.is_none() || !self.begun.is_empty() {
             return None;
         }
-        let (number, rest) = judge_usual(self.last, chunk)?;
-        let len = chunk.len() - rest.len() - 1;
+        let front = read_front(self.last, chunk)?;
+        let len = chunk.len() - front.rest.len() - 1;
         if size_fault(self.start, 1, len).is_some() {
             return None;
         }
-        self.last = number;
+        self.last = front.number;
         self.next_line(len);
-        Some(rest)
+        Some(front.rest)
     }
 
     /// Judges the lines of a chunk.
@@ -60,8 +61,8 @@ impl<A: Allocator + Clone> Lines<A> {
         }
     }
 
-    /// Judges the next chunk of the text: takes it as `feed` does, but returns no rows. It takes no memory for the usual
-    /// rows.
+    /// Validates the next chunk of the text: reads it as `feed` does, but returns no rows. A row that lies whole in the
+    /// chunk takes no memory.
     pub fn judge(&mut self, chunk: &[u8]) -> Result<(), Fault>
         // Of any text that it stands for: it stands for the text with the chunk, where no line of that is faulty so far.
         ensures ok { OnOk result ((text : List ℕ) → StandsFor self.old text

@@ -1,4 +1,4 @@
-use Rattle.std.proofs.Common.{◌∙◌, ap, sym, subst, true}
+use Rattle.std.proofs.Common.{subst, true}
 use Rattle.annotated_trace.specs.Marking.{IsToldRightly}
 use Rattle.annotated_trace.proofs.CommentLemmas.{notes_and_marks}
 use Rattle.annotated_trace.proofs.commenting.append_comments.Goals as goal

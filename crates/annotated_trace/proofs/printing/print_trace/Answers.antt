@@ -3,7 +3,7 @@ use Rattle.trace_text.proofs.SourceLemmas.{passed_on}
 use Rattle.annotated_trace.specs.Printed.{IsPrintOf}
 use Rattle.annotated_trace.specs.Printers.{HasFirstPrintOf, HasFollowed, IsPrinted}
 use Rattle.annotated_trace.specs.Printing.{HasPassed, StopsPrinting}
-use Rattle.annotated_trace.proofs.ReadingLemmas.{end_prints, end_stops, held_of, nothing_written, reading_stops, stop_kinds, stop_write}
+use Rattle.annotated_trace.proofs.ReadingLemmas.{end_prints, end_stops, held_of, nothing_written, reading_stops}
 use Rattle.annotated_trace.proofs.printing.print_trace.Goals as goal
 
 pub read_to_end-requires-clause-nothing : goal.read_to_end-requires-clause-nothing

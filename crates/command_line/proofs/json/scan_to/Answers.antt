@@ -1,10 +1,11 @@
 use Rattle.line_model.specs.declared.fault.Fault.TheVariants.{Write}
-use Rattle.std.proofs.Common.{◌≡◌, ◌<◌, ◌∙◌, ap, arith, inl, inr, length, refl, subst}
+use Rattle.std.proofs.Common.{◌≡◌, ◌<◌, ◌∙◌, arith, false, inl, inr, length, refl, subst, Some, true}
 use Rattle.std.specs.Prelude.{OnOk, IfErr}
 use Rattle.line_model.specs.basics.Device.{with_more}
 use Rattle.json_lines.specs.Json.{json_text}
-use Rattle.command_line.specs.Program.{fault_status}
-use Rattle.command_line.proofs.JsonLemmas.{none_failed, scanned_afresh, told_back}
+use Rattle.command_line.specs.Program.{IsReportStatus}
+use Rattle.command_line.proofs.JsonLemmas.{none_failed, reported_json, scanned_afresh, told_back}
+use Rattle.command_line.proofs.StatusLemmas.{other_any}
 use Rattle.command_line.proofs.json.scan_to.Goals as goal
 
 pub returns-in-Ok-clause-told : goal.returns-in-Ok-clause-told
@@ -57,5 +58,27 @@ returns-in-Err-2-clause-told g c text told =
       plain = c.scan-scanned.result;
       scanned = scanned_afresh c.args.options.follow text _ _ _ _ _ failures c.scan-scanned.result c.new-json.ensures.taken c.new-json.ensures.failures
           (λ plain. c.scan-scanned.ensures.status plain text told) (λ follow. c.scan-scanned.ensures.followed follow text told);
-      objects = inr (c.refuse_write-status.ensures ∙ ap fault_status failed.0, (λ well. omega (arith, failed.1, well)), record { front = part.0; rest = part.1; whole = part.2; taken = part.3 });
+      objects = inr (c.refuse_write-status.ensures, (λ well. omega (arith, failed.1, well)), record { front = part.0; rest = part.1; whole = part.2; taken = part.3 });
     })
+
+pub returns-in-Ok-clause-reported : goal.returns-in-Ok-clause-reported
+returns-in-Ok-clause-reported g c =
+    let taken = c.scan-scanned.new.sink.lines.told.bytes in
+    reported_json taken g.B.Origin.before.0 (g.K.Sink.taken c.give_back.result.now) c.scan-scanned.result
+    (subst (λ b. IsReportStatus false b (Some taken) c.scan-scanned.result) c.new-json.ensures.taken c.scan-scanned.ensures.reported)
+    (c.give_back.ensures.taken ∙ subst (λ r. OnOk r (g.K.Sink.taken c.finish-lent.result.0.sink.now ≡ with_more g.B.Origin.before.0 (json_text taken))) c.in-Ok.is (c.finish-lent.ensures.ok taken refl))
+
+pub returns-in-Err-clause-reported : goal.returns-in-Err-clause-reported
+returns-in-Err-clause-reported g c = other_any true g.B.Origin.before.0 (g.K.Sink.taken c.give_back-in-Err.result.now) c.scan-scanned.result c.if-scanned-eq-OTHER_FAULT.true
+
+pub returns-in-Err-2-clause-reported : goal.returns-in-Err-2-clause-reported
+returns-in-Err-2-clause-reported g c = other_any true g.B.Origin.before.0 (g.K.Sink.taken c.give_back-in-Err-2.result.now) c.refuse_write-status.result c.refuse_write-status.ensures
+
+pub returns-in-Ok-clause-said : goal.returns-in-Ok-clause-said
+returns-in-Ok-clause-said g c two = c.scan-scanned.ensures.said two
+
+pub returns-in-Err-clause-said : goal.returns-in-Err-clause-said
+returns-in-Err-clause-said g c two = absurd (omega (arith, two, c.if-scanned-eq-OTHER_FAULT.true))
+
+pub returns-in-Err-2-clause-said : goal.returns-in-Err-2-clause-said
+returns-in-Err-2-clause-said g c two = absurd (omega (arith, two, c.refuse_write-status.ensures))

@@ -1,4 +1,4 @@
-use Rattle.std.proofs.Common.{◌≡◌, ◌∙◌, sym, refl, option_map, Bool, true, false, true≢false, ℕ, List, Option, Some, None, IfSome, inr, ◌||◌, map, subst, codes, ◌⊎◌}
+use Rattle.std.proofs.Common.{◌≡◌, ◌∙◌, ap, sym, refl, option_map, Bool, true, false, true≢false, ℕ, List, Option, Some, None, IfSome, inr, ◌||◌, map, subst, codes, ◌⊎◌}
 use Rattle.std.specs.Prelude.{MatchOption, is_some}
 use Rattle.annotated_trace.specs.declared.rows.Rows.{Rows}
 use Rattle.annotated_trace.specs.declared.rows.Rows.TheVariants.{All}
@@ -10,8 +10,9 @@ use Rattle.command_line.specs.Printing.{IsPrintAnswer, is_refused, printing_of}
 use Rattle.command_line.specs.declared.options.Form.TheVariants.{Comments, Objects}
 use Rattle.command_line.specs.declared.options.Printing.{Printing}
 use Rattle.command_line.specs.Trying.{IsTryAnswer, cannot_try}
+use Rattle.command_line.proofs.FaultLemmas.{says_of}
 use Rattle.command_line.proofs.TryLemmas.{annotating}
-use Rattle.command_line.specs.Program.{IsTold, IsUnread, trace_of}
+use Rattle.command_line.specs.Program.{IsReportStatus, IsTold, IsUnread, trace_of}
 use Rattle.command_line.proofs.program.program.Given.{Over}
 use Rattle.command_line.proofs.program.program.Goals as goal
 
@@ -122,3 +123,20 @@ returns-in-Ok-clause-notes g c right unasked refused = inr (c.run.ensures.refuse
 pub returns-in-Ok-clause-explained : goal.returns-in-Ok-clause-explained
 returns-in-Ok-clause-explained g c word right asks =
     inr (subst (λ o. IfSome o (λ w. (c.run.new.source ≡ c.args.source.now) × IsAnswered w (g.K.Sink.taken c.args.sink.now) (g.K.Sink.taken c.run.new.sink) c.run.result)) (c.in-Ok.ensures.explain ∙ asks) c.run.ensures.explained)
+
+pub returns-in-Ok-clause-reported : goal.returns-in-Ok-clause-reported
+unfolding AsksFor
+returns-in-Ok-clause-reported g c right unasked untried unannotated plain allowed =
+    let words : List (List ℕ) = map (λ word. word.now) c.args.words.now in
+    let none = none_printed words c.in-Ok.options.rows c.in-Ok.options.annotate c.in-Ok.ensures.annotate unannotated (c.in-Ok.ensures.rows ∙ plain) in
+    subst (λ json. IsReportStatus json (g.K.Sink.taken c.args.sink.now) (g.K.Sink.taken c.run.new.sink) c.run.result) c.in-Ok.ensures.json
+    (c.run.ensures.reported (c.in-Ok.ensures.explain ∙ unasked) (c.in-Ok.ensures.try_headers ∙ untried) (same_refusal g c ∙ allowed) none)
+
+pub returns-in-Ok-clause-said : goal.returns-in-Ok-clause-said
+unfolding AsksFor
+returns-in-Ok-clause-said g c right unasked untried unannotated plain allowed two =
+    let words : List (List ℕ) = map (λ word. word.now) c.args.words.now in
+    let none = none_printed words c.in-Ok.options.rows c.in-Ok.options.annotate c.in-Ok.ensures.annotate unannotated (c.in-Ok.ensures.rows ∙ plain) in
+    says_of (g.S.Source.left c.run.new.source) (g.S.Source.before c.run.new.source) (g.E.Sink.taken c.args.errors.now) (g.E.Sink.taken c.run.new.errors) (g.E.Sink.failures c.run.new.errors ≡ g.E.Sink.failures c.args.errors.now)
+    (ap (λ name. trace_of name (g.S.Source.left c.args.source.now) (g.S.Input.named c.args.source.now)) c.in-Ok.ensures.trace)
+    (c.run.ensures.said (c.in-Ok.ensures.explain ∙ unasked) (c.in-Ok.ensures.try_headers ∙ untried) (same_refusal g c ∙ allowed) none two)

@@ -1,5 +1,5 @@
 use Rattle.std.proofs.Common.{◌≡◌, subst, sym}
-use Rattle.command_line.specs.Program.{IsTold}
+use Rattle.command_line.specs.Program.{IsReportStatus, IsTold}
 use Rattle.command_line.proofs.JsonLemmas.{scanned_by}
 use Rattle.command_line.proofs.program.scan_in_form.Goals as goal
 
@@ -16,3 +16,11 @@ returns-else-options-clause-told g c text told =
     (sym c.if-options.false)
     (scanned_by _ c.args.options.follow text (g.S.Source.left c.scan.new.source) (g.S.Source.before c.scan.new.source) (g.K.Sink.taken c.args.sink.now) (g.K.Sink.taken c.scan.new.sink) c.scan.result
     (λ plain. c.scan.ensures.status plain text told) (λ follow. c.scan.ensures.followed follow text told))
+
+pub returns-then-options-clause-reported : goal.returns-then-options-clause-reported
+returns-then-options-clause-reported g c =
+    subst (λ json. IsReportStatus json (g.K.Sink.taken c.args.sink.now) (g.K.Sink.taken c.scan_json.new.sink) c.scan_json.result) (sym c.if-options.true) c.scan_json.ensures.reported
+
+pub returns-else-options-clause-reported : goal.returns-else-options-clause-reported
+returns-else-options-clause-reported g c =
+    subst (λ json. IsReportStatus json (g.K.Sink.taken c.args.sink.now) (g.K.Sink.taken c.scan.new.sink) c.scan.result) (sym c.if-options.false) c.scan.ensures.reported

@@ -1,7 +1,4 @@
 use Rattle.trace_text.proofs.FeedLemmas.{on_ok}
-use Rattle.std.specs.Prelude.{OnOk}
-use Rattle.std.proofs.Common.{◌≡◌, ◌++◌}
-use Rattle.descriptions.specs.RowObjects.{row_head, finding_word}
 use Rattle.descriptions.proofs.ObjectLemmas.{head_put}
 use Rattle.descriptions.proofs.row_head.append_head.Goals as goal
 

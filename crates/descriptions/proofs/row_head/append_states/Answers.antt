@@ -1,4 +1,4 @@
-use Rattle.std.proofs.Common.{◌≡◌, ◌∙◌, ap, codes, decimal, ◌++◌, ◌∷◌, [], ℕ, List}
+use Rattle.std.proofs.Common.{◌≡◌, ◌∙◌, ap, codes, decimal, ◌++◌, ◌∷◌, []}
 use Rattle.line_model.specs.observer.Report.{side_word}
 use Rattle.trace_text.proofs.FeedLemmas.{on_ok}
 use Rattle.descriptions.specs.RowObjects.{joined, known_word, named_channel, number_word}

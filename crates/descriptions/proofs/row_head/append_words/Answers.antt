@@ -1,4 +1,4 @@
-use Rattle.std.proofs.Common.{◌≡◌, ◌∙◌, ap, sym, ◌++◌, append-nil, length, map, take}
+use Rattle.std.proofs.Common.{◌∙◌, ap, sym, ◌++◌, append-nil, map}
 use Rattle.std.proofs.lemmas.List.{take_all}
 use Rattle.descriptions.specs.RowObjects.{joined}
 use Rattle.descriptions.proofs.ObjectLemmas.{joined_next}

@@ -1,4 +1,4 @@
-use Rattle.std.proofs.Common.{◌≡◌, subst}
+use Rattle.std.proofs.Common.{subst}
 use Rattle.descriptions.specs.Lines.{Puts}
 use Rattle.descriptions.specs.UsualObjects.{amount_word}
 use Rattle.descriptions.proofs.LineLemmas.{puts_then}

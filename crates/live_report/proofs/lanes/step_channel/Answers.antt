@@ -1,4 +1,5 @@
-use Rattle.std.proofs.Common.{subst, sym}
+use Rattle.std.proofs.Common.{◌∙◌, ap, subst, sym}
+use Rattle.std.specs.Prelude.{option_to_list}
 use Rattle.line_model.specs.basics.Bounds.{IsPiece}
 use Rattle.channel_run.specs.Live.{StandsFor as IsLive, with_item}
 use Rattle.live_report.specs.Turns.{walked_piece}
@@ -24,7 +25,7 @@ returns-clause-stands g c rows f after more small =
     let out = c.in_ok-live.ensures.out rows f in
     put_back g.C.Channel.interface_of g.C.Channel.number_of g.C.Channel.stands_for walk.interface walk.epoch c.args.channel rows after c.args.item.now c.take_out.new.lanes c.put.new.self
     c.in_ok-live.live.value c.take.new.self out
-    (c.in_ok-finding.ensures.stands p (subst (λ live. IsLive g.C.Channel.interface_of g.C.Channel.number_of g.C.Channel.stands_for live p) (sym c.deref_mut.ensures.value) out.stands)
+    (c.in_ok-taken.ensures.stands p (subst (λ live. IsLive g.C.Channel.interface_of g.C.Channel.number_of g.C.Channel.stands_for live p) (sym c.deref_mut.ensures.value) out.stands)
     (subst (IsPiece walk.interface c.args.channel) more.row small))
     c.put.ensures more
 
@@ -41,15 +42,17 @@ returns-clause-after g c rows f after more small =
     c.word-after.ensures (walked_piece walk c.args.channel after)
     (subst (λ items. IsLive g.C.Channel.interface_of g.C.Channel.number_of g.C.Channel.stands_for c.deref-2.result.now (record p { items = items })) (sym more.row)
     (subst (λ live. IsLive g.C.Channel.interface_of g.C.Channel.number_of g.C.Channel.stands_for live (with_item p c.args.item.now)) (sym c.deref-2.ensures)
-    (c.in_ok-finding.ensures.stands p (subst (λ live. IsLive g.C.Channel.interface_of g.C.Channel.number_of g.C.Channel.stands_for live p) (sym c.deref_mut.ensures.value) out.stands)
+    (c.in_ok-taken.ensures.stands p (subst (λ live. IsLive g.C.Channel.interface_of g.C.Channel.number_of g.C.Channel.stands_for live p) (sym c.deref_mut.ensures.value) out.stands)
     (subst (IsPiece walk.interface c.args.channel) more.row small))))
 
 pub returns-clause-finding : goal.returns-clause-finding
 returns-clause-finding g c rows f =
     let p = walked_piece c.args.walk.now c.args.channel rows in
-    c.in_ok-finding.ensures.finding p (subst (λ live. IsLive g.C.Channel.interface_of g.C.Channel.number_of g.C.Channel.stands_for live p) (sym c.deref_mut.ensures.value) (c.in_ok-live.ensures.out rows f).stands)
+    ap option_to_list c.in_ok-finding.ensures.finding
+    ∙ c.in_ok-taken.ensures.finding p (subst (λ live. IsLive g.C.Channel.interface_of g.C.Channel.number_of g.C.Channel.stands_for live p) (sym c.deref_mut.ensures.value) (c.in_ok-live.ensures.out rows f).stands)
 
 pub returns-clause-events : goal.returns-clause-events
 returns-clause-events g c rows f =
     let p = walked_piece c.args.walk.now c.args.channel rows in
-    c.in_ok-finding.ensures.events p (subst (λ live. IsLive g.C.Channel.interface_of g.C.Channel.number_of g.C.Channel.stands_for live p) (sym c.deref_mut.ensures.value) (c.in_ok-live.ensures.out rows f).stands)
+    c.in_ok-finding.ensures.listed
+    ∙ c.in_ok-taken.ensures.events p (subst (λ live. IsLive g.C.Channel.interface_of g.C.Channel.number_of g.C.Channel.stands_for live p) (sym c.deref_mut.ensures.value) (c.in_ok-live.ensures.out rows f).stands)

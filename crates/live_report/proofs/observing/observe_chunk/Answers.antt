@@ -5,11 +5,12 @@ use Rattle.line_model.specs.text.Text.{early, early_rows}
 use Rattle.line_model.specs.declared.fault.Fault.TheVariants.{Memory}
 use Rattle.line_model.specs.declared.finding.Finding.{Finding}
 use Rattle.trace_text.proofs.SourceLemmas.{passed_on}
+use Rattle.line_model.specs.packets.Says.{items_of}
 use Rattle.trace_text.specs.Progress.{bytes_fed}
-use Rattle.trace_text.specs.StandsFor.{IsFaultOf, ReadsChunk, TakesRow}
+use Rattle.trace_text.specs.StandsFor.{IsFaultOf, ReadsChunk}
 use Rattle.live_report.specs.Found.{IsFoundBy, IsFoundUpTo, found_at}
 use Rattle.live_report.proofs.FoundLemmas.{at_most_one}
-use Rattle.live_report.proofs.ChunkLemmas.{course_begun, course_end, course_found, course_refused, course_row, course_stopped, course_text, next_rows}
+use Rattle.live_report.proofs.ChunkLemmas.{ReadsRow, course_begun, course_end, course_found, course_refused, course_row, course_stopped, course_text, next_rows}
 use Rattle.live_report.proofs.observing.observe_chunk.Goals as goal
 
 pub loop-after-init : goal.loop-after-init
@@ -23,19 +24,19 @@ pub take-requires : goal.take-requires
 take-requires g c =
     let room = c.requires in
     let course = c.loop-after.invariant.course room.0 room.1 room.2 in
-    let row : TakesRow c.loop-after.lines c.next_row.new.self c.loop-after.rest.now c.in-Some.after.now c.next_row.new.row = rw c.in-Some.is at c.in_ok-after.ensures.ok in
+    let row : ReadsRow c.loop-after.lines c.next_row.new.self c.loop-after.rest.now c.in-Some.after.now c.next_row.new.row = rw c.in-Some.is at c.in_ok-after.ensures.ok in
     record {
       room = (
         room.0,
-        early_rows (room.1 ++ course.read),
+        items_of room.0 (early_rows (room.1 ++ course.read)),
         course.observing.observes,
-        next_rows c.loop-after.lines c.next_row.new.self (room.1 ++ course.read) c.loop-after.rest.now c.in-Some.after.now c.next_row.new.row course.observing.reads row,
+        next_rows room.0 c.loop-after.lines c.next_row.new.self (room.1 ++ course.read) c.loop-after.rest.now c.in-Some.after.now c.next_row.new.row course.observing.reads row,
       );
     }
 
 pub loop-after-preserved : goal.loop-after-preserved
 loop-after-preserved g c =
-    let row : TakesRow c.loop-after.lines c.next_row.new.self c.loop-after.rest.now c.in-Some.after.now c.next_row.new.row = rw c.in-Some.is at c.in_ok-after.ensures.ok in
+    let row : ReadsRow c.loop-after.lines c.next_row.new.self c.loop-after.rest.now c.in-Some.after.now c.next_row.new.row = rw c.in-Some.is at c.in_ok-after.ensures.ok in
     let size : bytes_fed c.next_row.new.self + length c.in-Some.after.now ≡ bytes_fed c.loop-after.lines + length c.loop-after.rest.now = rw c.in-Some.is at c.in_ok-after.ensures.size in
     let shorter : length c.in-Some.after.now < length c.loop-after.rest.now = rw c.in-Some.is at c.in_ok-after.ensures.shorter in
     let finding = c.in_ok-take.field-0 in
@@ -49,9 +50,9 @@ loop-after-preserved g c =
           course_row g.C.Channel.interface_of g.C.Channel.number_of g.C.Channel.stands_for i text c.args.chunk.now c.loop-after.rest.now c.in-Some.after.now c.next_row.new.row c.loop-after.lines c.next_row.new.self c.loop-after.observer c.take.new.self
           c.args.found.now.items c.loop-after.found.items c.append_finding.new.findings.items (option_to_list finding)
           course row (c.in_ok-after.ensures.header (text ++ course.read) course.observing.reads)
-          (c.in_ok-take.ensures.stands i (early_rows (text ++ course.read)) course.observing.observes
-          (next_rows c.loop-after.lines c.next_row.new.self (text ++ course.read) c.loop-after.rest.now c.in-Some.after.now c.next_row.new.row course.observing.reads row))
-          noted (c.in_ok-take.ensures.finding i (early_rows (text ++ course.read)) course.observing.observes);
+          (c.in_ok-take.ensures.stands i (items_of i (early_rows (text ++ course.read))) course.observing.observes
+          (next_rows i c.loop-after.lines c.next_row.new.self (text ++ course.read) c.loop-after.rest.now c.in-Some.after.now c.next_row.new.row course.observing.reads row))
+          noted (c.in_ok-take.ensures.finding i (items_of i (early_rows (text ++ course.read))) course.observing.observes);
     }
 
 pub returns-clause-observes : goal.returns-clause-observes

@@ -6,16 +6,16 @@ use Rattle.std.proofs.Common.{◌≡◌, ◌∙◌, ◌++◌, ◌∷◌, ◌<◌
 use Rattle.std.specs.List.{zip}
 use Rattle.std.specs.Iterator.Adapters.{zip_first, zip_second}
 use Rattle.std.specs.Vec.Iter.{into_iter_items, into_iter_len}
-use Rattle.std.proofs.lemmas.List.{map-id}
+use Rattle.std.proofs.lemmas.List.{map-id, length-map}
 use Rattle.std.proofs.lemmas.List.Sums.{sum_by-cons}
 use Rattle.std.proofs.lemmas.Iterator.{YieldsList-from_zip}
 use Rattle.std.proofs.lemmas.Iterator.Adapters.{YieldsList-from_vec}
 use Rattle.std.proofs.lemmas.Iterator.Consumers.{YieldsList-end}
-use Rattle.line_model.specs.packets.Classes.{packet_of}
+use Rattle.line_model.specs.packets.Says.{item_of, items_of}
 use Rattle.line_model.specs.pieces.Plans.{plan, line_findings}
-use Rattle.line_model.specs.basics.Records.{Row, Piece}
+use Rattle.line_model.specs.basics.Records.{Row, Item, Piece}
 use Rattle.restart_epochs.specs.Cutting.{given_of, StandsFor, IsCounted}
-use Rattle.restart_epochs.proofs.Decoded.{packets, rows, rows-beside, rows-more, next_is}
+use Rattle.restart_epochs.proofs.Decoded.{packets, said, said-beside, said-more, said_by, next_is}
 use Rattle.restart_epochs.proofs.Growth.{ends_nothing, given_pieces}
 use Rattle.restart_epochs.proofs.Whole.{MayCome, all_may_come, rest_may_come}
 use Rattle.restart_epochs.proofs.cut.cut.Given.{Over}
@@ -40,31 +40,33 @@ loop-row-init g c = record {
   decoded = packets_left g c ∙ ap (packets c.args.interface.now) (sym (rows_left g c));
 }
 
-pub push-requires-clause-packet : goal.push-requires-clause-packet
-push-requires-clause-packet g c =
+pub push-requires-clause-said : goal.push-requires-clause-said
+push-requires-clause-said g c =
     let inv = c.loop-row.invariant in
     let steps = c.in-Some.ensures.steps in
-    let is = c.with_packet.ensures in
     let next = next_is c.args.interface.now c.in-Some.row c.in-Some.packet (into_iter_items (zip_first c.next.new.self)) (into_iter_items (zip_first c.loop-row.row-iterator))
     (into_iter_items (zip_second c.next.new.self)) (into_iter_items (zip_second c.loop-row.row-iterator)) inv.decoded steps.0.0 steps.1.0 in
-    ap (λ i. i.packet) is ∙ next.0 ∙ ap (λ i. packet_of i c.in-Some.row.octets) (sym inv.stands.interface) ∙ ap (λ i. packet_of c.loop-row.cutter.interface i.row.octets) (sym is)
+    record {
+      row = c.in-Some.row;
+      says = said_by c.args.interface.now c.in-Some.row c.in-Some.packet _ c.item.ensures next.0 ∙ ap (λ i. item_of i c.in-Some.row) (sym inv.stands.interface);
+    }
 
 pub push-requires-clause-rising : goal.push-requires-clause-rising
 push-requires-clause-rising g c =
     let left : MayCome c.loop-row.cutter (c.in-Some.row ∷ into_iter_items (zip_first c.next.new.self)) = subst (MayCome c.loop-row.cutter) c.in-Some.ensures.steps.0.0 c.loop-row.invariant.left in
-    subst (λ i. c.loop-row.cutter.last < i.row.number) (sym c.with_packet.ensures) left.rising.0
+    subst (λ (x : Item). c.loop-row.cutter.last < x.number) (sym c.item.ensures) left.rising.0
 
 pub push-requires-clause-number : goal.push-requires-clause-number
 push-requires-clause-number g c =
     let left : MayCome c.loop-row.cutter (c.in-Some.row ∷ into_iter_items (zip_first c.next.new.self)) = subst (MayCome c.loop-row.cutter) c.in-Some.ensures.steps.0.0 c.loop-row.invariant.left in
-    subst (λ i. i.row.number ≤ 999999999) (sym c.with_packet.ensures) (left.numbers 0 c.in-Some.row (omega arith))
+    subst (λ (x : Item). x.number ≤ 999999999) (sym c.item.ensures) (left.numbers 0 c.in-Some.row (omega arith))
 
 pub push-requires-clause-octets : goal.push-requires-clause-octets
 push-requires-clause-octets g c =
     let rest = into_iter_items (zip_first c.next.new.self) in
     let left : MayCome c.loop-row.cutter (c.in-Some.row ∷ rest) = subst (MayCome c.loop-row.cutter) c.in-Some.ensures.steps.0.0 c.loop-row.invariant.left in
     let all = left.octets in
-    omega (arith, all, sum_by-cons (λ (x : Row). length x.octets) c.in-Some.row rest, ap (λ i. length i.row.octets) c.with_packet.ensures)
+    omega (arith, all, sum_by-cons (λ (x : Row). length x.octets) c.in-Some.row rest, ap (λ (x : Item). x.length) c.item.ensures)
 
 pub loop-row-preserved : goal.loop-row-preserved
 loop-row-preserved g c =
@@ -73,20 +75,20 @@ loop-row-preserved g c =
     let steps = c.in-Some.ensures.steps in
     let rest = into_iter_items (zip_first c.next.new.self) in
     let left : MayCome c.loop-row.cutter (c.in-Some.row ∷ rest) = subst (MayCome c.loop-row.cutter) steps.0.0 inv.left in
-    let row = ap (λ i. i.row) c.with_packet.ensures in
-    let more = sym (rows-more c.loop-row.yielded c.in-Some.row c.in-Some.packet) in
+    let before = said i c.loop-row.yielded in
+    let more = sym (said-more i c.loop-row.yielded c.in-Some.row c.in-Some.packet) in
     let next = next_is i c.in-Some.row c.in-Some.packet rest (into_iter_items (zip_first c.loop-row.row-iterator)) (into_iter_items (zip_second c.next.new.self))
     (into_iter_items (zip_second c.loop-row.row-iterator)) inv.decoded steps.0.0 steps.1.0 in
+    let says = said_by i c.in-Some.row c.in-Some.packet _ c.item.ensures next.0 in
+    let after : before ++ c.item.result ∷ [] ≡ said i (c.loop-row.yielded ++ (c.in-Some.row, c.in-Some.packet) ∷ []) = ap (λ x. before ++ x ∷ []) says ∙ more in
     record {
-      stands = subst (λ rs. StandsFor i rs c.push.new.self) more
-          (subst (λ r. StandsFor i (rows c.loop-row.yielded ++ r ∷ []) c.push.new.self) row (c.in_ok-push.ensures.stands i (rows c.loop-row.yielded) inv.stands));
-      given = subst (λ rs. c.push.new.out.items ≡ given_of i rs) more
-          (subst (λ r. c.push.new.out.items ≡ given_of i (rows c.loop-row.yielded ++ r ∷ [])) row (c.in_ok-push.ensures.given i (rows c.loop-row.yielded) [] inv.stands inv.given));
-      left = rest_may_come c.loop-row.cutter c.push.new.self c.in-Some.row rest left (subst (λ r. IsCounted r c.loop-row.cutter c.push.new.self) row c.in_ok-push.ensures.counted);
+      stands = subst (λ rs. StandsFor i rs c.push.new.self) after (c.in_ok-push.ensures.stands i before inv.stands);
+      given = subst (λ rs. c.push.new.out.items ≡ given_of i rs) after (c.in_ok-push.ensures.given i before [] inv.stands inv.given);
+      left = rest_may_come i c.loop-row.cutter c.push.new.self c.in-Some.row rest left (subst (λ (x : Item). IsCounted x c.loop-row.cutter c.push.new.self) says c.in_ok-push.ensures.counted);
       decoded = next.1;
     }
 
-all_yielded : (g : Over) (c : goal.After-drop-open-2 g) → rows c.loop-row.yielded ≡ c.args.rows.items
+all_yielded : (g : Over) (c : goal.After-drop-open-2 g) → said c.args.interface.now c.loop-row.yielded ≡ items_of c.args.interface.now c.args.rows.items
 all_yielded g c =
     let first = c.zip-row-items.ensures.first in
     let second = c.zip-row-items.ensures.second in
@@ -98,10 +100,10 @@ all_yielded g c =
     (ap (λ z. into_iter_len (zip_second z)) zipped ∙ second.1 ∙ c.in_ok-packets.packets.ok.0) in
     let t = YieldsList-end (YieldsList-from_zip of_rows of_packets) c.loop-row.yielded c.loop-row.row-iterator c.loop-row.yielded_by c.next.result c.next.new.self c.in-None.is c.next.ensures.steps in
     let are = c.in_ok-packets.ensures.packets ∙ ap (packets i) c.as_slice.ensures.value in
-    ap rows (sym (map-id c.loop-row.yielded) ∙ t.0) ∙ ap (λ ps. rows (zip c.args.rows.items ps)) are ∙ rows-beside i c.args.rows.items
+    ap (said i) (sym (map-id c.loop-row.yielded) ∙ t.0) ∙ ap (λ ps. said i (zip c.args.rows.items ps)) are ∙ said-beside i c.args.rows.items
 
 -- the pieces that were given out on the way, and behind them those of the open epoch
-appended : (g : Over) (c : goal.After-drop-open-2 g) → c.append.new.self.items ≡ given_of c.args.interface.now (rows c.loop-row.yielded) ++ c.in_ok-open.field-0.pieces.items
+appended : (g : Over) (c : goal.After-drop-open-2 g) → c.append.new.self.items ≡ given_of c.args.interface.now (said c.args.interface.now c.loop-row.yielded) ++ c.in_ok-open.field-0.pieces.items
 appended g c =
     let open_is : c.in_ok-open.open.items ≡ c.in_ok-open.field-0.pieces.items = ap (λ v. v.items) (sym c.in_ok-open.open-is) in
     let more : c.append.new.self.items ≡ c.loop-row.pieces.items ++ c.in_ok-open.open.items = search rules in
@@ -110,20 +112,20 @@ appended g c =
 pub returns-clause-pieces : goal.returns-clause-pieces
 returns-clause-pieces g c =
     appended g c
-    ∙ c.in_ok-open.ensures.pieces c.args.interface.now (rows c.loop-row.yielded) c.loop-row.invariant.stands ∙ ap (plan c.args.interface.now) (all_yielded g c)
+    ∙ c.in_ok-open.ensures.pieces c.args.interface.now (said c.args.interface.now c.loop-row.yielded) c.loop-row.invariant.stands ∙ ap (plan c.args.interface.now) (all_yielded g c)
 
 pub returns-clause-interface_findings : goal.returns-clause-interface_findings
 returns-clause-interface_findings g c =
-    c.in_ok-open.ensures.interface_findings c.args.interface.now (rows c.loop-row.yielded) c.loop-row.invariant.stands ∙ ap (line_findings c.args.interface.now) (all_yielded g c)
+    c.in_ok-open.ensures.interface_findings c.args.interface.now (said c.args.interface.now c.loop-row.yielded) c.loop-row.invariant.stands ∙ ap (line_findings c.args.interface.now) (all_yielded g c)
 
 pub returns-clause-packets : goal.returns-clause-packets
 returns-clause-packets g c =
-    c.in_ok-open.ensures.packets c.args.interface.now (rows c.loop-row.yielded) c.loop-row.invariant.stands ∙ ap (λ (rs : List Row). length rs) (all_yielded g c)
+    c.in_ok-open.ensures.packets c.args.interface.now (said c.args.interface.now c.loop-row.yielded) c.loop-row.invariant.stands ∙ ap (λ (rs : List Item). length rs) (all_yielded g c) ∙ length-map c.args.rows.items (item_of c.args.interface.now)
 
 pub returns-clause-few : goal.returns-clause-few
 returns-clause-few g c =
-    let all = ap (λ (l : List Piece). length l) (appended g c) ∙ length-append (given_of c.args.interface.now (rows c.loop-row.yielded)) c.in_ok-open.field-0.pieces.items in
-    omega (arith, all, c.in_ok-open.ensures.few c.args.interface.now (rows c.loop-row.yielded) c.loop-row.invariant.stands)
+    let all = ap (λ (l : List Piece). length l) (appended g c) ∙ length-append (given_of c.args.interface.now (said c.args.interface.now c.loop-row.yielded)) c.in_ok-open.field-0.pieces.items in
+    omega (arith, all, c.in_ok-open.ensures.few c.args.interface.now (said c.args.interface.now c.loop-row.yielded) c.loop-row.invariant.stands)
 
 pub loop-row-init-derived : goal.loop-row-init-derived
 loop-row-init-derived g c = grind (arith, elements) steps 2000000

@@ -1,5 +1,6 @@
 use Rattle.std.proofs.Common.{◌∙◌, ◌++◌, ap, refl, sym}
 use Rattle.std.proofs.lemmas.Result.{IfOk-weaker, IfErr-weaker}
+use Rattle.line_model.specs.packets.Says.{items_of}
 use Rattle.line_model.specs.text.Text.{fault, rows}
 use Rattle.trace_scan.proofs.Rows.{all_appended, all_fed}
 use Rattle.trace_scan.proofs.Texts.{line_next, memory_fault, plan_is, read_of}
@@ -18,7 +19,7 @@ feed_open_epoch-requires-clause-ready g c =
     let fed = c.requires.ready.1 in
     let more = all_appended c.new-pieces.result.items c.end.new.pieces.items _ _ c.new-pieces.ensures.items (c.in_ok-row_cutter.ensures.pieces text fed.taken) in
     let header = (c.in_ok-row_cutter.ensures.sound text fed.taken).1 in (
-      rows text,
+      items_of c.in_ok-row_cutter.row_cutter.interface (rows text),
       c.in_ok-row_cutter.ensures.cut text fed.taken,
       all_fed _ _ _ _ c.end.new.pieces.items _ c.end.new.pieces.ok.0 fed.count more c.feed_pieces.ensures.fed,
       c.feed_pieces.ensures.pieces ∙ ap (λ ps. ps ++ c.end.new.pieces.items) fed.pieces ∙ sym more,
@@ -30,7 +31,7 @@ returns-clause-read g c text fed =
     let sound = c.in_ok-row_cutter.ensures.sound text fed.taken in
     let more = all_appended c.new-pieces.result.items c.end.new.pieces.items _ _ c.new-pieces.ensures.items (c.in_ok-row_cutter.ensures.pieces text fed.taken) in
     IfOk-weaker c.feed_open_epoch.result _ _ (λ read h. read_of text c.in_ok-row_cutter.row_cutter.interface c.in_ok-row_cutter.row_cutter.interface (rows text) c.feed_open_epoch.new.pass.pieces read sound.0 sound.1 refl refl h)
-    (c.feed_open_epoch.ensures.cut (rows text) (c.in_ok-row_cutter.ensures.cut text fed.taken) (c.feed_pieces.ensures.pieces ∙ ap (λ ps. ps ++ c.end.new.pieces.items) fed.pieces ∙ sym more))
+    (c.feed_open_epoch.ensures.cut (items_of c.in_ok-row_cutter.row_cutter.interface (rows text)) (c.in_ok-row_cutter.ensures.cut text fed.taken) (c.feed_pieces.ensures.pieces ∙ ap (λ ps. ps ++ c.end.new.pieces.items) fed.pieces ∙ sym more))
 
 pub returns-clause-refused : goal.returns-clause-refused
 returns-clause-refused g c text fed = IfErr-weaker c.feed_open_epoch.result _ _ (λ f h. memory_fault (fault text) f h) c.feed_open_epoch.ensures.memory

@@ -1,4 +1,4 @@
-use Rattle.std.proofs.Common.{◌≡◌, ◌∙◌, ◌≤◌, ◌<◌, Err, OnOk, arith, subst, sym}
+use Rattle.std.proofs.Common.{◌≡◌, OnOk, arith, subst, sym}
 use Rattle.std.proofs.lemmas.Result.{IfOk-from_err}
 use Rattle.line_model.specs.declared.fault.Fault.TheVariants.{Write}
 use Rattle.trace_text.proofs.SourceLemmas.{passed_on, same_fault}

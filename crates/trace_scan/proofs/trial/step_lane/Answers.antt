@@ -19,8 +19,8 @@ returns-clause-lanes g c states lanes =
     let k : ℕ = c.args.channel in
     let own = subst (λ x. IsLaneOf g.C.Channel i e k (states k) (Some x)) (sym c.deref_mut.ensures.value) (c.in_ok-machine.ensures.out states lanes) in
     let step = c.in_ok-step.ensures in
-    let next = subst (g.C.Channel.stands_for c.step.new.self) (λ j. (channel_step (own.0 j) (own.1 j) (states k) c.args.item.now.row).after) (step.stands (states k) own.2) in
-    put_back g.C.Channel i e k states (channel_step i k (states k) c.args.item.now.row).after c.take_out.new.lanes c.put.new.self c.step.new.self (c.in_ok-machine.ensures.others states lanes)
+    let next = subst (g.C.Channel.stands_for c.step.new.self) (λ j. (channel_step (own.0 j) (own.1 j) (states k) c.args.item.now).after) (step.stands (states k) own.2) in
+    put_back g.C.Channel i e k states (channel_step i k (states k) c.args.item.now).after c.take_out.new.lanes c.put.new.self c.step.new.self (c.in_ok-machine.ensures.others states lanes)
     (step.interface (states k) own.2 ∙ own.0, step.number (states k) own.2 ∙ own.1, next) c.put.ensures
 
 pub returns-clause-events : goal.returns-clause-events
@@ -29,4 +29,4 @@ returns-clause-events g c states lanes =
     let e = c.args.walk.now.epoch in
     let k : ℕ = c.args.channel in
     let own = subst (λ x. IsLaneOf g.C.Channel i e k (states k) (Some x)) (sym c.deref_mut.ensures.value) (c.in_ok-machine.ensures.out states lanes) in
-    c.in_ok-step.ensures.events (states k) own.2 ∙ (λ j. c.args.events.now.items ++ row_events (own.0 j) e (own.1 j) (states k) c.args.item.now.row)
+    c.in_ok-step.ensures.events (states k) own.2 ∙ (λ j. c.args.events.now.items ++ row_events (own.0 j) e (own.1 j) (states k) c.args.item.now)

@@ -7,7 +7,7 @@ use Rattle.trace_scan.proofs.TrialsLemmas.{headers_more, kept_more}
 use Rattle.trace_scan.proofs.trials.push_sizes.Goals as goal
 
 pub loop-size-init : goal.loop-size-init
-loop-size-init g c = λ headers h. subst (λ hs. AreTrials g.C.Channel [] hs c.args.trials.now.items) (sym (append-nil headers)) h
+loop-size-init g c = λ headers h. subst (λ hs. AreTrials g.C.Channel (λ _. []) hs c.args.trials.now.items) (sym (append-nil headers)) h
 
 pub loop-size-preserved : goal.loop-size-preserved
 loop-size-preserved g c = λ headers h.

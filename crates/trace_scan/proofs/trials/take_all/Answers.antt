@@ -1,25 +1,25 @@
-use Rattle.std.proofs.Common.{◌≡◌, ◌+◌, ◌++◌, ◌∷◌, [], ℕ, suc, ap, sym, subst, arith, length, set}
-use Rattle.trace_scan.specs.Trials.{AreTrials}
+use Rattle.std.proofs.Common.{◌≡◌, ◌+◌, ℕ, suc, ap, sym, subst, arith, length, set}
+use Rattle.trace_scan.specs.Trials.{AreTrials, with_row}
 use Rattle.trace_scan.proofs.TrialsLemmas.{AreOnWay, all_on_way, next_on_way, one_on_way, written}
 use Rattle.trace_scan.proofs.trials.take_all.Goals as goal
 
 pub take-requires : goal.take-requires
 take-requires g c =
     let room = c.requires.next in
-    let next = next_on_way g.C.Channel c.loop-trial.trial-index room.1 c.args.row.now room.0 c.loop-trial.trial-items c.trial-item.result (omega (arith, c.loop-trial-test.true, c.loop-trial.auto.trial-items)) (c.loop-trial.invariant room.0 room.1 room.2 room.3) in
-    record { next = (next.header, room.1, next.walked, room.3) }
+    let next = next_on_way g.C.Channel c.loop-trial.trial-index room.1 (with_row room.1 c.args.row.now) room.0 c.loop-trial.trial-items c.trial-item.result (omega (arith, c.loop-trial-test.true, c.loop-trial.auto.trial-items)) (c.loop-trial.invariant room.0 room.1 room.2 room.3) in
+    record { next = (next.header, room.1 next.header, next.walked, room.3 next.header) }
 
 pub loop-trial-preserved : goal.loop-trial-preserved
-loop-trial-preserved g c = λ headers rows all sound.
+loop-trial-preserved g c = λ headers items all sound.
     let i : ℕ = c.loop-trial.trial-index in
     let more : suc i ≡ i + 1 = omega arith in
-    subst (λ n. AreOnWay g.C.Channel n rows c.args.row.now headers (set c.loop-trial.trial-items i c.take.new.self)) more
-    (one_on_way g.C.Channel i rows c.args.row.now headers c.loop-trial.trial-items c.trial-item.result c.take.new.self (omega (arith, c.loop-trial-test.true, c.loop-trial.auto.trial-items)) (c.loop-trial.invariant headers rows all sound) (λ h w. c.in_ok-take.ensures.walked h rows w sound))
+    subst (λ n. AreOnWay g.C.Channel n items (with_row items c.args.row.now) headers (set c.loop-trial.trial-items i c.take.new.self)) more
+    (one_on_way g.C.Channel i items (with_row items c.args.row.now) headers c.loop-trial.trial-items c.trial-item.result c.take.new.self (omega (arith, c.loop-trial-test.true, c.loop-trial.auto.trial-items)) (c.loop-trial.invariant headers items all sound) (λ h w. c.in_ok-take.ensures.walked h (items h) w (sound h)))
 
 pub returns-clause-trials : goal.returns-clause-trials
-returns-clause-trials g c = λ headers rows all sound.
+returns-clause-trials g c = λ headers items all sound.
     let whole : length c.deref_mut-trial-items.result.now ≡ length c.args.trials.now.items = ap (λ ts. length ts) c.deref_mut-trial-items.ensures.value in
     let len : c.args.trials.now.len ≡ length c.args.trials.now.items = omega (arith, c.deref_mut-trial-items.ensures.len, whole) in
     let same : length c.loop-trial.trial-items ≡ length c.args.trials.now.items = omega (arith, c.loop-trial.auto.trial-items, whole) in
-    subst (λ ts. AreTrials g.C.Channel (rows ++ c.args.row.now ∷ []) headers ts) (sym (written c.loop-trial.trial-items c.args.trials.now.items c.args.trials.now.len len same))
-    (all_on_way g.C.Channel c.loop-trial.trial-index rows c.args.row.now headers c.loop-trial.trial-items (omega (arith, c.loop-trial-test.false, same, whole)) (c.loop-trial.invariant headers rows all sound))
+    subst (λ ts. AreTrials g.C.Channel (with_row items c.args.row.now) headers ts) (sym (written c.loop-trial.trial-items c.args.trials.now.items c.args.trials.now.len len same))
+    (all_on_way g.C.Channel c.loop-trial.trial-index items (with_row items c.args.row.now) headers c.loop-trial.trial-items (omega (arith, c.loop-trial-test.false, same, whole)) (c.loop-trial.invariant headers items all sound))

@@ -1,8 +1,9 @@
+use Rattle.std.proofs.Common.{arith}
 use Rattle.trace_text.proofs.LaneLemmas.{leading_small, mask_small}
 use Rattle.trace_text.proofs.digits.others.Goals as goal
 
 pub overflow_cast-result : goal.overflow_cast-result
-overflow_cast-result c = record { fits = mask_small c.args.most c.args.values c.fits-values.0 }
+overflow_cast-result c = record { fits = mask_small 0 c.args.values c.fits-values.0 }
 
 pub returns : goal.returns
-returns c = leading_small c.args.most c.args.values c.fits-values.0
+returns c i h = omega (arith, leading_small 0 c.args.values c.fits-values.0 i h)

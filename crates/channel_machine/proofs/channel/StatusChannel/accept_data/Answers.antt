@@ -6,7 +6,7 @@ use Rattle.line_model.specs.channels.Channels.{AcceptedData}
 use Rattle.line_model.specs.channels.Sequences.{sequence_octets}
 use Rattle.line_model.specs.packets.Formats.{is_pad_call}
 use Rattle.line_model.specs.channels.ChannelStep.{counts_of}
-use Rattle.data_transfer.specs.Assembler.{IsPutFollowed, begun_by}
+use Rattle.data_transfer.specs.Assembler.{IsPut, begun_by}
 use Rattle.data_transfer.specs.Assembly.{OnMixed}
 use Rattle.data_transfer.specs.declared.sequence.Put.TheVariants.{Going, Complete, Mixed}
 use Rattle.channel_machine.specs.Events.{event_at}
@@ -15,7 +15,7 @@ use Rattle.channel_machine.specs.TermsStand.{is_pad}
 use Rattle.channel_machine.specs.Transfers.{Transfer, IsHeard, packet, counted_in_force}
 use Rattle.channel_machine.specs.Channels.{Known, known, Stands, IsMemory}
 use Rattle.channel_machine.proofs.InForce.{pad_stands}
-use Rattle.channel_machine.proofs.Hearing.{in_force, refused, mixed, accepted, going_is, second_of, untold_is, told_is}
+use Rattle.channel_machine.proofs.Hearing.{in_force, refused, unlike, heard, going_is, untold_is, told_is}
 use Rattle.channel_machine.proofs.channel.StatusChannel.accept_data.Goals as goal
 
 pub returns-in-Err-clause-heard : goal.returns-in-Err-clause-heard
@@ -40,13 +40,16 @@ returns-in-Mixed-clause-heard g c k s =
     let st : Stands old k = subst (λ o. Stands o k) (sym c.self.view_is) s in
     let h : AcceptedData = packet c.args.side c.args.header.now c.args.user_data.now in
     let r = counted_in_force before.terms.interface c.args.side c.args.header.now.send c.args.header.now.receive k in
-    let b : IsPutFollowed {A = g.row.A.Denot} Mixed i.assembler c.put.new.self c.args.side h k.heard =
-    subst (λ q. IsPutFollowed q i.assembler c.put.new.self c.args.side h k.heard) c.in-Mixed.is (c.in_ok-put.ensures.follows k.heard st.transfer.sequences) in
+    let b : IsPut {A = g.row.A.Denot} Mixed i.assembler c.put.new.self c.args.side h k.heard =
+    subst (λ q. IsPut q i.assembler c.put.new.self c.args.side h k.heard) c.in-Mixed.is (c.in_ok-put.ensures.put k.heard st.transfer.sequences) in
     let new : Transfer = record old.transfer { assembler = c.put.new.self } in
-    subst (λ o. IsHeard (Some INCONSISTENT_Q_BIT_SETTING) o.terms.interface c.args.origin o.transfer new c.args.events.now.items c.reserve.new.self.items c.args.side h (counted_in_force o.terms.interface c.args.side c.args.header.now.send c.args.header.now.receive k) k) c.self.view_is
-    (mixed c.in_default.field-0 before.terms.interface c.args.origin old.transfer new after.flow c.args.events.now.items c.reserve.new.self.items c.args.side h r k st.transfer
-    (in_force (Unit {0}) (Ok c.in_default.field-0) before.terms.interface old.transfer after.flow k c.args.side c.args.header.now.send c.args.header.now.receive st.transfer (c.in_default.ensures.counts (counts_of k) st.transfer.flow))
-    b.0 (ap (λ a. record old.transfer { assembler = a }) b.1) c.in_ok-reserve.ensures.items)
+    subst (λ o. IsHeard (Some INCONSISTENT_Q_BIT_SETTING) o.terms.interface c.args.origin o.transfer new c.args.events.now.items c.reserve.new.self.items c.args.side h (counted_in_force o.terms.interface c.args.side c.args.header.now.send c.args.header.now.receive k) k) c.self.view_is (
+      unlike c.in_default.field-0 before.terms.interface old.transfer after.flow c.args.side h r k st.transfer
+          (in_force (Unit {0}) (Ok c.in_default.field-0) before.terms.interface old.transfer after.flow k c.args.side c.args.header.now.send c.args.header.now.receive st.transfer (c.in_default.ensures.counts (counts_of k) st.transfer.flow))
+          b.0,
+      ap (λ a. record old.transfer { assembler = a }) b.1,
+      c.in_ok-reserve.ensures.items,
+    )
 
 pub returns-in-Going-clause-heard : goal.returns-in-Going-clause-heard
 returns-in-Going-clause-heard g c k s =
@@ -57,11 +60,11 @@ returns-in-Going-clause-heard g c k s =
     let st : Stands old k = subst (λ o. Stands o k) (sym c.self.view_is) s in
     let h : AcceptedData = packet c.args.side c.args.header.now c.args.user_data.now in
     let r = counted_in_force before.terms.interface c.args.side c.args.header.now.send c.args.header.now.receive k in
-    let b : IsPutFollowed {A = g.row.A.Denot} Going i.assembler c.put.new.self c.args.side h k.heard =
-    subst (λ q. IsPutFollowed q i.assembler c.put.new.self c.args.side h k.heard) c.in-Going.is (c.in_ok-put.ensures.follows k.heard st.transfer.sequences) in
+    let b : IsPut {A = g.row.A.Denot} Going i.assembler c.put.new.self c.args.side h k.heard =
+    subst (λ q. IsPut q i.assembler c.put.new.self c.args.side h k.heard) c.in-Going.is (c.in_ok-put.ensures.put k.heard st.transfer.sequences) in
     let new : Transfer = record old.transfer { flow = after.flow; assembler = c.put.new.self } in
     subst (λ o. IsHeard None o.terms.interface c.args.origin o.transfer new c.args.events.now.items c.push_reserved.new.self.items c.args.side h (counted_in_force o.terms.interface c.args.side c.args.header.now.send c.args.header.now.receive k) k) c.self.view_is
-    (accepted c.in_default.field-0 before.terms.interface c.args.origin old.transfer new c.args.events.now.items c.push_reserved.new.self.items
+    (heard c.in_default.field-0 before.terms.interface c.args.origin old.transfer new c.args.events.now.items c.push_reserved.new.self.items
     k c.args.side c.args.header.now.send c.args.header.now.receive h None st.transfer refl
     (in_force (Unit {0}) (Ok c.in_default.field-0) before.terms.interface old.transfer after.flow k c.args.side c.args.header.now.send c.args.header.now.receive st.transfer (c.in_default.ensures.counts (counts_of k) st.transfer.flow))
     b.0 (going_is before.terms.interface old.transfer k c.args.side h st.transfer b.1) c.data.ensures.rest.modulus c.data.ensures.rest.windows b.2 c.put.ensures.sizes st.transfer.settings
@@ -77,12 +80,12 @@ returns-else-carries_message-2-clause-heard g c k s =
     let st : Stands old k = subst (λ o. Stands o k) (sym c.self.view_is) s in
     let h : AcceptedData = packet c.args.side c.args.header.now c.args.user_data.now in
     let r = counted_in_force before.terms.interface c.args.side c.args.header.now.send c.args.header.now.receive k in
-    let b : IsPutFollowed (Complete c.in-Complete.sequence) i.assembler c.put.new.self c.args.side h k.heard =
-    subst (λ q. IsPutFollowed q i.assembler c.put.new.self c.args.side h k.heard) c.in-Complete.is (c.in_ok-put.ensures.follows k.heard st.transfer.sequences) in
+    let b : IsPut (Complete c.in-Complete.sequence) i.assembler c.put.new.self c.args.side h k.heard =
+    subst (λ q. IsPut q i.assembler c.put.new.self c.args.side h k.heard) c.in-Complete.is (c.in_ok-put.ensures.put k.heard st.transfer.sequences) in
     let pad : c.is_pad_call.result ≡ is_pad_call k = c.is_pad_call.ensures ∙ ap (λ o. is_pad o) c.call.ensures ∙ pad_stands before.terms k st.terms in
     let new : Transfer = record old.transfer { flow = after.flow; assembler = c.put.new.self } in
     subst (λ o. IsHeard None o.terms.interface c.args.origin o.transfer new c.args.events.now.items c.push_reserved-in-Complete.new.self.items c.args.side h (counted_in_force o.terms.interface c.args.side c.args.header.now.send c.args.header.now.receive k) k) c.self.view_is
-    (accepted c.in_default.field-0 before.terms.interface c.args.origin old.transfer new c.args.events.now.items c.push_reserved-in-Complete.new.self.items
+    (heard c.in_default.field-0 before.terms.interface c.args.origin old.transfer new c.args.events.now.items c.push_reserved-in-Complete.new.self.items
     k c.args.side c.args.header.now.send c.args.header.now.receive h None st.transfer refl
     (in_force (Unit {0}) (Ok c.in_default.field-0) before.terms.interface old.transfer after.flow k c.args.side c.args.header.now.send c.args.header.now.receive st.transfer (c.in_default.ensures.counts (counts_of k) st.transfer.flow))
     b.0 (untold_is before.terms.interface k c.args.side h (ap (λ a. a && h.qualified) (sym pad) ∙ sym c.is_message-carries_message.ensures ∙ c.if-carries_message-2.false)) c.data.ensures.rest.modulus c.data.ensures.rest.windows b.2 c.put.ensures.sizes
@@ -99,15 +102,15 @@ returns-then-carries_message-2-clause-heard g c k s =
     let st : Stands old k = subst (λ o. Stands o k) (sym c.self.view_is) s in
     let h : AcceptedData = packet c.args.side c.args.header.now c.args.user_data.now in
     let r = counted_in_force before.terms.interface c.args.side c.args.header.now.send c.args.header.now.receive k in
-    let b : IsPutFollowed (Complete c.in-Complete.sequence) i.assembler c.put.new.self c.args.side h k.heard =
-    subst (λ q. IsPutFollowed q i.assembler c.put.new.self c.args.side h k.heard) c.in-Complete.is (c.in_ok-put.ensures.follows k.heard st.transfer.sequences) in
+    let b : IsPut (Complete c.in-Complete.sequence) i.assembler c.put.new.self c.args.side h k.heard =
+    subst (λ q. IsPut q i.assembler c.put.new.self c.args.side h k.heard) c.in-Complete.is (c.in_ok-put.ensures.put k.heard st.transfer.sequences) in
     let pad : c.is_pad_call.result ≡ is_pad_call k = c.is_pad_call.ensures ∙ ap (λ o. is_pad o) c.call.ensures ∙ pad_stands before.terms k st.terms in
     let m : List ℕ = sequence_octets (begun_by i.assembler c.args.side k.heard ++ h ∷ []) in
     let told : (is_pad_call k && h.qualified) ≡ true = ap (λ a. a && h.qualified) (sym pad) ∙ sym c.is_message-carries_message.ensures ∙ c.if-carries_message-2.true in
-    let octets = c.as_slice.ensures ∙ b.5 (second_of (is_pad_call k) h.qualified told) in
+    let octets = c.as_slice.ensures ∙ b.5 in
     let new : Transfer = record { flow = after.flow; assembler = c.put.new.self; settings = c.report_message.new.self } in
     subst (λ o. IsHeard None o.terms.interface c.args.origin o.transfer new c.args.events.now.items c.report_message.new.events.items c.args.side h (counted_in_force o.terms.interface c.args.side c.args.header.now.send c.args.header.now.receive k) k) c.self.view_is
-    (accepted c.in_default.field-0 before.terms.interface c.args.origin old.transfer new c.args.events.now.items c.report_message.new.events.items
+    (heard c.in_default.field-0 before.terms.interface c.args.origin old.transfer new c.args.events.now.items c.report_message.new.events.items
     k c.args.side c.args.header.now.send c.args.header.now.receive h (Some m) st.transfer refl
     (in_force (Unit {0}) (Ok c.in_default.field-0) before.terms.interface old.transfer after.flow k c.args.side c.args.header.now.send c.args.header.now.receive st.transfer (c.in_default.ensures.counts (counts_of k) st.transfer.flow))
     b.0 (told_is before.terms.interface old.transfer k c.args.side h st.transfer told b.1) c.data.ensures.rest.modulus c.data.ensures.rest.windows b.2 c.put.ensures.sizes

@@ -1,40 +1,70 @@
-use Rattle.std.proofs.Common.{◌≡◌, false, refl, sym, ap, subst, List, [], ◌∷◌, Ok, None, length}
-use Rattle.std.specs.Prelude.{map, drop, Some}
-use Rattle.line_model.specs.packets.Classes.{data_header, header_length}
-use Rattle.line_model.specs.declared.event.Event.{Event}
-use Rattle.line_model.specs.declared.event.What.TheVariants as what
-use Rattle.line_model.specs.declared.packet.Class.TheVariants.{Data}
+use Rattle.std.proofs.Common.{◌∙◌, false, refl, sym, ap, subst, Ok, Err, None}
 use Rattle.line_model.specs.channels.Channels.{AcceptedData}
-use Rattle.line_model.specs.channels.ChannelStep.{counts_of, transferring}
+use Rattle.line_model.specs.channels.ChannelStep.{counts_of, data_counted}
 use Rattle.line_model.specs.packets.Formats.{is_pad_call}
-use Rattle.channel_machine.specs.Events.{event_at}
-use Rattle.channel_machine.specs.Transfers.{Transfer, packet}
-use Rattle.channel_machine.specs.Channels.{Known, known, Stands, Does}
-use Rattle.channel_machine.proofs.Hearing.{in_force, accepted, untold_is, without_q}
-use Rattle.channel_machine.proofs.Taking.{heard_by}
+use Rattle.data_transfer.specs.Assembly.{unqualified}
+use Rattle.channel_machine.specs.Transfers.{Transfer, IsAccepted, counted_in_force}
+use Rattle.channel_machine.specs.Channels.{Known, known, Stands}
+use Rattle.channel_machine.proofs.Counting.{answered_err}
+use Rattle.channel_machine.proofs.Hearing.{in_force, accepted, alike_of, unlike, untold_is, without_q}
 use Rattle.channel_machine.proofs.channel.StatusChannel.accept_unqualified.Goals as goal
 
-pub returns-in-Ok-clause-does : goal.returns-in-Ok-clause-does
-returns-in-Ok-clause-does g c k origin s xs header field st_old =
+pub returns-in-Err-clause-accepted : goal.returns-in-Err-clause-accepted
+returns-in-Err-clause-accepted g c k s =
     let i = c.self.inside in
     let before = g.S.StatusStore.status i.status in
     let after = g.S.StatusStore.status c.data.new.self in
     let old : Known = known i.channel before i.assembler i.settings in
-    let st : Stands old k = subst (λ o. Stands o k) (sym c.self.view_is) st_old in
+    let st : Stands old k = subst (λ o. Stands o k) (sym c.self.view_is) s in
     let x = c.args.side in
-    let f = c.args.header.now in
-    let h : AcceptedData = packet x f c.args.user_data.now in
+    let h = c.args.header.now in
+    let p : AcceptedData = unqualified x h.more h.delivery c.args.length in
+    let r = counted_in_force before.terms.interface x h.send h.receive k in
+    subst (λ o. IsAccepted {U = Unit {0}} (Err c.in-Err.code) o.terms.interface o.transfer o.transfer x p (counted_in_force o.terms.interface x h.send h.receive k) k) c.self.view_is (
+      (λ q. ap (λ a. data_counted before.terms.interface x q p a k) (answered_err (Unit {0}) c.in-Err.code old.transfer.flow after.flow r
+          (in_force (Unit {0}) (Err c.in-Err.code) before.terms.interface old.transfer after.flow k x h.send h.receive st.transfer (c.in-Err.ensures.counts (counts_of k) st.transfer.flow))).0),
+      refl,
+    )
+
+pub returns-then-not-is_alike-clause-accepted : goal.returns-then-not-is_alike-clause-accepted
+returns-then-not-is_alike-clause-accepted g c k s =
+    let i = c.self.inside in
+    let before = g.S.StatusStore.status i.status in
+    let after = g.S.StatusStore.status c.data.new.self in
+    let old : Known = known i.channel before i.assembler i.settings in
+    let st : Stands old k = subst (λ o. Stands o k) (sym c.self.view_is) s in
+    let x = c.args.side in
+    let h = c.args.header.now in
+    let p : AcceptedData = unqualified x h.more h.delivery c.args.length in
+    let r = counted_in_force before.terms.interface x h.send h.receive k in
+    subst (λ o. IsAccepted {U = Unit {0}} (Err 83) o.terms.interface o.transfer o.transfer x p (counted_in_force o.terms.interface x h.send h.receive k) k) c.self.view_is (
+      unlike c.in_default.field-0 before.terms.interface old.transfer after.flow x p r k st.transfer
+          (in_force (Unit {0}) (Ok c.in_default.field-0) before.terms.interface old.transfer after.flow k x h.send h.receive st.transfer (c.in_default.ensures.counts (counts_of k) st.transfer.flow))
+          (alike_of i.assembler x p k.heard st.transfer.sequences ∙ sym c.is_unqualified-is_alike.ensures ∙ c.if-not-is_alike.true),
+      refl,
+    )
+
+pub returns-clause-rest : goal.returns-clause-rest
+returns-clause-rest g c =
+    let i = c.self.inside in
+    let after = g.S.StatusStore.status c.data.new.self in
+    ap (λ s. known i.channel s c.put_unqualified.new.self i.settings) c.data.ensures.rest.rest
+    ∙ ap (λ (o : Known). record o { transfer = record { flow = after.flow; assembler = c.put_unqualified.new.self; settings = i.settings } }) c.self.view_is
+
+pub returns-clause-accepted : goal.returns-clause-accepted
+returns-clause-accepted g c k s =
+    let i = c.self.inside in
+    let before = g.S.StatusStore.status i.status in
+    let after = g.S.StatusStore.status c.data.new.self in
+    let old : Known = known i.channel before i.assembler i.settings in
+    let st : Stands old k = subst (λ o. Stands o k) (sym c.self.view_is) s in
+    let x = c.args.side in
+    let h = c.args.header.now in
+    let p : AcceptedData = unqualified x h.more h.delivery c.args.length in
     let put = c.put_unqualified.ensures.put k.heard st.transfer.sequences in
     let new : Transfer = record old.transfer { flow = after.flow; assembler = c.put_unqualified.new.self } in
-    let events : List Event = map (event_at origin) (what.Data x (length c.args.user_data.now) ∷ []) in
-    subst (λ o. Does origin o (known i.channel after c.put_unqualified.new.self i.settings) [] events (transferring o.terms.interface x s Data xs k)) c.self.view_is
-    (heard_by origin old (known i.channel after c.put_unqualified.new.self i.settings) [] events x s xs c.args.user_data.now f k
-    (ap (λ t. known i.channel t c.put_unqualified.new.self i.settings) c.data.ensures.rest.rest) st
-    (subst (λ (o : Known). data_header o.terms.interface xs ≡ Some f) (sym c.self.view_is) header)
-    (ap (λ l. packet x f l) (subst (λ (o : Known). c.args.user_data.now ≡ drop (header_length o.terms.interface) xs) (sym c.self.view_is) field))
-    None refl
-    (accepted c.in-Ok.field-0 before.terms.interface origin old.transfer new [] events k x f.send f.receive h None st.transfer refl
-    (in_force (Unit {0}) (Ok c.in-Ok.field-0) before.terms.interface old.transfer after.flow k x f.send f.receive st.transfer (c.in-Ok.ensures.counts (counts_of k) st.transfer.flow))
-    put.0 (untold_is before.terms.interface k x h (without_q (is_pad_call k) h.qualified c.if-header.false))
-    c.data.ensures.rest.modulus c.data.ensures.rest.windows put.1 c.put_unqualified.ensures.sizes st.transfer.settings
-    (λ v. refl)))
+    subst (λ o. IsAccepted {U = Unit {0}} (Ok tt) o.terms.interface o.transfer new x p (counted_in_force o.terms.interface x h.send h.receive k) k) c.self.view_is
+    (accepted c.in_default.field-0 before.terms.interface old.transfer new k x h.send h.receive p None st.transfer refl
+    (in_force (Unit {0}) (Ok c.in_default.field-0) before.terms.interface old.transfer after.flow k x h.send h.receive st.transfer (c.in_default.ensures.counts (counts_of k) st.transfer.flow))
+    put.0 (untold_is before.terms.interface k x p (without_q (is_pad_call k) false refl))
+    c.data.ensures.rest.modulus c.data.ensures.rest.windows put.1 c.put_unqualified.ensures.sizes st.transfer.settings)

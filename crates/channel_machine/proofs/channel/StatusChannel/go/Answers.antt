@@ -1,36 +1,35 @@
 use Rattle.std.proofs.Common.{◌≡◌, ◌∙◌, ap, sym, subst, false, append-nil}
 use Rattle.std.specs.Prelude.{IfOk}
 use Rattle.line_model.specs.channels.ChannelStep.{call_change, entering, changing}
-use Rattle.line_model.specs.packets.Classes.{class_of}
+use Rattle.line_model.specs.packets.Classes.{packet_class}
 use Rattle.channel_machine.specs.Reached.{is_from}
 use Rattle.channel_machine.specs.TermsStand.{TermsStand}
 use Rattle.channel_machine.specs.Agreed.{agreed_of}
 use Rattle.channel_machine.specs.Moves.{IsChange, TakesUsable}
 use Rattle.channel_machine.specs.Channels.{Known, Does}
-use Rattle.channel_machine.specs.Sizes.{largest_size}
 use Rattle.channel_machine.proofs.Reached.{unanswered}
 use Rattle.channel_machine.proofs.channel.StatusChannel.go.Goals as goal
 
 pub returns-in-Opens-clause-does : goal.returns-in-Opens-clause-does
-returns-in-Opens-clause-does g c k xs of r from s =
-    let v = call_change c.args.judgement.now.side (class_of c.args.self.now.terms.interface xs) c.args.to in
-    let change = subst (λ d. IsChange d v xs) c.in-Opens.is (c.change_of.ensures.change c.args.self.now.terms.interface xs of) in
-    subst (λ v. IfOk c.open.result (λ _. Does c.args.judgement.now.origin c.args.self.now c.open.new.self c.args.events.now.items c.open.new.events.items (changing xs v (entering c.args.to false k))))
-    (sym change.0) (c.open.ensures.does k xs change.1 r.bare s)
+returns-in-Opens-clause-does g c k item of r from s =
+    let v = call_change c.args.judgement.now.side (packet_class item.packet) c.args.to in
+    let change = subst (λ d. IsChange d v item.octets) c.in-Opens.is (c.change_of.ensures.change item of) in
+    subst (λ v. IfOk c.open.result (λ _. Does c.args.judgement.now.origin c.args.self.now c.open.new.self c.args.events.now.items c.open.new.events.items (changing item.octets v (entering c.args.to false k))))
+    (sym change.0) (c.open.ensures.does k item.octets change.1 r.bare s)
 
 pub returns-in-GoesUp-clause-does : goal.returns-in-GoesUp-clause-does
-returns-in-GoesUp-clause-does g c k xs of r from s =
-    let v = call_change c.args.judgement.now.side (class_of c.args.self.now.terms.interface xs) c.args.to in
-    let change = subst (λ d. IsChange d v xs) c.in-GoesUp.is (c.change_of.ensures.change c.args.self.now.terms.interface xs of) in
-    subst (λ v. IfOk c.go_up.result (λ _. Does c.args.judgement.now.origin c.args.self.now c.go_up.new.self c.args.events.now.items c.go_up.new.events.items (changing xs v (entering c.args.to false k))))
-    (sym change.0) (c.go_up.ensures.does k xs change.1 (unanswered c.args.to k (ap (λ v. is_from v c.args.to k.state) (sym change.0) ∙ from) r) s)
+returns-in-GoesUp-clause-does g c k item of r from s =
+    let v = call_change c.args.judgement.now.side (packet_class item.packet) c.args.to in
+    let change = subst (λ d. IsChange d v item.octets) c.in-GoesUp.is (c.change_of.ensures.change item of) in
+    subst (λ v. IfOk c.go_up.result (λ _. Does c.args.judgement.now.origin c.args.self.now c.go_up.new.self c.args.events.now.items c.go_up.new.events.items (changing item.octets v (entering c.args.to false k))))
+    (sym change.0) (c.go_up.ensures.does k item.octets change.1 (unanswered c.args.to k (ap (λ v. is_from v c.args.to k.state) (sym change.0) ∙ from) r) s)
 
 pub returns-in-Keeps-clause-does : goal.returns-in-Keeps-clause-does
-returns-in-Keeps-clause-does g c k xs of r from s =
-    let v = call_change c.args.judgement.now.side (class_of c.args.self.now.terms.interface xs) c.args.to in
-    let change = subst (λ d. IsChange d v xs) c.in-Keeps.is (c.change_of.ensures.change c.args.self.now.terms.interface xs of) in
+returns-in-Keeps-clause-does g c k item of r from s =
+    let v = call_change c.args.judgement.now.side (packet_class item.packet) c.args.to in
+    let change = subst (λ d. IsChange d v item.octets) c.in-Keeps.is (c.change_of.ensures.change item of) in
     let terms_are : agreed_of c.terms-terms.result ≡ c.args.self.now.terms = c.terms-terms.ensures ∙ ap (λ (o : Known). o.terms) c.self.view_is in
-    subst (λ v. Does c.args.judgement.now.origin c.args.self.now c.enter.new.self c.args.events.now.items c.args.events.now.items (changing xs v (entering c.args.to false k)))
+    subst (λ v. Does c.args.judgement.now.origin c.args.self.now c.enter.new.self c.args.events.now.items c.args.events.now.items (changing item.octets v (entering c.args.to false k)))
     (sym change)
     (record {
       interface = c.enter.ensures.interface ∙ ap (λ t. t.interface) terms_are;
@@ -42,9 +41,9 @@ returns-in-Keeps-clause-does g c k xs of r from s =
 pub open-requires : goal.open-requires
 open-requires g c =
     let i = c.args.self.now.terms.interface in
-    record { usable = subst (λ d. TakesUsable d i) c.in-Opens.is (c.change_of.ensures.usable i largest_size c.requires.usable) }
+    record { usable = subst (λ d. TakesUsable d i) c.in-Opens.is (c.change_of.ensures.usable i c.requires.usable) }
 
 pub go_up-requires : goal.go_up-requires
 go_up-requires g c =
     let i = c.args.self.now.terms.interface in
-    record { usable = subst (λ d. TakesUsable d i) c.in-GoesUp.is (c.change_of.ensures.usable i largest_size c.requires.usable) }
+    record { usable = subst (λ d. TakesUsable d i) c.in-GoesUp.is (c.change_of.ensures.usable i c.requires.usable) }

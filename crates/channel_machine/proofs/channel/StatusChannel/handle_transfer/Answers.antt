@@ -1,31 +1,56 @@
-use Rattle.std.proofs.Common.{◌∙◌, ap, sym, subst}
-use Rattle.std.specs.Prelude.{IfOk}
-use Rattle.std.specs.Result.{result_err}
-use Rattle.line_model.specs.packets.Classes.{class_of}
-use Rattle.line_model.specs.channels.ChannelStep.{verdict, verdict_step}
+use Rattle.std.proofs.Common.{◌≡◌, ◌≤◌, ◌∙◌, ap, sym, subst, None}
+use Rattle.std.specs.Prelude.{IfOk, IfNone}
+use Rattle.line_model.specs.basics.Records.{Item}
+use Rattle.line_model.specs.declared.packet.Class.TheVariants.{Data}
+use Rattle.line_model.specs.channels.ChannelStep.{failing, transferring, verdict, verdict_step}
 use Rattle.line_model.specs.declared.table.Action.TheVariants.{Normal}
-use Rattle.packet_decode.specs.Transfers.{AreTransferOf}
+use Rattle.line_model.specs.packets.Classes.{packet_class}
+use Rattle.line_model.specs.packets.Formats.{format_fault}
 use Rattle.channel_machine.specs.Channels.{Does}
+use Rattle.channel_machine.specs.Entries.{is_transfer}
+use Rattle.channel_machine.specs.Sizes.{largest_length}
+use Rattle.channel_machine.proofs.FirstFault.{first_fault_is, transfer_no_call, undirected}
 use Rattle.channel_machine.proofs.channel.StatusChannel.handle_transfer.Goals as goal
 
-pub returns-in-Ok-clause-does : goal.returns-in-Ok-clause-does
-returns-in-Ok-clause-does g c k s =
+pub returns-in-Some-clause-does : goal.returns-in-Some-clause-does
+returns-in-Some-clause-does g c k s =
     let old = c.args.self.now in
     let i = old.terms.interface in
-    let xs = c.args.octets.now in
+    let r : Item = c.args.item.now in
     let judgement = c.args.judgement.now in
-    subst (λ f. IfOk c.carry.result (λ _. Does judgement.origin old c.carry.new.self c.args.events.now.items c.carry.new.events.items
-    (verdict_step i judgement.side judgement.state (class_of i xs) xs (verdict (record { state = judgement.state; entry = Normal }) f) k)))
-    (ap result_err (sym c.in-Ok.is) ∙ c.read_transfer.ensures.fault k s)
-    (c.carry.ensures.does xs (subst (λ r. IfOk r (λ r. AreTransferOf r i xs)) c.in-Ok.is c.read_transfer.ensures.contents) k s)
-
-pub returns-in-Err-clause-does : goal.returns-in-Err-clause-does
-returns-in-Err-clause-does g c k s =
-    let old = c.args.self.now in
-    let i = old.terms.interface in
-    let xs = c.args.octets.now in
-    let judgement = c.args.judgement.now in
+    let class = c.class-class.ensures ∙ ap (λ (x : Item). packet_class x.packet) c.item.view_is in
+    let long = ap (λ (x : Item). x.length) c.item.view_is in
+    let side = c.requires.side in
+    let transfer = ap is_transfer class ∙ c.requires.transfer in
+    let fault = first_fault_is i old.channel k r c.class-class.result None c.length_fault.result class (undirected i old.channel r.side c.class-class.result transfer)
+    (c.length_fault.ensures.fault k r.octets s (transfer_no_call c.class-class.result transfer) ∙ (λ j. format_fault i k (side j) c.class-class.result (long j) r.octets)) in
     subst (λ f. IfOk c.fail.result (λ _. Does judgement.origin old c.fail.new.self c.args.events.now.items c.fail.new.events.items
-    (verdict_step i judgement.side judgement.state (class_of i xs) xs (verdict (record { state = judgement.state; entry = Normal }) f) k)))
-    (ap result_err (sym c.in-Err.is) ∙ c.read_transfer.ensures.fault k s)
-    (c.fail.ensures.does k s)
+    (verdict_step i judgement.state r (verdict (record { state = judgement.state; entry = Normal }) f) k)))
+    (sym c.in-Some.is ∙ fault)
+    (subst (λ x. IfOk c.fail.result (λ _. Does judgement.origin old c.fail.new.self c.args.events.now.items c.fail.new.events.items (failing x judgement.state c.in-Some.code k)))
+    side (c.fail.ensures.does k s))
+
+pub returns-in-None-clause-does : goal.returns-in-None-clause-does
+returns-in-None-clause-does g c k s =
+    let old = c.args.self.now in
+    let i = old.terms.interface in
+    let r : Item = c.args.item.now in
+    let judgement = c.args.judgement.now in
+    let class = c.class-class.ensures ∙ ap (λ (x : Item). packet_class x.packet) c.item.view_is in
+    let long = ap (λ (x : Item). x.length) c.item.view_is in
+    let side = c.requires.side in
+    let transfer = ap is_transfer class ∙ c.requires.transfer in
+    let fault = first_fault_is i old.channel k r c.class-class.result None c.length_fault.result class (undirected i old.channel r.side c.class-class.result transfer)
+    (c.length_fault.ensures.fault k r.octets s (transfer_no_call c.class-class.result transfer) ∙ (λ j. format_fault i k (side j) c.class-class.result (long j) r.octets)) in
+    subst (λ f. IfOk c.carry.result (λ _. Does judgement.origin old c.carry.new.self c.args.events.now.items c.carry.new.events.items
+    (verdict_step i judgement.state r (verdict (record { state = judgement.state; entry = Normal }) f) k)))
+    (sym c.in-None.is ∙ fault)
+    (subst (λ v. IfOk c.carry.result (λ _. Does judgement.origin old c.carry.new.self c.args.events.now.items c.carry.new.events.items (transferring i judgement.state v r k)))
+    class (c.carry.ensures.does k s))
+
+pub carry-requires-clause-class : goal.carry-requires-clause-class
+carry-requires-clause-class g c = c.class-class.ensures ∙ ap (λ (x : Item). packet_class x.packet) c.item.view_is
+
+pub carry-requires-clause-short : goal.carry-requires-clause-short
+carry-requires-clause-short g c =
+    λ e. subst (λ (x : Item). x.length ≤ largest_length) c.item.view_is (subst (λ o. IfNone o (c.class-class.result ≡ Data → c.item.inside.length ≤ largest_length)) c.in-None.is c.length_fault.ensures.short e)

@@ -20,6 +20,6 @@ returns-clause-stands g c = λ p of_interface of_channel of_epoch no_items. reco
       subst (g.C.Channel.stands_for c.fresh.result)
       (λ j. channel_after (sym of_interface j) (sym of_channel j) (fresh (sym of_interface j) (sym of_epoch j) (sym of_channel j)) (sym no_items j)) c.fresh.ensures.stands;
   counted =
-      subst (λ (l : List Item). Counts c.in_ok-new.field-0 p.epoch p.channel (map event_of (piece_value (x25 p.interface) p.epoch p.channel (fresh p.interface p.epoch p.channel) (map (λ i. i.row) l) None)))
+      subst (λ (l : List Item). Counts c.in_ok-new.field-0 p.epoch p.channel (map event_of (piece_value (x25 p.interface) p.epoch p.channel (fresh p.interface p.epoch p.channel) l None)))
       (sym no_items) (c.in_ok-new.ensures.none p.epoch p.channel);
 }

@@ -1,4 +1,4 @@
-use Rattle.std.proofs.Common.{◌≡◌, ◌∙◌, ◌||◌, ◌++◌, List, append-nil, refl, subst, sym}
+use Rattle.std.proofs.Common.{◌∙◌, ◌||◌, ◌++◌, List, append-nil, refl, subst, sym}
 use Rattle.line_model.specs.declared.event.Event.{Event}
 use Rattle.channel_run.proofs.LiveLemmas.{whole_list}
 use Rattle.descriptions.specs.CallRows.{Hears}

@@ -1,4 +1,4 @@
-use Rattle.std.proofs.Common.{◌≡◌, ◌∙◌, ap, refl, sym, ◌-◌}
+use Rattle.std.proofs.Common.{ap, refl, sym, ◌-◌}
 use Rattle.descriptions.proofs.CallLemmas.{opened_later, opened_now}
 use Rattle.descriptions.proofs.call_rows.CallRows.open.Goals as goal
 

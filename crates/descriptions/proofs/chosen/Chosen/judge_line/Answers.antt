@@ -1,12 +1,14 @@
 use Rattle.std.proofs.Common.{◌≡◌, ◌≢◌, ◌∙◌, ◌++◌, ◌∷◌, [], ap, length, option_map, refl, subst, sym, Some, None, IfSome}
 use Rattle.std.specs.Option.{option_to_list}
+use Rattle.line_model.specs.packets.Says.{item_of, items_of}
+use Rattle.line_model.proofs.Saying.{said_count}
 use Rattle.line_model.specs.text.Text.{early_rows, head_of, rows_in}
 use Rattle.trace_text.proofs.FeedLemmas.{rows-sound}
 use Rattle.live_report.proofs.LiveLemmas.{nothing_seen, observing_of}
 use Rattle.annotated_trace.specs.Rows.{asked_call, row_written}
 use Rattle.descriptions.specs.CallRows.{Follows}
 use Rattle.live_report.specs.Observing.{StandsFor}
-use Rattle.descriptions.proofs.ChoiceLemmas.{chosen_same, head_is, headed_row, no_rows_written, none_mapped, none_written, one_written, rows_written, same_head, told_none, told_some}
+use Rattle.descriptions.proofs.ChoiceLemmas.{items_written, chosen_same, head_is, headed_row, no_rows_written, none_mapped, none_written, one_written, rows_written, same_head, told_none, told_some}
 use Rattle.descriptions.proofs.chosen.Chosen.judge_line.Goals as goal
 
 pub returns-in_default-clause-told : goal.returns-in_default-clause-told
@@ -25,42 +27,42 @@ pub returns-then-packets-self-clause-told : goal.returns-then-packets-self-claus
 returns-then-packets-self-clause-told g c before line text h s lines =
     let w = observing_of g.C.Channel.interface_of g.C.Channel.number_of g.C.Channel.stands_for c.args.trace.now text c.in-Some.observer.now s (sym c.observer.ensures ∙ ap (option_map (λ o. o.now)) c.in-Some.is) in
     let rows = rows-sound text s.reads.sound ∙ ap rows_in lines ∙ rows_written before line in
-    let count = ap (λ l. length l) (sym rows) ∙ sym (c.packets.ensures.walked w.0 (early_rows text) w.1.observes) ∙ c.if-packets-self.true ∙ h.packets in
+    let count = ap (λ l. length l) (sym rows) ∙ sym (c.packets.ensures.walked w.0 (items_of w.0 (early_rows text)) w.1.observes ∙ said_count w.0 (early_rows text)) ∙ c.if-packets-self.true ∙ h.packets in
     told_none c.args.self.now.rows (head_of before) (rows_in before) (row_written before line) (none_written (rows_in before) (row_written before line) count)
 
 pub returns-then-packets-self-clause-chosen : goal.returns-then-packets-self-clause-chosen
 returns-then-packets-self-clause-chosen g c before line text h s lines =
     let w = observing_of g.C.Channel.interface_of g.C.Channel.number_of g.C.Channel.stands_for c.args.trace.now text c.in-Some.observer.now s (sym c.observer.ensures ∙ ap (option_map (λ o. o.now)) c.in-Some.is) in
     let rows = rows-sound text s.reads.sound ∙ ap rows_in lines ∙ rows_written before line in
-    let count = ap (λ l. length l) (sym rows) ∙ sym (c.packets.ensures.walked w.0 (early_rows text) w.1.observes) ∙ c.if-packets-self.true ∙ h.packets in
+    let count = ap (λ l. length l) (sym rows) ∙ sym (c.packets.ensures.walked w.0 (items_of w.0 (early_rows text)) w.1.observes ∙ said_count w.0 (early_rows text)) ∙ c.if-packets-self.true ∙ h.packets in
     chosen_same before line c.args.self.now h (none_written (rows_in before) (row_written before line) count)
 
 pub returns-clause-told : goal.returns-clause-told
 returns-clause-told g c before line text h s lines =
     let w = observing_of g.C.Channel.interface_of g.C.Channel.number_of g.C.Channel.stands_for c.args.trace.now text c.in-Some.observer.now s (sym c.observer.ensures ∙ ap (option_map (λ o. o.now)) c.in-Some.is) in
     let rows = rows-sound text s.reads.sound ∙ ap rows_in lines ∙ rows_written before line in
-    let other : length (rows_in before ++ option_to_list (row_written before line)) ≢ length (rows_in before) = λ same. c.if-packets-self.false (c.packets.ensures.walked w.0 (early_rows text) w.1.observes ∙ ap (λ l. length l) rows ∙ same ∙ sym h.packets) in
+    let other : length (rows_in before ++ option_to_list (row_written before line)) ≢ length (rows_in before) = λ same. c.if-packets-self.false (c.packets.ensures.walked w.0 (items_of w.0 (early_rows text)) w.1.observes ∙ said_count w.0 (early_rows text) ∙ ap (λ l. length l) rows ∙ same ∙ sym h.packets) in
     let one = one_written (rows_in before) (row_written before line) other in
     let row = rows ∙ ap (λ o. rows_in before ++ option_to_list o) one.1 in
     let head = sym (headed_row before line one.0 one.1) ∙ ap head_of (sym lines) ∙ sym s.reads.interface ∙ w.1.header in
     told_some c.args.self.now.rows (head_of before) w.0 (rows_in before) (row_written before line) one.0 c.judge-told.result head one.1
-    (c.judge-told.ensures.told w.0 (rows_in before) one.0 (h.call w.0 (head_is (head_of before) w.0 head)) h.number
-    (subst (λ rs. StandsFor g.C.Channel.interface_of g.C.Channel.number_of g.C.Channel.stands_for w.0 rs c.in-Some.observer.now) row w.1.observes))
+    (c.judge-told.ensures.told w.0 (items_of w.0 (rows_in before)) (item_of w.0 one.0) (h.call w.0 (head_is (head_of before) w.0 head)) h.number
+    (subst (λ rs. StandsFor g.C.Channel.interface_of g.C.Channel.number_of g.C.Channel.stands_for w.0 rs c.in-Some.observer.now) (items_written w.0 (early_rows text) (rows_in before) one.0 row) w.1.observes))
 
 pub returns-clause-chosen : goal.returns-clause-chosen
 returns-clause-chosen g c before line text h s lines =
     let w = observing_of g.C.Channel.interface_of g.C.Channel.number_of g.C.Channel.stands_for c.args.trace.now text c.in-Some.observer.now s (sym c.observer.ensures ∙ ap (option_map (λ o. o.now)) c.in-Some.is) in
     let rows = rows-sound text s.reads.sound ∙ ap rows_in lines ∙ rows_written before line in
-    let other : length (rows_in before ++ option_to_list (row_written before line)) ≢ length (rows_in before) = λ same. c.if-packets-self.false (c.packets.ensures.walked w.0 (early_rows text) w.1.observes ∙ ap (λ l. length l) rows ∙ same ∙ sym h.packets) in
+    let other : length (rows_in before ++ option_to_list (row_written before line)) ≢ length (rows_in before) = λ same. c.if-packets-self.false (c.packets.ensures.walked w.0 (items_of w.0 (early_rows text)) w.1.observes ∙ said_count w.0 (early_rows text) ∙ ap (λ l. length l) rows ∙ same ∙ sym h.packets) in
     let one = one_written (rows_in before) (row_written before line) other in
     let row = rows ∙ ap (λ o. rows_in before ++ option_to_list o) one.1 in
     let head = sym (headed_row before line one.0 one.1) ∙ ap head_of (sym lines) ∙ sym s.reads.interface ∙ w.1.header in
     let last : head_of (before ++ line ∷ []) ≡ Some w.0 = ap head_of (sym lines) ∙ sym s.reads.interface ∙ w.1.header in
     let all : rows_in (before ++ line ∷ []) ≡ rows_in before ++ one.0 ∷ [] = rows_written before line ∙ ap (λ o. rows_in before ++ option_to_list o) one.1 in
-    let follows = c.judge-told.ensures.follows w.0 (rows_in before) one.0 (h.call w.0 (head_is (head_of before) w.0 head))
-    (subst (λ rs. StandsFor g.C.Channel.interface_of g.C.Channel.number_of g.C.Channel.stands_for w.0 rs c.in-Some.observer.now) row w.1.observes) in
+    let follows = c.judge-told.ensures.follows w.0 (items_of w.0 (rows_in before)) (item_of w.0 one.0) (h.call w.0 (head_is (head_of before) w.0 head))
+    (subst (λ rs. StandsFor g.C.Channel.interface_of g.C.Channel.number_of g.C.Channel.stands_for w.0 rs c.in-Some.observer.now) (items_written w.0 (early_rows text) (rows_in before) one.0 row) w.1.observes) in
     record {
-      packets = c.judge-told.ensures.packets ∙ c.packets-self.ensures.walked w.0 (early_rows text) w.1.observes ∙ ap (λ l. length l) (row ∙ sym all);
+      packets = c.judge-told.ensures.packets ∙ c.packets-self.ensures.walked w.0 (items_of w.0 (early_rows text)) w.1.observes ∙ said_count w.0 (early_rows text) ∙ ap (λ l. length l) (row ∙ sym all);
       number = c.judge-told.ensures.number ∙ h.number ∙ ap asked_call (sym c.judge-told.ensures.rows);
-      call = λ j headed. subst (λ x. Follows x (rows_in (before ++ line ∷ [])) c.judge-told.new.self.call) (same_head (head_of (before ++ line ∷ [])) w.0 j last headed) (subst (λ rs. Follows w.0 rs c.judge-told.new.self.call) (sym all) follows);
+      call = λ j headed. subst (λ x. Follows x (items_of x (rows_in (before ++ line ∷ []))) c.judge-told.new.self.call) (same_head (head_of (before ++ line ∷ [])) w.0 j last headed) (subst (λ items. Follows w.0 items c.judge-told.new.self.call) (sym (items_written w.0 (rows_in (before ++ line ∷ [])) (rows_in before) one.0 all)) follows);
     }

@@ -1,4 +1,4 @@
-use Rattle.std.proofs.Common.{◌≡◌, ap, Some, arith}
+use Rattle.std.proofs.Common.{ap, Some, arith}
 use Rattle.std.proofs.Math.ListN.{drop_of_length-le}
 use Rattle.descriptions.proofs.line_room.LineRoom.clear.Goals as goal
 

@@ -1,8 +1,7 @@
-use Rattle.std.proofs.Common.{◌≡◌, ◌∙◌, ◌++◌, ◌∷◌, [], ap, append-nil, option_map, refl, subst, sym, true, false, not, Bool, List, Option, Some, None}
+use Rattle.std.proofs.Common.{◌≡◌, ◌∙◌, ◌++◌, [], ap, append-nil, option_map, refl, subst, sym}
 use Rattle.std.specs.Prelude.{OnOk}
 use Rattle.std.specs.Option.{option_to_list}
-use Rattle.line_model.specs.basics.Records.{Row}
-use Rattle.line_model.specs.declared.interface.Interface.{Interface}
+use Rattle.line_model.specs.packets.Says.{item_of, items_of}
 use Rattle.line_model.specs.text.Text.{early_rows, head_of, rows_in}
 use Rattle.trace_text.proofs.FeedLemmas.{rows-sound}
 use Rattle.live_report.proofs.LiveLemmas.{nothing_seen, observing_of}
@@ -10,7 +9,7 @@ use Rattle.live_report.specs.Observing.{StandsFor}
 use Rattle.annotated_trace.specs.Printed.{HasAppended}
 use Rattle.annotated_trace.specs.Rows.{row_written}
 use Rattle.descriptions.specs.RowObjects.{IsObjectWhere, IsRowObject}
-use Rattle.descriptions.proofs.ChoiceLemmas.{headed_row, no_rows_written, none_mapped, rows_written, some_one}
+use Rattle.descriptions.proofs.ChoiceLemmas.{items_written, headed_row, no_rows_written, none_mapped, rows_written, some_one}
 use Rattle.descriptions.proofs.ObjectLemmas.{no_row, same_interface}
 use Rattle.descriptions.proofs.row_objects.Past.append_row.Goals as goal
 
@@ -24,21 +23,21 @@ pub returns-in_default-last_row-clause-object : goal.returns-in_default-last_row
 returns-in_default-last_row-clause-object g c i before line r text s lines head row =
     let w = observing_of g.C.Channel.interface_of g.C.Channel.number_of g.C.Channel.stands_for c.args.trace.now text c.in-Some.observer.now s (sym c.observer.ensures ∙ ap (option_map (λ o. o.now)) c.in-Some.is) in
     let rows = rows-sound text s.reads.sound ∙ ap rows_in lines ∙ rows_written before line ∙ ap (λ o. rows_in before ++ option_to_list o) row in
-    absurd (some_one c.last_row.result _ (c.last_row.ensures w.0 (rows_in before) r (subst (λ rs. StandsFor g.C.Channel.interface_of g.C.Channel.number_of g.C.Channel.stands_for w.0 rs c.in-Some.observer.now) rows w.1.observes)) c.in_default-last_row.not-Some)
+    absurd (some_one c.last_row.result _ (c.last_row.ensures w.0 (items_of w.0 (rows_in before)) (item_of w.0 r) (subst (λ rs. StandsFor g.C.Channel.interface_of g.C.Channel.number_of g.C.Channel.stands_for w.0 rs c.in-Some.observer.now) (items_written w.0 (early_rows text) (rows_in before) r rows) w.1.observes)) c.in_default-last_row.not-Some)
 
 pub returns-clause-object : goal.returns-clause-object
 returns-clause-object g c i before line r text s lines head row =
     let w = observing_of g.C.Channel.interface_of g.C.Channel.number_of g.C.Channel.stands_for c.args.trace.now text c.in-Some.observer.now s (sym c.observer.ensures ∙ ap (option_map (λ o. o.now)) c.in-Some.is) in
     let rows = rows-sound text s.reads.sound ∙ ap rows_in lines ∙ rows_written before line ∙ ap (λ o. rows_in before ++ option_to_list o) row in
-    let walked = subst (λ rs. StandsFor g.C.Channel.interface_of g.C.Channel.number_of g.C.Channel.stands_for w.0 rs c.in-Some.observer.now) rows w.1.observes in
+    let walked = subst (λ rs. StandsFor g.C.Channel.interface_of g.C.Channel.number_of g.C.Channel.stands_for w.0 rs c.in-Some.observer.now) (items_written w.0 (early_rows text) (rows_in before) r rows) w.1.observes in
     let same : w.0 ≡ i = same_interface (head_of before) w.0 i (sym (headed_row before line r row) ∙ ap head_of (sym lines) ∙ sym s.reads.interface ∙ w.1.header) head in
-    let facts = c.facts-facts.ensures w.0 (rows_in before) r (c.in-Some-last_row.ensures w.0 (rows_in before) r walked) in
+    let facts = c.facts-facts.ensures w.0 (items_of w.0 (rows_in before)) (item_of w.0 r) (c.in-Some-last_row.ensures w.0 (items_of w.0 (rows_in before)) (item_of w.0 r) walked) in
     let out = c.args.out.now.items in
     let after = c.append_object.new.out.items in
-    subst (λ b. OnOk c.append_object.result (HasAppended (IsObjectWhere b i (rows_in before) r) out after)) (sym c.if-not-told.false)
-    (subst (λ j. OnOk c.append_object.result (HasAppended (IsRowObject j (rows_in before) r) out after)) same (c.append_object.ensures w.0 (rows_in before) r facts))
+    subst (λ b. OnOk c.append_object.result (HasAppended (IsObjectWhere b i (items_of i (rows_in before)) (item_of i r)) out after)) (sym c.if-not-told.false)
+    (subst (λ j. OnOk c.append_object.result (HasAppended (IsRowObject j (items_of j (rows_in before)) (item_of j r)) out after)) same (c.append_object.ensures w.0 (items_of w.0 (rows_in before)) (item_of w.0 r) facts))
 
 pub returns-then-not-told-clause-object : goal.returns-then-not-told-clause-object
 returns-then-not-told-clause-object g c i before line r text s lines head row =
-    subst (λ b. HasAppended (IsObjectWhere b i (rows_in before) r) c.args.out.now.items c.args.out.now.items) (sym c.if-not-told.true)
+    subst (λ b. HasAppended (IsObjectWhere b i (items_of i (rows_in before)) (item_of i r)) c.args.out.now.items c.args.out.now.items) (sym c.if-not-told.true)
     (record { bytes = []; appended = sym (append-nil c.args.out.now.items); formed = refl })

@@ -1,9 +1,10 @@
 use Rattle.std.proofs.Common.{◌∙◌, ◌++◌, [], ap, subst}
+use Rattle.line_model.specs.packets.Says.{items_of}
 use Rattle.line_model.specs.text.Text.{early_rows, fault}
-use Rattle.trace_text.specs.StandsFor.{IsFaultOf, last_row}
-use Rattle.live_report.specs.Observing.{AreRows}
+use Rattle.trace_text.specs.StandsFor.{IsFaultOf}
+use Rattle.live_report.specs.Observing.{AreItems, last_item}
 use Rattle.live_report.proofs.LiveLemmas.{nothing_seen, observing_of}
-use Rattle.live_report.proofs.ReportLemmas.{memory_only, told_at, whole_header, whole_trace}
+use Rattle.live_report.proofs.ReportLemmas.{ended_items, memory_only, told_at, whole_header, whole_trace}
 use Rattle.live_report.proofs.UncountedLemmas.{of_the_text}
 use Rattle.live_report.proofs.live.Live.whole.Goals as goal
 
@@ -11,24 +12,26 @@ pub finish_observing-requires : goal.finish_observing-requires
 finish_observing-requires g c =
     let room = c.requires.fed.fed c.in_default.is in
     let seen = observing_of g.C.Channel.interface_of g.C.Channel.number_of g.C.Channel.stands_for c.args.self room.0 c.in-Some-observer.observer room.1 c.in-Some-observer.is in
-    let all = c.in_ok-interface.ensures.row room.0 room.1.reads in
-    let sound = subst AreRows all (whole_trace room.0 (c.in_ok-interface.ensures.ok room.0 room.1.reads).0) in
-    record { room = (seen.0, early_rows room.0, seen.1.observes, sound) }
+    let all = ended_items seen.0 room.0 c.in_ok-interface.field-0.has_row c.end_row.new.row (c.in_ok-interface.ensures.row room.0 room.1.reads) in
+    let sound = subst (AreItems seen.0) all (whole_trace seen.0 room.0 (c.in_ok-interface.ensures.ok room.0 room.1.reads).0) in
+    record { room = (seen.0, items_of seen.0 (early_rows room.0), seen.1.observes, sound) }
 
 pub finish_observing-requires-in-None : goal.finish_observing-requires-in-None
 finish_observing-requires-in-None g c =
     let room = c.requires.fed.fed c.in_default.is in
+    let i = c.in_ok-interface.field-0.interface in
     let none = nothing_seen g.C.Channel.interface_of g.C.Channel.number_of g.C.Channel.stands_for c.args.self room.0 room.1 c.in-None.is in
-    let all = c.in_ok-interface.ensures.row room.0 room.1.reads in
-    let sound = subst AreRows all (whole_trace room.0 (c.in_ok-interface.ensures.ok room.0 room.1.reads).0) in
-    record { room = (c.in_ok-interface.field-0.interface, [], c.new.ensures, subst (λ rows. AreRows (rows ++ last_row c.in_ok-interface.field-0.has_row c.end_row.new.row)) none sound) }
+    let all = ended_items i room.0 c.in_ok-interface.field-0.has_row c.end_row.new.row (c.in_ok-interface.ensures.row room.0 room.1.reads) in
+    let sound = subst (AreItems i) all (whole_trace i room.0 (c.in_ok-interface.ensures.ok room.0 room.1.reads).0) in
+    let bare = ap (λ rows. items_of i rows ++ last_item i c.in_ok-interface.field-0.has_row c.end_row.new.row) none in
+    record { room = (i, [], c.new.ensures, subst (AreItems i) bare sound) }
 
 pub returns-in-Some-observer-clause-told : goal.returns-in-Some-observer-clause-told
 returns-in-Some-observer-clause-told g c text s =
     let seen = observing_of g.C.Channel.interface_of g.C.Channel.number_of g.C.Channel.stands_for c.args.self text c.in-Some-observer.observer s c.in-Some-observer.is in
-    let all = c.in_ok-interface.ensures.row text s.reads in
-    let sound = subst AreRows all (whole_trace text (c.in_ok-interface.ensures.ok text s.reads).0) in
-    told_at text seen.0 _ c.finish_observing.result (c.finish_observing.ensures.report seen.0 (early_rows text) seen.1.observes sound) (c.in_ok-interface.ensures.ok text s.reads).0
+    let all = ended_items seen.0 text c.in_ok-interface.field-0.has_row c.end_row.new.row (c.in_ok-interface.ensures.row text s.reads) in
+    let sound = subst (AreItems seen.0) all (whole_trace seen.0 text (c.in_ok-interface.ensures.ok text s.reads).0) in
+    told_at text seen.0 _ c.finish_observing.result (c.finish_observing.ensures.report seen.0 (items_of seen.0 (early_rows text)) seen.1.observes sound) (c.in_ok-interface.ensures.ok text s.reads).0
     (whole_header c.args.self.lines text seen.0 s.reads seen.1.header) all
 
 pub returns-in-Some-observer-clause-refused : goal.returns-in-Some-observer-clause-refused
@@ -36,12 +39,13 @@ returns-in-Some-observer-clause-refused g c text s = memory_only (IsFaultOf (fau
 
 pub returns-clause-told : goal.returns-clause-told
 returns-clause-told g c text s =
+    let i = c.in_ok-interface.field-0.interface in
     let none = nothing_seen g.C.Channel.interface_of g.C.Channel.number_of g.C.Channel.stands_for c.args.self text s c.in-None.is in
-    let all = c.in_ok-interface.ensures.row text s.reads in
-    let sound = subst AreRows all (whole_trace text (c.in_ok-interface.ensures.ok text s.reads).0) in
-    told_at text c.in_ok-interface.field-0.interface _ c.finish_observing-in-None.result
-    (c.finish_observing-in-None.ensures.report c.in_ok-interface.field-0.interface [] c.new.ensures (subst (λ rows. AreRows (rows ++ last_row c.in_ok-interface.field-0.has_row c.end_row.new.row)) none sound))
-    (c.in_ok-interface.ensures.ok text s.reads).0 (c.in_ok-interface.ensures.ok text s.reads).1 (all ∙ ap (λ rows. rows ++ last_row c.in_ok-interface.field-0.has_row c.end_row.new.row) none)
+    let all = ended_items i text c.in_ok-interface.field-0.has_row c.end_row.new.row (c.in_ok-interface.ensures.row text s.reads) in
+    let sound = subst (AreItems i) all (whole_trace i text (c.in_ok-interface.ensures.ok text s.reads).0) in
+    let bare = ap (λ rows. items_of i rows ++ last_item i c.in_ok-interface.field-0.has_row c.end_row.new.row) none in
+    told_at text i _ c.finish_observing-in-None.result (c.finish_observing-in-None.ensures.report i [] c.new.ensures (subst (AreItems i) bare sound)) (c.in_ok-interface.ensures.ok text s.reads).0
+    (c.in_ok-interface.ensures.ok text s.reads).1 (all ∙ bare)
 
 pub returns-clause-refused : goal.returns-clause-refused
 returns-clause-refused g c text s = memory_only (IsFaultOf (fault text)) c.finish_observing-in-None.result c.finish_observing-in-None.ensures.memory tt
@@ -49,16 +53,17 @@ returns-clause-refused g c text s = memory_only (IsFaultOf (fault text)) c.finis
 pub returns-in-Some-observer-clause-uncounted : goal.returns-in-Some-observer-clause-uncounted
 returns-in-Some-observer-clause-uncounted g c text s =
     let seen = observing_of g.C.Channel.interface_of g.C.Channel.number_of g.C.Channel.stands_for c.args.self text c.in-Some-observer.observer s c.in-Some-observer.is in
-    let all = c.in_ok-interface.ensures.row text s.reads in
-    let sound = subst AreRows all (whole_trace text (c.in_ok-interface.ensures.ok text s.reads).0) in
-    of_the_text c.finish_observing.result text seen.0 _ _ (c.finish_observing.ensures.uncounted seen.0 (early_rows text) seen.1.observes sound)
+    let all = ended_items seen.0 text c.in_ok-interface.field-0.has_row c.end_row.new.row (c.in_ok-interface.ensures.row text s.reads) in
+    let sound = subst (AreItems seen.0) all (whole_trace seen.0 text (c.in_ok-interface.ensures.ok text s.reads).0) in
+    of_the_text c.finish_observing.result text seen.0 _ _ (c.finish_observing.ensures.uncounted seen.0 (items_of seen.0 (early_rows text)) seen.1.observes sound)
     (whole_header c.args.self.lines text seen.0 s.reads seen.1.header) all
 
 pub returns-clause-uncounted : goal.returns-clause-uncounted
 returns-clause-uncounted g c text s =
+    let i = c.in_ok-interface.field-0.interface in
     let none = nothing_seen g.C.Channel.interface_of g.C.Channel.number_of g.C.Channel.stands_for c.args.self text s c.in-None.is in
-    let all = c.in_ok-interface.ensures.row text s.reads in
-    let sound = subst AreRows all (whole_trace text (c.in_ok-interface.ensures.ok text s.reads).0) in
-    of_the_text c.finish_observing-in-None.result text c.in_ok-interface.field-0.interface _ _
-    (c.finish_observing-in-None.ensures.uncounted c.in_ok-interface.field-0.interface [] c.new.ensures (subst (λ rows. AreRows (rows ++ last_row c.in_ok-interface.field-0.has_row c.end_row.new.row)) none sound))
-    (c.in_ok-interface.ensures.ok text s.reads).1 (all ∙ ap (λ rows. rows ++ last_row c.in_ok-interface.field-0.has_row c.end_row.new.row) none)
+    let all = ended_items i text c.in_ok-interface.field-0.has_row c.end_row.new.row (c.in_ok-interface.ensures.row text s.reads) in
+    let sound = subst (AreItems i) all (whole_trace i text (c.in_ok-interface.ensures.ok text s.reads).0) in
+    let bare = ap (λ rows. items_of i rows ++ last_item i c.in_ok-interface.field-0.has_row c.end_row.new.row) none in
+    of_the_text c.finish_observing-in-None.result text i _ _ (c.finish_observing-in-None.ensures.uncounted i [] c.new.ensures (subst (AreItems i) bare sound))
+    (c.in_ok-interface.ensures.ok text s.reads).1 (all ∙ bare)

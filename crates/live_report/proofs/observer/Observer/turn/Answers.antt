@@ -31,7 +31,7 @@ pub returns-in-ToChannel-clause-ended : goal.returns-in-ToChannel-clause-ended
 returns-in-ToChannel-clause-ended g c rows stands reports was =
     on_any c.step_channel.result _
     (was ∙ ap gathered (sym (append-nil reports))
-    ∙ ap (λ t. gathered (reports ++ map value (ended_by t c.args.self.now.walk.interface c.args.self.now.walk.epoch c.args.item.now.row.number (length reports) rows))) (sym c.in-ToChannel.is))
+    ∙ ap (λ t. gathered (reports ++ map value (ended_by t c.args.self.now.walk.interface c.args.self.now.walk.epoch c.args.item.now.number (length reports) rows))) (sym c.in-ToChannel.is))
 
 pub returns-in-ToChannel-clause-channel : goal.returns-in-ToChannel-clause-channel
 returns-in-ToChannel-clause-channel g c = subst (λ t. IfOk c.step_channel.result (λ last. last.channel ≡ channel_in t)) (sym c.in-ToChannel.is) c.step_channel.ensures.channel
@@ -51,11 +51,11 @@ returns-in-ToChannel-clause-after g c rows stands after may turned =
 
 pub returns-in-ToChannel-clause-finding : goal.returns-in-ToChannel-clause-finding
 returns-in-ToChannel-clause-finding g c rows stands =
-    subst (λ t. IfOk c.step_channel.result (λ last. FindsAt t c.args.step.now.finding c.args.self.now.walk rows c.args.item.now.row last.finding)) (sym c.in-ToChannel.is) (c.step_channel.ensures.finding rows stands.0)
+    subst (λ t. IfOk c.step_channel.result (λ last. FindsAt t c.args.step.now.finding c.args.self.now.walk rows c.args.item.now last.finding)) (sym c.in-ToChannel.is) (c.step_channel.ensures.finding rows stands.0)
 
 pub returns-in-ToChannel-clause-events : goal.returns-in-ToChannel-clause-events
 returns-in-ToChannel-clause-events g c rows stands =
-    subst (λ t. OnOk c.step_channel.result (HasEvents t c.args.self.now.walk rows c.args.item.now.row c.step_channel.new.events.items)) (sym c.in-ToChannel.is) (c.step_channel.ensures.events rows stands.0)
+    subst (λ t. OnOk c.step_channel.result (HasEvents t c.args.self.now.walk rows c.args.item.now c.step_channel.new.events.items)) (sym c.in-ToChannel.is) (c.step_channel.ensures.events rows stands.0)
 
 pub returns-in_ok-end_channels-in-Ends-clause-lanes : goal.returns-in_ok-end_channels-in-Ends-clause-lanes
 returns-in_ok-end_channels-in-Ends-clause-lanes g c rows stands after may turned =

@@ -5,7 +5,7 @@ use Rattle.live_report.proofs.uncounted.Uncounted.take.Goals as goal
 
 pub returns-in-Some : goal.returns-in-Some
 returns-in-Some c i earlier r l same octets few old =
-    let own : c.user_octets.result ≡ user_octets i r.octets = c.user_octets.ensures ∙ (λ t. user_octets (same t) (octets t)) in
+    let own : c.user_octets.result ≡ user_octets i r.length = c.user_octets.ensures ∙ (λ t. user_octets (same t) (octets t)) in
     c.add.ensures ∙ (λ t. with_one c.in-Some.reason (own t) (old t)) ∙ uncounted_more i earlier r c.in-Some.reason few (sym c.in-Some.is ∙ c.reason_kept.ensures i earlier r l)
 
 pub returns-in_default : goal.returns-in_default

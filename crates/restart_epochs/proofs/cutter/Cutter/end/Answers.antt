@@ -1,6 +1,6 @@
 use Rattle.std.proofs.lemmas.Grind.{common_steps}
 use Rattle.std.proofs.lemmas.Result.{IfOk-from_err}
-use Rattle.std.proofs.Common.{◌≡◌, ◌∙◌, ap, refl, ◌++◌, [], List, length, rules, None, arith}
+use Rattle.std.proofs.Common.{◌≡◌, ◌∙◌, ap, ◌++◌, [], List, length, rules, None, arith}
 use Rattle.line_model.specs.basics.Records.{Piece}
 use Rattle.restart_epochs.specs.OpenRows.{rows_of}
 use Rattle.restart_epochs.specs.Cutting.{given_of, pieces_out}

@@ -10,5 +10,5 @@ returns c = record {
   once = always_once;
   posted = always_posted;
   totals = always_totals;
-  observer = λ i rs capacity moves s leads settled whole. always_totals (plan i rs) capacity moves s (numbers_law i rs) leads settled whole ∙ totals_law i rs;
+  observer = λ i rs capacity moves s said leads settled whole. always_totals (plan i rs) capacity moves s (numbers_law i rs) leads settled whole ∙ totals_law i rs said;
 }

@@ -1,7 +1,5 @@
-use Rattle.std.proofs.Common.{◌≡◌, ◌∙◌, ◌++◌, ◌∷◌, [], refl, ap, sym, subst, append_assoc}
-use Rattle.line_model.specs.basics.Records.{Item}
+use Rattle.std.proofs.Common.{◌∙◌, ◌++◌, ◌∷◌, [], refl, ap, sym, subst, append_assoc}
 use Rattle.line_model.specs.basics.Bounds.{IsPiece}
-use Rattle.channel_run.specs.Live.{StandsFor}
 use Rattle.channel_run.proofs.LiveLemmas.{next_item}
 use Rattle.tests_channels.proofs.channels.live.followed.Goals as goal
 
@@ -17,19 +15,18 @@ pub take-requires : goal.take-requires
 take-requires g c =
     let p = c.args.piece.now in
     let whole : IsPiece p.interface p.channel p.items = subst (λ q. IsPiece q.interface q.channel q.items) c.piece.view_is c.piece.invariant in
-    let room = next_item p.interface p.channel p.items c.loop-item.yielded _ c.next.new.self c.in-Some.item _ whole c.loop-item.invariant.left c.in-Some.ensures.steps refl in
-    record { room = (record p { items = c.loop-item.yielded }, c.loop-item.invariant.stands, (subst (λ t. IsPiece p.interface p.channel (c.loop-item.yielded ++ t ∷ [])) (sym c.with_octets-item.ensures) room)) }
+    let room = next_item p.interface p.channel p.items c.loop-item.yielded _ c.next.new.self c.in-Some.item whole c.loop-item.invariant.left c.in-Some.ensures.steps in
+    record { room = (record p { items = c.loop-item.yielded }, c.loop-item.invariant.stands, room) }
 
 pub told_of-requires : goal.told_of-requires
 told_of-requires g c =
     let p = c.args.piece.now in
     let whole : IsPiece p.interface p.channel p.items = subst (λ q. IsPiece q.interface q.channel q.items) c.piece.view_is c.piece.invariant in
-    let room = next_item p.interface p.channel p.items c.loop-item.yielded _ c.next.new.self c.in-Some.item c.in-Some.item whole c.loop-item.invariant.left c.in-Some.ensures.steps refl in
+    let room = next_item p.interface p.channel p.items c.loop-item.yielded _ c.next.new.self c.in-Some.item whole c.loop-item.invariant.left c.in-Some.ensures.steps in
     record {
       stands = (
         record p { items = c.loop-item.yielded ++ c.in-Some.item ∷ [] },
-        subst (λ t. StandsFor g.C.Channel.interface_of g.C.Channel.number_of g.C.Channel.stands_for c.take.new.self (record p { items = c.loop-item.yielded ++ t ∷ [] })) c.with_octets-item.ensures
-            (c.in_ok-finding.ensures.stands (record p { items = c.loop-item.yielded }) c.loop-item.invariant.stands (subst (λ t. IsPiece p.interface p.channel (c.loop-item.yielded ++ t ∷ [])) (sym c.with_octets-item.ensures) room)),
+        c.in_ok-taken.ensures.stands (record p { items = c.loop-item.yielded }) c.loop-item.invariant.stands room,
       );
     }
 
@@ -37,10 +34,9 @@ pub loop-item-preserved : goal.loop-item-preserved
 loop-item-preserved g c =
     let p = c.args.piece.now in
     let whole : IsPiece p.interface p.channel p.items = subst (λ q. IsPiece q.interface q.channel q.items) c.piece.view_is c.piece.invariant in
-    let room = next_item p.interface p.channel p.items c.loop-item.yielded _ c.next.new.self c.in-Some.item _ whole c.loop-item.invariant.left c.in-Some.ensures.steps refl in
+    let room = next_item p.interface p.channel p.items c.loop-item.yielded _ c.next.new.self c.in-Some.item whole c.loop-item.invariant.left c.in-Some.ensures.steps in
     record {
-      stands = subst (λ t. StandsFor g.C.Channel.interface_of g.C.Channel.number_of g.C.Channel.stands_for c.take.new.self (record p { items = c.loop-item.yielded ++ t ∷ [] })) c.with_octets-item.ensures
-          (c.in_ok-finding.ensures.stands (record p { items = c.loop-item.yielded }) c.loop-item.invariant.stands (subst (λ t. IsPiece p.interface p.channel (c.loop-item.yielded ++ t ∷ [])) (sym c.with_octets-item.ensures) room));
+      stands = c.in_ok-taken.ensures.stands (record p { items = c.loop-item.yielded }) c.loop-item.invariant.stands room;
       left = c.loop-item.invariant.left ∙ ap (λ l. c.loop-item.yielded ++ l) c.in-Some.ensures.steps ∙ sym (append_assoc c.loop-item.yielded (c.in-Some.item ∷ []) c.next.new.self);
     }
 

@@ -1,4 +1,4 @@
-use Rattle.std.proofs.Common.{◌≡◌, ◌∙◌, refl, ap, sym, subst}
+use Rattle.std.proofs.Common.{◌∙◌, refl, sym, subst}
 use Rattle.std.specs.Prelude.{All}
 use Rattle.std.proofs.lemmas.List.Elements.{All-head, All-rest}
 use Rattle.line_model.specs.basics.Bounds.{IsItem}
@@ -19,8 +19,7 @@ step_until_taken-requires g c =
     All-head (IsItem i 1) c.in-Some.item c.next.new.self (subst (All (IsItem i 1)) c.in-Some.ensures.steps c.loop-item.invariant.left) in
     let own = subst (λ n. IsItem i n c.in-Some.item) (sym c.loop-item.invariant.number) first in
     let is = subst (λ x. IsItem x (g.C.Channel.number_of c.loop-item.channel) c.in-Some.item) (sym c.loop-item.invariant.interface) own in
-    let same = subst (IsItem (g.C.Channel.interface_of c.loop-item.channel) (g.C.Channel.number_of c.loop-item.channel)) (sym c.with_octets-item.ensures) is in
-    λ k. ((refl, tt), same)
+    λ k. ((refl, tt), is)
 
 pub loop-item-preserved : goal.loop-item-preserved
 loop-item-preserved g c =

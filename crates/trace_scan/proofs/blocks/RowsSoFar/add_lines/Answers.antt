@@ -1,6 +1,7 @@
 use Rattle.std.proofs.Common.{◌∙◌, refl}
-use Rattle.trace_text.specs.StandsFor.{ReadsChunk, TakesRow}
-use Rattle.trace_scan.proofs.BlockReads.{read_end, read_none, read_row}
+use Rattle.live_report.proofs.ChunkLemmas.{ReadsRow}
+use Rattle.trace_text.specs.StandsFor.{ReadsChunk}
+use Rattle.trace_scan.proofs.BlockReads.{read_end, read_none, row_read}
 use Rattle.trace_scan.proofs.blocks.RowsSoFar.add_lines.Goals as goal
 
 pub loop-after-init : goal.loop-after-init
@@ -12,10 +13,10 @@ loop-after-init g c = record {
 pub loop-after-preserved : goal.loop-after-preserved
 loop-after-preserved g c =
     let inv = c.loop-after.invariant in
-    let row : TakesRow c.loop-after.lines c.next_row.new.self c.loop-after.rest.now c.in-Some.after.now c.next_row.new.row = rw c.in-Some.is at c.in_ok-after.ensures.ok in
+    let row : ReadsRow c.loop-after.lines c.next_row.new.self c.loop-after.rest.now c.in-Some.after.now c.next_row.new.row = rw c.in-Some.is at c.in_ok-after.ensures.ok in
     record {
       same = c.in_ok-add.ensures.interface ∙ inv.same;
-      read = λ l text to. read_row l text c.args.bytes.now c.loop-after.rest.now c.in-Some.after.now c.next_row.new.row c.loop-after.lines c.next_row.new.self c.loop-after.self c.add.new.self (inv.read l text to) row (λ rs are. c.in_ok-add.ensures.added l rs are);
+      read = λ l text to. row_read l text c.args.bytes.now c.loop-after.rest.now c.in-Some.after.now c.next_row.new.row c.loop-after.lines c.next_row.new.self c.loop-after.self c.add.new.self (inv.read l text to) row (λ rs last are is. c.in_ok-add.ensures.added l rs last are is);
     }
 
 pub returns-clause-added : goal.returns-clause-added

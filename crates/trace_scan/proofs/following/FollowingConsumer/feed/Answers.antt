@@ -1,4 +1,3 @@
-use Rattle.std.proofs.Common.{◌++◌}
 use Rattle.trace_scan.proofs.FollowLemmas.{fed_of, follow_fed, follow_reads, follow_refused}
 use Rattle.trace_scan.proofs.following.FollowingConsumer.feed.Goals as goal
 

@@ -1,4 +1,4 @@
-use Rattle.std.proofs.Common.{refl, sym, subst}
+use Rattle.std.proofs.Common.{sym, subst}
 use Rattle.std.specs.Prelude.{IfSome}
 use Rattle.trace_text.specs.StandsFor.{IsTextFault}
 use Rattle.trace_scan.proofs.ScanLemmas.{walked_more, walk_refused, walk_reads}

@@ -1,5 +1,4 @@
 use Rattle.std.proofs.Common.{◌++◌}
-use Rattle.trace_scan.specs.TextCuts.{HasTaken}
 use Rattle.trace_scan.proofs.Parts.{begins_more, part_fed, planned_so, taken_length}
 use Rattle.trace_scan.proofs.Texts.{part_next}
 use Rattle.trace_scan.proofs.taken_text.TakenText.take_bytes.Goals as goal

@@ -1,9 +1,10 @@
 use Rattle.std.proofs.Common.{◌≡◌, ◌∙◌, ◌+◌, ◌++◌, refl, subst, length}
+use Rattle.line_model.specs.packets.Says.{items_of}
 use Rattle.line_model.specs.text.Text.{early, early_rows}
 use Rattle.trace_text.proofs.SourceLemmas.{passed_on}
 use Rattle.trace_text.specs.Progress.{bytes_fed}
-use Rattle.trace_text.specs.StandsFor.{IsFaultOf, ReadsChunk, TakesRow}
-use Rattle.trace_scan.proofs.Heads.{next_trace}
+use Rattle.trace_text.specs.StandsFor.{IsFaultOf, ReadsChunk}
+use Rattle.live_report.proofs.ChunkLemmas.{ReadsRow, next_rows}
 use Rattle.trace_scan.proofs.Cuts.{come_begun, come_end, come_pieces, come_row, come_text}
 use Rattle.trace_scan.proofs.text_cutter.RowCutter.cut_lines.Goals as goal
 
@@ -18,19 +19,19 @@ pub cut-requires : goal.cut-requires
 cut-requires g c =
     let text = c.requires.0 in
     let come = c.loop-after.invariant.come text c.requires.1 in
-    let row : TakesRow c.loop-after.lines c.next_row.new.self c.loop-after.rest.now c.in-Some.after.now c.next_row.new.row = rw c.in-Some.is at c.in_ok-after.ensures.ok in
+    let row : ReadsRow c.loop-after.lines c.next_row.new.self c.loop-after.rest.now c.in-Some.after.now c.next_row.new.row = rw c.in-Some.is at c.in_ok-after.ensures.ok in
     record {
       next = (
-        early_rows (text ++ come.read),
+        items_of c.loop-after.self.interface (early_rows (text ++ come.read)),
         come.cut.cut,
-        next_trace c.loop-after.lines c.next_row.new.self (text ++ come.read) c.loop-after.rest.now c.in-Some.after.now c.next_row.new.row come.cut.reads row,
+        next_rows c.loop-after.self.interface c.loop-after.lines c.next_row.new.self (text ++ come.read) c.loop-after.rest.now c.in-Some.after.now c.next_row.new.row come.cut.reads row,
       );
     }
 
 pub loop-after-preserved : goal.loop-after-preserved
 loop-after-preserved g c =
     let inv = c.loop-after.invariant in
-    let row : TakesRow c.loop-after.lines c.next_row.new.self c.loop-after.rest.now c.in-Some.after.now c.next_row.new.row = rw c.in-Some.is at c.in_ok-after.ensures.ok in
+    let row : ReadsRow c.loop-after.lines c.next_row.new.self c.loop-after.rest.now c.in-Some.after.now c.next_row.new.row = rw c.in-Some.is at c.in_ok-after.ensures.ok in
     let size : bytes_fed c.next_row.new.self + length c.in-Some.after.now ≡ bytes_fed c.loop-after.lines + length c.loop-after.rest.now = rw c.in-Some.is at c.in_ok-after.ensures.size in
     record {
       size = size ∙ inv.size;
@@ -39,7 +40,8 @@ loop-after-preserved g c =
           let come = inv.come text cut in
           come_row c.args.self.now.interface text c.args.bytes.now c.loop-after.rest.now c.in-Some.after.now c.next_row.new.row c.loop-after.lines c.next_row.new.self c.loop-after.self c.cut.new.self
           c.args.pieces.now.items c.loop-after.pieces.items c.cut.new.pieces.items come row (c.in_ok-after.ensures.header (text ++ come.read) come.cut.reads) c.in_ok-cut.ensures.interface
-          (c.in_ok-cut.ensures.cut (early_rows (text ++ come.read)) come.cut.cut) (c.in_ok-cut.ensures.pieces (early_rows (text ++ come.read)) come.cut.cut);
+          (c.in_ok-cut.ensures.cut (items_of c.loop-after.self.interface (early_rows (text ++ come.read))) come.cut.cut)
+          (c.in_ok-cut.ensures.pieces (items_of c.loop-after.self.interface (early_rows (text ++ come.read))) come.cut.cut);
     }
 
 pub returns-clause-cut : goal.returns-clause-cut

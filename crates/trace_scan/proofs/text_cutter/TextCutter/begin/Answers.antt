@@ -1,12 +1,15 @@
 use Rattle.std.proofs.Common.{◌∙◌, ◌++◌, ◌∷◌, [], Some, ap, refl, subst, sym}
 use Rattle.std.proofs.lemmas.Result.{IfOk-from_err}
 use Rattle.line_model.specs.text.Text.{early, early_rows}
-use Rattle.restart_epochs.specs.Cutting.{HasAppended}
+use Rattle.line_model.specs.packets.Says.{item_read}
+use Rattle.restart_epochs.specs.Cutting.{HasAppended, given_of}
 use Rattle.trace_text.proofs.SourceLemmas.{passed_on}
-use Rattle.trace_text.specs.StandsFor.{IsFaultOf, ReadsChunk, StandsFor, TakesRow}
-use Rattle.trace_scan.specs.TextCuts.{given_as_read, IsCutTo}
+use Rattle.live_report.proofs.ChunkLemmas.{ReadsRow}
+use Rattle.trace_text.specs.StandsFor.{IsFaultOf, ReadsChunk, StandsFor}
+use Rattle.live_report.proofs.LiveLemmas.{chunk_text, first_rows}
+use Rattle.trace_scan.specs.TextCuts.{HasCut, IsCutTo}
 use Rattle.trace_scan.proofs.Heads.{no_rows_yet, none_cut, taken_of}
-use Rattle.trace_scan.proofs.Firsts.{chunk_text, first_cut, first_pieces, first_trace, no_row_came}
+use Rattle.trace_scan.proofs.Firsts.{first_cut, first_pieces, no_row_came}
 use Rattle.trace_scan.proofs.text_cutter.TextCutter.begin.Goals as goal
 
 pub returns-in_default-clause-taken : goal.returns-in_default-clause-taken
@@ -27,47 +30,47 @@ pub cut-requires : goal.cut-requires
 cut-requires g c =
     let text = c.requires.taken.0 in
     let none = no_rows_yet c.args.self.now text c.requires.taken.1 c.requires.bare in
-    let t : TakesRow c.args.self.now.lines c.next_row.new.self c.args.bytes.now c.in-Some.rest.now c.next_row.new.row = rw c.in-Some.is at c.in_ok-rest.ensures.ok in
-    record { next = ([], c.new-row_cutter.ensures.cut, first_trace c.args.self.now.lines c.next_row.new.self text c.args.bytes.now c.in-Some.rest.now c.next_row.new.row c.requires.taken.1.reads none t) }
+    let t : ReadsRow c.args.self.now.lines c.next_row.new.self c.args.bytes.now c.in-Some.rest.now c.next_row.new.row = rw c.in-Some.is at c.in_ok-rest.ensures.ok in
+    record { next = ([], c.new-row_cutter.ensures.cut, first_rows c.new-row_cutter.result.interface c.args.self.now.lines c.next_row.new.self text c.args.bytes.now c.in-Some.rest.now c.next_row.new.row c.requires.taken.1.reads none t) }
 
 pub cut_lines-requires : goal.cut_lines-requires
 cut_lines-requires g c =
     let text = c.requires.taken.0 in
-    let t : TakesRow c.args.self.now.lines c.next_row.new.self c.args.bytes.now c.in-Some.rest.now c.next_row.new.row = rw c.in-Some.is at c.in_ok-rest.ensures.ok in
+    let t : ReadsRow c.args.self.now.lines c.next_row.new.self c.args.bytes.now c.in-Some.rest.now c.next_row.new.row = rw c.in-Some.is at c.in_ok-rest.ensures.ok in
     let begun = first_cut text c.args.bytes.now c.in-Some.rest.now c.next_row.new.row c.args.self.now.lines c.next_row.new.self c.in-Some-interface.interface c.cut.new.self c.requires.taken.1.reads (no_rows_yet c.args.self.now text c.requires.taken.1 c.requires.bare) t
-    (c.in-Some-interface.ensures.kept ∙ ap (λ v. v.lines.interface) c.self.view_is) (c.in_ok-cut.ensures.interface ∙ c.new-row_cutter.ensures.interface) (c.in_ok-cut.ensures.cut [] c.new-row_cutter.ensures.cut) in
-    (text ++ t.taken, begun)
+    (c.in-Some-interface.ensures.kept ∙ ap (λ v. v.lines.interface) c.self.view_is) (c.in_ok-cut.ensures.interface ∙ c.new-row_cutter.ensures.interface) (subst (λ i. HasCut ([] ++ item_read i c.next_row.new.row ∷ []) c.cut.new.self) c.new-row_cutter.ensures.interface (c.in_ok-cut.ensures.cut [] c.new-row_cutter.ensures.cut)) in
+    (text ++ t.1.taken, begun)
 
 pub returns-in_err-cut_lines-clause-refused : goal.returns-in_err-cut_lines-clause-refused
 returns-in_err-cut_lines-clause-refused g c text taken =
-    let t : TakesRow c.args.self.now.lines c.next_row.new.self c.args.bytes.now c.in-Some.rest.now c.next_row.new.row = rw c.in-Some.is at c.in_ok-rest.ensures.ok in
+    let t : ReadsRow c.args.self.now.lines c.next_row.new.self c.args.bytes.now c.in-Some.rest.now c.next_row.new.row = rw c.in-Some.is at c.in_ok-rest.ensures.ok in
     let begun = first_cut text c.args.bytes.now c.in-Some.rest.now c.next_row.new.row c.args.self.now.lines c.next_row.new.self c.in-Some-interface.interface c.cut.new.self taken.reads (no_rows_yet c.args.self.now text taken c.requires.bare) t
-    (c.in-Some-interface.ensures.kept ∙ ap (λ v. v.lines.interface) c.self.view_is) (c.in_ok-cut.ensures.interface ∙ c.new-row_cutter.ensures.interface) (c.in_ok-cut.ensures.cut [] c.new-row_cutter.ensures.cut) in
+    (c.in-Some-interface.ensures.kept ∙ ap (λ v. v.lines.interface) c.self.view_is) (c.in_ok-cut.ensures.interface ∙ c.new-row_cutter.ensures.interface) (subst (λ i. HasCut ([] ++ item_read i c.next_row.new.row ∷ []) c.cut.new.self) c.new-row_cutter.ensures.interface (c.in_ok-cut.ensures.cut [] c.new-row_cutter.ensures.cut)) in
     passed_on c.from_residual-in_err-cut_lines.result c.in_err-cut_lines.field-0.0 _ c.from_residual-in_err-cut_lines.ensures.1
     (subst (λ x. IsFaultOf (early x) c.in_err-cut_lines.field-0.0) (chunk_text c.args.self.now.lines c.next_row.new.self text c.args.bytes.now c.in-Some.rest.now c.next_row.new.row t)
-    (c.in_err-cut_lines.ensures.refused (text ++ t.taken) begun))
+    (c.in_err-cut_lines.ensures.refused (text ++ t.1.taken) begun))
 
 pub returns-clause-taken : goal.returns-clause-taken
 returns-clause-taken g c text taken =
-    let t : TakesRow c.args.self.now.lines c.next_row.new.self c.args.bytes.now c.in-Some.rest.now c.next_row.new.row = rw c.in-Some.is at c.in_ok-rest.ensures.ok in
+    let t : ReadsRow c.args.self.now.lines c.next_row.new.self c.args.bytes.now c.in-Some.rest.now c.next_row.new.row = rw c.in-Some.is at c.in_ok-rest.ensures.ok in
     let begun = first_cut text c.args.bytes.now c.in-Some.rest.now c.next_row.new.row c.args.self.now.lines c.next_row.new.self c.in-Some-interface.interface c.cut.new.self taken.reads (no_rows_yet c.args.self.now text taken c.requires.bare) t
-    (c.in-Some-interface.ensures.kept ∙ ap (λ v. v.lines.interface) c.self.view_is) (c.in_ok-cut.ensures.interface ∙ c.new-row_cutter.ensures.interface) (c.in_ok-cut.ensures.cut [] c.new-row_cutter.ensures.cut) in
+    (c.in-Some-interface.ensures.kept ∙ ap (λ v. v.lines.interface) c.self.view_is) (c.in_ok-cut.ensures.interface ∙ c.new-row_cutter.ensures.interface) (subst (λ i. HasCut ([] ++ item_read i c.next_row.new.row ∷ []) c.cut.new.self) c.new-row_cutter.ensures.interface (c.in_ok-cut.ensures.cut [] c.new-row_cutter.ensures.cut)) in
     taken_of _ (text ++ c.args.bytes.now) c.cut_lines.new.self
     (subst (λ x. IsCutTo x c.cut_lines.new.lines c.cut_lines.new.self) (chunk_text c.args.self.now.lines c.next_row.new.self text c.args.bytes.now c.in-Some.rest.now c.next_row.new.row t)
-    (c.in_ok-cut_lines.ensures.cut (text ++ t.taken) begun)) refl
+    (c.in_ok-cut_lines.ensures.cut (text ++ t.1.taken) begun)) refl
 
 pub returns-clause-pieces : goal.returns-clause-pieces
 returns-clause-pieces g c text taken =
-    let t : TakesRow c.args.self.now.lines c.next_row.new.self c.args.bytes.now c.in-Some.rest.now c.next_row.new.row = rw c.in-Some.is at c.in_ok-rest.ensures.ok in
+    let t : ReadsRow c.args.self.now.lines c.next_row.new.self c.args.bytes.now c.in-Some.rest.now c.next_row.new.row = rw c.in-Some.is at c.in_ok-rest.ensures.ok in
     let begun = first_cut text c.args.bytes.now c.in-Some.rest.now c.next_row.new.row c.args.self.now.lines c.next_row.new.self c.in-Some-interface.interface c.cut.new.self taken.reads (no_rows_yet c.args.self.now text taken c.requires.bare) t
-    (c.in-Some-interface.ensures.kept ∙ ap (λ v. v.lines.interface) c.self.view_is) (c.in_ok-cut.ensures.interface ∙ c.new-row_cutter.ensures.interface) (c.in_ok-cut.ensures.cut [] c.new-row_cutter.ensures.cut) in
+    (c.in-Some-interface.ensures.kept ∙ ap (λ v. v.lines.interface) c.self.view_is) (c.in_ok-cut.ensures.interface ∙ c.new-row_cutter.ensures.interface) (subst (λ i. HasCut ([] ++ item_read i c.next_row.new.row ∷ []) c.cut.new.self) c.new-row_cutter.ensures.interface (c.in_ok-cut.ensures.cut [] c.new-row_cutter.ensures.cut)) in
     let i = c.cut.new.self.interface in
-    let after = c.in_ok-cut_lines.ensures.cut (text ++ t.taken) begun in
+    let after = c.in_ok-cut_lines.ensures.cut (text ++ t.1.taken) begun in
     let all = chunk_text c.args.self.now.lines c.next_row.new.self text c.args.bytes.now c.in-Some.rest.now c.next_row.new.row t in
     first_pieces i text c.args.bytes.now c.in-Some.rest.now c.next_row.new.row c.args.self.now.lines c.next_row.new.self c.cut_lines.new.lines c.args.pieces.now.items c.cut.new.pieces.items c.cut_lines.new.pieces.items taken.reads
     (no_rows_yet c.args.self.now text taken c.requires.bare) t
-    (subst (λ j. HasAppended c.args.pieces.now.items c.cut.new.pieces.items (given_as_read j []) (given_as_read j ([] ++ c.next_row.new.row ∷ []))) (sym c.in_ok-cut.ensures.interface) (c.in_ok-cut.ensures.pieces [] c.new-row_cutter.ensures.cut))
-    (c.in_ok-cut_lines.ensures.pieces (text ++ t.taken) begun)
+    (subst (λ j. HasAppended c.args.pieces.now.items c.cut.new.pieces.items (given_of j []) (given_of j ([] ++ item_read j c.next_row.new.row ∷ []))) (sym c.in_ok-cut.ensures.interface) (c.in_ok-cut.ensures.pieces [] c.new-row_cutter.ensures.cut))
+    (c.in_ok-cut_lines.ensures.pieces (text ++ t.1.taken) begun)
     (subst (StandsFor c.cut_lines.new.lines) all after.reads) (after.header ∙ ap Some c.in_ok-cut_lines.ensures.interface)
 
 pub returns-in_err-rest-clause-taken : goal.returns-in_err-rest-clause-taken

@@ -1,26 +1,28 @@
 use Rattle.std.proofs.Common.{◌≡◌, ◌∙◌, arith, ap, subst, sym, ◌+◌, ◌++◌, ◌∷◌, [], option_to_list}
 use Rattle.std.specs.Prelude.{IfSome}
-use Rattle.line_model.specs.basics.Bounds.{IsItem}
-use Rattle.line_model.specs.packets.Classes.{packet_of}
+use Rattle.line_model.specs.basics.Bounds.{IsItem, IsSaid}
+use Rattle.line_model.specs.packets.Says.{item_read}
+use Rattle.line_model.proofs.Saying.{last_said}
 use Rattle.restart_epochs.specs.Cutting.{observer}
 use Rattle.restart_epochs.specs.Walks.{channel_in}
 use Rattle.trace_scan.specs.Tried.{HasWalked, events_after}
 use Rattle.trace_scan.proofs.TrialLemmas.{item_of_turn, none_found, steps}
-use Rattle.trace_scan.proofs.WalkedLemmas.{counts_under, few_next, lanes_under, one_after, turned_under, walked_after}
+use Rattle.trace_scan.proofs.WalkedLemmas.{counts_under, few_next, few_octets, lanes_under, one_after, turned_under, walked_after}
 use Rattle.trace_scan.proofs.trial.Trial.take.Goals as goal
 
 pub step-requires : goal.step-requires
 step-requires g c =
     let next = c.requires.next in
-    record { epochs = omega (arith, next.2.few.epochs, few_next next.1 c.args.row.now next.3) }
+    record { epochs = omega (arith, next.2.few.epochs, few_next next.0 next.1 (item_read next.0 c.args.row.now) next.3) }
 
 pub turn-requires-clause-item : goal.turn-requires-clause-item
 turn-requires-clause-item g c =
-    let one = c.with_packet-item.result in
-    let octets : c.as_slice.result.now ≡ one.row.octets = c.as_slice.ensures.value ∙ ap (λ x. x.octets) c.row.view_is ∙ sym (ap (λ x. x.row.octets) c.with_packet-item.ensures) in
-    let packet : one.packet ≡ packet_of c.args.self.now.walk.interface one.row.octets = ap (λ x. x.packet) c.with_packet-item.ensures ∙ c.decode.ensures ∙ ap (packet_of c.args.self.now.walk.interface) octets in
-    subst (λ i. IfSome (channel_in c.in_ok-step.step.turn) (λ k. IsItem i k one)) (sym c.in_ok-step.ensures.same.interface)
-    (item_of_turn c.args.self.now.walk.interface one _ _ c.in_ok-step.step packet c.in_ok-step.ensures.step)
+    let next = c.requires.next in
+    let i = c.args.self.now.walk.interface in
+    let one = c.item_of_row-item.result in
+    let said : IsSaid i one = subst (IsSaid i) (sym c.item_of_row-item.ensures) (subst (λ j. IsSaid j (item_read j c.args.row.now)) (sym next.2.interface) (last_said next.0 next.1 (item_read next.0 c.args.row.now) next.3.said)) in
+    subst (λ j. IfSome (channel_in c.in_ok-step.step.turn) (λ k. IsItem j k one)) (sym c.in_ok-step.ensures.same.interface)
+    (item_of_turn i one _ _ c.in_ok-step.step said c.in_ok-step.ensures.step)
 
 pub turn-requires-clause-lanes : goal.turn-requires-clause-lanes
 turn-requires-clause-lanes g c =
@@ -31,31 +33,34 @@ turn-requires-clause-lanes g c =
 pub count-requires-clause-findings : goal.count-requires-clause-findings
 count-requires-clause-findings g c =
     let next = c.requires.next in
-    omega (arith, ap (λ t. t.findings) c.in_ok-turn.ensures.tally, next.2.few.findings, few_next next.1 c.args.row.now next.3)
+    omega (arith, ap (λ t. t.findings) c.in_ok-turn.ensures.tally, next.2.few.findings, few_next next.0 next.1 (item_read next.0 c.args.row.now) next.3)
 
 pub count-requires-clause-packets : goal.count-requires-clause-packets
 count-requires-clause-packets g c =
     let next = c.requires.next in
-    omega (arith, ap (λ t. t.packets) c.in_ok-turn.ensures.tally, next.2.few.uncounted, few_next next.1 c.args.row.now next.3)
+    omega (arith, ap (λ t. t.packets) c.in_ok-turn.ensures.tally, next.2.few.uncounted, few_next next.0 next.1 (item_read next.0 c.args.row.now) next.3)
+
+pub count-requires-clause-octets : goal.count-requires-clause-octets
+count-requires-clause-octets g c =
+    let next = c.requires.next in
+    omega (arith, ap (λ t. t.octets) c.in_ok-turn.ensures.tally, next.2.few.octets, few_octets next.0 next.1 (item_read next.0 c.args.row.now) next.3, ap (λ x. x.length) c.item_of_row-item.ensures)
 
 pub advance-requires-clause-packets : goal.advance-requires-clause-packets
 advance-requires-clause-packets g c =
     let next = c.requires.next in
     let same = ap (λ w. w.packets) (c.renew.ensures.walk ∙ c.in_ok-turn.ensures.walk) ∙ c.in_ok-step.ensures.same.packets in
-    omega (arith, same, next.2.few.rows, few_next next.1 c.args.row.now next.3)
+    omega (arith, same, next.2.few.rows, few_next next.0 next.1 (item_read next.0 c.args.row.now) next.3)
 
 pub returns-clause-walked : goal.returns-clause-walked
 returns-clause-walked g c i rows w sound =
-    let one = c.with_packet-item.result in
+    let one = c.item_of_row-item.result in
     let step = c.in_ok-step.step in
     let same = c.in_ok-step.ensures.same in
     let turned = c.in_ok-turn.ensures in
     let o = observer i rows in
-    let octets : c.as_slice.result.now ≡ one.row.octets = c.as_slice.ensures.value ∙ ap (λ x. x.octets) c.row.view_is ∙ sym (ap (λ x. x.row.octets) c.with_packet-item.ensures) in
-    let packet : one.packet ≡ packet_of i one.row.octets = ap (λ x. x.packet) c.with_packet-item.ensures ∙ c.decode.ensures ∙ (λ j. packet_of (w.interface j) (octets j)) in
-    let row_is : one.row ≡ c.args.row.now = ap (λ x. x.row) c.with_packet-item.ensures in
-    let stepped = steps i rows one _ _ step w.line w.epoch packet c.in_ok-step.ensures.step in
-    let one_found = one_after i rows one.row step (none_found one _ _ step c.in_ok-step.ensures.step) in
+    let row_is : one ≡ item_read i c.args.row.now = c.item_of_row-item.ensures ∙ (λ j. item_read (w.interface j) c.args.row.now) in
+    let stepped = steps i rows one _ _ step w.line w.epoch c.in_ok-step.ensures.step in
+    let one_found = one_after i rows one step (none_found one _ _ step c.in_ok-step.ensures.step) in
     let lanes = lanes_under g.C.Channel i rows c.args.self.now c.step.new.self w same.interface same.epoch in
     let walk = c.renew.ensures.walk ∙ turned.walk in
     subst (λ r. HasWalked g.C.Channel i (rows ++ r ∷ []) (record {
@@ -63,17 +68,17 @@ returns-clause-walked g c i rows w sound =
       lanes = c.renew.new.self.lanes;
       tally = c.renew.new.self.tally;
     })) row_is
-    (walked_after g.C.Channel i rows one.row step c.args.self.now _ c.turn.new.self.lanes w stepped one_found
+    (walked_after g.C.Channel i rows one step c.args.self.now _ c.turn.new.self.lanes w stepped one_found
     (record {
       interface = c.advance.ensures.interface ∙ ap (λ v. v.interface) walk ∙ same.interface;
       line = c.advance.ensures.machine;
       epoch = c.advance.ensures.epoch;
       packets = c.advance.ensures.packets ∙ ap (λ v. v.packets + 1) walk ∙ ap (λ n. n + 1) same.packets;
-      lanes = turned_under g.C.Channel c.step.new.self.interface c.args.self.now.walk.interface c.step.new.self.epoch c.args.self.now.walk.epoch step.turn o.states one.row c.turn.new.self.lanes same.interface same.epoch (turned.lanes o.states lanes);
+      lanes = turned_under g.C.Channel c.step.new.self.interface c.args.self.now.walk.interface c.step.new.self.epoch c.args.self.now.walk.epoch step.turn o.states one c.turn.new.self.lanes same.interface same.epoch (turned.lanes o.states lanes);
       same = λ e. c.renew.ensures.same (e ∙ sym (ap (λ v. v.epoch) turned.walk ∙ same.epoch));
       renewed = λ ne. c.renew.ensures.renewed (λ e. ne (e ∙ ap (λ v. v.epoch) turned.walk ∙ same.epoch));
     })
-    (counts_under i c.turn.new.self.walk.interface one.row (option_to_list step.finding) (events_after step.turn i o.epoch o.states one.row) c.as_slice-2.result.now c.args.self.now.tally c.turn.new.self.tally c.count.new.self c.renew.new.self.tally
+    (counts_under i c.turn.new.self.walk.interface one (option_to_list step.finding) (events_after step.turn i o.epoch o.states one) c.as_slice.result.now c.args.self.now.tally c.turn.new.self.tally c.count.new.self c.renew.new.self.tally
     (ap (λ v. v.interface) turned.walk ∙ same.interface ∙ w.interface)
-    (c.as_slice-2.ensures.value ∙ turned.events o.states lanes ∙ (λ j. events_after step.turn ((same.interface ∙ w.interface) j) ((same.epoch ∙ w.epoch) j) o.states one.row))
+    (c.as_slice.ensures.value ∙ turned.events o.states lanes ∙ (λ j. events_after step.turn ((same.interface ∙ w.interface) j) ((same.epoch ∙ w.epoch) j) o.states one))
     turned.tally c.renew.ensures.tally one_found c.count.ensures.findings c.count.ensures.packets c.count.ensures.octets))

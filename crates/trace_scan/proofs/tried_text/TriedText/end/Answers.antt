@@ -1,10 +1,10 @@
 use Rattle.std.proofs.Common.{◌++◌, subst, sym}
+use Rattle.line_model.specs.packets.Says.{items_of}
 use Rattle.line_model.specs.text.Text.{early_rows}
 use Rattle.trace_text.specs.StandsFor.{last_row}
 use Rattle.trace_scan.specs.Headers.{headers_tried}
-use Rattle.trace_scan.specs.TextCuts.{IsTrace}
-use Rattle.trace_scan.specs.Trials.{AreTrials}
-use Rattle.trace_scan.proofs.Heads.{whole_trace}
+use Rattle.live_report.proofs.ReportLemmas.{whole_trace}
+use Rattle.trace_scan.specs.Trials.{AreTrials, IsTrace}
 use Rattle.trace_scan.proofs.Firsts.{whole_head}
 use Rattle.trace_scan.proofs.tried_text.TriedText.end.Goals as goal
 
@@ -14,12 +14,15 @@ take_last-requires g c =
     let taken = c.requires.1 in
     let end = c.in-Ok.ensures.ok text taken.reads in
     let same = whole_head c.args.self.lines text c.in-Ok.end.interface taken.reads end.1 in
+    let row = c.in-Ok.ensures.row text taken.reads in
     record {
       next = (
         c.in-Ok.end.interface,
         early_rows text,
+        row.0,
         c.in_ok-trials.ensures.trying (early_rows text) c.args.self.lines.interface taken.tried same,
-        subst IsTrace (c.in-Ok.ensures.row text taken.reads) (whole_trace text end.0),
+        row.2,
+        subst IsTrace row.1 (λ i. whole_trace i text end.0),
       );
     }
 
@@ -33,7 +36,7 @@ returns-clause-tried g c text taken =
       sound = end.0;
       interface = i;
       header = end.1;
-      trials = subst (λ rs. AreTrials g.C.Channel rs (headers_tried i rs) c.chosen.result.items) (sym row)
-          (c.chosen.ensures i (early_rows text ++ last_row c.in-Ok.end.has_row c.end_row.new.row)
-          (c.in_ok-take_last.ensures.trying i (early_rows text) (c.in_ok-trials.ensures.trying (early_rows text) c.args.self.lines.interface taken.tried same) (subst IsTrace row (whole_trace text end.0))));
+      trials = subst (λ rs. AreTrials g.C.Channel (λ j. items_of j rs) (headers_tried i rs) c.chosen.result.items) (sym row.1)
+          (c.chosen.ensures i (early_rows text ++ last_row c.in-Ok.end.has_row row.0)
+          (c.in_ok-take_last.ensures.trying i (early_rows text) row.0 (c.in_ok-trials.ensures.trying (early_rows text) c.args.self.lines.interface taken.tried same) row.2 (subst IsTrace row.1 (λ j. whole_trace j text end.0))));
     }

@@ -1,6 +1,5 @@
-use Rattle.std.proofs.Common.{◌∙◌, ◌++◌, ◌∷◌, [], ap, subst, sym}
-use Rattle.trace_scan.specs.TextCuts.{IsTrace}
-use Rattle.trace_scan.specs.Trials.{AreTried, IsTrying}
+use Rattle.std.proofs.Common.{◌∙◌, ap, subst, sym}
+use Rattle.trace_scan.specs.Trials.{AreTried}
 use Rattle.trace_scan.proofs.TriedLemmas.{same_head}
 use Rattle.trace_scan.proofs.tried_text.TriedText.take_row.Goals as goal
 
@@ -8,25 +7,25 @@ pub take-requires : goal.take-requires
 take-requires g c =
     let next = c.requires.next in
     let head = c.in-Some.ensures.kept ∙ ap (λ v. v.lines.interface) c.self.view_is in
-    let tried = subst (λ o. AreTried g.C.Channel next.0 c.args.self.now.lines.interface o) (sym (c.replace-before.ensures.value ∙ ap (λ v. v.trials) c.self.view_is)) next.1 in
+    let tried = subst (λ o. AreTried g.C.Channel next.0 c.args.self.now.lines.interface o) (sym (c.replace-before.ensures.value ∙ ap (λ v. v.trials) c.self.view_is)) next.2 in
     record {
       next = (
         c.in-Some.interface,
         next.0,
+        next.1,
         c.in_ok-trials.ensures.trying next.0 c.args.self.now.lines.interface tried (same_head c.args.self.now.lines.interface c.in-Some.interface head),
-        subst (λ r. IsTrace (next.0 ++ r ∷ [])) (sym (ap (λ v. v.row) c.self.view_is)) next.2,
+        ap (λ v. v.row) c.self.view_is ∙ next.3,
+        next.4,
       );
     }
 
 pub returns-clause-tried : goal.returns-clause-tried
-returns-clause-tried g c rows was sound =
+returns-clause-tried g c rows next was is sound =
     let head = c.in-Some.ensures.kept ∙ ap (λ v. v.lines.interface) c.self.view_is in
-    let tried = subst (λ o. AreTried g.C.Channel rows c.args.self.now.lines.interface o) (sym (c.replace-before.ensures.value ∙ ap (λ v. v.trials) c.self.view_is)) was in
-    let row = ap (λ v. v.row) c.self.view_is in (
+    let tried = subst (λ o. AreTried g.C.Channel rows c.args.self.now.lines.interface o) (sym (c.replace-before.ensures.value ∙ ap (λ v. v.trials) c.self.view_is)) was in (
       c.in-Some.interface,
       sym head,
-      subst (λ r. IsTrying g.C.Channel c.in-Some.interface (rows ++ r ∷ []) c.take.new.self) row
-          (c.in_ok-take.ensures.trying c.in-Some.interface rows
+      c.in_ok-take.ensures.trying c.in-Some.interface rows next
           (c.in_ok-trials.ensures.trying rows c.args.self.now.lines.interface tried (same_head c.args.self.now.lines.interface c.in-Some.interface head))
-          (subst (λ r. IsTrace (rows ++ r ∷ [])) (sym row) sound)),
+          (ap (λ v. v.row) c.self.view_is ∙ is) sound,
     )

@@ -1,9 +1,11 @@
-use Rattle.std.proofs.Common.{◌∙◌, refl, ap, subst, inr, ◌++◌, ℕ, List, Option, arith, length, length-append}
+use Rattle.std.proofs.Common.{◌≡◌, ◌∙◌, refl, ap, subst, inr, true, [], ◌∷◌, ◌++◌, ℕ, List, Option, arith, length, length-append}
 use Rattle.std.proofs.lemmas.Result.{err_from_is_err_and}
 use Rattle.std.specs.Borrow.{Bor}
 use Rattle.line_model.specs.text.Text.{early, early_head}
 use Rattle.line_model.specs.declared.fault.Fault.TheVariants.{Memory}
-use Rattle.trace_text.specs.StandsFor.{IsFaultOf, ReadsChunk}
+use Rattle.line_model.specs.basics.Records.{Row}
+use Rattle.trace_text.specs.Reads.{kept_row, whole_row}
+use Rattle.trace_text.specs.StandsFor.{IsFaultOf, ReadsChunk, TakesRow}
 use Rattle.trace_text.proofs.ChunkLemmas.{all-fed, fed-head, fed-more, fed-no-memory, fed-none, fed-refused, whole_chunk}
 use Rattle.trace_text.proofs.RefusalLemmas.{head_stopped}
 use Rattle.trace_text.proofs.lines.Lines.feed_rows.Goals as goal
@@ -31,8 +33,10 @@ returns-in_err-push-clause-appended g c text s =
 
 pub loop-row-preserved : goal.loop-row-preserved
 loop-row-preserved g c =
-    fed-more c.args.self.now c.loop-row.self c.find_row.new.self c.args.out.now.items c.loop-row.out.items c.push.new.self.items c.find_row.new.row c.args.chunk.now c.loop-row.rest.now c.in-Some.after.now
-    c.loop-row.invariant (rw c.in-Some.is at c.in_ok-after.ensures.ok) (rw c.in-Some.is at c.in_ok-after.ensures.size) c.in_ok-push.ensures.items
+    let taken : (r : Row) × TakesRow c.loop-row.self c.find_row.new.self c.loop-row.rest.now c.in-Some.after.now r × (c.find_row.new.row ≡ kept_row true r) = rw c.in-Some.is at c.in_ok-after.ensures.ok in
+    let row = c.whole_row.ensures ∙ ap whole_row taken.2 in
+    fed-more c.args.self.now c.loop-row.self c.find_row.new.self c.args.out.now.items c.loop-row.out.items c.push.new.self.items taken.0 c.args.chunk.now c.loop-row.rest.now c.in-Some.after.now
+    c.loop-row.invariant taken.1 (rw c.in-Some.is at c.in_ok-after.ensures.size) (c.in_ok-push.ensures.items ∙ ap (λ r. c.loop-row.out.items ++ r ∷ []) row)
 
 pub loop-row-init : goal.loop-row-init
 loop-row-init g c = fed-none c.args.self.now c.args.out.now.items c.args.chunk.now

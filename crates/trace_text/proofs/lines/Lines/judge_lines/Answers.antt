@@ -2,6 +2,7 @@ use Rattle.std.proofs.Common.{refl, ◌++◌, subst, sym, true}
 use Rattle.std.proofs.lemmas.Result.{err_from_is_err_and}
 use Rattle.line_model.specs.declared.fault.Fault.TheVariants.{Memory}
 use Rattle.trace_text.specs.Progress.{Progress}
+use Rattle.trace_text.specs.Reads.{whole_row}
 use Rattle.trace_text.proofs.ChunkLemmas.{Taken, all-taken, begin-head, begin-refused-so-far, head-so-far, taken-more, whole_chunk_lf}
 use Rattle.trace_text.proofs.FeedLemmas.{line-fault, line-refused, on_ok_both, refused-line}
 use Rattle.trace_text.proofs.RefusalLemmas.{head_stopped}
@@ -48,7 +49,7 @@ returns-in_err-end_line-clause-header g c text s =
 pub loop-after-preserved : goal.loop-after-preserved
 loop-after-preserved g c =
     let p = subst (λ (v : Progress). Taken c.args.self.now v c.args.chunk.now c.loop-after.rest.now) (sym c.in_default.ensures) c.loop-after.invariant in
-    taken-more c.args.self.now c.judge_front.new.self c.end_line.new.self c.end_line.new.row c.in_ok-end_line.field-0 c.args.chunk.now c.loop-after.rest.now c.in-Some-split_at_byte.front.now c.in-Some-split_at_byte.back.now
+    taken-more c.args.self.now c.judge_front.new.self c.end_line.new.self (whole_row c.end_line.new.row) c.in_ok-end_line.field-0 c.args.chunk.now c.loop-after.rest.now c.in-Some-split_at_byte.front.now c.in-Some-split_at_byte.back.now
     p c.in-Some-split_at_byte.ensures.0 c.in-Some-split_at_byte.ensures.1 c.in_ok-end_line.ensures.ok
 
 pub loop-after-preserved-in-Some : goal.loop-after-preserved-in-Some

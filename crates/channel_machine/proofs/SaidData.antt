@@ -1,0 +1,57 @@
+-- Data packets as rows say them, and the other packets of data transfer.
+use Rattle.std.proofs.Common.{◌≡◌, ◌≤◌, ◌-◌, ℕ, Bool, true, false, refl, sym, ◌∙◌, ap, subst, arith, List, [], length, take, drop}
+use Rattle.std.proofs.lemmas.Grind.{common_steps}
+use Rattle.std.proofs.lemmas.List.{length-drop}
+use Rattle.std.specs.Prelude.{if◌then◌else◌, unwrap_or, ◌==◌}
+use Rattle.line_model.specs.basics.Records.{Item}
+use Rattle.line_model.specs.channels.Channels.{Channel}
+use Rattle.line_model.specs.channels.ChannelStep.{counting, counts_of, heard_of, transferring}
+use Rattle.line_model.specs.channels.FlowControl.{count_receive}
+use Rattle.line_model.specs.declared.interface.Interface.{Interface}
+use Rattle.line_model.specs.declared.packet.Class.{Class}
+use Rattle.line_model.specs.declared.packet.Class.TheVariants.{Data, Interrupt, InterruptConfirm}
+use Rattle.line_model.specs.declared.packet.DataHeader.{DataHeader}
+use Rattle.line_model.specs.declared.state.Side.{Side}
+use Rattle.line_model.specs.declared.state.StateName.{StateName}
+use Rattle.line_model.specs.packets.Classes.{header_length}
+use Rattle.line_model.specs.packets.Says.{receive_in}
+use Rattle.data_transfer.specs.Assembly.{unqualified}
+use Rattle.packet_decode.specs.SaidData.{IsSaidData}
+use Rattle.channel_machine.specs.Sizes.{largest_length}
+use Rattle.channel_machine.specs.Transfers.{packet}
+
+pub rest_of : (n least : ℕ) (xs : List ℕ) → n ≡ least → least ≤ length xs → take (length xs - n) (drop n xs) ≡ drop least xs
+rest_of n least xs e h = grind (arith, common_steps, e, h)
+
+pub few_of : (n m : ℕ) (xs : List ℕ) → length xs ≡ m → m ≤ largest_length → length (take (length xs - n) (drop n xs)) ≤ largest_length
+few_of n m xs e h = grind (arith, common_steps, e, h)
+
+-- with Q 1 the header lies in the octets
+pub whole_octets : (i : Interface) (r : Item) (h : DataHeader) → IsSaidData i r h → h.qualified ≡ true → header_length i ≤ length r.octets
+whole_octets i r h said q = subst (λ n. header_length i ≤ n) (sym (said.full q)) said.whole
+
+-- the data packet of a row with Q 1
+pub qualified_is : (i : Interface) (r : Item) (h : DataHeader) (x : Side) (ys : List ℕ) → IsSaidData i r h → h.qualified ≡ true → x ≡ r.side → ys ≡ drop (header_length i) r.octets →
+    packet x h ys ≡ heard_of i r h
+qualified_is i r h x ys said q side octets =
+    let long : length ys ≡ r.length - header_length i = ap (λ l. length l) octets ∙ length-drop (header_length i) r.octets ∙ ap (λ n. n - header_length i) (said.full q) in
+    λ j. record { side = side j; qualified = h.qualified; more = h.more; delivery = h.delivery; length = long j; octets = octets j }
+
+none_left : (b : Bool) (xs : List ℕ) → xs ≡ [] → [] ≡ drop (if b then 3 else 4) xs
+none_left true xs e = sym (ap (λ l. drop 3 l) e)
+none_left false xs e = sym (ap (λ l. drop 4 l) e)
+
+-- the data packet of a row with Q 0
+pub unqualified_is : (i : Interface) (r : Item) (h : DataHeader) (x : Side) (n : ℕ) → IsSaidData i r h → h.qualified ≡ false → x ≡ r.side → n ≡ r.length - header_length i →
+    unqualified x h.more h.delivery n ≡ heard_of i r h
+unqualified_is i r h x n said q side long =
+    let octets : [] ≡ drop (header_length i) r.octets = none_left (i.modulus == 8) r.octets (said.silent q) in
+    λ j. record { side = side j; qualified = sym q j; more = h.more; delivery = h.delivery; length = long j; octets = octets j }
+
+-- every other packet of data transfer has its P(R) counted
+pub other_transfers : (i : Interface) (s : StateName) (k : Class) (r : Item) (c : Channel) → (k ≡ Data → ⊥) → (k ≡ Interrupt → ⊥) → (k ≡ InterruptConfirm → ⊥) →
+    counting r.side s (count_receive i.modulus (counts_of c) r.side (unwrap_or (receive_in r.packet) 0)) c ≡ transferring i s k r c
+other_transfers i s Data r c a b d = absurd (a refl)
+other_transfers i s Interrupt r c a b d = absurd (b refl)
+other_transfers i s InterruptConfirm r c a b d = absurd (d refl)
+other_transfers i s k r c a b d = refl

@@ -1,0 +1,46 @@
+-- What is printed of a fault.
+use Rattle.std.specs.Prelude.{◌≡◌, ◌⊎◌, ℕ, List, [], ◌∷◌, ◌++◌, Option, Some, codes, decimal}
+use Rattle.line_model.specs.basics.Device.{with_more}
+use Rattle.line_model.specs.basics.Faults.{kind_number}
+use Rattle.line_model.specs.basics.Written.{HasFront}
+use Rattle.line_model.specs.declared.fault.Kind.{Kind}
+use Rattle.line_model.specs.declared.fault.Fault.{Fault}
+use Rattle.line_model.specs.declared.fault.Fault.TheVariants.{Memory, Trace, Read, Write, Start, Double, Stranger, Missing}
+use Rattle.trace_text.specs.Sources.{IsRefusedBy}
+use Rattle.trace_scan.specs.Readings.{IsRefusal}
+
+-- the words of a fault (profile)
+abbrev pub fault_words : Fault → List ℕ
+fault_words Memory = codes "out of memory"
+fault_words (Trace line kind) = codes "line " ++ decimal line ++ codes ": kind " ++ decimal (kind_number kind)
+fault_words Read = codes "read failed"
+fault_words Write = codes "write failed"
+fault_words Start = codes "thread refused"
+fault_words (Double piece) = codes "piece " ++ decimal piece ++ codes " posted twice"
+fault_words (Stranger piece) = codes "piece " ++ decimal piece ++ codes " unknown"
+fault_words (Missing piece) = codes "piece " ++ decimal piece ++ codes " missing"
+
+-- the line of a fault
+abbrev pub fault_line : Fault → List ℕ
+fault_line fault = codes "x25scan: " ++ fault_words fault ++ 10 ∷ []
+
+-- a sink took more bytes
+abbrev pub Grows : (before after : Option (List ℕ)) → Type 0
+Grows before after = (more : List ℕ) × (after ≡ with_more before more)
+
+-- it took a line, and more after it
+abbrev pub BeginsWith : (line : List ℕ) → (before after : Option (List ℕ)) → Type 0
+BeginsWith line before after = (more : List ℕ) × (after ≡ with_more before (line ++ more))
+
+-- a line was printed first: the sink took it, and more after it, or it failed and took a first part of it
+pub record IsSaid (line : List ℕ) (before after : Option (List ℕ)) (well : Type 0) : Type 0 where
+  pub part : HasFront before after line ⊎ BeginsWith line before after
+  pub whole : well → BeginsWith line before after
+
+-- the line of the fault by which a trace was refused was printed first; where the source shows its bytes, it is that of their first faulty
+-- line
+pub record SaysFault (trace left asked before after : Option (List ℕ)) (well : Type 0) : Type 0 where
+  pub line : ℕ
+  pub kind : Kind
+  pub said : IsSaid (fault_line (Trace line kind)) before after well
+  pub refusal : (text : List ℕ) → trace ≡ Some text → IsRefusedBy IsRefusal text left asked (Trace line kind)

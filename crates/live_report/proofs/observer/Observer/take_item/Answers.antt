@@ -1,0 +1,98 @@
+use Rattle.std.proofs.Common.{◌≡◌, ◌∙◌, arith, ap, subst, sym, refl, [], ◌∷◌, ◌++◌, length, map, option_to_list, Some}
+use Rattle.line_model.specs.observer.Report.{report_of}
+use Rattle.line_model.specs.pieces.Plans.{value}
+use Rattle.line_model.proofs.Posts.{length-values}
+use Rattle.restart_epochs.specs.Cutting.{given_of}
+use Rattle.restart_epochs.specs.Walks.{HasRoom, IsAdvanced}
+use Rattle.restart_epochs.proofs.Listings.{listing}
+use Rattle.live_report.specs.LastRows.{IsLastRow, KnowsLast}
+use Rattle.live_report.specs.Turns.{MayTurn, StandsAt}
+use Rattle.live_report.proofs.FindingLemmas.{finds_after}
+use Rattle.live_report.proofs.LastLemmas.{last_known}
+use Rattle.live_report.proofs.UncountedLemmas.{few_with}
+use Rattle.live_report.proofs.TakeLemmas.{said_here, cut_after, cutting_after, has_turned, holds_after, is_taken, lanes_at, may_turn, rows_after, stands_after, step_of}
+use Rattle.live_report.proofs.observer.Observer.take_item.Goals as goal
+
+pub step-requires : goal.step-requires
+step-requires g c =
+    let s = c.requires.room.2 in
+    record { epochs = omega (arith, s.holds.epoch, s.bounds.epochs, s.bounds.rows, s.bounds.last) }
+
+pub turn-requires-clause-room : goal.turn-requires-clause-room
+turn-requires-clause-room g c =
+    let room = c.requires.room in
+    let s = room.2 in
+    let o = c.args.self.now in
+    let one = c.args.item.now in
+    let same = c.in_ok-step.ensures.same in
+    let packet = said_here g.C.Channel.interface_of g.C.Channel.number_of g.C.Channel.stands_for c.requires.room.0 c.requires.room.1 o one s.cutting.interface c.requires.room.2 c.requires.room.3 s.holds.interface in
+    let is = step_of g.C.Channel.interface_of g.C.Channel.number_of g.C.Channel.stands_for s.cutting _ o one c.in_ok-step.step s.holds c.in_ok-step.ensures.step in (
+      s.cutting.open_rows,
+      map value (given_of room.0 room.1),
+      (lanes_at g.C.Channel.interface_of g.C.Channel.number_of g.C.Channel.stands_for s.cutting _ o c.step.new.self s.holds same, listing room.0 room.1 s.cutting s.cut),
+      s.holds.ended,
+      subst (λ i. MayTurn c.in_ok-step.step.turn i one s.cutting.open_rows) (sym (same.interface ∙ s.holds.interface))
+          (may_turn g.C.Channel.interface_of g.C.Channel.number_of g.C.Channel.stands_for room.0 room.1 o one c.in_ok-step.step s room.3 packet is),
+    )
+
+pub turn-requires-clause-pieces : goal.turn-requires-clause-pieces
+turn-requires-clause-pieces g c =
+    let s = c.requires.room.2 in
+    let pieces = ap (λ e. e.pieces) s.holds.ended ∙ length-values (given_of c.requires.room.0 c.requires.room.1) ∙ sym s.cut.given in
+    let channels = ap (λ l. length l) s.holds.lanes.channels in
+    omega (arith, pieces, channels, s.bounds.ids, s.bounds.rows, s.bounds.last)
+
+pub advance-requires-clause-packets : goal.advance-requires-clause-packets
+advance-requires-clause-packets g c =
+    let s = c.requires.room.2 in
+    omega (arith, ap (λ w. w.packets) c.in_ok-last.ensures.walk, c.in_ok-step.ensures.same.packets, s.holds.packets, s.bounds.rows, s.bounds.last)
+
+pub advance-requires-clause-room : goal.advance-requires-clause-room
+advance-requires-clause-room g c = subst (λ w. HasRoom w c.in_ok-step.step) (sym c.in_ok-last.ensures.walk) c.in_ok-step.ensures.room
+
+pub returns-clause-stands : goal.returns-clause-stands
+returns-clause-stands g c i rs s sound =
+    let o = c.args.self.now in
+    let v = c.step.new.self in
+    let step = c.in_ok-step.step in
+    let one = c.args.item.now in
+    let same = c.in_ok-step.ensures.same in
+    let packet = said_here g.C.Channel.interface_of g.C.Channel.number_of g.C.Channel.stands_for c.requires.room.0 c.requires.room.1 o one s.cutting.interface c.requires.room.2 c.requires.room.3 s.holds.interface in
+    let is = step_of g.C.Channel.interface_of g.C.Channel.number_of g.C.Channel.stands_for s.cutting _ o one step s.holds c.in_ok-step.ensures.step in
+    let here : StandsAt g.C.Channel v s.cutting.open_rows o.lanes = (lanes_at g.C.Channel.interface_of g.C.Channel.number_of g.C.Channel.stands_for s.cutting _ o v s.holds same, listing i rs s.cutting s.cut) in
+    let may = subst (λ j. MayTurn step.turn j one s.cutting.open_rows) (sym (same.interface ∙ s.holds.interface)) (may_turn g.C.Channel.interface_of g.C.Channel.number_of g.C.Channel.stands_for i rs o one step s sound packet is) in
+    let turned = has_turned step.turn one s.cutting.open_rows in
+    let last = c.in_ok-last.last in
+    let known : KnowsLast i (rs ++ one ∷ []) (Some last) c.turn.new.self.events.items =
+    (last_known i rs s.cutting (cutting_after s.cutting one step) one step v last _ _ s.cut (cut_after i rs s.cutting one step s.cut packet is) (is_taken s.cutting one step) packet is
+    (same.interface ∙ s.holds.interface) (same.epoch ∙ s.holds.epoch) (same.machine ∙ s.holds.line) refl
+    (record {
+      number = c.in_ok-last.ensures.number;
+      side = c.in_ok-last.ensures.side;
+      packet = c.in_ok-last.ensures.packet;
+      channel = c.in_ok-last.ensures.channel;
+      before = c.in_ok-last.ensures.before s.cutting.open_rows here;
+      after = c.in_ok-last.ensures.after s.cutting.open_rows here (rows_after step.turn one s.cutting.open_rows) may turned;
+      came = c.in_ok-last.ensures.events s.cutting.open_rows here;
+    })
+    (finds_after i rs s.cutting one step v _ s.cut packet is (same.interface ∙ s.holds.interface) (same.epoch ∙ s.holds.epoch) (c.in_ok-last.ensures.finding s.cutting.open_rows here))) in
+    stands_after g.C.Channel.interface_of g.C.Channel.number_of g.C.Channel.stands_for i rs one o _ one step s refl sound packet is
+    (holds_after g.C.Channel.interface_of g.C.Channel.number_of g.C.Channel.stands_for i rs s.cutting (map value (given_of i rs)) one step o _ v s.cut packet is s.holds same (subst (λ w. IsAdvanced step w c.advance.new.self) c.in_ok-last.ensures.walk c.advance.ensures) (length-values (given_of i rs) ∙ sym s.cut.given)
+    (c.in_ok-last.ensures.ended s.cutting.open_rows here (map value (given_of i rs)) s.holds.ended)
+    (c.in_ok-last.ensures.lanes s.cutting.open_rows here (rows_after step.turn one s.cutting.open_rows) may turned))
+    known
+    (c.take.ensures i rs one (subst (IsLastRow i rs one last) (sym c.as_slice.ensures.value) (known rs one refl)) (ap (λ w. w.interface) c.in_ok-last.ensures.walk ∙ same.interface ∙ s.holds.interface ∙ s.cut.interface) (ap (λ x. x.length) c.item.view_is)
+    (few_with g.C.Channel.interface_of g.C.Channel.number_of g.C.Channel.stands_for i rs one o s sound) (c.in_ok-last.ensures.uncounted ∙ s.uncounted))
+
+pub returns-clause-finding : goal.returns-clause-finding
+returns-clause-finding g c i rs s =
+    let o = c.args.self.now in
+    let v = c.step.new.self in
+    let step = c.in_ok-step.step in
+    let one = c.args.item.now in
+    let same = c.in_ok-step.ensures.same in
+    let packet = said_here g.C.Channel.interface_of g.C.Channel.number_of g.C.Channel.stands_for c.requires.room.0 c.requires.room.1 o one s.cutting.interface c.requires.room.2 c.requires.room.3 s.holds.interface in
+    let is = step_of g.C.Channel.interface_of g.C.Channel.number_of g.C.Channel.stands_for s.cutting _ o one step s.holds c.in_ok-step.ensures.step in
+    let here : StandsAt g.C.Channel v s.cutting.open_rows o.lanes = (lanes_at g.C.Channel.interface_of g.C.Channel.number_of g.C.Channel.stands_for s.cutting _ o v s.holds same, listing i rs s.cutting s.cut) in
+    subst (λ found. (report_of i (rs ++ one ∷ [])).findings ≡ (report_of i rs).findings ++ option_to_list found) (sym c.finding-finding.ensures)
+    (finds_after i rs s.cutting one step v _ s.cut packet is (same.interface ∙ s.holds.interface) (same.epoch ∙ s.holds.epoch) (c.in_ok-last.ensures.finding s.cutting.open_rows here))

@@ -1,0 +1,24 @@
+//! What opens the trace of a name.
+
+ghost use Rattle.std.specs.Prelude.{◌≡◌, IfErr, IfOk};
+ghost use Rattle.streams.specs.OpenFaults.{IsByItsReason};
+
+use crate::input::OpenRefusal;
+use std::io::Read;
+
+/// Opens files by their names.
+pub trait Opener {
+    ghost use Rattle.std.specs.Prelude.{ℕ, List, Option};
+
+    /// A file that is open for reading.
+    type File: Read + Drop;
+
+    /// The bytes of the file of a name, where it shows them.
+    ghost named: { Self → List ℕ → Option (List ℕ) };
+
+    /// Opens the file of this name for reading.
+    fn open(&self, name: &str) -> Result<Self::File, OpenRefusal>
+        ensures opened { IfOk result (λ file. Self.File.remaining file ≡ named self.now name.now) }
+        // The fault is the one of what the system says.
+        ensures reason { IfErr result IsByItsReason };
+}

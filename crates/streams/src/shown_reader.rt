@@ -1,0 +1,57 @@
+//! A reader, and the bytes that it shows.
+
+ghost use Rattle.std.specs.Prelude.{◌≡◌, ◌≤◌, ◌^◌, OnErr, OnOk, length};
+ghost use Rattle.line_model.specs.basics.Device.{Gives};
+ghost use Rattle.streams.specs.LastBytes.{last_read};
+
+use crate::last_bytes::LastBytes;
+use std::io;
+use std::io::Read;
+use std::marker::Model;
+use std::snapshot::Snapshot;
+
+/// A reader. Contracts see the bytes that it has left, where it shows them from the beginning on.
+#[derive(Drop)]
+pub(crate) struct ShownReader<R: Read + Drop> {
+    reader: R,
+    // The reader as it was when this was made, and before its last read. Contracts alone see them.
+    first: Snapshot<R>,
+    before: Snapshot<R>,
+}
+
+impl<R: Read + Drop> Model for ShownReader<R> {
+    ghost use Rattle.std.specs.Prelude.{IsTrue};
+    ghost use Rattle.streams.specs.Shown.{Left, shown, still_shows};
+
+    ghost Value = { Left };
+
+    ghost view = { λ r. record { left = shown (R.remaining r.first.value) (R.remaining r.reader); before = shown (R.remaining r.first.value) (R.remaining r.before.value) } };
+
+    ghost invariant = { λ r. IsTrue (still_shows (R.remaining r.first.value) (R.remaining r.reader)) };
+}
+
+impl<R: Read + Drop> ShownReader<R> {
+    /// A reader that was not read yet.
+    pub fn new(reader: R) -> Self
+        ensures { result.left ≡ R.remaining reader }
+    {
+        let first = Snapshot::of(&reader);
+        let before = Snapshot::of(&reader);
+        ShownReader {
+            reader,
+            first,
+            before,
+        }
+    }
+
+    /// Reads once, into the room that keeps the last bytes.
+    pub fn read(&mut self, last_bytes: &mut LastBytes) -> io::Result<()>
+        ensures few { length (last_read last_bytes.new) ≤ 2 ^ 16 }
+        ensures given { OnOk result (Gives self.old.left self.new.left (last_read last_bytes.new)) }
+        ensures failed { OnErr result (self.new.left ≡ self.old.left) }
+        ensures before { self.new.before ≡ self.old.left }
+    {
+        self.before = Snapshot::of(&self.reader);
+        last_bytes.read(&mut self.reader)
+    }
+}

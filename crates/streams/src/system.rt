@@ -1,0 +1,99 @@
+//! The files and the clock of the system.
+
+ghost use Rattle.std.specs.Prelude.{IfErr};
+ghost use Rattle.streams.specs.OpenFaults.{IsByItsReason};
+
+use crate::input::{OpenFault, OpenRefusal};
+use crate::opener::Opener;
+use std::fs::OpenFile;
+use std::io::{ErrorKind, Read};
+use std::rt::Files;
+use std::time::{Clock, Duration};
+use std::{fs, io};
+
+/// A file of the system, which hides its bytes.
+#[derive(Drop)]
+pub struct SystemFile<F: Read + Drop> {
+    file: F,
+}
+
+impl<F: Read + Drop> Read for SystemFile<F> {
+    ghost use Rattle.std.specs.Prelude.{None};
+
+    ghost remaining = { λ s. None };
+
+    fn read(&mut self, buf: &mut [u8]) -> io::Result<usize> {
+        self.file.read(buf)
+    }
+}
+
+/// The files of the system, whose bytes no contract says, and its clock.
+#[derive(Drop)]
+pub struct System<'a, R: Files + Clock> {
+    rt: &'a R,
+}
+
+impl<'a, R: Files + Clock> System<'a, R> {
+    /// The files and the clock of a runtime.
+    pub fn new(rt: &'a R) -> Self {
+        System { rt }
+    }
+}
+
+impl<R: Files + Clock> Clock for System<'_, R> {
+    fn monotonic(&self) -> io::Result<Duration> {
+        self.rt.monotonic()
+    }
+
+    fn since_1970(&self) -> io::Result<Duration> {
+        self.rt.since_1970()
+    }
+
+    fn sleep(&self, duration: Duration) {
+        self.rt.sleep(duration)
+    }
+}
+
+/// The number by which the system says that a directory is no file.
+const IS_A_DIRECTORY: i32 = 21;
+
+/// Why a file could not be opened, by the system's error.
+fn open_refusal(reason: io::Error) -> OpenRefusal
+    ensures { IsByItsReason result }
+{
+    let fault = match reason.kind() {
+        ErrorKind::NotFound | ErrorKind::NotADirectory => OpenFault::Missing,
+        ErrorKind::PermissionDenied => OpenFault::Denied,
+        ErrorKind::IsADirectory => OpenFault::Directory,
+        _ => OpenFault::Refused,
+    };
+    OpenRefusal { fault, reason }
+}
+
+/// Opens a file for reading, which is no directory.
+fn open_file<R: Files>(files: &R, name: &str) -> Result<R::File, OpenRefusal>
+    ensures { IfErr result IsByItsReason }
+{
+    let file = fs::open(files, name).map_err(open_refusal)?;
+    match file.metadata() {
+        Ok(metadata) if metadata.is_dir() => {
+            Err(open_refusal(io::Error::from_raw_os_error(IS_A_DIRECTORY)))
+        }
+        _ => Ok(file),
+    }
+}
+
+impl<R: Files + Clock> Opener for System<'_, R> {
+    ghost use Rattle.std.specs.Prelude.{None};
+
+    type File = SystemFile<R::File>;
+
+    ghost named = { λ s name. None };
+
+    fn open(&self, name: &str) -> Result<SystemFile<R::File>, OpenRefusal> {
+        match open_file(self.rt, name) {
+            Ok(file) => Ok(SystemFile { file }),
+            Err(refusal) => Err(refusal),
+        }
+    }
+}

@@ -1,0 +1,160 @@
+-- A row by its front, and by the digits after it.
+use Rattle.std.proofs.Common.{◌≡◌, ◌≢◌, ◌∙◌, sym, ap, refl, ℕ, ◌*◌, ◌<◌, ◌≤◌, ◌%◌, Bool, true, false, List, [], ◌∷◌, ◌++◌, append_assoc, length, take, drop, get_or, Option, Some, None, Ok, arith}
+use Rattle.std.specs.Prelude.{codes, nat_lt, nat_le, ◌==◌, ◌&&◌, ◌||◌, not, is_none, slice_index, if◌then◌else◌}
+use Rattle.std.specs.Char.{is_ascii_digit}
+use Rattle.std.specs.List.{list_all, list_any}
+use Rattle.std.proofs.lemmas.List.{take-append-drop}
+use Rattle.std.specs.Option.{option_and_then}
+use Rattle.std.specs.Str.Parse.{digits_value}
+use Rattle.std.specs.Str.{bytes_eq}
+use Rattle.std.proofs.lemmas.Bool.{eqb-true, leb-true, ne_eqb, or_parts}
+use Rattle.std.proofs.lemmas.List.Elements.{All-get_or}
+use Rattle.std.proofs.lemmas.List.Folds.{list_any_none}
+use Rattle.hex.specs.Hex.{decode_of, is_hex_digit}
+use Rattle.hex.proofs.HexLemmas.{decode_of-ok}
+use Rattle.line_model.specs.text.Header.{number_of, is_number, words_of}
+use Rattle.line_model.specs.text.RowLine.{RowWords, octets_of, rising_number, row_kind, row_of, row_words, side_of, words_kind}
+use Rattle.line_model.specs.declared.fault.Kind.{Kind}
+use Rattle.line_model.specs.declared.fault.Kind.TheVariants.{LineForm, Number, Side as SideKind, Hex}
+use Rattle.line_model.specs.declared.state.Side.{Side}
+use Rattle.trace_text.specs.Cuts.{Lacks}
+use Rattle.line_model.specs.text.Text.{is_comment}
+use Rattle.trace_text.specs.Digits.{BeginsOctets}
+use Rattle.trace_text.specs.Reads.{BeginsLine, BeginsNumber, BeginsRow}
+use Rattle.trace_text.proofs.DigitLemmas.{octets-decode, twice}
+use Rattle.trace_text.proofs.CutLemmas.{words-found, words-none}
+use Rattle.trace_text.proofs.NumberLemmas.{both, number_is}
+use Rattle.trace_text.proofs.RowLemmas.{octets_of-ok}
+use mathlib.Core.Bool.{and-false}
+
+no_hex : (v : Bool) (b byte : ℕ) → (b == byte) ≡ v → is_hex_digit b ≡ true → is_hex_digit byte ≡ false → v ≡ false
+no_hex false b byte e h k = refl
+no_hex true b byte e h k = absurd (let hex : is_hex_digit byte ≡ true = ap is_hex_digit (sym (eqb-true b byte e)) ∙ h in cc)
+
+-- hex digits lack any other byte
+digits_lack : (byte : ℕ) (digits octets : List ℕ) → is_hex_digit byte ≡ false → decode_of digits ≡ Ok octets → Lacks byte digits
+digits_lack byte digits octets other h =
+    let all = (decode_of-ok digits octets h).1 in
+    list_any_none (λ b. b == byte) digits (λ k d l. no_hex (get_or digits k d == byte) (get_or digits k d) byte refl (All-get_or (λ b. is_hex_digit b ≡ true) digits k d l all) other)
+
+no_digit : (v : Bool) (b byte : ℕ) → (b == byte) ≡ v → is_ascii_digit b ≡ true → is_ascii_digit byte ≡ false → v ≡ false
+no_digit false b byte e h k = refl
+no_digit true b byte e h k = absurd (let digit : is_ascii_digit byte ≡ true = ap is_ascii_digit (sym (eqb-true b byte e)) ∙ h in cc)
+
+-- and so do the digits of a number
+pub number_lacks : (byte : ℕ) (word : List ℕ) → is_ascii_digit byte ≡ false → list_all is_ascii_digit word ≡ true → Lacks byte word
+number_lacks byte [] other h = refl
+number_lacks byte (b ∷ bs) other h =
+    let all = both (is_ascii_digit b) (list_all is_ascii_digit bs) h in
+    rw (no_digit (b == byte) b byte refl all.0 other, number_lacks byte bs other all.1) refl
+
+not_dash : (digits : List ℕ) → length digits % 2 ≡ 0 → bytes_eq digits (codes "-") ≡ false
+not_dash [] h = refl
+not_dash (a ∷ []) h = absurd (omega (arith, h))
+not_dash (a ∷ b ∷ ds) h = and-false (a == 45)
+
+-- a number that rises is a word's
+rises_is : (o : Option ℕ) (last number : ℕ) → option_and_then (λ n. if nat_lt last n then Some n else None) o ≡ Some number → o ≡ Some number
+rises_is None last number h = cc
+rises_is (Some n) last number h = above (nat_lt last n) h
+  where
+    above : (b : Bool) → (if b then Some n else None) ≡ Some number → Some n ≡ Some number
+    above true k = k
+    above false k = cc
+
+is_word : (b : Bool) (word : List ℕ) (n m : ℕ) → is_number word ≡ b → (if b then Some n else None) ≡ Some m → 1 ≤ length word
+is_word true word n m e h = leb-true 1 (length word) (both (nat_le 1 (length word)) (nat_le (length word) 9) (both _ _ e).0).0
+is_word false word n m e h = cc
+
+are_digits : (b : Bool) (word : List ℕ) (n m : ℕ) → is_number word ≡ b → (if b then Some n else None) ≡ Some m → list_all is_ascii_digit word ≡ true
+are_digits true word n m e h =
+    let rest = ((length word == 1) || not (slice_index word 0 == 48)) in
+    (both (list_all is_ascii_digit word) rest (both (nat_le 1 (length word) && nat_le (length word) 9) (list_all is_ascii_digit word && rest) e).1).0
+are_digits false word n m e h = cc
+
+number_digits : (word : List ℕ) (number : ℕ) → number_of word ≡ Some number → list_all is_ascii_digit word ≡ true
+number_digits word number h = are_digits (is_number word) word _ number refl h
+
+word_length : (word : List ℕ) (number : ℕ) → number_of word ≡ Some number → 1 ≤ length word
+word_length word number h = is_word (is_number word) word _ number refl h
+
+no_empty : (xs : List ℕ) → 0 < length xs → not (length xs == 0) ≡ true
+no_empty xs h = ap not (ne_eqb (length xs) 0 (λ e. absurd (omega (arith, e, h))))
+
+front_words : (last number : ℕ) (side : Side) (line digits octets : List ℕ) (b : BeginsRow last line number side digits) → 0 < length digits → decode_of digits ≡ Ok octets → row_words line ≡ Some (record { number = b.word; side = b.letter ∷ []; hex = digits })
+unfolding row_words
+front_words last number side line digits octets b n h =
+    let word : not (length b.word == 0) ≡ true = no_empty b.word (let long = word_length b.word number (rises_is (number_of b.word) last number b.rises) in omega (arith, long)) in
+    let hex : not (length digits == 0) ≡ true = no_empty digits n in
+    let words : words_of line ≡ b.word ∷ (b.letter ∷ []) ∷ digits ∷ [] =
+    ap words_of b.whole ∙ words-found 32 b.word (b.letter ∷ 32 ∷ digits) b.one_word
+    ∙ ap (λ ws. b.word ∷ ws) (words-found 32 (b.letter ∷ []) digits b.no_space ∙ ap (λ ws. (b.letter ∷ []) ∷ ws) (words-none 32 digits (digits_lack 32 digits octets refl h))) in
+    rw (words, word, hex) refl
+
+abbrev judged : Option ℕ → Option Side → Option (List ℕ) → Option Kind
+judged number side octets = if is_none number then Some Number else if is_none side then Some SideKind else if is_none octets then Some Hex else None
+
+words_right : (last number : ℕ) (side : Side) (octets : List ℕ) (words : RowWords) → rising_number last words.number ≡ Some number → side_of words.side ≡ Some side → octets_of words.hex ≡ Some octets → words_kind last words ≡ None
+words_right last number side octets words n s o =
+    ap (λ r. judged r (side_of words.side) (octets_of words.hex)) n ∙ ap (λ r. judged (Some number) r (octets_of words.hex)) s ∙ ap (λ r. judged (Some number) (Some side) r) o
+
+front_kind : (last number : ℕ) (side : Side) (line digits octets : List ℕ) → BeginsRow last line number side digits → 0 < length digits → length digits ≤ 8400 → length digits % 2 ≡ 0 → decode_of digits ≡ Ok octets → row_kind last line ≡ None
+unfolding row_kind
+front_kind last number side line digits octets b n most even h =
+    let words = front_words last number side line digits octets b n h in
+    let octets_are = octets_of-ok digits octets (not_dash digits even) most h in
+    ap (λ (ws : Option RowWords). elim ws as (λ _. Option Kind) [ None ↦ Some LineForm | Some w ↦ words_kind last w ]) words
+    ∙ words_right last number side octets (record { number = b.word; side = b.letter ∷ []; hex = digits }) b.rises b.names octets_are
+
+front_row : (last number : ℕ) (side : Side) (line digits octets : List ℕ) → BeginsRow last line number side digits → 0 < length digits → length digits ≤ 8400 → length digits % 2 ≡ 0 → decode_of digits ≡ Ok octets →
+    row_of line ≡ Some (record { number = number; side = side; octets = octets })
+unfolding row_of
+front_row last number side line digits octets b n most even h =
+    let words = front_words last number side line digits octets b n h in
+    let octets_are = octets_of-ok digits octets (not_dash digits even) most h in
+    let number_is = rises_is (number_of b.word) last number b.rises in
+    rw (words, number_is, b.names, octets_are) refl
+
+pub lacks-append : (byte : ℕ) (xs ys : List ℕ) → Lacks byte xs → Lacks byte ys → Lacks byte (xs ++ ys)
+lacks-append byte [] ys h k = k
+lacks-append byte (x ∷ xs) ys h k = let none = or_parts (x == byte) (list_any (λ b. b == byte) xs) h in rw (none.0, lacks-append byte xs ys none.1 k) refl
+
+no_line_end : (v : Bool) (letter : ℕ) (side : Side) → (letter == 10) ≡ v → side_of (letter ∷ []) ≡ Some side → v ≡ false
+no_line_end false letter side e h = refl
+no_line_end true letter side e h = absurd (let none : side_of (10 ∷ []) ≡ Some side = ap (λ b. side_of (b ∷ [])) (sym (eqb-true letter 10 e)) ∙ h in cc)
+
+not_comment : (word rest : List ℕ) → 1 ≤ length word → Lacks 35 word → is_comment (word ++ rest) ≡ false
+not_comment [] rest n h = absurd (omega (arith, n))
+not_comment (b ∷ bs) rest n h = (or_parts (b == 35) (list_any (λ b. b == 35) bs) h).0
+
+-- a row's front and the digits after it are a line
+pub front-line : (last number : ℕ) (side : Side) (size : ℕ) (text after rest : List ℕ) → BeginsRow last text number side after → (w : BeginsOctets after size rest) → BeginsLine last text (record { number = number; side = side; octets = w.octets }) rest
+front-line last number side size text after rest b w =
+    let d = w.digits in
+    let tail : List ℕ = 32 ∷ b.letter ∷ 32 ∷ d.digits in
+    let line : List ℕ = b.word ++ tail in
+    let begins : BeginsRow last line number side d.digits = record { word = b.word; letter = b.letter; whole = refl; one_word = b.one_word; no_space = b.no_space; rises = b.rises; names = b.names } in
+    let decoded : decode_of d.digits ≡ Ok w.octets = octets-decode d.digits w.octets d.octets_are in
+    let long : length d.digits ≡ 2 * size = omega (arith, twice d.digits w.octets d.octets_are, w.count) in
+    let some : 0 < length d.digits = let three = w.some in omega (arith, long, three) in
+    let few : length d.digits ≤ 8400 = let most = w.few in omega (arith, long, most) in
+    let even : length d.digits % 2 ≡ 0 = omega (arith, long) in
+    let value = rises_is (number_of b.word) last number b.rises in
+    let digits = number_digits b.word number value in
+    record {
+      line = line;
+      whole = b.whole ∙ ap (λ xs. b.word ++ 32 ∷ b.letter ∷ 32 ∷ xs) d.whole ∙ sym (append_assoc b.word tail (10 ∷ rest));
+      one_line = lacks-append 10 b.word tail (number_lacks 10 b.word refl digits) (rw (no_line_end (b.letter == 10) b.letter side refl b.names) (digits_lack 10 d.digits w.octets refl decoded));
+      no_comment = not_comment b.word tail (word_length b.word number value) (number_lacks 35 b.word refl digits);
+      sound = front_kind last number side line d.digits w.octets begins some few even decoded;
+      writes = front_row last number side line d.digits w.octets begins some few even decoded;
+    }
+
+-- the digits at the front of a text, and the space after them
+pub number-front : (text rest : List ℕ) (count value : ℕ) → count ≢ 0 → count ≤ 9 → count ≤ length text → list_all is_ascii_digit (take count text) ≡ true → get_or text 0 0 ≢ 48 → value ≡ digits_value 10 (take count text) → drop count text ≡ 32 ∷ rest → BeginsNumber text value rest
+number-front text rest count value some few there digits first v at = record {
+  word = take count text;
+  whole = sym (take-append-drop count text) ∙ ap (λ xs. take count text ++ xs) at;
+  one_word = number_lacks 32 (take count text) refl digits;
+  value = number_is text count value (omega (arith, some)) few there digits (ne_eqb (get_or text 0 0) 48 first) v;
+}

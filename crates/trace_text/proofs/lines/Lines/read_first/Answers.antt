@@ -1,0 +1,34 @@
+use Rattle.std.proofs.Common.{◌≡◌, ◌-◌, ◌∙◌, sym, ap, ap₂, arith, subst, length, ℕ, List}
+use Rattle.std.proofs.lemmas.Bool.{eqb-true}
+use Rattle.std.specs.Vec.{vec_len}
+use Rattle.line_model.proofs.TextLemmas.{size_kind-none}
+use Rattle.line_model.specs.basics.Records.{Row}
+use Rattle.trace_text.specs.Progress.{Progress}
+use Rattle.trace_text.specs.Reads.{kept_row}
+use Rattle.trace_text.specs.Steps.{TakesLine}
+use Rattle.trace_text.proofs.RowFront.{front-line}
+use Rattle.trace_text.proofs.StepLemmas.{is_missing, takes-first}
+use Rattle.trace_text.proofs.lines.Lines.read_first.Goals as goal
+
+pub next_line-requires : goal.next_line-requires
+next_line-requires g c =
+    let fits = sym c.size_fault.ensures ∙ is_missing c.size_fault.result (sym c.if-is_some.ensures) in
+    omega (arith, (size_kind-none c.self.inside.start 1 (length c.args.chunk.now - length c.in_ok-front.front.rest.now - 1) fits).1)
+
+pub returns : goal.returns
+returns g c =
+    let fits = sym c.size_fault.ensures ∙ is_missing c.size_fault.result (sym c.if-is_some.ensures) in
+    let none : length c.self.inside.begun.items ≡ 0 = let none : vec_len c.self.inside.begun ≡ 0 = eqb-true (vec_len c.self.inside.begun) 0 (sym c.if-not-is_empty.ensures) in
+    omega (arith, none, c.self.inside.begun.ok) in
+    let kept = c.self.inside in
+    let front = c.in_ok-front.front in
+    let written = c.in_ok-front.ensures.1 in
+    let row : Row = record { number = front.number; side = front.side; octets = written.octets } in
+    let before : Progress = record { ended = kept.ended; start = kept.start; interface = kept.interface; last = kept.last; begun = kept.begun.items; refused = kept.refused } in
+    let line = front-line kept.last front.number front.side front.length c.args.chunk.now front.digits.now front.rest.now c.in_ok-front.ensures.0 written in (
+      row,
+      subst (λ (v : Progress). TakesLine v c.next_line.new.self c.args.chunk.now front.rest.now row) c.self.view_is
+          (takes-first before c.next_line.new.self c.args.chunk.now front.rest.now row line c.if-is_none.ensures none fits c.next_line.ensures),
+      ap₂ (λ (n : ℕ) (os : List ℕ). record { number = front.number; side = front.side; length = n; octets = os }) (sym written.count) (c.in_ok-convert_digits.ensures front.rest.now written)
+          ∙ ap (λ b. kept_row b row) (sym c.if-whole.false),
+    )

@@ -1,0 +1,29 @@
+"""The objects of rows, and the rows of a trace."""
+import json
+
+import runner
+
+
+def objects(program, words, text):
+    """The objects that `--rows` prints of a text with some words."""
+    return [json.loads(line) for line in runner.run([program, "--rows", *words], text).output.splitlines()]
+
+
+def rows_of(text):
+    """The number, the side and the octets of each row of a trace, as far as its lines are rows."""
+    lines = [line for line in text.split(b"\n") if line and not line.startswith(b"#")]
+    for line in lines[1:]:
+        words = line.rstrip(b"\r").split(b" ")
+        if len(words) != 3 or not words[0].isdigit():
+            return
+        number, side, octets = (word.decode("ascii", "replace") for word in words)
+        yield int(number), side, "" if octets == "-" else octets.upper()
+
+
+def wrong_rows(text, found, is_refused):
+    """What is wrong with the rows among objects: they are those of the trace, or the first ones where it is refused."""
+    rows = [(item["packet"], item["side"], item["hex"].upper()) for item in found if item["line"] == "row"]
+    expected = list(rows_of(text))
+    if is_refused:
+        expected = expected[:len(rows)]
+    return [] if rows == expected else [f"the rows are {rows[:3]}.., expected {expected[:3]}.."]

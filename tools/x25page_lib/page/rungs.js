@@ -1,0 +1,224 @@
+// The rungs of a ladder: an arrow for each packet between two lifelines, and beside or below it what was wrong.
+
+const ARROW = 24;
+const LINE = 15;
+const ROW = 38;
+const NARROW = 640;
+const COMPACT = 860;
+const LETTER = 6.5;
+const GAP = "\u00a0\u00a0";
+const CHIP = 34;
+
+// Where everything stands in a ladder that is so wide; a narrow one has its notes below the arrows.
+function layout(width) {
+  if (width < NARROW) {
+    const [dte, dce] = [CHIP / 2 + 3, width - CHIP / 2 - 3];
+    const note = dte + 24;
+    return { width, isNarrow: true, dte, dce, left: dte, right: dce, number: note, note, text: 13, arrow: 42, chip: 18,
+      notes: 62, row: 66, letters: Math.floor((dce - note - 22) / LETTER) };
+  }
+  const isWide = width > COMPACT;
+  const [number, time] = isWide ? [width * 0.05, width * 0.136] : [58, 150];
+  const beside = isWide ? 40 : 26;
+  const dte = time + 10 + 2 * beside;
+  const dce = dte + Math.max(222, width * (isWide ? 0.382 : 0.3));
+  const note = dce + beside + (isWide ? 38 : 24);
+  return { width, isNarrow: false, dte, dce, left: dte - beside, right: dce + beside, number, time, note, text: 14,
+    arrow: ARROW, chip: 0, notes: 16, row: ROW, letters: Math.floor((width - note - 4) / LETTER) };
+}
+
+function phase(state) {
+  if (state === "d1" || state === "p4") return "transfer";
+  if (state === "p1" || state === "r1") return "ready";
+  if (["p2", "p3", "p5"].includes(state)) return "set-up";
+  if (["d2", "d3"].includes(state)) return "reset";
+  if (["p6", "p7"].includes(state)) return "clear";
+  return state[0] === "r" ? "restart" : "unknown";
+}
+
+function wrapped(text, most) {
+  const lines = [""];
+  for (const part of text.split(" ")) {
+    const last = lines.at(-1);
+    if (last && last.length + part.length >= most) lines.push(part);
+    else lines[lines.length - 1] = last ? `${last} ${part}` : part;
+  }
+  return lines.flatMap((line) => (line.length <= most + 8 ? [line] : cut(line, most)));
+}
+
+// A word that is longer than a line, in two lines at most.
+function cut(text, most) {
+  const rest = text.slice(most);
+  return [text.slice(0, most), rest.length > most ? `${rest.slice(0, most)}\u2026` : rest];
+}
+
+// What stands beside an arrow, line by line: the text and its style.
+function notes(row, at) {
+  const { more, fault } = row;
+  const found = [];
+  const say = (text, style = "", code = null) => wrapped(text, at.letters).forEach((line) =>
+    found.push({ text: line, style, code }));
+  if (fault) {
+    say(`Code ${fault.code}: ${fault.name}`, "fault", fault.code);
+    say(upper(fault.wrong), "wrong");
+    if (fault.then) say(fault.then, "wrong");
+    say(fault.clause, "clause");
+  }
+  if (more.cause) say(`cause ${more.cause.value} (${more.cause.name})`);
+  if (more.diagnostic?.name) say(`diagnostic ${more.diagnostic.value} (${more.diagnostic.name})`);
+  if (more.calling || more.called) {
+    const asked = `${more.reverse ? ", reverse charging" : ""}${more.fast ? ", fast select" : ""}`;
+    say(`from ${more.calling ?? "-"} to ${more.called ?? "-"}${asked}`);
+  }
+  if (more.c) say(`counted: ${plural(more.c, "segment")}`, "faint");
+  if (more.not_counted && !fault) say(`not counted: ${reasonName(more.not_counted)}`);
+  if (more.message) say(`PAD message: ${messageText(more.message)}`);
+  if (!more.message && more.settings) say(settingsText(more.settings));
+  return found;
+}
+
+function messageText(message) {
+  const pairs = (message.pairs ||
+    []).map((it) => `${it.parameter} (${it.name})${it.value === null ? "" : ` = ${it.value}`}`);
+  return `${message.name.replaceAll("_", " ")} ${pairs.join(", ")}`;
+}
+
+function settingsText(settings) {
+  const text = (it) => {
+    const pad = `PAD of the ${SIDES[LETTERS.indexOf(it.side)]}`;
+    return `${pad}: ${it.parameter} (${it.name}) ${it.word} ${it.value ?? ""}`;
+  };
+  return settings.map(text).join("; ");
+}
+
+// The name of a packet and its fields; with marks each bit is an element of its own.
+function packetText(row, gap = GAP) {
+  const { more } = row;
+  const parts = [draw("tspan", { class: "type" }, typeName(row.type).toUpperCase())];
+  if (more.s !== undefined) parts.push(`${gap}P(S) ${more.s}`);
+  if (more.r !== undefined) parts.push(`${gap}P(R) ${more.r}`);
+  for (const [bit, letter] of [["m", "M"], ["d", "D"], ["q", "Q"]]) {
+    if (more[bit]) parts.push(gap, draw("tspan", { class: "bit" }, letter));
+  }
+  if (more.o !== undefined && row.type === "data") parts.push(`${gap}${plural(more.o, "octet")}`);
+  return parts;
+}
+
+function stateChip(state, x, y) {
+  return drawnWord("state", state, { class: `state ${phase(state)}` },
+    draw("rect", { x: x - CHIP / 2, y: y - 10, width: CHIP, height: 20, rx: 10 }),
+    draw("text", { x, y: y + 4, "text-anchor": "middle" }, state === "unknown" ? "?" : state));
+}
+
+function lifelines(at, y, height, state) {
+  return [at.dte, at.dce].map((x) => draw("rect", { class: `life ${phase(state)}`, x: x - 3, y, width: 6, height }));
+}
+
+function arrow(row, at, y) {
+  const [from, to] = row.side === 0 ? [at.dte + 4, at.dce - 5] : [at.dce - 4, at.dte + 5];
+  const back = row.side === 0 ? -9 : 9;
+  const [begin, end] = [y + at.arrow - 3, y + at.arrow + 3];
+  return draw("path", { class: "arrow",
+    d: `M${from} ${begin}L${to} ${end}M${to + back} ${end - 5}L${to} ${end}L${to + back} ${end + 4}` });
+}
+
+function noteLines(lines, at, y) {
+  return lines.map((note, place) => {
+    const line = draw("text", { class: `note ${note.style}`, x: at.note, y: y + at.notes + place * LINE }, note.text);
+    return note.code ? drawnWord(codeTopic(note.code), note.code, {}, line) : line;
+  });
+}
+
+// The number of a packet and its time: before the arrow, or above it in a narrow ladder.
+function numberAndTime(row, at, y, begun) {
+  const time = row.time === null ? "" : `+${decimals(row.time - begun)} s`;
+  const name = rowName(row);
+  if (at.isNarrow) {
+    return [draw("text", { class: "packet", x: at.number, y: y + at.text }, name,
+      draw("tspan", { class: "time", dx: 10 }, time))];
+  }
+  const line = y + at.arrow + 4;
+  return [draw("text", { class: "packet", x: at.number, y: line, "text-anchor": "end" }, name),
+    draw("text", { class: "time", x: at.time, y: line, "text-anchor": "end" }, time)];
+}
+
+function kind(row) {
+  if (row.fault) return "faulty";
+  if (row.type === "data") return "data";
+  if (FLOWING.has(row.type) || row.type === "rej") return "flow";
+  return /^(reset|restart|clear|diag)/.test(row.type) ? "ending" : "calling";
+}
+
+// The drawing of a row, and how high it is.
+function drawRow(row, at, y, begun) {
+  const lines = notes(row, at);
+  const height = at.isNarrow ? at.row + lines.length * LINE : Math.max(at.row, 12 + lines.length * LINE);
+  const label = { class: "label", x: (at.dte + at.dce) / 2, y: y + (at.isNarrow ? 33 : at.text),
+    "text-anchor": "middle" };
+  const parts = [
+    draw("rect", { class: "back", x: 1.5, y: y + 1, width: at.width - 3, height: height - 2, rx: 5 }),
+    ...numberAndTime(row, at, y, begun),
+    ...lifelines(at, y, at.arrow, row.before), ...lifelines(at, y + at.arrow, height - at.arrow, row.after),
+    arrow(row, at, y), draw("text", label, packetText(row, at.isNarrow ? " " : GAP)),
+    ...(row.before !== row.after ? [at.left, at.right].map((x) => stateChip(row.after, x, y + at.arrow + at.chip))
+      : []),
+    ...noteLines(lines, at, y),
+  ];
+  const code = row.fault ? `, code ${row.fault.code}` : "";
+  const name = `Packet ${row.packet}, ${SIDES[row.side]}, ${typeName(row.type)}${code}`;
+  return [draw("g", { class: `row ${kind(row)}`, id: `row-${row.packet}`, tabindex: -1, role: "button",
+    "aria-label": name, click: () => goTo(`${shown.key}/${row.packet}`) }, parts), height];
+}
+
+function runText(run) {
+  const parts = SIDES.map((side,
+    at) => (run.data[at] ? `${side}: ${count(run.data[at])} data, ${plural(run.octets[at], "octet")}` : null));
+  const other = run.packets - run.data[0] - run.data[1];
+  if (other) parts.push(plural(other, "other"));
+  return parts.filter(Boolean).join(" \u00b7 ");
+}
+
+function sumsOf(rows) {
+  const run = { packets: rows.length, data: [0, 0], octets: [0, 0] };
+  for (const { row } of rows.filter((it) => it.row.type === "data")) {
+    run.data[row.side] += 1;
+    run.octets[row.side] += row.more.o;
+  }
+  return run;
+}
+
+// The lines of a gap: rows that are folded here, or left out of the page.
+function gapLines(item) {
+  const run = item.run || sumsOf(item.fold);
+  const codes = Object.entries(run.findings || {}).map(([code, many]) => `code ${code} ${times(many)}`).join(", ");
+  const what = item.run ? `${plural(run.packets, "packet")} left out, ${count(run.first)} to ${count(run.last)}`
+    : `${plural(run.packets, "packet")} without a finding${printing.width ? "" : ": click to see them"}`;
+  return [what, codes || runText(run)];
+}
+
+// The drawing of a gap, and how high it is.
+function drawGap(item, at, y, state) {
+  const inner = at.dce - at.dte - 28;
+  const [first, second] = gapLines(item).map((text) => wrapped(text, Math.floor((inner - 12) / LETTER)));
+  const height = 20 + LINE * (first.length + second.length);
+  const line = (text, place) => draw("text", { class: place < first.length ? "" : "faint", x: (at.dte + at.dce) / 2,
+    y: y + 20 + place * LINE, "text-anchor": "middle" }, text);
+  const attributes = item.fold ? { class: "gap fold", tabindex: -1, role: "button", click: () => unfold(item) }
+    : { class: "gap" };
+  return [draw("g", attributes, ...lifelines(at, y, height, state),
+    draw("rect", { class: "gap-room", x: at.dte + 14, y: y + 4, width: inner, height: height - 8, rx: 8 }),
+    [...first, ...second].map(line)), height];
+}
+
+function ladderHead(at) {
+  const head = (x, name, letter) => drawnWord("side", letter, { class: "head" },
+    draw("rect", { x: x - 24, y: 6, width: 48, height: 28, rx: 6 }),
+    draw("text", { x, y: 25, "text-anchor": "middle" }, name));
+  const title = (x, name, anchor) => draw("text", { class: "column", x, y: 25, "text-anchor": anchor }, name);
+  const columns = at.isNarrow ? [] : [title(at.number, "packet", "end"),
+    title(at.time, facts.times.length ? "time" : "", "end"), title(at.note, "what it did", "start")];
+  const edge = (x) => Math.min(Math.max(x, 25), at.width - 25);
+  return draw("svg", { class: "ladder", viewBox: `0 0 ${at.width} 40`, role: "group",
+    "aria-label": "Heads of the ladder" }, columns,
+    head(edge(at.dte), "DTE", "T"), head(edge(at.dce), "DCE", "N"));
+}

@@ -1,0 +1,169 @@
+"""Pages of several captures and traces, one for each, and an index of them."""
+from __future__ import annotations
+
+import argparse
+import copy
+import gc
+import os
+import pathlib
+import signal
+from collections.abc import Iterable, Iterator
+from dataclasses import dataclass, replace
+
+from x25tools_lib.ledger import Reason
+from x25tools_lib.options import Status
+from x25tools_lib.refusals import PageWhy, Refusal, Why
+from x25tools_lib.streams import Waiting, is_pipe
+from x25trace_lib.captures import BINARY, is_trace
+from x25trace_lib.hexdump import is_dump
+
+from . import inputs
+from .gathering import Job, Messages, read, say
+from .index_page import INDEX, Line, index_of
+from .pages import Page
+from .places import checked, written
+from .rows import SIDES
+from .suspicions import number
+
+HEADER_OF_TRACE = b"X25 "
+
+
+@dataclass(frozen=True)
+class Input:
+    """A file that was named, or is in a folder that was."""
+
+    path: str
+    is_in_folder: bool
+
+
+@dataclass
+class Outcome:
+    """What came of an input: its line of the index, and the status of it."""
+
+    line: Line
+    status: Status
+
+
+def inputs_of(names: Iterable[str]) -> Iterator[Input]:
+    """The files that are named, and those of folders with the folders in them, by their names."""
+    for name in names:
+        if not os.path.isdir(name):
+            yield Input(name, False)
+            continue
+        for folder, folders, files in os.walk(name):
+            folders[:] = sorted(it for it in folders if not it.startswith("."))
+            yield from (Input(os.path.join(folder, it), True) for it in sorted(files) if not it.startswith("."))
+
+
+def without_repeats(found: Iterable[Input]) -> list[Input]:
+    """The inputs, each file once, however often it was named."""
+    kept: dict[str, Input] = {}
+    for one in found:
+        kept.setdefault(os.path.realpath(one.path), one)
+    return list(kept.values())
+
+
+def names_of(found: Iterable[Input]) -> dict[Input, str]:
+    """The file of the page of each input: of two inputs with one name the later one's has a number."""
+    taken, names = {INDEX}, {}
+    for one in found:
+        stem, number = pathlib.PurePath(one.path).stem, 1
+        name = f"{stem}.html"
+        while name in taken:
+            number += 1
+            name = f"{stem}-{number}.html"
+        taken.add(name)
+        names[one] = name
+    return names
+
+
+def is_foreign(one: Input, job: Job, folder: pathlib.Path) -> bool:
+    """Whether a file of a folder is neither a capture nor a trace, or a page of an earlier run."""
+    path = pathlib.Path(one.path)
+    if path.suffix == ".html" and folder.resolve() in path.resolve().parents or is_pipe(one.path):
+        return True
+    try:
+        start = inputs.start_of(one.path)
+    except Refusal:
+        return False
+    if is_trace(start):
+        lines = (line for line in start.split(b"\n") if not line.startswith(b"#"))
+        return not next(lines, b"").startswith(HEADER_OF_TRACE)
+    is_kind_given = None in dict(job.words.kinds)
+    return not start.startswith(BINARY) and not (is_kind_given and is_dump(start))
+
+
+def job_of(job: Job, path: str) -> Job:
+    """The job of one input."""
+    words = copy.copy(job.words)
+    words.captures = [path]
+    rest = [it for it in job.arguments if it != "--each" and it not in job.words.captures]
+    return replace(job, words=words, arguments=[*rest, path], waiting=Waiting())
+
+
+def line_of(page: Page, path: str, name: str) -> Line:
+    """The line of the index for a page that is written."""
+    found = page.read
+    facts, counts = found.facts, found.messages.counts
+    gaps = counts[Reason.GAP] + counts[Reason.LOST_FRAME]
+    header = [(word, value, word in found.head.sources) for word, value in found.head.numbers.items()]
+    notes = [] if found.messages.whole else ["Packets may be missing: the page says which."]
+    notes += ["The header may be wrong: the page says why."] if page.warnings else []
+    return Line(path, name, facts.verdict(), [facts.count_of(side) for side in SIDES], facts.sums, gaps, header, notes)
+
+
+def write_page(job: Job, one: Input, place: pathlib.Path) -> Outcome:
+    """Writes the page of an input."""
+    waiting = job.waiting
+    signal.signal(signal.SIGINT, waiting.interrupt)
+    messages = Messages(None)
+    page = Page(read(job, messages))
+    with written(place) as out:
+        for part in page.parts():
+            out.write(part)
+    line = line_of(page, one.path, place.name)
+    say(f"{one.path}: {place}: {page.summary()}")
+    if waiting.interrupted:
+        return Outcome(line, Status.INTERRUPTED)
+    return Outcome(line, Status.WHOLE if messages.whole else Status.DAMAGED)
+
+
+def outcome_of(job: Job, one: Input, place: pathlib.Path) -> Outcome:
+    """Writes the page of an input, or says why there is none."""
+    try:
+        return write_page(job_of(job, one.path), one, checked(place, [one.path], False))
+    except Refusal as refusal:
+        say(f"{one.path}: {refusal}")
+        return Outcome(Line.refused(one.path, str(refusal)), Status.REFUSED)
+
+
+def folder_of(words: argparse.Namespace) -> pathlib.Path:
+    """The folder of the pages, which is made where there is none."""
+    folder = pathlib.Path(words.page)
+    if folder.exists() and not folder.is_dir():
+        raise Refusal(PageWhy.OUTPUT, f"{folder} is no folder: -o names the folder of the pages")
+    folder.mkdir(parents=True, exist_ok=True)
+    return folder
+
+
+def run(job: Job) -> Status:
+    """Writes the pages and their index; returns the worst status."""
+    folder = folder_of(job.words)
+    every = without_repeats(inputs_of(job.words.captures))
+    found = [it for it in every if not it.is_in_folder or not is_foreign(it, job, folder)]
+    outcomes = []
+    for one, name in names_of(found).items():
+        outcomes.append(outcome_of(job, one, folder / name))
+        gc.collect()
+        if outcomes[-1].status is Status.INTERRUPTED:
+            break
+    lines = [it.line for it in outcomes]
+    if not any(line.page for line in lines):
+        raise Refusal(Why.NO_PACKET, f"no page was written: {number(len(every), 'file')}, and none is a capture or a trace")
+    index = checked(folder / INDEX, [], False)
+    with written(index) as out:
+        out.writelines(index_of(lines))
+    passed = len(every) - len(found)
+    rest = f"; {number(passed, 'other file')} passed over, neither captures nor traces" if passed else ""
+    say(f"{index}: {number(len(lines), 'line')}{rest}")
+    return max(it.status for it in outcomes)

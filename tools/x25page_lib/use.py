@@ -1,0 +1,188 @@
+"""What was used: octets a segment, packets and octets over time, calls by the cause of their end, and with it the waits."""
+from __future__ import annotations
+
+from array import array
+from typing import Any
+
+from .rows import SECOND, SIDES, Row
+from .waits import Waits
+from .windows import Windows
+
+SEGMENT, SMALL = 64, 32
+# The lengths of the parts of a chart in seconds, each a multiple of the one before; the chart has at most so many.
+STEPS = (1, 5, 15, 60, 300, 900, 3600, 14_400, 86_400, 604_800)
+MOST_PARTS = 480
+# How a call ended whose last packet was not recorded.
+UNRECORDED = "not recorded"
+WAYS = ("T", "N", "collision", "restart", "open", UNRECORDED)
+DATA_TRANSFER = frozenset(("data", "rr", "rnr"))
+
+
+class Segments:
+    """The segments of the data that was counted, and those that hold few octets, by side."""
+
+    def __init__(self) -> None:
+        self.octets, self.segments, self.small = [0, 0], [0, 0], [0, 0]
+
+    def add(self, side: int, octets: int, segments: int) -> None:
+        """Takes data that was counted."""
+        if segments:
+            self.octets[side] += octets
+            self.segments[side] += segments
+            # The last segment has what the full ones before it leave.
+            self.small[side] += octets - SEGMENT * (segments - 1) < SMALL
+
+    def facts(self) -> list[list[int]]:
+        """Of each side its octets, its segments, and the segments with fewer than 32 octets."""
+        return [[self.octets[side], self.segments[side], self.small[side]] for side in range(len(SIDES))]
+
+
+class Parts:
+    """Packets and octets of data in equal parts of the time of a trace."""
+
+    def __init__(self) -> None:
+        self.at, self.unit = 0, STEPS[0] * SECOND
+        # Of each part with a packet its packets and octets.
+        self.parts: dict[int, list[int]] = {}
+
+    @property
+    def step(self) -> int:
+        return STEPS[self.at]
+
+    def add(self, time: int, octets: int) -> None:
+        """Takes a packet by its time in microseconds."""
+        part = time // self.unit
+        counts = self.parts.get(part)
+        if counts is None:
+            counts = self.parts[part] = [0, 0]
+            if len(self.parts) > MOST_PARTS:
+                self.join()
+                counts = self.parts[time // self.unit]
+        counts[0] += 1
+        counts[1] += octets
+
+    def join(self) -> None:
+        """Goes on to longer parts until few are kept."""
+        while len(self.parts) > MOST_PARTS // 2 and self.at + 1 < len(STEPS):
+            self.lengthen()
+
+    def finish(self) -> None:
+        """Makes the parts so long that one chart shows the whole time, with the parts that have nothing."""
+        while self.span() > MOST_PARTS and self.at + 1 < len(STEPS):
+            self.lengthen()
+
+    def lengthen(self) -> None:
+        many = STEPS[self.at + 1] // STEPS[self.at]
+        joined: dict[int, list[int]] = {}
+        self.at += 1
+        self.unit = STEPS[self.at] * SECOND
+        for part, (packets, octets) in self.parts.items():
+            counts = joined.setdefault(part // many, [0, 0])
+            counts[0] += packets
+            counts[1] += octets
+        self.parts = joined
+
+    def span(self) -> int:
+        return max(self.parts) - min(self.parts) + 1 if self.parts else 0
+
+    def facts(self) -> dict[str, Any] | None:
+        """The seconds of a part, when the first begins, and of each that has a packet its place, packets and octets."""
+        if not self.parts:
+            return None
+        first = min(self.parts)
+        lines = [[part - first, *counts] for part, counts in sorted(self.parts.items())]
+        return {"seconds": self.step, "begin": first * self.step, "parts": lines}
+
+
+class Causes:
+    """How many calls ended in each way."""
+
+    def __init__(self) -> None:
+        # How each call ended, by its place in WAYS, and its segments: the calls are numbered from 1.
+        self.ways, self.segments = bytearray(), array("Q")
+        self.counts: dict[tuple[Any, ...], list[int]] = {}
+
+    def add(self, call: dict[str, Any]) -> None:
+        """Takes how a call ended."""
+        if call["call"] != len(self.ways) + 1:
+            raise ValueError("a call that is not the next one")
+        self.ways.append(WAYS.index(call["how"]))
+        self.segments.append(call["segments"])
+
+    def facts_of(self, call: dict[str, Any]) -> None:
+        """Takes the cause and the diagnostic code of the end of a call."""
+        place = call["call"] - 1
+        names = [None if it is None else (it["value"], it["name"]) for it in (call["cause"], call["diagnostic"])]
+        counts = self.counts.setdefault((WAYS[self.ways[place]], *names), [0, 0, call["call"]])
+        counts[0] += 1
+        counts[1] += self.segments[place]
+
+    def lines(self) -> list[list[Any]]:
+        """The most frequent first: how, cause, diagnostic code, calls, segments and the first call."""
+        ordered = sorted(self.counts.items(), key=lambda it: (-it[1][0], it[1][2]))
+        return [[how, cause, diagnostic, *counts] for (how, cause, diagnostic), counts in ordered]
+
+
+class Use:
+    """What was used and waited for in a trace, from its rows and its calls."""
+
+    def __init__(self) -> None:
+        self.segments, self.parts, self.causes = Segments(), Parts(), Causes()
+        self.waits, self.windows = Waits(), Windows()
+        self.time: int | None = None
+
+    def begin(self, window: int, modulus: int) -> None:
+        """Takes the window and the modulus of the header."""
+        self.windows = Windows(window, modulus)
+
+    def flow(self, row: Row, key: str) -> None:
+        """Takes a quiet row: data that was counted, or an RR."""
+        time, segments = row.time, row.segments
+        if segments is not None:
+            self.segments.add(row.side, row.octets, segments)
+        if time is not None:
+            self.time = time
+            self.parts.add(time, 0 if segments is None else row.octets)
+            self.windows.data(row, key, time)
+
+    def count(self, row: Row) -> None:
+        """Takes what a row used."""
+        time, segments = row.time, row.segments
+        if segments is not None:
+            self.segments.add(row.side, row.octets, segments)
+        if time is not None:
+            self.time = time
+            self.parts.add(time, 0 if segments is None else row.octets)
+
+    def see(self, row: Row, key: str) -> None:
+        """Takes what a row asks and answers, with the key of its ladder; no row of half a recording."""
+        time = row.time
+        if row.kind in DATA_TRANSFER and row.before == row.after == "d1" and not row.code:
+            if time is not None:
+                self.windows.data(row, key, time)
+            return
+        self.waits.see(row, key)
+        if time is not None:
+            self.windows.signal(row, time)
+
+    def finish(self) -> None:
+        """The rows end."""
+        self.waits.finish(self.time)
+        self.windows.finish(self.time)
+        self.parts.finish()
+
+    def facts(self) -> dict[str, Any]:
+        """What a page has of it."""
+        waited = [[it.of.name, it.of.seconds, it.of.request, it.of.side, it.requests, it.ends, it.late, it.longest,
+                   it.packet, it.key] for it in self.waits.sums()]
+        return {
+            "waited": waited,
+            "waits": self.waits.lines(),
+            "waits_left_out": self.waits.left_out,
+            "acknowledged": [it.facts() for it in self.windows.spreads],
+            "closed": self.windows.lines(),
+            "closed_left_out": self.windows.left_out,
+            "segments": self.segments.facts(),
+            "parts": self.parts.facts(),
+            "causes": self.causes.lines(),
+        }

@@ -1,0 +1,43 @@
+"""How a capture is to be read."""
+from __future__ import annotations
+
+import enum
+from dataclasses import dataclass, field
+
+from .sides import Side
+
+XOT_PORT = 1998
+# What frames of a link type may hold, as --as names it.
+KINDS = ("ethernet", "sll", "sll2", "ip", "lapb", "lapb-dir", "hdlc", "x25", "x25-dir")
+
+
+class Carrier(enum.Enum):
+    """What carries packets; a trace is of one."""
+
+    XOT = "xot"
+    LAPB = "lapb"
+    X25 = "x25"
+
+    __hash__ = object.__hash__
+
+
+class SideBy(enum.Enum):
+    """What decides the side of a LAPB frame first."""
+
+    ADDRESS = "address"
+    DIRECTION = "direction"
+
+
+@dataclass
+class Choices:
+    """How a capture is to be read: the kinds are by link type, None is a hex dump and all unknown link types."""
+
+    kinds: dict[int | None, str] = field(default_factory=dict)
+    ports: list[int] = field(default_factory=lambda: [XOT_PORT])
+    dte: bytes | None = None
+    only: Carrier | None = None
+    interfaces: frozenset[int] = frozenset()
+    senders: dict[int, Side] = field(default_factory=dict)
+    swapped: bool = False
+    side_by: SideBy = SideBy.ADDRESS
+    link_modulus: int | None = None

@@ -1,0 +1,133 @@
+"""What is reported besides the rows: what is damaged, and how much was left out, by reason."""
+from __future__ import annotations
+
+import enum
+from collections import Counter
+from collections.abc import Callable, Iterable
+
+from .notes import Half
+
+
+class Reason(enum.Enum):
+    """Why something of a capture is not in its trace: the words of its count, and whether packets may be missing."""
+
+    OTHER_BLOCK = ("blocks of the file that hold no frame", False)
+    OTHER_INTERFACE = ("frames of interfaces that --interface does not name", False)
+    OTHER_PROTOCOL = ("frames of other protocols", False)
+    OTHER_PORT = ("TCP segments of other ports", False)
+    OTHER_HOST = ("TCP segments of connections without the host of --dte", False)
+    OTHER_CARRIER = ("packets that --only does not name", False)
+    NO_OCTETS = ("TCP segments without octets", False)
+    REPEATED_OCTETS = ("TCP segments of repeated octets", False)
+    LINK_FRAME = ("LAPB frames that carry no packet", False)
+    REPEATED_FRAME = ("LAPB I frames that repeat one", False)
+    UNTAKEN_FRAME = ("LAPB I frames out of sequence", False)
+    DEVICE_WORD = ("words of a Linux X.25 device", False)
+    PVC_SETUP = ("XOT set-ups of permanent circuits", False)
+
+    BAD_FILE = ("damages of the file", True)
+    BAD_LINE = ("lines of the hex dump that cannot be read", True)
+    UNKNOWN_LINK = ("frames of an unknown link type", True)
+    BAD_HEADER = ("frames whose headers are cut or contradict themselves", True)
+    CUT_PACKET = ("packets that were cut off", True)
+    NO_SIDE = ("packets of unknown side, which --sender may name", True)
+    FRAGMENT = ("IP fragments without the rest of their datagram", True)
+    GAP = ("gaps in TCP connections", True)
+    LOST_OCTETS = ("octets in these gaps", True)
+    PASSED_OCTETS = ("octets that were passed over, up to a segment that begins with an XOT header", True)
+    UNSYNCHRONISED = ("TCP segments that were passed over for that", True)
+    AFTER_BREAK = ("TCP segments after a break or the end of their connection", True)
+    NOT_XOT = ("TCP connections that do not speak XOT", True)
+    CUT_XOT = ("XOT packets whose connection ended inside of them", True)
+    LINE_PACKET = ("XOT packets that speak of a whole interface", True)
+    BAD_FCS = ("frames whose frame check sequence is wrong", True)
+    OTHER_ADDRESS = ("LAPB frames with another address than 01 and 03", True)
+    LOST_FRAME = ("LAPB I frames that were not recorded", True)
+    LONG_PACKET = ("packets of more than 4,200 octets", True)
+    LARGE_TEXT = ("traces of more bytes than x25scan reads", True)
+    SECOND_CARRIER = ("packets of another carrier than the first one, which --only may name", True)
+    LATE_ROW = ("packets for which no row number was left", True)
+    NO_CHANNEL = ("packets of circuits for which no channel was left", True)
+
+    __hash__ = object.__hash__
+
+    def __init__(self, words: str, damage: bool) -> None:
+        self.words = words
+        self.damage = damage
+
+
+class Topic(enum.Enum):
+    """What is reported without being a damage of its own."""
+
+    INTERRUPTED = "the end of the reading by a signal"
+    UNKNOWN_LINK = "link types that are not known"
+    LINK_FRAME = "frames that set up or end a LAPB link"
+    DIRECTION = "contradictions of direction and address"
+    CONNECTION = "connections that end with their call"
+    CHANNEL = "logical channels that change inside of a connection"
+    PVC_SETUP = "set-ups of permanent circuits"
+    PORT = "ports that look like XOT"
+    ORDER = "files that are not in the order of their times"
+
+
+Say = Callable[[str], object]
+
+
+def ignore(words: str) -> None:
+    """Shows nothing."""
+
+
+class Ledger:
+    """Counts what is left out and says what is wrong: the trace keeps all of it, standard error the first few."""
+
+    # Messages of one topic on standard error: a capture that is read as the wrong kind has one for each frame.
+    MOST_SAID = 5
+
+    def __init__(self, say: Say = ignore) -> None:
+        self.counts: Counter[Reason] = Counter()
+        self.reported: Counter[Topic | Reason] = Counter()
+        self.say = say
+        self.keep: Say = ignore
+        # What was recorded of one side alone.
+        self.halves: list[Half] = []
+
+    def left_out(self, reason: Reason, many: int = 1) -> None:
+        """Counts what is left out."""
+        if many:
+            self.counts[reason] += many
+
+    def note(self, words: str) -> None:
+        """Explains something in the trace alone."""
+        self.keep(words)
+
+    def report(self, topic: Topic | Reason, words: str) -> None:
+        """Says something of a topic."""
+        self.keep(words)
+        self.reported[topic] += 1
+        if self.reported[topic] <= self.MOST_SAID:
+            self.say(words)
+        elif self.reported[topic] == self.MOST_SAID + 1:
+            self.say("more messages like the last one are not shown; a trace has them as comments")
+
+    def damaged(self, reason: Reason, words: str, many: int = 1) -> None:
+        """Counts a damage and reports it."""
+        self.counts[reason] += many
+        self.report(reason, words)
+
+    def lack(self, halves: Iterable[Half]) -> None:
+        """Takes what was recorded of one side alone."""
+        self.halves += halves
+        for half in self.halves:
+            self.say(half.text)
+
+    @property
+    def whole(self) -> bool:
+        """Whether no packet may be missing."""
+        return not self.halves and not any(reason.damage for reason in self.counts)
+
+    def lines(self) -> list[str]:
+        """The counts, a line each, in the order of the reasons, and what gaps mean."""
+        lines = [f"left out: {reason.words}: {self.counts[reason]}" for reason in Reason if self.counts[reason]]
+        if self.counts[Reason.GAP] or self.counts[Reason.LOST_FRAME]:
+            lines.append("the trace has gaps: findings after one may come from packets that were not recorded")
+        return lines

@@ -1,0 +1,178 @@
+"""Comments of a trace that have a form: their values, how they are written, and how they are read again.
+
+x25trace writes them, and x25page reads them of a trace that is in a file; of a capture it gets the values themselves.
+"""
+from __future__ import annotations
+
+from collections.abc import Iterable, Iterator, Sequence
+from dataclasses import dataclass, field
+
+# The nanoseconds of a second.
+SECOND = 1_000_000_000
+LONGEST_COMMENT = 8_000
+# So many circuits are kept.
+MOST_CIRCUITS = 2000
+ESTIMATED = "estimated from what was seen: "
+RECORDED = {"T": "only the DTE was recorded", "N": "only the DCE was recorded"}
+# So many runs of connections are in a sentence.
+MOST_RUNS = 20
+
+
+@dataclass(frozen=True)
+class Estimate:
+    """A number of the header that was estimated, and from what."""
+
+    name: str
+    value: int
+    source: str
+
+    @property
+    def text(self) -> str:
+        return f"{self.name} {self.value} ({self.source})"
+
+
+@dataclass(frozen=True)
+class Circuit:
+    """What an XOT connection is in a trace: the number of its first row, its channel, and the words for it."""
+
+    row: int
+    channel: int
+    words: str
+
+    @property
+    def connection(self) -> int:
+        """The number of the connection."""
+        return int(self.words.split(" ")[1])
+
+
+@dataclass(frozen=True)
+class Half:
+    """The only side that was recorded, T or N: on some XOT connections, on a LAPB link, or on the whole line."""
+
+    side: str
+    connections: tuple[int, ...] = ()
+    is_link: bool = False
+
+    @property
+    def text(self) -> str:
+        return f"{RECORDED[self.side]}{self.place}"
+
+    @property
+    def place(self) -> str:
+        """Where it was recorded alone, in words that follow others."""
+        if self.connections:
+            return f" on connection{'s' if len(self.connections) > 1 else ''} {ranges_text(self.connections)}"
+        return " on the link" if self.is_link else ""
+
+
+@dataclass
+class Head:
+    """What a trace says before its rows and beside them: its header, comments before that, and its circuits."""
+
+    header: str = ""
+    comments: list[str] = field(default_factory=list)
+    estimates: list[Estimate] = field(default_factory=list)
+    circuits: list[Circuit] = field(default_factory=list)
+    halves: list[Half] = field(default_factory=list)
+
+    @property
+    def numbers(self) -> dict[str, str]:
+        """The words of the header, each with its value; a word without one has none."""
+        words = self.header.split(" ")
+        found = {}
+        for word, value in zip(words[2:], [*words[3:], ""]):
+            if word.isalpha():
+                found[word] = value if value.isdigit() else ""
+        return found
+
+    @property
+    def sources(self) -> dict[str, str]:
+        """From what each number was estimated that was."""
+        return {it.name: it.source for it in self.estimates}
+
+
+def comment(words: str) -> str:
+    """A comment line: printable ASCII, far below the longest line."""
+    return "# " + "".join(letter if " " <= letter <= "~" else "?" for letter in words[:LONGEST_COMMENT]) + "\n"
+
+
+def time_line(time: int) -> str:
+    """The comment with the time of a row, in seconds with as many decimals as they need."""
+    seconds, part = divmod(abs(time), SECOND)
+    decimals = f".{part:09}".rstrip("0") if part else ""
+    return f"#@ {'-' if time < 0 else ''}{seconds}{decimals}\n"
+
+
+def estimates_text(estimates: Iterable[Estimate]) -> str:
+    """The words for what was estimated."""
+    return ESTIMATED + ", ".join(it.text for it in estimates)
+
+
+def estimates_of(words: str) -> list[Estimate]:
+    """What a comment says was estimated; nothing where it is another comment."""
+    if not words.startswith(ESTIMATED):
+        return []
+    found = []
+    for part in words.removeprefix(ESTIMATED).split("), "):
+        number, _, source = part.partition(" (")
+        name, _, value = number.partition(" ")
+        if value.isdecimal():
+            found.append(Estimate(name, int(value), source.removesuffix(")")))
+    return found
+
+
+def circuit_text(connection: int, channel: int | None, rest: str) -> str:
+    """The words for the circuit of a connection."""
+    return f"connection {connection} is channel {channel}{rest}"
+
+
+def channel_of_circuit(words: str) -> int | None:
+    """The channel of the circuit that a comment is of; None where it is another comment."""
+    connection, is_circuit, rest = words.partition(" is channel ")
+    kind, _, number = connection.partition(" ")
+    channel = rest.split(":")[0].split(",")[0]
+    if not is_circuit or kind != "connection" or not number.isdecimal() or not channel.isdecimal():
+        return None
+    return int(channel)
+
+
+def frame_text(row: int, frame: int) -> str:
+    """The words for the frame of a row whose number is another one."""
+    return f"{row} is of frame {frame}"
+
+
+def frame_of(words: str) -> tuple[int, int] | None:
+    """The row and the frame that a comment is of; None where it is another comment."""
+    row, is_frame, frame = words.partition(" is of frame ")
+    return (int(row), int(frame)) if is_frame and row.isdecimal() and frame.isdecimal() else None
+
+
+def ranges_text(numbers: Sequence[int]) -> str:
+    """Rising numbers in words: '1 to 6, 8 and 9'."""
+    runs: list[list[int]] = []
+    for number in numbers:
+        if runs and runs[-1][-1] == number - 1:
+            runs[-1][1:] = [number]
+        else:
+            runs.append([number])
+    words = [" to ".join(map(str, run)) if run[-1] - run[0] > 1 else " and ".join(map(str, run)) for run in runs]
+    if len(words) > MOST_RUNS:
+        return f"{', '.join(words[:MOST_RUNS])} and others, {len(numbers)} in all"
+    return " and ".join(filter(None, (", ".join(words[:-1]), words[-1])))
+
+
+def numbers_of(words: str) -> Iterator[int]:
+    """The numbers of such words."""
+    for part in words.replace(" and ", ", ").split(", "):
+        first, _, last = part.partition(" to ")
+        if first.isdecimal():
+            yield from range(int(first), int(last if last.isdecimal() else first) + 1)
+
+
+def half_of(words: str) -> Half | None:
+    """What a comment says was recorded of one side alone; None where it is another comment."""
+    for side, start in RECORDED.items():
+        if words.startswith(start):
+            place = words.removeprefix(start).partition(" on connection")[2]
+            return Half(side, tuple(numbers_of(place.removeprefix("s").strip())), words.endswith(" on the link"))
+    return None

@@ -1,0 +1,125 @@
+"""Standard streams, files and pipes by their names, and how SIGINT ends the reading."""
+from __future__ import annotations
+
+import errno
+import io
+import os
+import pathlib
+import stat
+import sys
+from collections.abc import Callable, Sequence
+from types import FrameType
+from typing import BinaryIO
+
+from .refusals import Refusal, Why
+
+CHUNK = 1 << 18
+
+
+def shown_name(name: str) -> str:
+    """The words for a file in messages."""
+    return "standard input" if name == "-" else name
+
+
+def title_of(names: Sequence[str]) -> str:
+    """What an output says that it is from."""
+    return shown_name(pathlib.PurePath(names[0]).name) if len(names) == 1 else f"{len(names)} captures"
+
+
+def write_text(text: str) -> None:
+    """Writes a text to standard output. Raises OSError where that is closed or fails."""
+    if sys.stdout is None:
+        raise OSError(errno.EBADF, os.strerror(errno.EBADF), "standard output")
+    if isinstance(sys.stdout, io.TextIOWrapper):
+        # A name of a file may have octets that are no letters.
+        sys.stdout.reconfigure(errors="backslashreplace")
+    try:
+        sys.stdout.write(text)
+        sys.stdout.flush()
+    except OSError:
+        # What was not written yet can't be: nothing may try it again at the end.
+        os.dup2(os.open(os.devnull, os.O_WRONLY), sys.stdout.fileno())
+        raise
+
+
+def open_input(name: str) -> BinaryIO:
+    """The stream of a file, or of standard input."""
+    if name == "-":
+        if sys.stdin is None:
+            raise Refusal(Why.UNREADABLE, "standard input is closed")
+        return sys.stdin.buffer
+    if os.path.isdir(name):
+        raise Refusal(Why.FOLDER, f"{name} is a folder")
+    try:
+        return open(name, "rb")
+    except FileNotFoundError as fault:
+        raise Refusal(Why.ABSENT, f"there is no file {name}") from fault
+    except OSError as fault:
+        raise Refusal(Why.UNREADABLE, f"{name}: {fault.strerror}") from fault
+
+
+def is_pipe(name: str) -> bool:
+    """Whether the octets of a file come as they are written, and only once."""
+    try:
+        mode = os.fstat(sys.stdin.fileno()).st_mode if name == "-" else os.stat(name).st_mode
+    except (OSError, AttributeError):
+        return False
+    return not stat.S_ISREG(mode) and not stat.S_ISDIR(mode)
+
+
+def is_same(name: str | os.PathLike[str], other: str | os.PathLike[str]) -> bool:
+    """Whether two names are of one file."""
+    try:
+        return os.path.samefile(name, other)
+    except OSError:
+        return False
+
+
+def is_open(descriptor: int) -> bool:
+    """Whether a stream can be written, however full the disk is."""
+    try:
+        os.write(descriptor, b"")
+    except OSError as fault:
+        return fault.errno != errno.EBADF
+    return True
+
+
+def mute_errors() -> None:
+    """Gives a closed standard error a place, so that no file takes it."""
+    os.dup2(os.open(os.devnull, os.O_WRONLY), 2)
+    sys.stderr = open(2, "w", encoding="ascii", errors="replace", closefd=False)
+
+
+class Interrupted(Exception):
+    """The reading is to end here."""
+
+
+def nothing() -> None:
+    """What is done before waiting, unless something else is asked for."""
+
+
+class Waiting:
+    """Where octets are waited for: what is done before, and how SIGINT ends it: at once, else before more are read."""
+
+    def __init__(self) -> None:
+        self.before: Callable[[], object] = nothing
+        self.interrupted = self.inside = False
+
+    def interrupt(self, _number: int, _frame: FrameType | None) -> None:
+        """The handler of the signal; a second one ends the program."""
+        if self.interrupted:
+            raise KeyboardInterrupt
+        self.interrupted = True
+        if self.inside:
+            raise Interrupted
+
+    def octets(self, stream: BinaryIO) -> bytes:
+        """The octets that come next, as soon as there are any; none at the end."""
+        self.before()
+        self.inside = True
+        try:
+            if self.interrupted:
+                raise Interrupted
+            return stream.read1(CHUNK)  # type: ignore[attr-defined, no-any-return]
+        finally:
+            self.inside = False

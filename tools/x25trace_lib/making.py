@@ -1,0 +1,36 @@
+"""The trace of captures: the packets are gathered, and the trace is written to a file."""
+from __future__ import annotations
+
+import argparse
+import contextlib
+import tempfile
+from collections.abc import Iterator, Sequence
+from typing import IO
+
+from x25tools_lib.ledger import Ledger
+from x25tools_lib.notes import Head
+from x25tools_lib.options import chosen
+from x25tools_lib.streams import Waiting, title_of
+
+from .captures import Captures
+from .reading import Reading
+from .trace import Trace
+
+
+def gathered(words: argparse.Namespace, ledger: Ledger, waiting: Waiting, has_times: bool) -> Trace:
+    """What the trace of the captures that are named is made of."""
+    choices, wishes = chosen(words)
+    captures = Captures(words.captures, choices.kinds, ledger, waiting)
+    trace = Trace(ledger, Reading(ledger, choices), wishes, has_times)
+    trace.gather(captures.frames())
+    return trace
+
+
+@contextlib.contextmanager
+def file_of(trace: Trace, names: Sequence[str]) -> Iterator[tuple[IO[str], Head]]:
+    """A trace in an open file that is at its beginning, and what it says besides its rows."""
+    with tempfile.TemporaryFile("w+", encoding="ascii", newline="\n") as file:
+        head = trace.write(title_of(names), file)
+        file.flush()
+        file.seek(0)
+        yield file, head
