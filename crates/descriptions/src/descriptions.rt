@@ -50,7 +50,8 @@ impl<A: Allocator + Copy> Past<A> {
         let Some(last) = observer.last_row() else {
             return Ok(());
         };
-        self.course.take(&interface, read.octets.as_slice(), &last, observer)?;
+        self.course
+            .take(&interface, read.octets.as_slice(), &last, observer)?;
         let facts = self.course.facts(&interface, read, &last, observer);
         if facts.last.finding.is_some() {
             self.before = Some(Before::of_row(&facts));

@@ -251,7 +251,12 @@ fn too_long<P: Prose>(out: &mut P, before: &Before, side: Side) -> bool {
         },
         None => before.interface.size,
     };
-    count(out, "", user_octets(&before.interface, before.length), " octet");
+    count(
+        out,
+        "",
+        user_octets(&before.interface, before.length),
+        " octet",
+    );
     say_number(out, " of user data where ", u64::from(size));
     out.say(" are allowed");
     true

@@ -60,7 +60,9 @@ fn channel_fields<P: Prose>(out: &mut P, facts: &RowFacts<'_>, kind: &PacketKind
             _ => {}
         },
         PacketKind::Data(Some(header)) => data(
-            out, header, user_octets(facts.interface, facts.length),
+            out,
+            header,
+            user_octets(facts.interface, facts.length),
         ),
         PacketKind::Rr(Some(number)) | PacketKind::Rnr(Some(number)) => receive_number(
             out, *number,

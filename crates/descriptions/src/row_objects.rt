@@ -143,7 +143,8 @@ impl<A: Allocator + Copy> Past<A> {
         let Some(last) = observer.last_row() else {
             return Ok(());
         };
-        self.course.take(&interface, row.octets.as_slice(), &last, observer)?;
+        self.course
+            .take(&interface, row.octets.as_slice(), &last, observer)?;
         let facts = self.course.facts(&interface, row, &last, observer);
         self.rest.calls.take(&facts, self.course.ended(), time)?;
         self.rest.uncounted = observer.uncounted();

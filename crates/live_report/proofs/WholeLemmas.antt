@@ -42,7 +42,7 @@ pub of_walk : {A C : Type 0} → (I : C → Interface) (N : C → ℕ) (S : C �
 of_walk I N S i rs o s line packets found counted =
     let all = all_told I N S i rs o s in
     record {
-    said = s.sound.said;
+      said = s.sound.said;
       rising = s.sound.rising;
       values = subst (IsPermutation (map value (plan i rs))) (sym all) (IsPermutation-refl (map value (plan i rs)));
       line_is = found ∙ s.holds.findings ∙ s.cut.findings;
