@@ -71,6 +71,7 @@ impl<A: Allocator + Clone> Begun<A> {
     }
 
     /// Forgets what was begun.
+    #[inline(always)]
     pub(crate) fn reset(&mut self)
         ensures size { self.new.size ≡ self.old.size }
         ensures holds { Holds self.new [] }

@@ -119,6 +119,7 @@ impl FlowWord {
     }
 
     /// Judges the P(R) of a side: 2 where it acknowledges no packet that the other side sent (X.25 clause 4.4.1.3).
+    #[inline(always)]
     pub fn ack(&mut self, side: Side, receive: u8) -> Result<(), u8>
         ensures modulus { self.new.flow.modulus ≡ self.old.flow.modulus }
         ensures windows { self.new.flow.windows ≡ self.old.flow.windows }
@@ -192,6 +193,7 @@ impl FlowWord {
     }
 
     /// Judges the P(R) of a side, which leaves the numbers of its own packets as they are.
+    #[inline(always)]
     fn acknowledge(&mut self, side: Side, receive: u8) -> Result<(), u8>
         ensures modulus { self.new.flow.modulus ≡ self.old.flow.modulus }
         ensures windows { self.new.flow.windows ≡ self.old.flow.windows }

@@ -283,7 +283,7 @@ impl<A: Allocator> Lines<A> {
 
     /// Fast path: reads the row that a chunk begins with, unless it is to be kept `whole`, and returns what is still to be
     /// read of the chunk. `None`: nothing was read, and what the row holds is not said. The line is then read by its words.
-    #[inline(never)]
+    #[inline(always)]
     fn read_first<'a>(
         &mut self,
         chunk: &'a [u8],
@@ -369,6 +369,7 @@ impl<A: Allocator> Lines<A> {
     ///
     /// A line is read where it lies in the chunk. Only one that a chunk's end cuts is copied. What the row holds where
     /// none was taken is not said.
+    #[inline(always)]
     pub fn next_row<'a>(
         &mut self,
         chunk: &'a [u8],

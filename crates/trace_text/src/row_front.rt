@@ -27,6 +27,7 @@ pub struct RowFront<'a> {
 }
 
 /// The number of 1 to 9 digits at the front of a text, which is not 0, and what follows the space after it.
+#[inline(always)]
 fn split_number(text: &[u8]) -> Option<(u32, &[u8])>
     ensures { IfSome result (λ parts. BeginsNumber text.now parts.0 parts.1.now) }
 {
@@ -47,6 +48,7 @@ fn split_number(text: &[u8]) -> Option<(u32, &[u8])>
 }
 
 /// The number and the side at the front of a row after one of the number `last`, and what follows the space after them.
+#[inline(always)]
 fn split_front(last: u32, text: &[u8]) -> Option<(u32, Side, &[u8])>
     ensures { IfSome result (λ parts. BeginsRow last text.now parts.0 parts.1 parts.2.now) }
 {
@@ -63,6 +65,7 @@ fn split_front(last: u32, text: &[u8]) -> Option<(u32, Side, &[u8])>
 
 /// The front of the row that a text begins with, whose digits are validated and not converted. `None`: the line is faulty
 /// after a row of the number `last`, is no row, has fewer than three octets, or does not end in the text.
+#[inline(always)]
 pub fn read_front(last: u32, text: &[u8]) -> Option<RowFront<'_>>
     ensures { IfSome result (λ front. BeginsRow last text.now front.number front.side front.digits.now
         × BeginsOctets front.digits.now front.length front.rest.now) }
