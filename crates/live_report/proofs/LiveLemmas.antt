@@ -1,5 +1,6 @@
 -- A trace that is fed: its first row begins the observer.
-use Rattle.std.proofs.Common.{◌≡◌, ◌∙◌, sym, ap, subst, ℕ, List, [], ◌∷◌, ◌++◌, Some, None, Result, append_assoc}
+use Rattle.std.proofs.Common.{◌≡◌, ◌∙◌, sym, ap, subst, ℕ, List, [], ◌∷◌, ◌++◌, Some, None, Result, Ok, Err, OnOk, append_assoc}
+use Rattle.std.specs.Prelude.{IfSome}
 use Rattle.line_model.specs.declared.interface.Interface.{Interface}
 use Rattle.line_model.specs.channels.Channels.{Channel}
 use Rattle.line_model.specs.basics.Records.{ReadRow}
@@ -21,6 +22,11 @@ use Rattle.live_report.proofs.FoundLemmas.{found_none, found_under, found_unhead
 use Rattle.live_report.proofs.ChunkLemmas.{ReadsRow, next_items, next_rows, observed_row}
 use Rattle.line_model.specs.packets.Says.{item_read, items_of}
 
+-- what holds of a result, and something more
+pub on_both : {T E : Type 0} (r : Result T E) (P Q : Type 0) → OnOk r P → OnOk r Q → OnOk r (P × Q)
+on_both (Ok x) P Q p q = (p, q)
+on_both (Err e) P Q p q = tt
+
 pub observing_of : {A C : Type 0} → (I : C → Interface) (N : C → ℕ) (S : C → Channel → Type 0) (live : Live A C) (text : List ℕ) (o : Observer A C) → StandsFor I N S live text → live.observer ≡ Some o
     → (i : Interface) × IsObserving I N S i text live.lines o
 observing_of I N S live text o s h =
@@ -30,11 +36,12 @@ observing_of I N S live text o s h =
 pub nothing_seen : {A C : Type 0} → (I : C → Interface) (N : C → ℕ) (S : C → Channel → Type 0) (live : Live A C) (text : List ℕ) → StandsFor I N S live text → live.observer ≡ None → early_rows text ≡ []
 nothing_seen I N S live text s h = subst (IsObserved I N S text live.lines.interface) h s.observed
 
-pub stands_observing : {A C : Type 0} → (I : C → Interface) (N : C → ℕ) (S : C → Channel → Type 0) (i : Interface) (live : Live A C) (text : List ℕ) (o : Observer A C) → IsObserving I N S i text live.lines o → live.observer ≡ Some o → live.refused ≡ None → StandsFor I N S live text
-stands_observing I N S i live text o w h running = record {
+pub stands_observing : {A C : Type 0} → (I : C → Interface) (N : C → ℕ) (S : C → Channel → Type 0) (i : Interface) (live : Live A C) (text : List ℕ) (o : Observer A C) → IsObserving I N S i text live.lines o → live.observer ≡ Some o → live.refused ≡ None → o.keeps_rows ≡ live.keeps_rows → StandsFor I N S live text
+stands_observing I N S i live text o w h running keeps = record {
   reads = w.reads;
   running = running;
   observed = subst (IsObserved I N S text live.lines.interface) (sym h) (i, w.header, w.observes);
+  keeps = subst (λ x. IfSome x (λ z. z.keeps_rows ≡ live.keeps_rows)) (sym h) keeps;
 }
 
 -- the first row may come

@@ -1,5 +1,5 @@
 -- An observer that stands for some rows stands for one more after it took it.
-use Rattle.std.proofs.Common.{◌≡◌, ◌∙◌, sym, ap, subst, refl, ℕ, suc, ◌+◌, ◌<◌, ◌≤◌, true≢false, List, [], ◌∷◌, ◌++◌, map, length, Option, Some, None, arith}
+use Rattle.std.proofs.Common.{◌≡◌, ◌∙◌, sym, ap, subst, refl, ℕ, suc, ◌+◌, ◌<◌, ◌≤◌, true, true≢false, List, [], ◌∷◌, ◌++◌, map, length, Option, Some, None, arith}
 use Rattle.std.specs.Prelude.{All, sum_by}
 use Rattle.std.proofs.lemmas.List.{map-append}
 use Rattle.std.proofs.lemmas.List.Sums.{sum_by_push}
@@ -85,7 +85,7 @@ may_come i c rs r last octets h =
 
 pub next_stands : {A C : Type 0} → (I : C → Interface) (N : C → ℕ) (S : C → Channel → Type 0) (i : Interface) (rs : List Item) (r : Item) (more : List Piece) (before new : Observer A C) (after : Cutting)
     → (s : StandsFor I N S i rs before) → AreItems i (rs ++ r ∷ []) → Pushed i rs r more after → IsCutting after → IsCounted r s.cutting after → Holds I N S after (map value (given_of i rs) ++ map value more) new
-    → KnowsLast i (rs ++ r ∷ []) new.last new.events.items → new.uncounted ≡ uncounted_of i (rs ++ r ∷ []) → StandsFor I N S i (rs ++ r ∷ []) new
+    → (new.keeps_rows ≡ true → KnowsLast i (rs ++ r ∷ []) new.last new.events.items) → new.uncounted ≡ uncounted_of i (rs ++ r ∷ []) → StandsFor I N S i (rs ++ r ∷ []) new
 next_stands I N S i rs r more before new after s sound pushed bounds counted holds known uncounted = record {
   sound = sound;
   cutting = after;
@@ -111,6 +111,6 @@ nothing_taken I N S i o holds uncounted = record {
   last = refl;
   octets = refl;
   holds = subst (λ reports. Holds I N S (no_cutting i) reports o) (sym (ap (map value) (of_no_length (given_of i []) (nothing_cut i).given))) holds;
-  row = no_row i o.last o.events.items;
+  row = λ keeps. no_row i o.last o.events.items;
   uncounted = uncounted;
 }

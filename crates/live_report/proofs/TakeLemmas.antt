@@ -1,5 +1,5 @@
 -- What an observer holds after one more row.
-use Rattle.std.proofs.Common.{◌≡◌, ◌≢◌, ◌∙◌, sym, ap, subst, refl, ℕ, ◌+◌, ◌⊎◌, inl, inr, List, [], ◌∷◌, ◌++◌, map, length, Result, Ok, Err, OnOk}
+use Rattle.std.proofs.Common.{◌≡◌, ◌≢◌, ◌∙◌, sym, ap, subst, refl, ℕ, true, ◌+◌, ◌⊎◌, inl, inr, List, [], ◌∷◌, ◌++◌, map, length, Result, Ok, Err, OnOk}
 use Rattle.std.specs.List.{AllByRecursion}
 use Rattle.std.specs.Option.{option_to_list}
 use Rattle.line_model.specs.declared.interface.Interface.{Interface}
@@ -168,7 +168,7 @@ holds_after I N S i rs c reports item step o new v s packet is h same on many en
 pub stands_after : {A C : Type 0} → (I : C → Interface) (N : C → ℕ) (S : C → Channel → Type 0) (i : Interface) (rs : List Item) (r : Item) (o new : Observer A C) (item : Item) (step : Step) (s : StandsFor I N S i rs o) → item ≡ r → AreItems i (rs ++ item ∷ [])
     → IsSaid s.cutting.interface item → IsStep s.cutting.line s.cutting.epoch item step
     → Holds I N S (cutting_after s.cutting item step) (map value (given_of i rs) ++ map value (ended_by step.turn s.cutting.interface s.cutting.epoch item.number s.cutting.given s.cutting.open_rows)) new
-    → KnowsLast i (rs ++ item ∷ []) new.last new.events.items → new.uncounted ≡ uncounted_of i (rs ++ item ∷ []) → StandsFor I N S i (rs ++ r ∷ []) new
+    → (new.keeps_rows ≡ true → KnowsLast i (rs ++ item ∷ []) new.last new.events.items) → new.uncounted ≡ uncounted_of i (rs ++ item ∷ []) → StandsFor I N S i (rs ++ r ∷ []) new
 stands_after I N S i rs r o new item step s same sound packet is holds known uncounted =
     let c = s.cutting in
     let after = cutting_after c item step in

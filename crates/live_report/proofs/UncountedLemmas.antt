@@ -1,5 +1,5 @@
 -- What was not counted of some rows and of one more.
-use Rattle.std.proofs.Common.{◌≡◌, ◌∙◌, sym, ap, subst, refl, ℕ, ◌+◌, ◌-◌, ◌<◌, ◌≤◌, ◌^◌, Bool, true, false, cond, List, [], ◌∷◌, ◌++◌, length, filter, min, sum_by, Option, Some, None, Result, Ok, Err, OnOk, append-nil, append_assoc, length-append, arith}
+use Rattle.std.proofs.Common.{◌≡◌, ◌∙◌, sym, ap, subst, refl, ℕ, ◌+◌, ◌-◌, ◌<◌, ◌≤◌, ◌^◌, Bool, true, false, ◌||◌, cond, List, [], ◌∷◌, ◌++◌, length, filter, min, sum_by, Option, Some, None, Result, Ok, Err, OnOk, append-nil, append_assoc, length-append, arith}
 use Rattle.std.proofs.lemmas.List.Elements.{filter-append}
 use Rattle.std.proofs.lemmas.List.Sums.{sum_by-append, sum_by-cons, sum_by_push}
 use Rattle.line_model.specs.declared.event.Event.{Event}
@@ -16,7 +16,7 @@ use Rattle.channel_run.specs.declared.run.View.{View}
 use Rattle.restart_epochs.specs.Cutting.{observer}
 use Rattle.live_report.specs.LastRows.{IsKnown, IsLastRow}
 use Rattle.live_report.specs.Observing.{AreItems, StandsFor}
-use Rattle.live_report.specs.Uncounted.{AreFew, LeftOut, amount_of, amounts_of, grown, is_data, is_same, left_out, left_out_at, left_out_by, none_left_out, reason_at, reason_by, reason_on, trace_uncounted, uncounted_of, user_octets, with_one}
+use Rattle.live_report.specs.Uncounted.{AreFew, LeftOut, amount_of, amounts_of, grown, is_data, is_same, left_out, left_out_at, left_out_by, none_left_out, counts_data, has_finding, reason_of_state, reason_at, reason_by, reason_on, tells_data, trace_uncounted, uncounted_of, user_octets, with_one}
 use Rattle.live_report.specs.declared.last_row.Known.TheVariants as known
 use Rattle.live_report.specs.declared.last_row.LastRow.{LastRow}
 use Rattle.live_report.specs.declared.observer.Observer.{Observer as Running}
@@ -25,7 +25,7 @@ use Rattle.live_report.specs.declared.uncounted.Reason.{Reason}
 use Rattle.live_report.specs.declared.uncounted.Reason.TheVariants.{Finding, Owed, NotInTransfer, Discarded, Unknown, Restart}
 use Rattle.live_report.specs.declared.uncounted.Uncounted.{Uncounted}
 use Rattle.line_model.specs.packets.Says.{items_of}
-use Rattle.channel_run.specs.Run.{row_events}
+use Rattle.channel_run.specs.Run.{data_events, row_events}
 
 -- ---- why the data of a row was not counted
 
@@ -59,6 +59,25 @@ pub on_channel : (i : Interface) (earlier : List Item) (r : Item) (last : LastRo
     → ((j : Interface) (c : Channel) → IsViewOf j c view → answer ≡ reason_on c events) → answer ≡ reason_at i (observer i earlier) r
 on_channel i earlier r last events view answer l data_is before by =
     by_known i (observer i earlier) r events last.channel view answer (subst (IsKnown i last.channel (observer i earlier)) before l.before) l.came by ∙ of_data i earlier r last events l data_is
+
+or_true : (b c : Bool) → c ≡ true → (b || c) ≡ true
+or_true true c h = refl
+or_true false c h = h
+
+-- where its channel accepted data, it was counted
+pub has_data : (events : List Event) (epoch k : ℕ) (r : Item) (n : ℕ) → counts_data (events ++ data_events epoch k r (Some n)) ≡ true
+has_data [] epoch k r n = refl
+has_data (e ∷ es) epoch k r n = or_true (tells_data e.what) (counts_data (es ++ data_events epoch k r (Some n))) (has_data es epoch k r n)
+
+pub was_counted : (i : Interface) (earlier : List Item) (r : Item) (last : LastRow) (events : List Event) (k : ℕ) → IsLastRow i earlier r last events → last.channel ≡ Some k → counts_data events ≡ true → None ≡ reason_at i (observer i earlier) r
+was_counted i earlier r last events k l channel counted =
+    let o = observer i earlier in
+    let on : reason_by i (Some k) o r ≡ None = ap (λ es. reason_on (o.states k) es) (sym (l.came k channel)) ∙ ap (λ b. cond b None (cond (has_finding events) (Some Finding) (Some (reason_of_state (o.states k).state (o.states k).owed)))) counted in
+    at (is_data r.packet) (ap (λ t. reason_by i t o r) (sym l.channel ∙ channel) ∙ on)
+  where
+    at : (b : Bool) → reason_by i (routed (x25 i) (observer i earlier).line r) (observer i earlier) r ≡ None → None ≡ cond b (reason_by i (routed (x25 i) (observer i earlier).line r) (observer i earlier) r) None
+    at true e = sym e
+    at false e = refl
 
 -- ---- rows one by one
 

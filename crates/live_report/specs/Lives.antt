@@ -1,5 +1,5 @@
 -- A trace that is fed in chunks: what was read of it, and the observer of its rows.
-use Rattle.std.specs.Prelude.{◌≡◌, ℕ, List, [], ◌++◌, Option, Some, None, Result, IfErr, IfSome, OnOk}
+use Rattle.std.specs.Prelude.{◌≡◌, ℕ, true, List, [], ◌++◌, Option, Some, None, Result, IfErr, IfSome, OnOk}
 use Rattle.line_model.specs.channels.Channels.{Channel}
 use Rattle.line_model.specs.declared.fault.Fault.{Fault}
 use Rattle.line_model.specs.text.Text.{early, early_rows}
@@ -29,6 +29,7 @@ pub record StandsFor {A C : Type 0} (interface_of : C → Interface) (number_of 
   pub reads : IsReaderOf live.lines text
   pub running : live.refused ≡ None
   pub observed : IsObserved interface_of number_of stands_for text live.lines.interface live.observer
+  pub keeps : IfSome live.observer (λ o. o.keeps_rows ≡ live.keeps_rows)
 
 -- it was fed some text, or it refused
 pub record IsFed {A C : Type 0} (interface_of : C → Interface) (number_of : C → ℕ) (stands_for : C → Channel → Type 0) (live : Live A C) : Type 0 where
@@ -50,6 +51,10 @@ OfObserved m reader o Fact = (i : Interface) (text : List ℕ) → Observes m i 
 -- it was fed this text, and refused none of it
 abbrev pub WasFed : {A C : Type 0} → Machine C A → List ℕ → Live A C → Type 0
 WasFed m text live = StandsFor m.interface_of m.number_of m.stands_for live text
+
+-- it was fed this text, refused none of it, and keeps the row that it took last
+abbrev pub KeepsRowsOf : {A C : Type 0} → Machine C A → List ℕ → Live A C → Type 0
+KeepsRowsOf m text live = WasFed m text live × (live.keeps_rows ≡ true)
 
 -- of any text that it was fed
 abbrev pub OfFed : {A C : Type 0} → Machine C A → Live A C → (List ℕ → Type 0) → Type 0

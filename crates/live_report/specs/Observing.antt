@@ -55,7 +55,7 @@ pub record StandsFor {A C : Type 0} (interface_of : C → Interface) (number_of 
   pub last : cutting.last ≡ last_or 0 (map (λ r. r.number) rs)
   pub octets : cutting.octets ≡ sum_by (λ r. r.length) rs
   pub holds : Holds interface_of number_of stands_for cutting (map value (given_of i rs)) o
-  pub row : KnowsLast i rs o.last o.events.items
+  pub row : o.keeps_rows ≡ true → KnowsLast i rs o.last o.events.items
   pub uncounted : o.uncounted ≡ uncounted_of i rs
 
 -- the same two by the members of a machine of one channel
@@ -64,6 +64,10 @@ IsHolding m c reports o = Holds m.interface_of m.number_of m.stands_for c report
 
 abbrev pub HasWalked : {A C : Type 0} → Machine C A → Interface → List Item → Observer A C → Type 0
 HasWalked m i rows o = StandsFor m.interface_of m.number_of m.stands_for i rows o
+
+-- it has walked these rows, and keeps the last one
+abbrev pub HasKept : {A C : Type 0} → Machine C A → Interface → List Item → Observer A C → Type 0
+HasKept m i rows o = HasWalked m i rows o × (o.keeps_rows ≡ true)
 
 -- the piece of a channel in the open epoch
 abbrev pub open_piece : Cutting → (channel : ℕ) → Piece

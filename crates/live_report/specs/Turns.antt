@@ -1,10 +1,10 @@
 -- What a row does to the live channels of the open epoch.
-use Rattle.std.specs.Prelude.{◌≡◌, ℕ, ◌++◌, ◌∷◌, [], List, Option}
+use Rattle.std.specs.Prelude.{◌≡◌, ℕ, ◌++◌, ◌∷◌, [], List, Option, Some, None}
 use Rattle.line_model.specs.declared.interface.Interface.{Interface}
 use Rattle.line_model.specs.declared.event.Event.{Event}
 use Rattle.line_model.specs.declared.finding.Finding.{Finding}
 use Rattle.line_model.specs.basics.Bounds.{IsPiece}
-use Rattle.line_model.specs.basics.Records.{Item, Item, Piece}
+use Rattle.line_model.specs.basics.Records.{Item, Piece}
 use Rattle.line_model.specs.channels.RestartMachine.{LineState}
 use Rattle.restart_epochs.specs.OpenLanes.{OpenLanes}
 use Rattle.restart_epochs.specs.OpenRows.{OpenRows, rows_of, IsListing}
@@ -15,7 +15,7 @@ use Rattle.restart_epochs.specs.declared.walk.Turn.TheVariants.{ToChannel}
 use Rattle.channel_run.specs.declared.live.LiveChannel.{LiveChannel}
 use Rattle.channel_run.specs.declared.run.Channel.{Ghosts as Machine}
 use Rattle.channel_run.specs.Live.{channel_so_far}
-use Rattle.channel_run.specs.Run.{row_events}
+use Rattle.channel_run.specs.Run.{data_events, row_events}
 use Rattle.live_report.specs.declared.last_row.Known.{Known}
 use Rattle.live_report.specs.LastRows.{IsSeen, IsState}
 use Rattle.live_report.specs.Lanes.{begun_piece, FindsOn, LanesStandFor}
@@ -52,6 +52,11 @@ FindsAt _ line walk rows row found = found ≡ line
 
 abbrev pub FindsBy : {B : Type 0} → Step → EpochWalk B → OpenRows → Item → Option Finding → Type 0
 FindsBy step walk rows row found = FindsAt step.turn step.finding walk rows row found
+
+-- events, and behind them that of accepted data on the channel that took a row
+abbrev pub with_data : (epoch : ℕ) → (taker : Option ℕ) → Item → (accepted : Option ℕ) → List Event → List Event
+with_data epoch None item accepted events = events
+with_data epoch (Some k) item accepted events = events ++ data_events epoch k item accepted
 
 -- the events of a row that goes to a channel
 abbrev pub HasEvents : {B : Type 0} → Turn → EpochWalk B → OpenRows → Item → List Event → Type 0

@@ -10,10 +10,10 @@ ghost use Rattle.channel_run.specs.Taken.{data_in, finding_in};
 ghost use Rattle.live_report.specs.Lanes.{FindsOn, IsOut, LanesStandFor};
 ghost use Rattle.live_report.specs.Turns.{walked_piece, OfLanes, SeesOn};
 
-use crate::last_row::{Judge, KeptRow};
+use crate::last_row::{Judge, Judged, KeptRow};
 use channel_run::live::{LiveChannel, Taken};
 use channel_run::run::Channel;
-use line_model::event::{Event, What};
+use line_model::event::Event;
 use line_model::fault::Fault;
 use line_model::finding::Finding;
 use line_model::interface::Interface;
@@ -44,15 +44,16 @@ fn take_out<A: Allocator + Copy, C: Channel<A>>(
     Ok(live)
 }
 
-/// Steps the live channel of a channel by its next row, and returns the row as it was judged. It refuses for want of
-/// memory alone.
-pub fn step_channel<A: Allocator + Copy, C: Channel<A>>(
+/// Steps the live channel of a channel by its next row, and returns the row as it was judged. The list has the row's events,
+/// except that of accepted data with Q 0. Fails only when memory is refused.
+#[inline(always)]
+pub(crate) fn step_channel<A: Allocator + Copy, C: Channel<A>>(
     walk: &EpochWalk<A>,
     channel: u16,
     item: &ItemRef<'_>,
     events: &mut Vec<Event, A>,
     lanes: &mut ChannelTable<LiveChannel<A, C>, A>,
-) -> Result<KeptRow, Fault>
+) -> Result<Judged, Fault>
     requires room { (rows : OpenRows)
         × LanesStandFor C.Channel walk.now.interface walk.now.epoch rows lanes.old
         × IsPiece walk.now.interface channel (rows_of rows channel ++ item.now ∷ []) }
@@ -60,20 +61,21 @@ pub fn step_channel<A: Allocator + Copy, C: Channel<A>>(
         → HasMore channel item.now rows after
         → IsPiece walk.now.interface channel (rows_of after channel)
         → OnOk result (LanesStandFor C.Channel walk.now.interface walk.now.epoch after lanes.new)) }
-    ensures number { IfOk result (λ last. last.number ≡ item.now.number) }
-    ensures side { IfOk result (λ last. last.side ≡ item.now.side) }
-    ensures packet { IfOk result (λ last. last.packet ≡ item.now.packet) }
-    ensures channel { IfOk result (λ last. last.channel ≡ Some channel) }
+    ensures number { IfOk result (λ judged. judged.row.number ≡ item.now.number) }
+    ensures side { IfOk result (λ judged. judged.row.side ≡ item.now.side) }
+    ensures packet { IfOk result (λ judged. judged.row.packet ≡ item.now.packet) }
+    ensures channel { IfOk result (λ judged. judged.row.channel ≡ Some channel) }
     ensures before { OfLanes C.Channel walk.now lanes.old (λ rows.
-        IfOk result (λ last. SeesOn walk.now channel rows last.before)) }
+        IfOk result (λ judged. SeesOn walk.now channel rows judged.row.before)) }
     ensures after { OfLanes C.Channel walk.now lanes.old (λ rows. (after : OpenRows)
         → HasMore channel item.now rows after
         → IsPiece walk.now.interface channel (rows_of after channel)
-        → IfOk result (λ last. SeesOn walk.now channel after last.after)) }
+        → IfOk result (λ judged. SeesOn walk.now channel after judged.row.after)) }
     ensures finding { OfLanes C.Channel walk.now lanes.old (λ rows.
-        IfOk result (λ last. FindsOn (walked_piece walk.now channel rows) item.now last.finding)) }
+        IfOk result (λ judged. FindsOn (walked_piece walk.now channel rows) item.now judged.row.finding)) }
     ensures events { OfLanes C.Channel walk.now lanes.old (λ rows.
-        OnOk result (events.new.items ≡ row_events walk.now.interface walk.now.epoch channel
+        IfOk result (λ judged. events.new.items ++ data_events walk.now.epoch channel item.now judged.accepted
+        ≡ row_events walk.now.interface walk.now.epoch channel
         (channel_so_far (walked_piece walk.now channel rows)) item.now)) }
     ensures memory { IfErr result (λ fault. fault ≡ Memory) }
 {
@@ -81,10 +83,10 @@ pub fn step_channel<A: Allocator + Copy, C: Channel<A>>(
     let mut live = take_out(alloc, &walk.interface, walk.epoch, channel, lanes)?;
     let before = live.word();
     let taken = live.take(item, events)?;
-    let finding = list_events(walk.epoch, channel, item, taken, events)?;
+    let (accepted, finding) = parts(taken);
     let after = live.word();
     lanes.put(channel, live);
-    Ok(KeptRow {
+    let row = KeptRow {
         number: item.number,
         side: item.side,
         packet: item.packet,
@@ -94,36 +96,17 @@ pub fn step_channel<A: Allocator + Copy, C: Channel<A>>(
             after,
         },
         finding,
-    })
+    };
+    Ok(Judged { row, accepted })
 }
 
-/// Appends the event of accepted data that its channel left out of the list, and returns the finding on the row.
+/// The octets of accepted data with Q 0, and the finding, of what a row did to its channel.
 #[inline(always)]
-fn list_events<A: Allocator>(
-    epoch: u32,
-    channel: u16,
-    item: &ItemRef<'_>,
-    taken: Taken,
-    events: &mut Vec<Event, A>,
-) -> Result<Option<Finding>, Fault>
-    ensures listed { OnOk result (events.new.items ≡ events.old.items
-        ++ data_events epoch channel item.now (data_in taken)) }
-    ensures finding { IfOk result (λ found. found ≡ finding_in taken) }
-    ensures memory { IfErr result (λ fault. fault ≡ Memory) }
+fn parts(taken: Taken) -> (Option<u32>, Option<Finding>)
+    ensures { result ≡ (data_in taken, finding_in taken) }
 {
     match taken {
-        Taken::Data(octets) => {
-            events.push(Event {
-                epoch,
-                channel,
-                packet: item.number,
-                what: What::Data {
-                    side: item.side,
-                    octets,
-                },
-            })?;
-            Ok(None)
-        }
-        Taken::Listed(finding) => Ok(finding),
+        Taken::Data(octets) => (Some(octets), None),
+        Taken::Listed(finding) => (None, finding),
     }
 }

@@ -1,6 +1,10 @@
 //! The row that an observer took last.
 
-ghost use Rattle.std.specs.Prelude.{◌≡◌};
+ghost use Rattle.std.specs.Prelude.{◌≡◌, ℕ, List, Some};
+ghost use Rattle.std.specs.Bool.{OnFalse, OnTrue};
+ghost use Rattle.line_model.specs.basics.Records.{Item};
+ghost use Rattle.line_model.specs.declared.event.Event.{Event};
+ghost use Rattle.live_report.specs.Turns.{with_data};
 ghost use Rattle.live_report.specs.KeptRows.{known_after, known_before, taker};
 ghost use Rattle.live_report.specs.QuietRows.{is_settled, quiet_of};
 ghost use Rattle.channel_run.specs.StatusWord.{view_in};
@@ -122,6 +126,29 @@ pub struct KeptRow {
     pub(crate) packet: Packet,
     pub(crate) judge: Judge,
     pub(crate) finding: Option<Finding>,
+}
+
+/// A row as it was judged. Where it is data with Q 0 that its channel accepted, its one event says how many octets of user
+/// data: `accepted`.
+#[derive(Drop)]
+pub(crate) struct Judged {
+    pub(crate) row: KeptRow,
+    pub(crate) accepted: Option<u32>,
+}
+
+impl Judged {
+    /// Whether it is data with Q 0 that its channel accepted.
+    #[inline(always)]
+    pub(crate) fn is_accepted(&self) -> bool
+        ensures accepted { OnTrue result ((k : ℕ) × (n : ℕ) × (self.now.row.channel ≡ Some k) × (self.now.accepted ≡ Some n)) }
+        ensures listed { OnFalse result ((epoch : ℕ) (r : Item) (events : List Event)
+            → with_data epoch self.now.row.channel r self.now.accepted events ≡ events) }
+    {
+        match self.row.channel() {
+            Some(_) => self.accepted.is_some(),
+            None => false,
+        }
+    }
 }
 
 impl Model for KeptRow {

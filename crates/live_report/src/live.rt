@@ -8,7 +8,7 @@ ghost use Rattle.trace_text.specs.Progress.{bytes_fed};
 ghost use Rattle.trace_text.specs.StandsFor.{IsFaultOf, IsTextFault};
 ghost use Rattle.trace_text.specs.EndedPart.{ended_part};
 ghost use Rattle.live_report.specs.Found.{IsFoundBy, found};
-ghost use Rattle.live_report.specs.Lives.{IsFed, IsFedOn, OfFed, RefusesEarly, WasFed};
+ghost use Rattle.live_report.specs.Lives.{IsFed, IsFedOn, KeepsRowsOf, OfFed, RefusesEarly, WasFed};
 ghost use Rattle.live_report.specs.Reports.{IsMissing, IsRefusal, IsReportFault, IsReported, IsTaken};
 ghost use Rattle.live_report.specs.Uncounted.{trace_uncounted};
 ghost use Rattle.trace_text.specs.ObserverAnswers.{IsReportOf};
@@ -37,6 +37,8 @@ pub struct Live<A: Allocator, C: Channel<A>> {
     lines: Lines<A>,
     /// The last row, whose room the next one uses.
     row: ReadRow<A>,
+    /// Whether the observer keeps the row that it took last.
+    keeps_rows: bool,
     /// Made once the first row was read.
     observer: Option<Observer<A, C>>,
     /// What the rows of the last chunk found.
@@ -45,10 +47,27 @@ pub struct Live<A: Allocator, C: Channel<A>> {
 }
 
 impl<A: Allocator + Copy, C: Channel<A>> Live<A, C> {
-    /// A trace of which nothing was fed. It takes no memory.
+    /// A trace of which nothing was fed, whose observer keeps no rows. It takes no memory.
     pub fn new(alloc: A) -> Self
         ensures fed { IsFed C.interface_of C.number_of C.stands_for result }
         ensures stands { WasFed C.Channel [] result }
+    {
+        Live::begun(alloc, false)
+    }
+
+    /// A trace of which nothing was fed, whose observer keeps the row that it took last. It takes no memory.
+    pub fn with_rows(alloc: A) -> Self
+        ensures fed { IsFed C.interface_of C.number_of C.stands_for result }
+        ensures stands { KeepsRowsOf C.Channel [] result }
+    {
+        Live::begun(alloc, true)
+    }
+
+    /// A trace of which nothing was fed.
+    fn begun(alloc: A, keeps_rows: bool) -> Self
+        ensures fed { IsFed C.interface_of C.number_of C.stands_for result }
+        ensures stands { WasFed C.Channel [] result }
+        ensures keeps { result.keeps_rows ≡ keeps_rows }
     {
         Live {
             lines: Lines::new(alloc),
@@ -58,6 +77,7 @@ impl<A: Allocator + Copy, C: Channel<A>> Live<A, C> {
                 length: 0,
                 octets: Vec::new(alloc),
             },
+            keeps_rows,
             observer: None,
             found: Vec::new(alloc),
             refused: None,
@@ -101,6 +121,7 @@ impl<A: Allocator + Copy, C: Channel<A>> Live<A, C> {
             IsFoundBy result self.old.found.items self.new.found.items
             (found text) (found (text ++ chunk.now))) }
         ensures few { length self.new.found.items ≤ length self.old.found.items + length chunk.now }
+        ensures keeps { self.new.keeps_rows ≡ self.old.keeps_rows }
         ensures size { OnOk result (bytes_fed self.new.lines
             ≡ bytes_fed self.old.lines + length chunk.now) }
         ensures limit { OnOk result (bytes_fed self.new.lines ≤ 2 ^ 30) }
@@ -128,6 +149,7 @@ impl<A: Allocator + Copy, C: Channel<A>> Live<A, C> {
             IsFoundBy result self.old.found.items self.new.found.items
             (found text) (found (text ++ chunk.now))) }
         ensures few { length self.new.found.items ≤ length self.old.found.items + length chunk.now }
+        ensures keeps { self.new.keeps_rows ≡ self.old.keeps_rows }
         ensures size { OnOk result (bytes_fed self.new.lines
             ≡ bytes_fed self.old.lines + length chunk.now) }
         ensures limit { OnOk result (bytes_fed self.new.lines ≤ 2 ^ 30) }
@@ -140,7 +162,7 @@ impl<A: Allocator + Copy, C: Channel<A>> Live<A, C> {
         let Some(interface) = self.lines.interface() else {
             return Ok(());
         };
-        let mut observer = Observer::new(*self.row.octets.allocator(), &interface);
+        let mut observer = Observer::new(*self.row.octets.allocator(), &interface, self.keeps_rows);
         let first = observer.take(&self.row)?;
         append_finding(&mut self.found, first)?;
         observe_chunk(
@@ -166,6 +188,7 @@ impl<A: Allocator + Copy, C: Channel<A>> Live<A, C> {
         ensures found { OfFed C.Channel self.old (λ text.
             IsFoundBy result [] self.new.found.items (found text) (found (text ++ chunk.now))) }
         ensures few { self.old.refused ≡ None → length self.new.found.items ≤ length chunk.now }
+        ensures keeps { self.new.keeps_rows ≡ self.old.keeps_rows }
         ensures size { OnOk result (bytes_fed self.new.lines
             ≡ bytes_fed self.old.lines + length chunk.now) }
         ensures limit { OnOk result (bytes_fed self.new.lines ≤ 2 ^ 30) }
@@ -201,7 +224,7 @@ impl<A: Allocator + Copy, C: Channel<A>> Live<A, C> {
         let interface = self.lines.ended_header()?;
         match &self.observer {
             Some(observer) => observer.report(),
-            None => Observer::<A, C>::new(*self.row.octets.allocator(), &interface).end(),
+            None => Observer::<A, C>::new(*self.row.octets.allocator(), &interface, false).end(),
         }
     }
 
@@ -257,7 +280,7 @@ impl<A: Allocator + Copy, C: Channel<A>> Live<A, C> {
         match observer {
             Some(observer) => finish_observing(observer, has_row, &row, uncounted),
             None => finish_observing(
-                Observer::<A, C>::new(alloc, &interface),
+                Observer::<A, C>::new(alloc, &interface, false),
                 has_row,
                 &row,
                 uncounted,

@@ -1,4 +1,6 @@
-//! A live trace as any observer of a trace.
+//! A live trace that keeps the row that it took last, as any observer of a trace.
+
+ghost use Rattle.std.specs.Prelude.{◌≡◌, true};
 ghost use Rattle.trace_text.specs.Progress.{bytes_fed};
 ghost use Rattle.live_report.specs.Lives.{StandsFor};
 ghost use Rattle.trace_text.specs.FedBytes.{fed_length};
@@ -13,7 +15,8 @@ use std::alloc::Allocator;
 use trace_text::trace_observer::TraceObserver;
 
 impl<A: Allocator + Copy, C: Channel<A>> TraceObserver<A> for Live<A, C> {
-    ghost stands_for = { λ live text. StandsFor C.interface_of C.number_of C.stands_for live text };
+    ghost stands_for = { λ live text. StandsFor C.interface_of C.number_of C.stands_for live text
+        × (live.keeps_rows ≡ true) };
 
     ghost last_found = { λ live. live.found.items };
 
@@ -31,7 +34,7 @@ impl<A: Allocator + Copy, C: Channel<A>> TraceObserver<A> for Live<A, C> {
         Live::whole(self, &mut Uncounted::none())
     }
 
-    ghost sound = { λ live text stands. stands.reads.sound };
+    ghost sound = { λ live text stands. stands.0.reads.sound };
 
-    ghost sized = { λ live text stands. fed_length live.lines text stands.reads };
+    ghost sized = { λ live text stands. fed_length live.lines text stands.0.reads };
 }

@@ -1,6 +1,6 @@
 //! The observer that runs: it walks a trace row by row, and keeps what it found, not what it read.
 
-ghost use Rattle.std.specs.Prelude.{◌≡◌, ◌<◌, ◌+◌, ◌^◌, ◌++◌, ◌∷◌, [], None, List, length, map, IfErr, IfOk, IfSome, MatchOption, OnOk};
+ghost use Rattle.std.specs.Prelude.{◌≡◌, ◌<◌, ◌+◌, ◌^◌, ◌++◌, ◌∷◌, [], None, Some, true, List, length, map, IfErr, IfOk, IfSome, MatchOption, OnOk};
 ghost use Rattle.line_model.specs.basics.Records as records;
 ghost use Rattle.line_model.specs.declared.fault.Fault.TheVariants.{Memory};
 ghost use Rattle.line_model.specs.declared.interface.Interface.{Interface as AnyInterface};
@@ -16,17 +16,17 @@ ghost use Rattle.live_report.specs.Lanes.{LanesStandFor};
 ghost use Rattle.live_report.specs.LastRows.{IsLastRow};
 ghost use Rattle.live_report.specs.Uncounted.{uncounted_of};
 ghost use Rattle.live_report.specs.declared.last_row.Known.TheVariants.{Restart};
-ghost use Rattle.live_report.specs.Turns.{FindsBy, HasEvents, KnowsBy, MayTurn, OfOpen, StandsAt};
-ghost use Rattle.live_report.specs.Observing.{open_piece, HasWalked, IsHolding, IsObserver, MayWalk, ReturnsFinding, ReturnsReport, WalksOn};
+ghost use Rattle.live_report.specs.Turns.{FindsBy, HasEvents, KnowsBy, MayTurn, OfOpen, StandsAt, with_data};
+ghost use Rattle.live_report.specs.Observing.{open_piece, HasKept, HasWalked, IsHolding, IsObserver, MayWalk, ReturnsFinding, ReturnsReport, WalksOn};
 
 use crate::ending::end_channels;
 use crate::lanes::step_channel;
-use crate::last_row::{Judge, KeptRow, LastRow};
+use crate::last_row::{Judge, Judged, KeptRow, LastRow};
 use crate::reporting::report_channels;
 use crate::uncounted::Uncounted;
 use channel_run::live::LiveChannel;
 use channel_run::run::{Channel, View};
-use line_model::event::Event;
+use line_model::event::{Event, What};
 use line_model::fault::Fault;
 use line_model::finding::Finding;
 use line_model::interface::Interface;
@@ -48,27 +48,32 @@ pub struct Observer<A: Allocator, C: Channel<A>> {
     ended: Parts<A>,
     /// The channels that have rows in the epoch that has not ended.
     lanes: ChannelTable<LiveChannel<A, C>, A>,
-    /// The row that was taken last, as it was judged.
+    /// Whether it keeps each row as it was judged, with its events.
+    keeps_rows: bool,
+    /// The row that was taken last, as it was judged, where rows are kept.
     last: Option<KeptRow>,
-    /// The events of the last row that a channel took.
+    /// The events of the last row that a channel took; where no rows are kept, without that of accepted data with Q 0.
     events: Vec<Event, A>,
     /// The data of the rows that was not counted.
     uncounted: Uncounted,
 }
 
 /// A row of a packet that no channel takes, which the restart machine judged in a state.
-fn judged_on_line(item: &ItemRef<'_>, before: RState, step: &Step) -> KeptRow
+fn judged_on_line(item: &ItemRef<'_>, before: RState, step: &Step) -> Judged
     ensures { result ≡ record {
-      number = item.now.number;
-      side = item.now.side;
-      packet = item.now.packet;
-      channel = None;
-      before = Restart before;
-      after = Restart step.now.machine.state;
-      finding = step.now.finding;
+      row = record {
+        number = item.now.number;
+        side = item.now.side;
+        packet = item.now.packet;
+        channel = None;
+        before = Restart before;
+        after = Restart step.now.machine.state;
+        finding = step.now.finding;
+      };
+      accepted = None;
     } }
 {
-    KeptRow {
+    let row = KeptRow {
         number: item.number,
         side: item.side,
         packet: item.packet,
@@ -77,18 +82,24 @@ fn judged_on_line(item: &ItemRef<'_>, before: RState, step: &Step) -> KeptRow
             after: step.machine.state(),
         },
         finding: step.finding,
+    };
+    Judged {
+        row,
+        accepted: None,
     }
 }
 
 impl<A: Allocator + Copy, C: Channel<A>> Observer<A, C> {
-    /// An observer before the first row. It takes no memory.
-    pub fn new(alloc: A, interface: &Interface) -> Self
-        ensures { HasWalked C.Channel interface.now [] result }
+    /// An observer before the first row, which keeps the row that it took last, or none. It takes no memory.
+    pub fn new(alloc: A, interface: &Interface, keeps_rows: bool) -> Self
+        ensures walked { HasWalked C.Channel interface.now [] result }
+        ensures keeps { result.keeps_rows ≡ keeps_rows }
     {
         Observer {
             walk: EpochWalk::new(alloc, interface),
             ended: Parts::new(alloc),
             lanes: ChannelTable::new(alloc),
+            keeps_rows,
             last: None,
             events: Vec::new(alloc),
             uncounted: Uncounted::none(),
@@ -97,13 +108,15 @@ impl<A: Allocator + Copy, C: Channel<A>> Observer<A, C> {
 
     /// Steps the channel that a row goes to, or ends the channels that it ends, and returns the row as it was judged. Fails only
     /// when memory is refused.
-    fn turn(&mut self, step: &Step, item: &ItemRef<'_>) -> Result<KeptRow, Fault>
+    #[inline(always)]
+    fn turn(&mut self, step: &Step, item: &ItemRef<'_>) -> Result<Judged, Fault>
         requires room { (rows : OpenRows) × (reports : List records.PieceReport)
             × StandsAt C.Channel self.old.walk rows self.old.lanes × (self.old.ended ≡ gathered reports)
             × MayTurn step.now.turn self.old.walk.interface item.now rows }
         requires pieces { self.old.ended.pieces + length self.old.lanes.channels < 2 ^ 32 }
         ensures walk { self.new.walk ≡ self.old.walk }
         ensures uncounted { self.new.uncounted ≡ self.old.uncounted }
+        ensures keeps { self.new.keeps_rows ≡ self.old.keeps_rows }
         ensures lanes { OfOpen C.Channel self.old.walk self.old.lanes (λ rows. (after : OpenRows)
             → MayTurn step.now.turn self.old.walk.interface item.now rows
             → HasTurned step.now.turn item.now rows after
@@ -112,20 +125,21 @@ impl<A: Allocator + Copy, C: Channel<A>> Observer<A, C> {
             → self.old.ended ≡ gathered reports
             → OnOk result (self.new.ended ≡ gathered (reports ++ map value (ended_by step.now.turn
             self.old.walk.interface self.old.walk.epoch item.now.number (length reports) rows)))) }
-        ensures number { IfOk result (λ last. last.number ≡ item.now.number) }
-        ensures side { IfOk result (λ last. last.side ≡ item.now.side) }
-        ensures packet { IfOk result (λ last. last.packet ≡ item.now.packet) }
-        ensures channel { IfOk result (λ last. last.channel ≡ channel_in step.now.turn) }
-        ensures before { OfOpen C.Channel self.old.walk self.old.lanes (λ rows. IfOk result (λ last.
-            KnowsBy step.now.turn self.old.walk self.old.walk.machine rows last.before)) }
+        ensures number { IfOk result (λ judged. judged.row.number ≡ item.now.number) }
+        ensures side { IfOk result (λ judged. judged.row.side ≡ item.now.side) }
+        ensures packet { IfOk result (λ judged. judged.row.packet ≡ item.now.packet) }
+        ensures channel { IfOk result (λ judged. judged.row.channel ≡ channel_in step.now.turn) }
+        ensures before { OfOpen C.Channel self.old.walk self.old.lanes (λ rows. IfOk result (λ judged.
+            KnowsBy step.now.turn self.old.walk self.old.walk.machine rows judged.row.before)) }
         ensures after { OfOpen C.Channel self.old.walk self.old.lanes (λ rows. (after : OpenRows)
             → MayTurn step.now.turn self.old.walk.interface item.now rows
             → HasTurned step.now.turn item.now rows after
-            → IfOk result (λ last. KnowsBy step.now.turn self.old.walk step.now.machine after last.after)) }
+            → IfOk result (λ judged. KnowsBy step.now.turn self.old.walk step.now.machine after judged.row.after)) }
         ensures finding { OfOpen C.Channel self.old.walk self.old.lanes (λ rows.
-            IfOk result (λ last. FindsBy step.now self.old.walk rows item.now last.finding)) }
+            IfOk result (λ judged. FindsBy step.now self.old.walk rows item.now judged.row.finding)) }
         ensures events { OfOpen C.Channel self.old.walk self.old.lanes (λ rows.
-            OnOk result (HasEvents step.now.turn self.old.walk rows item.now self.new.events.items)) }
+            IfOk result (λ judged. HasEvents step.now.turn self.old.walk rows item.now
+            (with_data self.old.walk.epoch (channel_in step.now.turn) item.now judged.accepted self.new.events.items))) }
         ensures memory { IfErr result (λ fault. fault ≡ Memory) }
     {
         match step.turn {
@@ -165,10 +179,10 @@ impl<A: Allocator + Copy, C: Channel<A>> Observer<A, C> {
         self.walk.packets
     }
 
-    /// The row that was taken last, as it was judged; none before the first row.
+    /// The row that was taken last, as it was judged; none before the first row, and where no rows are kept.
     pub fn last_row(&self) -> Option<LastRow>
         ensures { (i : AnyInterface) (before : List records.Item) (row : records.Item)
-            → HasWalked C.Channel i (before ++ row ∷ []) self.now
+            → HasKept C.Channel i (before ++ row ∷ []) self.now
             → MatchOption result ⊥ (λ last. IsLastRow i before row last self.now.events.items) }
     {
         match &self.last {
@@ -177,16 +191,17 @@ impl<A: Allocator + Copy, C: Channel<A>> Observer<A, C> {
         }
     }
 
-    /// The row that was taken last, as it is kept, which costs no copy; none before the first row.
+    /// The row that was taken last, as it is kept, which costs no copy; none before the first row, and where no rows are
+    /// kept.
     pub fn kept_row(&self) -> Option<&KeptRow>
         ensures { (i : AnyInterface) (before : List records.Item) (row : records.Item)
-            → HasWalked C.Channel i (before ++ row ∷ []) self.now
+            → HasKept C.Channel i (before ++ row ∷ []) self.now
             → MatchOption result ⊥ (λ last. IsLastRow i before row last.now self.now.events.items) }
     {
         self.last.as_ref()
     }
 
-    /// The events of the last row that a channel took.
+    /// The events of the last row that a channel took, where rows are kept.
     pub fn events(&self) -> &[Event]
         ensures { result.now ≡ self.now.events.items }
     {
@@ -224,6 +239,7 @@ impl<A: Allocator + Copy, C: Channel<A>> Observer<A, C> {
         ensures stands { WalksOn C.Channel self.old (λ i. item_read i row.now) self.new result }
         // What was found comes after all that was found before.
         ensures finding { ReturnsFinding C.Channel self.old (λ i. item_read i row.now) result }
+        ensures keeps { self.new.keeps_rows ≡ self.old.keeps_rows }
         ensures memory { IfErr result (λ fault. fault ≡ Memory) }
     {
         let packet = decode(&self.walk.interface, row.octets.as_slice());
@@ -235,20 +251,51 @@ impl<A: Allocator + Copy, C: Channel<A>> Observer<A, C> {
         requires room { MayWalk C.Channel self.old (λ _. item.now ∷ []) }
         ensures stands { WalksOn C.Channel self.old (λ _. item.now) self.new result }
         ensures finding { ReturnsFinding C.Channel self.old (λ _. item.now) result }
+        ensures keeps { self.new.keeps_rows ≡ self.old.keeps_rows }
         ensures memory { IfErr result (λ fault. fault ≡ Memory) }
     {
         let step = self.walk.step(item)?;
-        let last = self.turn(&step, item)?;
-        let finding = last.finding();
+        let judged = self.turn(&step, item)?;
+        let finding = judged.row.finding();
         self.uncounted.take(
             &self.walk.interface,
             item.length,
-            &last,
+            &judged,
             self.events.as_slice(),
         );
-        self.last = Some(last);
+        self.keep(judged, item)?;
         self.walk.advance(step);
         Ok(finding)
+    }
+
+    /// Where rows are kept, keeps a row as it was judged, and lists the event of accepted data with Q 0. Fails only when
+    /// memory is refused.
+    #[inline(always)]
+    fn keep(&mut self, judged: Judged, item: &ItemRef<'_>) -> Result<(), Fault>
+        ensures rest { OnOk result (self.new
+            ≡ record self.old { last = self.new.last; events = self.new.events }) }
+        ensures last { self.old.keeps_rows ≡ true → OnOk result (self.new.last ≡ Some judged.row) }
+        ensures events { self.old.keeps_rows ≡ true → OnOk result (self.new.events.items
+            ≡ with_data self.old.walk.epoch judged.row.channel item.now judged.accepted self.old.events.items) }
+        ensures keeps { self.new.keeps_rows ≡ self.old.keeps_rows }
+        ensures memory { IfErr result (λ fault. fault ≡ Memory) }
+    {
+        if !self.keeps_rows {
+            return Ok(());
+        }
+        if let (Some(channel), Some(octets)) = (judged.row.channel(), judged.accepted) {
+            self.events.push(Event {
+                epoch: self.walk.epoch,
+                channel,
+                packet: item.number,
+                what: What::Data {
+                    side: item.side,
+                    octets,
+                },
+            })?;
+        }
+        self.last = Some(judged.row);
+        Ok(())
     }
 
     /// The report of the rows that were taken so far, by copies: the observer goes on. It costs what is reported, not

@@ -38,6 +38,7 @@ pub fn observe_chunk<A: Allocator + Copy, C: Channel<A>>(
         IsFoundBy result found.old.items found.new.items
         (found_at i text) (found_at i (text ++ chunk.now))) }
     ensures few { length found.new.items ≤ length found.old.items + length chunk.now }
+    ensures keeps { OnOk result (observer.new.keeps_rows ≡ observer.old.keeps_rows) }
     ensures size { OnOk result (bytes_fed lines.new ≡ bytes_fed lines.old + length chunk.now) }
     ensures limit { OnOk result (bytes_fed lines.new ≤ 2 ^ 30) }
     ensures kinds { IfErr result IsTextFault }

@@ -1,6 +1,6 @@
 //! The data packets that were not counted, and why.
 
-ghost use Rattle.std.specs.Prelude.{◌≡◌, ◌++◌, ◌∷◌, [], List};
+ghost use Rattle.std.specs.Prelude.{◌≡◌, ℕ, ◌++◌, ◌∷◌, [], List};
 ghost use Rattle.line_model.specs.basics.Records.{Item};
 ghost use Rattle.line_model.specs.channels.Channels as channels;
 ghost use Rattle.line_model.specs.declared.interface.Interface.{Interface as AnyInterface};
@@ -8,9 +8,10 @@ ghost use Rattle.restart_epochs.specs.Cutting.{observer};
 ghost use Rattle.channel_run.specs.StatusWord.{view_in};
 ghost use Rattle.channel_run.specs.Views.{IsViewOf};
 ghost use Rattle.live_report.specs.LastRows.{IsLastRow};
+ghost use Rattle.live_report.specs.Turns.{with_data};
 ghost use Rattle.live_report.specs.Uncounted.{AreFew, amount_for, counts_data, grown, has_finding, is_data, none_left_out, reason_at, reason_of_state, reason_on, uncounted_of, user_octets, with_one};
 
-use crate::last_row::{Judge, KeptRow, Known, LastRow};
+use crate::last_row::{Judge, Judged, KeptRow, Known, LastRow};
 use channel_run::run::View;
 use channel_run::status_word::view_in;
 use data_transfer::packed::FlowWord;
@@ -250,22 +251,25 @@ impl Uncounted {
         }
     }
 
-    /// Takes the octets of a row with its events, as it was judged.
+    /// Takes the octets of a row as it was judged, with its events, except that of accepted data with Q 0.
     #[inline(always)]
     pub(crate) fn take(
         &mut self,
         interface: &Interface,
         length: usize,
-        last: &KeptRow,
+        judged: &Judged,
         events: &[Event],
     )
-        ensures { (i : AnyInterface) (earlier : List Item) (r : Item)
-            → IsLastRow i earlier r last.now events.now
+        ensures { (i : AnyInterface) (epoch : ℕ) (earlier : List Item) (r : Item)
+            → IsLastRow i earlier r judged.now.row (with_data epoch judged.now.row.channel r judged.now.accepted events.now)
             → interface.now ≡ i → length ≡ r.length → AreFew (earlier ++ r ∷ [])
             → self.old ≡ uncounted_of i earlier
             → self.new ≡ uncounted_of i (earlier ++ r ∷ []) }
     {
-        if let Some(reason) = reason_kept(last, events) {
+        if judged.is_accepted() {
+            return;
+        }
+        if let Some(reason) = reason_kept(&judged.row, events) {
             self.add(reason, user_octets(interface, length));
         }
     }

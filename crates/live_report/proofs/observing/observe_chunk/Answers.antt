@@ -17,6 +17,7 @@ pub loop-after-init : goal.loop-after-init
 loop-after-init g c = record {
   few = omega arith;
   size = refl;
+  keeps = refl;
   course = λ i text w. course_begun g.C.Channel.interface_of g.C.Channel.number_of g.C.Channel.stands_for i text c.args.chunk.now c.args.lines.now c.args.observer.now c.args.found.now.items w;
 }
 
@@ -45,6 +46,7 @@ loop-after-preserved g c =
     record {
       few = omega (arith, few, shorter, ap (λ (xs : List Finding). length xs) noted, length-append c.loop-after.found.items (option_to_list finding), at_most_one finding);
       size = size ∙ c.loop-after.invariant.size;
+      keeps = c.in_ok-take.ensures.keeps ∙ c.loop-after.invariant.keeps;
       course = λ i text w.
           let course = c.loop-after.invariant.course i text w in
           course_row g.C.Channel.interface_of g.C.Channel.number_of g.C.Channel.stands_for i text c.args.chunk.now c.loop-after.rest.now c.in-Some.after.now c.next_row.new.row c.loop-after.lines c.next_row.new.self c.loop-after.observer c.take.new.self
@@ -54,6 +56,9 @@ loop-after-preserved g c =
           (next_rows i c.loop-after.lines c.next_row.new.self (text ++ course.read) c.loop-after.rest.now c.in-Some.after.now c.next_row.new.row course.observing.reads row))
           noted (c.in_ok-take.ensures.finding i (items_of i (early_rows (text ++ course.read))) course.observing.observes);
     }
+
+pub returns-clause-keeps : goal.returns-clause-keeps
+returns-clause-keeps g c = c.loop-after.invariant.keeps
 
 pub returns-clause-observes : goal.returns-clause-observes
 returns-clause-observes g c i text w =

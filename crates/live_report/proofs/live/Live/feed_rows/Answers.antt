@@ -1,7 +1,8 @@
-use Rattle.std.proofs.Common.{◌++◌, refl}
+use Rattle.std.proofs.Common.{◌≡◌, ◌∙◌, ◌++◌, refl, subst}
+use Rattle.std.specs.Prelude.{IfSome}
 use Rattle.restart_epochs.proofs.Taken.{on_ok}
 use Rattle.live_report.specs.Found.{found, found_at}
-use Rattle.live_report.proofs.LiveLemmas.{found_as, found_headed, stands_observing, observing_of}
+use Rattle.live_report.proofs.LiveLemmas.{found_as, found_headed, on_both, stands_observing, observing_of}
 use Rattle.live_report.proofs.live.Live.feed_rows.Goals as goal
 
 pub observe_chunk-requires : goal.observe_chunk-requires
@@ -13,8 +14,9 @@ observe_chunk-requires g c =
 pub returns-in-Some-clause-stands : goal.returns-in-Some-clause-stands
 returns-in-Some-clause-stands g c text s =
     let seen = observing_of g.C.Channel.interface_of g.C.Channel.number_of g.C.Channel.stands_for c.args.self.now text c.in-Some.observer s c.in-Some.is in
-    on_ok c.observe_chunk.result _ _ (c.observe_chunk.ensures.observes seen.0 text seen.1)
-    (λ w. stands_observing g.C.Channel.interface_of g.C.Channel.number_of g.C.Channel.stands_for seen.0 _ (text ++ c.args.chunk.now) c.observe_chunk.new.observer w refl s.running)
+    on_ok c.observe_chunk.result _ _ (on_both c.observe_chunk.result _ _ (c.observe_chunk.ensures.observes seen.0 text seen.1) c.observe_chunk.ensures.keeps)
+    (λ w. stands_observing g.C.Channel.interface_of g.C.Channel.number_of g.C.Channel.stands_for seen.0 _ (text ++ c.args.chunk.now) c.observe_chunk.new.observer w.0 refl s.running
+    (w.1 ∙ subst (λ x. IfSome x (λ o. o.keeps_rows ≡ c.args.self.now.keeps_rows)) c.in-Some.is s.keeps))
 
 pub returns-in-Some-clause-refused : goal.returns-in-Some-clause-refused
 returns-in-Some-clause-refused g c text s =

@@ -26,7 +26,7 @@ pub returns-in-None-clause-told : goal.returns-in-None-clause-told
 returns-in-None-clause-told g c text s =
     let none = nothing_seen g.C.Channel.interface_of g.C.Channel.number_of g.C.Channel.stands_for c.args.self.now text s (sym (ap (λ v. v.observer) c.self.view_is) ∙ c.in-None.is) in
     let part = c.in_ok-interface.ensures.ok text (subst (λ reader. IsReaderOf reader text) (sym (ap (λ v. v.lines) c.self.view_is)) s.reads) in
-    told_at (ended_part text) c.in_ok-interface.interface _ c.end.result (c.end.ensures.report c.in_ok-interface.interface _ c.new.ensures) part.0 part.1
+    told_at (ended_part text) c.in_ok-interface.interface _ c.end.result (c.end.ensures.report c.in_ok-interface.interface _ c.new.ensures.walked) part.0 part.1
     (ap (items_of c.in_ok-interface.interface) (part-rows c.args.self.now.lines text s.reads ∙ none))
 
 pub returns-in-None-clause-refused : goal.returns-in-None-clause-refused

@@ -24,7 +24,7 @@ finish_observing-requires-in-None g c =
     let all = ended_items i room.0 c.in_ok-interface.field-0.has_row c.end_row.new.row (c.in_ok-interface.ensures.row room.0 room.1.reads) in
     let sound = subst (AreItems i) all (whole_trace i room.0 (c.in_ok-interface.ensures.ok room.0 room.1.reads).0) in
     let bare = ap (λ rows. items_of i rows ++ last_item i c.in_ok-interface.field-0.has_row c.end_row.new.row) none in
-    record { room = (i, [], c.new.ensures, subst (AreItems i) bare sound) }
+    record { room = (i, [], c.new.ensures.walked, subst (AreItems i) bare sound) }
 
 pub returns-in-Some-observer-clause-told : goal.returns-in-Some-observer-clause-told
 returns-in-Some-observer-clause-told g c text s =
@@ -44,7 +44,7 @@ returns-clause-told g c text s =
     let all = ended_items i text c.in_ok-interface.field-0.has_row c.end_row.new.row (c.in_ok-interface.ensures.row text s.reads) in
     let sound = subst (AreItems i) all (whole_trace i text (c.in_ok-interface.ensures.ok text s.reads).0) in
     let bare = ap (λ rows. items_of i rows ++ last_item i c.in_ok-interface.field-0.has_row c.end_row.new.row) none in
-    told_at text i _ c.finish_observing-in-None.result (c.finish_observing-in-None.ensures.report i [] c.new.ensures (subst (AreItems i) bare sound)) (c.in_ok-interface.ensures.ok text s.reads).0
+    told_at text i _ c.finish_observing-in-None.result (c.finish_observing-in-None.ensures.report i [] c.new.ensures.walked (subst (AreItems i) bare sound)) (c.in_ok-interface.ensures.ok text s.reads).0
     (c.in_ok-interface.ensures.ok text s.reads).1 (all ∙ bare)
 
 pub returns-clause-refused : goal.returns-clause-refused
@@ -65,5 +65,5 @@ returns-clause-uncounted g c text s =
     let all = ended_items i text c.in_ok-interface.field-0.has_row c.end_row.new.row (c.in_ok-interface.ensures.row text s.reads) in
     let sound = subst (AreItems i) all (whole_trace i text (c.in_ok-interface.ensures.ok text s.reads).0) in
     let bare = ap (λ rows. items_of i rows ++ last_item i c.in_ok-interface.field-0.has_row c.end_row.new.row) none in
-    of_the_text c.finish_observing-in-None.result text i _ _ (c.finish_observing-in-None.ensures.uncounted i [] c.new.ensures (subst (AreItems i) bare sound))
+    of_the_text c.finish_observing-in-None.result text i _ _ (c.finish_observing-in-None.ensures.uncounted i [] c.new.ensures.walked (subst (AreItems i) bare sound))
     (c.in_ok-interface.ensures.ok text s.reads).1 (all ∙ bare)

@@ -7,9 +7,9 @@ pub returns-in-Some : goal.returns-in-Some
 returns-in-Some g c i before row walked =
     let events = c.args.self.now.events.items in
     subst (λ last. IsLastRow i before row last events) (sym c.row.ensures)
-    (subst (λ last. MatchOption last ⊥ (λ l. IsLastRow i before row l events)) c.in-Some.is (walked.row before row refl))
+    (subst (λ last. MatchOption last ⊥ (λ l. IsLastRow i before row l events)) c.in-Some.is (walked.0.row walked.1 before row refl))
 
 pub returns-in-None : goal.returns-in-None
 returns-in-None g c i before row walked =
     let events = c.args.self.now.events.items in
-    subst (λ last. MatchOption last ⊥ (λ l. IsLastRow i before row l events)) c.in-None.is (walked.row before row refl)
+    subst (λ last. MatchOption last ⊥ (λ l. IsLastRow i before row l events)) c.in-None.is (walked.0.row walked.1 before row refl)

@@ -4,8 +4,8 @@ use Rattle.restart_epochs.specs.OpenRows.{no_rows}
 use Rattle.live_report.proofs.StandLemmas.{lanes_none, nothing_taken}
 use Rattle.live_report.proofs.observer.Observer.new.Goals as goal
 
-pub returns : goal.returns
-returns g c =
+pub returns-clause-walked : goal.returns-clause-walked
+returns-clause-walked g c =
     nothing_taken g.C.Channel.interface_of g.C.Channel.number_of g.C.Channel.stands_for c.args.interface.now _
     (record {
       interface = c.new.ensures.interface;

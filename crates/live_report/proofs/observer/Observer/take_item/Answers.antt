@@ -6,7 +6,8 @@ use Rattle.restart_epochs.specs.Cutting.{given_of}
 use Rattle.restart_epochs.specs.Walks.{HasRoom, IsAdvanced}
 use Rattle.restart_epochs.proofs.Listings.{listing}
 use Rattle.live_report.specs.LastRows.{IsLastRow, KnowsLast}
-use Rattle.live_report.specs.Turns.{MayTurn, StandsAt}
+use Rattle.live_report.specs.Lanes.{OpenFor}
+use Rattle.live_report.specs.Turns.{HasEvents, MayTurn, StandsAt, with_data}
 use Rattle.live_report.proofs.FindingLemmas.{finds_after}
 use Rattle.live_report.proofs.LastLemmas.{last_known}
 use Rattle.live_report.proofs.UncountedLemmas.{few_with}
@@ -45,10 +46,10 @@ turn-requires-clause-pieces g c =
 pub advance-requires-clause-packets : goal.advance-requires-clause-packets
 advance-requires-clause-packets g c =
     let s = c.requires.room.2 in
-    omega (arith, ap (λ w. w.packets) c.in_ok-last.ensures.walk, c.in_ok-step.ensures.same.packets, s.holds.packets, s.bounds.rows, s.bounds.last)
+    omega (arith, ap (λ o. o.walk.packets) c.in_ok-keep.ensures.rest, ap (λ w. w.packets) c.in_ok-judged.ensures.walk, c.in_ok-step.ensures.same.packets, s.holds.packets, s.bounds.rows, s.bounds.last)
 
 pub advance-requires-clause-room : goal.advance-requires-clause-room
-advance-requires-clause-room g c = subst (λ w. HasRoom w c.in_ok-step.step) (sym c.in_ok-last.ensures.walk) c.in_ok-step.ensures.room
+advance-requires-clause-room g c = subst (λ w. HasRoom w c.in_ok-step.step) (sym (ap (λ o. o.walk) c.in_ok-keep.ensures.rest ∙ c.in_ok-judged.ensures.walk)) c.in_ok-step.ensures.room
 
 pub returns-clause-stands : goal.returns-clause-stands
 returns-clause-stands g c i rs s sound =
@@ -62,27 +63,34 @@ returns-clause-stands g c i rs s sound =
     let here : StandsAt g.C.Channel v s.cutting.open_rows o.lanes = (lanes_at g.C.Channel.interface_of g.C.Channel.number_of g.C.Channel.stands_for s.cutting _ o v s.holds same, listing i rs s.cutting s.cut) in
     let may = subst (λ j. MayTurn step.turn j one s.cutting.open_rows) (sym (same.interface ∙ s.holds.interface)) (may_turn g.C.Channel.interface_of g.C.Channel.number_of g.C.Channel.stands_for i rs o one step s sound packet is) in
     let turned = has_turned step.turn one s.cutting.open_rows in
-    let last = c.in_ok-last.last in
-    let known : KnowsLast i (rs ++ one ∷ []) (Some last) c.turn.new.self.events.items =
+    let last = c.in_ok-judged.judged.row in
+    let rest = c.in_ok-keep.ensures.rest in
+    let events = with_data v.epoch last.channel one c.in_ok-judged.judged.accepted c.turn.new.self.events.items in
+    let known : KnowsLast i (rs ++ one ∷ []) (Some last) events =
     (last_known i rs s.cutting (cutting_after s.cutting one step) one step v last _ _ s.cut (cut_after i rs s.cutting one step s.cut packet is) (is_taken s.cutting one step) packet is
     (same.interface ∙ s.holds.interface) (same.epoch ∙ s.holds.epoch) (same.machine ∙ s.holds.line) refl
     (record {
-      number = c.in_ok-last.ensures.number;
-      side = c.in_ok-last.ensures.side;
-      packet = c.in_ok-last.ensures.packet;
-      channel = c.in_ok-last.ensures.channel;
-      before = c.in_ok-last.ensures.before s.cutting.open_rows here;
-      after = c.in_ok-last.ensures.after s.cutting.open_rows here (rows_after step.turn one s.cutting.open_rows) may turned;
-      came = c.in_ok-last.ensures.events s.cutting.open_rows here;
+      number = c.in_ok-judged.ensures.number;
+      side = c.in_ok-judged.ensures.side;
+      packet = c.in_ok-judged.ensures.packet;
+      channel = c.in_ok-judged.ensures.channel;
+      before = c.in_ok-judged.ensures.before s.cutting.open_rows here;
+      after = c.in_ok-judged.ensures.after s.cutting.open_rows here (rows_after step.turn one s.cutting.open_rows) may turned;
+      came = subst (λ taker. HasEvents step.turn v s.cutting.open_rows one (with_data v.epoch taker one c.in_ok-judged.judged.accepted c.turn.new.self.events.items)) (sym c.in_ok-judged.ensures.channel) (c.in_ok-judged.ensures.events s.cutting.open_rows here);
     })
-    (finds_after i rs s.cutting one step v _ s.cut packet is (same.interface ∙ s.holds.interface) (same.epoch ∙ s.holds.epoch) (c.in_ok-last.ensures.finding s.cutting.open_rows here))) in
+    (finds_after i rs s.cutting one step v _ s.cut packet is (same.interface ∙ s.holds.interface) (same.epoch ∙ s.holds.epoch) (c.in_ok-judged.ensures.finding s.cutting.open_rows here))) in
     stands_after g.C.Channel.interface_of g.C.Channel.number_of g.C.Channel.stands_for i rs one o _ one step s refl sound packet is
-    (holds_after g.C.Channel.interface_of g.C.Channel.number_of g.C.Channel.stands_for i rs s.cutting (map value (given_of i rs)) one step o _ v s.cut packet is s.holds same (subst (λ w. IsAdvanced step w c.advance.new.self) c.in_ok-last.ensures.walk c.advance.ensures) (length-values (given_of i rs) ∙ sym s.cut.given)
-    (c.in_ok-last.ensures.ended s.cutting.open_rows here (map value (given_of i rs)) s.holds.ended)
-    (c.in_ok-last.ensures.lanes s.cutting.open_rows here (rows_after step.turn one s.cutting.open_rows) may turned))
-    known
-    (c.take.ensures i rs one (subst (IsLastRow i rs one last) (sym c.as_slice.ensures.value) (known rs one refl)) (ap (λ w. w.interface) c.in_ok-last.ensures.walk ∙ same.interface ∙ s.holds.interface ∙ s.cut.interface) (ap (λ x. x.length) c.item.view_is)
-    (few_with g.C.Channel.interface_of g.C.Channel.number_of g.C.Channel.stands_for i rs one o s sound) (c.in_ok-last.ensures.uncounted ∙ s.uncounted))
+    (holds_after g.C.Channel.interface_of g.C.Channel.number_of g.C.Channel.stands_for i rs s.cutting (map value (given_of i rs)) one step o _ v s.cut packet is s.holds same (subst (λ w. IsAdvanced step w c.advance.new.self) (ap (λ k. k.walk) rest ∙ c.in_ok-judged.ensures.walk) c.advance.ensures) (length-values (given_of i rs) ∙ sym s.cut.given)
+    (ap (λ k. k.ended) rest ∙ c.in_ok-judged.ensures.ended s.cutting.open_rows here (map value (given_of i rs)) s.holds.ended)
+    (subst (OpenFor g.C.Channel.interface_of g.C.Channel.number_of g.C.Channel.stands_for v.interface v.epoch (rows_after step.turn one s.cutting.open_rows)) (sym (ap (λ k. k.lanes) rest))
+    (c.in_ok-judged.ensures.lanes s.cutting.open_rows here (rows_after step.turn one s.cutting.open_rows) may turned)))
+    (λ keeps.
+    let kept = sym (ap (λ k. k.keeps_rows) rest) ∙ keeps in
+    subst (λ l. KnowsLast i (rs ++ one ∷ []) l c.keep.new.self.events.items) (sym (c.in_ok-keep.ensures.last kept))
+    (subst (λ es. KnowsLast i (rs ++ one ∷ []) (Some last) es)
+    (sym (c.in_ok-keep.ensures.events kept ∙ ap (λ w. with_data w.epoch last.channel one c.in_ok-judged.judged.accepted c.turn.new.self.events.items) c.in_ok-judged.ensures.walk)) known))
+    (ap (λ k. k.uncounted) rest ∙ c.take.ensures i v.epoch rs one (subst (λ es. IsLastRow i rs one last (with_data v.epoch last.channel one c.in_ok-judged.judged.accepted es)) (sym c.as_slice.ensures.value) (known rs one refl)) (ap (λ w. w.interface) c.in_ok-judged.ensures.walk ∙ same.interface ∙ s.holds.interface ∙ s.cut.interface) (ap (λ x. x.length) c.item.view_is)
+    (few_with g.C.Channel.interface_of g.C.Channel.number_of g.C.Channel.stands_for i rs one o s sound) (c.in_ok-judged.ensures.uncounted ∙ s.uncounted))
 
 pub returns-clause-finding : goal.returns-clause-finding
 returns-clause-finding g c i rs s =
@@ -95,4 +103,4 @@ returns-clause-finding g c i rs s =
     let is = step_of g.C.Channel.interface_of g.C.Channel.number_of g.C.Channel.stands_for s.cutting _ o one step s.holds c.in_ok-step.ensures.step in
     let here : StandsAt g.C.Channel v s.cutting.open_rows o.lanes = (lanes_at g.C.Channel.interface_of g.C.Channel.number_of g.C.Channel.stands_for s.cutting _ o v s.holds same, listing i rs s.cutting s.cut) in
     subst (λ found. (report_of i (rs ++ one ∷ [])).findings ≡ (report_of i rs).findings ++ option_to_list found) (sym c.finding-finding.ensures)
-    (finds_after i rs s.cutting one step v _ s.cut packet is (same.interface ∙ s.holds.interface) (same.epoch ∙ s.holds.epoch) (c.in_ok-last.ensures.finding s.cutting.open_rows here))
+    (finds_after i rs s.cutting one step v _ s.cut packet is (same.interface ∙ s.holds.interface) (same.epoch ∙ s.holds.epoch) (c.in_ok-judged.ensures.finding s.cutting.open_rows here))

@@ -1,9 +1,0 @@
-use Rattle.std.proofs.Common.{refl, []}
-use Rattle.line_model.proofs.TextLemmas.{early_rows-nothing}
-use Rattle.live_report.proofs.live.Live.new.Goals as goal
-
-pub returns-clause-stands : goal.returns-clause-stands
-returns-clause-stands g c = record { reads = c.new.ensures; running = refl; observed = early_rows-nothing }
-
-pub returns-clause-fed : goal.returns-clause-fed
-returns-clause-fed g c = record { fed = λ h. ([], record { reads = c.new.ensures; running = refl; observed = early_rows-nothing }); kinds = tt }
