@@ -35,7 +35,7 @@ pub fn annotate<A: Allocator + Copy, S: Source, K: Sink>(
 {
     annotate_by(
         alloc,
-        Live::<A, PackedChannel<A>>::new(alloc),
+        Live::<A, PackedChannel<A>>::with_rows(alloc),
         Descriptions::new(alloc, rows),
         source,
         sink,

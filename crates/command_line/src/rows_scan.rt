@@ -37,7 +37,7 @@ pub fn print_rows<A: Allocator + Copy, S: Source, K: Sink>(
 {
     print_trace(
         alloc,
-        Live::<A, PackedChannel<A>>::new(alloc),
+        Live::<A, PackedChannel<A>>::with_rows(alloc),
         RowObjects::new(alloc, rows),
         source,
         sink,

@@ -1,15 +1,11 @@
 -- Which rows are told of, line by line.
-use Rattle.std.proofs.Common.{◌≡◌, ◌≢◌, ◌∙◌, sym, ap, subst, refl, ℕ, ◌+◌, Bool, true, false, true≢false, not, ◌&&◌, ◌||◌, cond, List, [], ◌∷◌, ◌++◌, length, length-append, drop, Option, Some, None, IfSome, arith, append-nil}
+use Rattle.std.proofs.Common.{◌≡◌, ◌≢◌, ◌∙◌, sym, ap, subst, refl, Bool, true, false, not, ◌&&◌, cond, List, [], ◌∷◌, ◌++◌, length, length-append, drop, Option, Some, None, IfSome, arith, append-nil}
 use Rattle.std.specs.List.{filter_map}
 use Rattle.std.specs.Prelude.{MatchOption}
 use Rattle.std.specs.Option.{option_map, option_to_list}
 use Rattle.std.proofs.lemmas.List.Elements.{filter_map-append}
 use Rattle.line_model.specs.declared.interface.Interface.{Interface}
-use Rattle.line_model.specs.declared.packet.Packet.{Packet}
 use Rattle.line_model.specs.basics.Records.{Row}
-use Rattle.line_model.specs.observer.Calls.{calls_of}
-use Rattle.line_model.specs.observer.Machine.{routed}
-use Rattle.line_model.specs.observer.Observer.{events, x25}
 use Rattle.line_model.specs.packets.Says.{item_of, items_of}
 use Rattle.line_model.proofs.Saying.{items_more}
 use Rattle.line_model.specs.text.RowLine.{row_of}

@@ -18,7 +18,7 @@ use Rattle.line_model.specs.declared.state.ChannelState.TheVariants.{Setup, Tran
 use Rattle.line_model.specs.declared.state.DState.TheVariants.{D1, D2, D3}
 use Rattle.line_model.specs.channels.Channels.{Channel}
 use Rattle.line_model.specs.channels.RestartMachine.{LineState}
-use Rattle.line_model.specs.observer.Calls.{all_lengths, segments_of}
+use Rattle.line_model.specs.observer.Calls.{all_lengths}
 use Rattle.line_model.specs.observer.Machine.{Observer, routed}
 use Rattle.line_model.specs.observer.Observer.{x25}
 use Rattle.line_model.specs.observer.Report.{report_of}

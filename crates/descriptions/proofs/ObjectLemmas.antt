@@ -1,11 +1,9 @@
 -- The objects of rows, as they are appended.
-use Rattle.std.proofs.Common.{◌≡◌, ◌∙◌, sym, ap, subst, refl, ℕ, ◌+◌, ◌<◌, map, get_or, Bool, true, false, List, [], ◌∷◌, ◌++◌, take, drop, length, Option, Some, None, Result, Ok, Err, OnOk, append_assoc, append-nil}
-use Rattle.std.specs.Prelude.{codes, MatchOption}
-use Rattle.std.specs.List.{flat_map}
+use Rattle.std.proofs.Common.{◌≡◌, ◌∙◌, sym, ap, subst, refl, ℕ, ◌+◌, ◌<◌, map, get_or, Bool, false, List, [], ◌∷◌, ◌++◌, take, length, Option, Some, None, Result, Ok, Err, OnOk, append_assoc, append-nil}
+use Rattle.std.specs.Prelude.{codes}
 use Rattle.std.proofs.lemmas.Grind.{flat_map-append}
 use Rattle.std.proofs.lemmas.List.{map-append, take_more}
 use Rattle.line_model.specs.basics.Records.{Item, Row}
-use Rattle.line_model.specs.declared.event.Event.{Event}
 use Rattle.line_model.specs.declared.interface.Interface.{Interface}
 use Rattle.line_model.specs.channels.Channels.{Channel}
 use Rattle.line_model.specs.channels.RestartMachine.{LineState, restart_name}
@@ -15,20 +13,17 @@ use Rattle.line_model.specs.observer.Calls.{all_lengths}
 use Rattle.line_model.specs.observer.Report.{state_word}
 use Rattle.line_model.specs.packets.Says.{item_of, items_of}
 use Rattle.restart_epochs.specs.Cutting.{observer}
-use Rattle.live_report.specs.LastRows.{IsKnown, IsLastRow}
+use Rattle.live_report.specs.LastRows.{IsKnown}
 use Rattle.live_report.specs.declared.last_row.Known.{Known}
 use Rattle.live_report.specs.declared.last_row.Known.TheVariants as known
-use Rattle.live_report.specs.declared.last_row.LastRow.{LastRow}
-use Rattle.annotated_trace.specs.Annotation.{IsOneLine}
 use Rattle.annotated_trace.specs.Printed.{HasAppended}
 use Rattle.annotated_trace.specs.Rows.{is_chosen, is_chosen_if}
 use Rattle.annotated_trace.specs.Wording.{plain}
 use Rattle.annotated_trace.specs.declared.rows.Rows.{Rows}
 use Rattle.annotated_trace.proofs.WordingLemmas.{plain_one}
 use Rattle.descriptions.specs.Choosing.{told_where}
-use Rattle.descriptions.specs.Facts.{AreFactsOf, IsFateOf}
+use Rattle.descriptions.specs.Facts.{AreFactsOf}
 use Rattle.descriptions.specs.RowObjects.{IsObjectOf, IsObjectWhere, IsRowObject, channel_word, counted_word, events_at, finding_word, joined, known_word, named_channel, row_head, state_at, state_members}
-use Rattle.descriptions.specs.declared.facts.Fate.{Fate}
 use Rattle.descriptions.specs.declared.facts.RowFacts.{RowFacts}
 
 -- ---- words, one after the other

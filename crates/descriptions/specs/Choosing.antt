@@ -1,5 +1,5 @@
 -- Which rows are told of, line by line.
-use Rattle.std.specs.Prelude.{◌≡◌, ℕ, Bool, List, Option, None, Some, IfSome, length}
+use Rattle.std.specs.Prelude.{◌≡◌, Bool, List, Option, None, Some, IfSome, length}
 use Rattle.line_model.specs.declared.interface.Interface.{Interface}
 use Rattle.line_model.specs.basics.Records.{Row}
 use Rattle.line_model.specs.packets.Says.{items_of}

@@ -5,8 +5,8 @@ ghost use Rattle.line_model.specs.declared.interface.Interface.{Interface};
 ghost use Rattle.line_model.specs.basics.Records.{Item};
 ghost use Rattle.line_model.specs.text.Text.{Line, ended_lines};
 ghost use Rattle.live_report.specs.LastRows.{IsLastRow};
-ghost use Rattle.live_report.specs.Lives.{WasFed};
-ghost use Rattle.live_report.specs.Observing.{HasWalked};
+ghost use Rattle.live_report.specs.Lives.{KeepsRowsOf};
+ghost use Rattle.live_report.specs.Observing.{HasKept, HasWalked};
 ghost use Rattle.annotated_trace.specs.Rows.{asked_call, is_of_call, is_chosen};
 ghost use Rattle.descriptions.specs.CallRows.{Follows};
 ghost use Rattle.descriptions.specs.Choosing.{HasChosen, told_of_line};
@@ -74,11 +74,11 @@ impl Chosen {
         ensures told { (i : Interface) (before : List Item) (r : Item)
             → Follows i before self.old.call
             → self.old.call.number ≡ asked_call self.old.rows
-            → HasWalked C.Channel i (before ++ r ∷ []) observer.now
+            → HasKept C.Channel i (before ++ r ∷ []) observer.now
             → result ≡ is_chosen self.old.rows i before r }
         ensures follows { (i : Interface) (before : List Item) (r : Item)
             → Follows i before self.old.call
-            → HasWalked C.Channel i (before ++ r ∷ []) observer.now
+            → HasKept C.Channel i (before ++ r ∷ []) observer.now
             → Follows i (before ++ r ∷ []) self.new.call }
         ensures number { self.new.call.number ≡ self.old.call.number }
         ensures rows { self.new.rows ≡ self.old.rows }
@@ -98,11 +98,11 @@ impl Chosen {
         trace: &Live<A, C>,
     ) -> Option<bool>
         ensures told { (before : List Line) (line : Line) (text : List ℕ)
-            → HasChosen before self.old → WasFed C.Channel text trace.now
+            → HasChosen before self.old → KeepsRowsOf C.Channel text trace.now
             → ended_lines text ≡ before ++ line ∷ []
             → result ≡ told_of_line self.old before line }
         ensures chosen { (before : List Line) (line : Line) (text : List ℕ)
-            → HasChosen before self.old → WasFed C.Channel text trace.now
+            → HasChosen before self.old → KeepsRowsOf C.Channel text trace.now
             → ended_lines text ≡ before ++ line ∷ []
             → HasChosen (before ++ line ∷ []) self.new }
         ensures rows { self.new.rows ≡ self.old.rows }

@@ -6,7 +6,7 @@ ghost use Rattle.line_model.specs.basics.Records.{Item, Row};
 ghost use Rattle.line_model.specs.declared.interface.Interface.{Interface};
 ghost use Rattle.line_model.specs.packets.Says.{item_of, items_of};
 ghost use Rattle.line_model.specs.text.Text.{Line, ended_lines, head_of, rows_in};
-ghost use Rattle.live_report.specs.Lives.{WasFed};
+ghost use Rattle.live_report.specs.Lives.{KeepsRowsOf};
 ghost use Rattle.annotated_trace.specs.Printed.{HasAppended};
 ghost use Rattle.annotated_trace.specs.Rows.{row_written};
 ghost use Rattle.descriptions.specs.Facts.{AreFactsOf};
@@ -85,7 +85,7 @@ impl<A: Allocator + Copy> Past<A> {
         room: &'r mut LineRoom,
     ) -> Option<&'r [u8]>
         ensures object { (i : Interface) (before : List Line) (l : Line) (r : Row) (text : List ℕ)
-            → WasFed C.Channel text trace.now → ended_lines text ≡ before ++ l ∷ []
+            → KeepsRowsOf C.Channel text trace.now → ended_lines text ≡ before ++ l ∷ []
             → head_of before ≡ Some i → row_written before l ≡ Some r → line.now ≡ l ++ 10 ∷ []
             → IfSome result (λ object. IsObjectWhere is_told i (items_of i (rows_in before)) (item_of i r) object.now) }
         ensures untold { is_told ≡ false → result ≡ None }
@@ -127,7 +127,7 @@ impl<A: Allocator + Copy> Past<A> {
         out: &mut Vec<u8, A>,
     ) -> Result<(), AllocError>
         ensures object { (i : Interface) (before : List Line) (l : Line) (r : Row) (text : List ℕ)
-            → WasFed C.Channel text trace.now → ended_lines text ≡ before ++ l ∷ []
+            → KeepsRowsOf C.Channel text trace.now → ended_lines text ≡ before ++ l ∷ []
             → head_of before ≡ Some i → row_written before l ≡ Some r → OnOk result
             (HasAppended (IsObjectWhere told i (items_of i (rows_in before)) (item_of i r)) out.old.items out.new.items) }
         ensures untold { told ≡ false → out.new.items ≡ out.old.items }
@@ -232,7 +232,7 @@ impl<A: Allocator + Copy> RowObjects<A> {
         out: &mut Vec<u8, A>,
     ) -> Result<(), AllocError>
         ensures object { (i : Interface) (before : List Line) (l : Line) (r : Row) (text : List ℕ)
-            → WasFed C.Channel text trace.now → ended_lines text ≡ before ++ l ∷ []
+            → KeepsRowsOf C.Channel text trace.now → ended_lines text ≡ before ++ l ∷ []
             → head_of before ≡ Some i → row_written before l ≡ Some r → line.now ≡ l ++ 10 ∷ []
             → OnOk result
             (HasAppended (IsObjectWhere told i (items_of i (rows_in before)) (item_of i r)) out.old.items out.new.items) }

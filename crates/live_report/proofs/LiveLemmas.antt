@@ -1,5 +1,5 @@
 -- A trace that is fed: its first row begins the observer.
-use Rattle.std.proofs.Common.{◌≡◌, ◌∙◌, sym, ap, subst, ℕ, List, [], ◌∷◌, ◌++◌, Some, None, Result, Ok, Err, OnOk, append_assoc}
+use Rattle.std.proofs.Common.{◌≡◌, ◌∙◌, sym, ap, subst, ℕ, true, List, [], ◌∷◌, ◌++◌, Some, None, Result, Ok, Err, OnOk, append_assoc}
 use Rattle.std.specs.Prelude.{IfSome}
 use Rattle.line_model.specs.declared.interface.Interface.{Interface}
 use Rattle.line_model.specs.channels.Channels.{Channel}
@@ -32,6 +32,9 @@ pub observing_of : {A C : Type 0} → (I : C → Interface) (N : C → ℕ) (S :
 observing_of I N S live text o s h =
     let seen : IsObserved I N S text live.lines.interface (Some o) = subst (IsObserved I N S text live.lines.interface) h s.observed in
     (seen.0, record { reads = s.reads; header = seen.1; observes = seen.2 })
+
+pub keeps_rows : {A C : Type 0} → (I : C → Interface) (N : C → ℕ) (S : C → Channel → Type 0) (live : Live A C) (text : List ℕ) (o : Observer A C) → StandsFor I N S live text → live.keeps_rows ≡ true → live.observer ≡ Some o → o.keeps_rows ≡ true
+keeps_rows I N S live text o s keeps h = subst (λ x. IfSome x (λ z. z.keeps_rows ≡ live.keeps_rows)) h s.keeps ∙ keeps
 
 pub nothing_seen : {A C : Type 0} → (I : C → Interface) (N : C → ℕ) (S : C → Channel → Type 0) (live : Live A C) (text : List ℕ) → StandsFor I N S live text → live.observer ≡ None → early_rows text ≡ []
 nothing_seen I N S live text s h = subst (IsObserved I N S text live.lines.interface) h s.observed

@@ -80,7 +80,7 @@ where
 {
     let mut source = CutSource::new(text, cuts);
     let mut sink = CutSink::new(alloc, cuts);
-    let trace = Live::<A, PackedChannel<A>>::new(heap);
+    let trace = Live::<A, PackedChannel<A>>::with_rows(heap);
     let fault = annotate(heap, trace, describer, &mut source, &mut sink).err();
     Answer {
         fault,
@@ -98,7 +98,7 @@ fn annotated(alloc: Global, text: &[u8], step: usize, first: u64) -> Answer {
 /// The report of a trace.
 fn report(alloc: Global, text: &[u8]) -> Answer {
     let mut sink = CutSink::new(alloc, Cuts::none());
-    let mut trace = Live::<Global, PlainChannel<Global>>::new(alloc);
+    let mut trace = Live::<Global, PlainChannel<Global>>::with_rows(alloc);
     let fault = match trace.feed(text) {
         Ok(()) => trace.end(&mut sink, &mut Uncounted::none()).err(),
         Err(fault) => Some(fault),

@@ -1,8 +1,8 @@
-use Rattle.std.proofs.Common.{◌≡◌, ◌∙◌, ◌++◌, ◌∷◌, [], List, Some, None, subst, sym, ap}
+use Rattle.std.proofs.Common.{◌≡◌, ◌∙◌, ◌++◌, ◌∷◌, [], Some, subst, sym, ap}
 use Rattle.line_model.specs.observer.Machine.{routed}
 use Rattle.line_model.specs.observer.Observer.{events, x25}
 use Rattle.restart_epochs.specs.Cutting.{observer}
-use Rattle.descriptions.specs.CallRows.{Follows, Hears}
+use Rattle.descriptions.specs.CallRows.{Hears}
 use Rattle.descriptions.proofs.FollowLemmas.{all_of_epoch, channel_follows, events_on_channel, heard_so_far, judged_off, judged_on, line_follows, same_epoch}
 use Rattle.descriptions.proofs.chosen.judge_call.Goals as goal
 

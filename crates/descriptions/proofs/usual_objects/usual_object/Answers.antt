@@ -1,5 +1,4 @@
 use Rattle.std.proofs.lemmas.Bool.{OnTrue_at}
-use Rattle.std.proofs.Common.{List, ℕ, ◌≡◌}
 use Rattle.line_model.specs.observer.Calls.{all_lengths}
 use Rattle.annotated_trace.specs.Annotation.{IsOneLine}
 use Rattle.descriptions.specs.UsualObjects.{IsUsualObject}

@@ -14,9 +14,9 @@ returns-in_default-clause-follows g c i before r f walked = absurd (some_one c.k
 pub returns-clause-told : goal.returns-clause-told
 returns-clause-told g c i before r f number walked =
     let last = subst (λ o. MatchOption o ⊥ (λ l. IsLastRow i before r l.now c.args.observer.now.events.items)) c.in-Some.is (c.kept_row.ensures i before r walked) in
-    c.chooses.ensures ∙ (λ t. chooses c.args.self.now.rows ((c.packet.ensures ∙ last.packet) t) ((c.judge_call-of_call.ensures.told i before r f walked last ∙ ap (is_of_call i before r) number) t))
+    c.chooses.ensures ∙ (λ t. chooses c.args.self.now.rows ((c.packet.ensures ∙ last.packet) t) ((c.judge_call-of_call.ensures.told i before r f walked.0 last ∙ ap (is_of_call i before r) number) t))
 
 pub returns-clause-follows : goal.returns-clause-follows
 returns-clause-follows g c i before r f walked =
     let last = subst (λ o. MatchOption o ⊥ (λ l. IsLastRow i before r l.now c.args.observer.now.events.items)) c.in-Some.is (c.kept_row.ensures i before r walked) in
-    c.judge_call-of_call.ensures.follows i before r f walked last
+    c.judge_call-of_call.ensures.follows i before r f walked.0 last

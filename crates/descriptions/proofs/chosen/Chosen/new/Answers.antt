@@ -1,4 +1,4 @@
-use Rattle.std.proofs.Common.{◌∙◌, ap, refl, subst, sym, length}
+use Rattle.std.proofs.Common.{◌∙◌, ap, subst, sym, length}
 use Rattle.descriptions.specs.CallRows.{Follows}
 use Rattle.descriptions.proofs.ChoiceLemmas.{no_rows}
 use Rattle.descriptions.proofs.chosen.Chosen.new.Goals as goal

@@ -4,7 +4,7 @@ use Rattle.std.specs.Option.{option_to_list}
 use Rattle.line_model.specs.packets.Says.{item_of, items_of}
 use Rattle.line_model.specs.text.Text.{early_rows, head_of, rows_in}
 use Rattle.trace_text.proofs.FeedLemmas.{rows-sound}
-use Rattle.live_report.proofs.LiveLemmas.{nothing_seen, observing_of}
+use Rattle.live_report.proofs.LiveLemmas.{keeps_rows, nothing_seen, observing_of}
 use Rattle.live_report.specs.Observing.{StandsFor}
 use Rattle.annotated_trace.specs.Printed.{HasAppended}
 use Rattle.annotated_trace.specs.Rows.{row_written}
@@ -15,23 +15,23 @@ use Rattle.descriptions.proofs.row_objects.Past.append_row.Goals as goal
 
 pub returns-in_default-clause-object : goal.returns-in_default-clause-object
 returns-in_default-clause-object g c i before line r text s lines head row =
-    let none = nothing_seen g.C.Channel.interface_of g.C.Channel.number_of g.C.Channel.stands_for c.args.trace.now text s (sym c.observer.ensures ∙ none_mapped (λ o. o.now) c.observer.result c.in_default.not-Some) in
-    let rows = sym (rows_written before line) ∙ ap rows_in (sym lines) ∙ sym (rows-sound text s.reads.sound) ∙ none in
+    let none = nothing_seen g.C.Channel.interface_of g.C.Channel.number_of g.C.Channel.stands_for c.args.trace.now text s.0 (sym c.observer.ensures ∙ none_mapped (λ o. o.now) c.observer.result c.in_default.not-Some) in
+    let rows = sym (rows_written before line) ∙ ap rows_in (sym lines) ∙ sym (rows-sound text s.0.reads.sound) ∙ none in
     absurd (no_row (row_written before line) r (no_rows_written (rows_in before) (row_written before line) rows) row)
 
 pub returns-in_default-last_row-clause-object : goal.returns-in_default-last_row-clause-object
 returns-in_default-last_row-clause-object g c i before line r text s lines head row =
-    let w = observing_of g.C.Channel.interface_of g.C.Channel.number_of g.C.Channel.stands_for c.args.trace.now text c.in-Some.observer.now s (sym c.observer.ensures ∙ ap (option_map (λ o. o.now)) c.in-Some.is) in
-    let rows = rows-sound text s.reads.sound ∙ ap rows_in lines ∙ rows_written before line ∙ ap (λ o. rows_in before ++ option_to_list o) row in
-    absurd (some_one c.last_row.result _ (c.last_row.ensures w.0 (items_of w.0 (rows_in before)) (item_of w.0 r) (subst (λ rs. StandsFor g.C.Channel.interface_of g.C.Channel.number_of g.C.Channel.stands_for w.0 rs c.in-Some.observer.now) (items_written w.0 (early_rows text) (rows_in before) r rows) w.1.observes)) c.in_default-last_row.not-Some)
+    let w = observing_of g.C.Channel.interface_of g.C.Channel.number_of g.C.Channel.stands_for c.args.trace.now text c.in-Some.observer.now s.0 (sym c.observer.ensures ∙ ap (option_map (λ o. o.now)) c.in-Some.is) in
+    let rows = rows-sound text s.0.reads.sound ∙ ap rows_in lines ∙ rows_written before line ∙ ap (λ o. rows_in before ++ option_to_list o) row in
+    absurd (some_one c.last_row.result _ (c.last_row.ensures w.0 (items_of w.0 (rows_in before)) (item_of w.0 r) (subst (λ rs. StandsFor g.C.Channel.interface_of g.C.Channel.number_of g.C.Channel.stands_for w.0 rs c.in-Some.observer.now) (items_written w.0 (early_rows text) (rows_in before) r rows) w.1.observes, keeps_rows g.C.Channel.interface_of g.C.Channel.number_of g.C.Channel.stands_for c.args.trace.now text c.in-Some.observer.now s.0 s.1 (sym c.observer.ensures ∙ ap (option_map (λ o. o.now)) c.in-Some.is))) c.in_default-last_row.not-Some)
 
 pub returns-clause-object : goal.returns-clause-object
 returns-clause-object g c i before line r text s lines head row =
-    let w = observing_of g.C.Channel.interface_of g.C.Channel.number_of g.C.Channel.stands_for c.args.trace.now text c.in-Some.observer.now s (sym c.observer.ensures ∙ ap (option_map (λ o. o.now)) c.in-Some.is) in
-    let rows = rows-sound text s.reads.sound ∙ ap rows_in lines ∙ rows_written before line ∙ ap (λ o. rows_in before ++ option_to_list o) row in
+    let w = observing_of g.C.Channel.interface_of g.C.Channel.number_of g.C.Channel.stands_for c.args.trace.now text c.in-Some.observer.now s.0 (sym c.observer.ensures ∙ ap (option_map (λ o. o.now)) c.in-Some.is) in
+    let rows = rows-sound text s.0.reads.sound ∙ ap rows_in lines ∙ rows_written before line ∙ ap (λ o. rows_in before ++ option_to_list o) row in
     let walked = subst (λ rs. StandsFor g.C.Channel.interface_of g.C.Channel.number_of g.C.Channel.stands_for w.0 rs c.in-Some.observer.now) (items_written w.0 (early_rows text) (rows_in before) r rows) w.1.observes in
-    let same : w.0 ≡ i = same_interface (head_of before) w.0 i (sym (headed_row before line r row) ∙ ap head_of (sym lines) ∙ sym s.reads.interface ∙ w.1.header) head in
-    let facts = c.facts-facts.ensures w.0 (items_of w.0 (rows_in before)) (item_of w.0 r) (c.in-Some-last_row.ensures w.0 (items_of w.0 (rows_in before)) (item_of w.0 r) walked) in
+    let same : w.0 ≡ i = same_interface (head_of before) w.0 i (sym (headed_row before line r row) ∙ ap head_of (sym lines) ∙ sym s.0.reads.interface ∙ w.1.header) head in
+    let facts = c.facts-facts.ensures w.0 (items_of w.0 (rows_in before)) (item_of w.0 r) (c.in-Some-last_row.ensures w.0 (items_of w.0 (rows_in before)) (item_of w.0 r) (walked, keeps_rows g.C.Channel.interface_of g.C.Channel.number_of g.C.Channel.stands_for c.args.trace.now text c.in-Some.observer.now s.0 s.1 (sym c.observer.ensures ∙ ap (option_map (λ o. o.now)) c.in-Some.is))) in
     let out = c.args.out.now.items in
     let after = c.append_object.new.out.items in
     subst (λ b. OnOk c.append_object.result (HasAppended (IsObjectWhere b i (items_of i (rows_in before)) (item_of i r)) out after)) (sym c.if-not-told.false)
