@@ -22,6 +22,7 @@ use std::alloc::Allocator;
 use trace_text::lines::Lines;
 
 /// Has an observer take the rows of a chunk, each in the place of the one before it, and appends what they find.
+#[inline(always)]
 pub fn observe_chunk<A: Allocator + Copy, C: Channel<A>>(
     chunk: &[u8],
     lines: &mut Lines<A>,
@@ -72,6 +73,7 @@ pub fn finish_observing<A: Allocator + Copy, C: Channel<A>>(
 }
 
 /// The report of an observer after one more row, and the data that was not counted.
+#[inline(never)]
 fn observe_last<A: Allocator + Copy, C: Channel<A>>(
     mut observer: Observer<A, C>,
     row: &ReadRow<A>,
