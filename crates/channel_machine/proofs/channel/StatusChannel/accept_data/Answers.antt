@@ -1,4 +1,4 @@
-use Rattle.std.proofs.Common.{rules, arith, ◌≡◌, true, refl, sym, ◌∙◌, ap, subst, List, ℕ, [], ◌∷◌, ◌++◌, Ok, Err, None, Some}
+use Rattle.std.proofs.Common.{◌≡◌, true, refl, sym, ◌∙◌, ap, subst, List, ℕ, [], ◌∷◌, ◌++◌, Ok, Err, None, Some}
 use Rattle.std.specs.Prelude.{◌&&◌, map, length}
 use Rattle.std.proofs.lemmas.Result.{IfOk-from_err, MatchResult-from_err, err_from_is_err_and}
 use Rattle.line_model.specs.declared.diagnostic.TheConstants.{INCONSISTENT_Q_BIT_SETTING}
@@ -117,51 +117,6 @@ returns-then-carries_message-2-clause-heard g c k s =
     (c.report_message.ensures.stands m k.told octets st.transfer.settings)
     (λ v. c.report_message.ensures.reports m k.told octets st.transfer.settings ∙ ap (λ l. l ++ map (event_at c.args.origin) (message_reports c.args.side (length c.args.user_data.now) k.told m)) c.in_ok-reserve.ensures.items))
 
-pub returns-in-Err-clause-unchanged : goal.returns-in-Err-clause-unchanged
-returns-in-Err-clause-unchanged g c = tt
-
-pub returns-in-Err-clause-memory : goal.returns-in-Err-clause-memory
-returns-in-Err-clause-memory g c = tt
-
-pub returns-then-carries_message-2-clause-unchanged : goal.returns-then-carries_message-2-clause-unchanged
-returns-then-carries_message-2-clause-unchanged g c = tt
-
-pub returns-then-carries_message-2-clause-memory : goal.returns-then-carries_message-2-clause-memory
-returns-then-carries_message-2-clause-memory g c = tt
-
-pub returns-in-Mixed-clause-unchanged : goal.returns-in-Mixed-clause-unchanged
-returns-in-Mixed-clause-unchanged g c = tt
-
-pub returns-in-Mixed-clause-memory : goal.returns-in-Mixed-clause-memory
-returns-in-Mixed-clause-memory g c = tt
-
-pub returns-in-Going-clause-unchanged : goal.returns-in-Going-clause-unchanged
-returns-in-Going-clause-unchanged g c = tt
-
-pub returns-in-Going-clause-memory : goal.returns-in-Going-clause-memory
-returns-in-Going-clause-memory g c = tt
-
-pub returns-else-carries_message-2-clause-unchanged : goal.returns-else-carries_message-2-clause-unchanged
-returns-else-carries_message-2-clause-unchanged g c = tt
-
-pub returns-else-carries_message-2-clause-memory : goal.returns-else-carries_message-2-clause-memory
-returns-else-carries_message-2-clause-memory g c = tt
-
-pub returns-then-carries_message-2-clause-faulted : goal.returns-then-carries_message-2-clause-faulted
-returns-then-carries_message-2-clause-faulted g c = tt
-
-pub returns-in-Going-clause-faulted : goal.returns-in-Going-clause-faulted
-returns-in-Going-clause-faulted g c = tt
-
-pub returns-else-carries_message-2-clause-faulted : goal.returns-else-carries_message-2-clause-faulted
-returns-else-carries_message-2-clause-faulted g c = tt
-
-pub returns-in-Err-clause-rest : goal.returns-in-Err-clause-rest
-returns-in-Err-clause-rest g c = refl
-
-pub returns-in-Err-clause-faulted : goal.returns-in-Err-clause-faulted
-returns-in-Err-clause-faulted g c = (refl, refl)
-
 pub returns-in-Going-clause-rest : goal.returns-in-Going-clause-rest
 returns-in-Going-clause-rest g c =
     let i = c.self.inside in
@@ -195,9 +150,6 @@ returns-in-Mixed-clause-faulted g c =
       ap (λ a. known i.channel (g.S.StatusStore.status i.status) a i.settings) (subst (λ q. OnMixed q (c.put.new.self ≡ i.assembler)) c.in-Mixed.is c.in_ok-put.ensures.mixed) ∙ c.self.view_is,
       c.in_ok-reserve.ensures.items,
     )
-
-pub returns-in_err-reserve-clause-rest : goal.returns-in_err-reserve-clause-rest
-returns-in_err-reserve-clause-rest g c = refl
 
 pub returns-in_err-reserve-clause-heard : goal.returns-in_err-reserve-clause-heard
 returns-in_err-reserve-clause-heard g c k s = IfOk-from_err _ _ c.from_residual.ensures.0
@@ -235,15 +187,3 @@ pub returns-in_err-put-clause-memory : goal.returns-in_err-put-clause-memory
 returns-in_err-put-clause-memory g c =
     let p = err_from_is_err_and c.from_residual-in_err-put.result c.from_residual-in_err-put.ensures.1 in
     subst (λ r. IsMemory r) (sym p.1) (p.2 ∙ c.in_err-put.ensures.memory)
-
-pub overflow_cast-length : goal.overflow_cast-length
-overflow_cast-length g c = omega arith
-
-pub push_reserved-requires : goal.push_reserved-requires
-push_reserved-requires g c = search rules
-
-pub push_reserved-requires-in-Complete : goal.push_reserved-requires-in-Complete
-push_reserved-requires-in-Complete g c = search rules
-
-pub report_message-requires : goal.report_message-requires
-report_message-requires g c = search rules
