@@ -8,11 +8,6 @@ use Rattle.channel_machine.specs.Entries.{entry_step, is_entry}
 use Rattle.channel_machine.proofs.Entries.{nothing_by}
 use Rattle.channel_machine.proofs.channel.StatusChannel.act.Goals as goal
 
-pub handle_transfer-requires-clause-transfer : goal.handle_transfer-requires-clause-transfer
-handle_transfer-requires-clause-transfer g c =
-    let old = c.args.self.now in
-    ap (λ a. is_entry a c.args.judgement.now.side (packet_class c.args.item.now.packet) old.state) (sym c.in-Normal.is) ∙ c.requires.fits
-
 pub returns-in-Move-clause-does : goal.returns-in-Move-clause-does
 returns-in-Move-clause-does g c k reached s =
     let old = c.args.self.now in

@@ -8,15 +8,6 @@ use Rattle.channel_machine.specs.Channels.{Does}
 use Rattle.channel_machine.proofs.SaidData.{other_transfers}
 use Rattle.channel_machine.proofs.channel.StatusChannel.carry.Goals as goal
 
-pub handle_data-requires-clause-short : goal.handle_data-requires-clause-short
-handle_data-requires-clause-short g c = c.requires.short c.in-Data.is
-
-pub returns-in-Data-clause-does : goal.returns-in-Data-clause-does
-returns-in-Data-clause-does g c k s =
-    let judgement = c.args.judgement.now in
-    subst (λ v. IfOk c.handle_data.result (λ _. Does judgement.origin c.args.self.now c.handle_data.new.self c.args.events.now.items c.handle_data.new.events.items (transferring c.args.self.now.terms.interface judgement.state v c.args.item.now k)))
-    (sym c.in-Data.is) (c.handle_data.ensures.does k s)
-
 pub returns-in-Interrupt-clause-does : goal.returns-in-Interrupt-clause-does
 returns-in-Interrupt-clause-does g c k s =
     let judgement = c.args.judgement.now in

@@ -3,20 +3,8 @@ use Rattle.line_model.specs.channels.ChannelStep.{channel_step}
 use Rattle.channel_machine.specs.Channels.{Known}
 use Rattle.channel_machine.specs.Events.{origin_at}
 use Rattle.channel_machine.proofs.Reached.{reached_step}
-use Rattle.channel_machine.proofs.Machines.{keeps_interface, keeps_number, stands_after, adds_events}
+use Rattle.channel_machine.proofs.Machines.{stands_after, adds_events}
 use Rattle.channel_machine.proofs.machine.StatusChannelChannel.advance.Goals as goal
-
-pub returns-clause-interface : goal.returns-clause-interface
-returns-clause-interface g c k s =
-    let self : Known = c.args.self.now in
-    let r = c.args.item.now in
-    keeps_interface c.handle.result (origin_at c.args.epoch self.channel r) r.side self c.handle.new.self c.args.events.now.items c.handle.new.events.items (channel_step self.terms.interface self.channel k r) (c.handle.ensures.does k s.reached s.stands)
-
-pub returns-clause-number : goal.returns-clause-number
-returns-clause-number g c k s =
-    let self : Known = c.args.self.now in
-    let r = c.args.item.now in
-    keeps_number c.handle.result (origin_at c.args.epoch self.channel r) r.side self c.handle.new.self c.args.events.now.items c.handle.new.events.items (channel_step self.terms.interface self.channel k r) (c.handle.ensures.does k s.reached s.stands)
 
 pub returns-clause-stands : goal.returns-clause-stands
 returns-clause-stands g c k s =
