@@ -1,8 +1,14 @@
 -- What a packet of data transfer does to a channel.
-use Rattle.std.proofs.Common.{◌≡◌, ℕ, refl, sym, ◌∙◌, ap, subst, List, [], ◌∷◌, ◌++◌, map, append-nil, Option, Some, None, Result, Ok, Err}
-use Rattle.channel_machine.specs.Events.{event_at}
-use Rattle.std.specs.Prelude.{IfOk, OnErr, OnSome}
+use Rattle.std.proofs.Common.{◌≡◌, ◌-◌, ℕ, false, refl, sym, ◌∙◌, ap, subst, List, [], ◌∷◌, ◌++◌, map, append-nil, Option, Some, None, Result, Ok, Err}
+use Rattle.channel_machine.specs.Events.{Reports, data_of, event_at}
+use Rattle.channel_machine.proofs.SaidData.{unqualified_is}
+use Rattle.packet_decode.specs.SaidData.{IsSaidData}
+use Rattle.line_model.specs.packets.Classes.{header_length}
+use Rattle.line_model.specs.declared.event.What.{What}
 use Rattle.line_model.specs.declared.event.What.TheVariants as what
+use Rattle.data_transfer.specs.Assembly.{unqualified}
+use Rattle.data_transfer.specs.FlowResidues.{FlowResidues}
+use Rattle.std.specs.Prelude.{IfOk, OnErr, OnSome}
 use Rattle.line_model.specs.declared.event.Event.{Event}
 use Rattle.line_model.specs.declared.fault.Fault.{Fault}
 use Rattle.line_model.specs.declared.interface.Interface.{Interface}
@@ -12,19 +18,16 @@ use Rattle.line_model.specs.declared.state.StateName.{StateName}
 use Rattle.line_model.specs.channels.Channels.{Channel, AcceptedData}
 use Rattle.line_model.specs.basics.Records.{Item}
 use Rattle.line_model.specs.channels.FlowControl.{Counts}
-use Rattle.line_model.specs.channels.ChannelStep.{Outcome, counting, data_counted, data_step, failing, heard_of}
+use Rattle.line_model.specs.channels.ChannelStep.{Outcome, counting, data_counted, data_step, failing, heard_of, hearing}
 use Rattle.channel_machine.specs.declared.events.EventOrigin.{EventOrigin}
-use Rattle.channel_machine.specs.Transfers.{StandsFor, IsAccepted, IsHeard, counted_in_force}
-use Rattle.channel_machine.specs.Channels.{Known, Stands, Does, DoesApart, IsMemory, IsUnchanged, listed}
+use Rattle.channel_machine.specs.Transfers.{StandsFor, IsCounted, IsHeard, counted_in_force}
+use Rattle.channel_machine.specs.Channels.{Known, Stands, Does, DoesApart, IsJudged, IsMemory, IsUnchanged, Passes, listed}
 
--- a fault that left the channel as it was, and what its failing does
-pub refusing : {U : Type 0} (r : Result U Fault) (s : EventOrigin) (old mid new : Known) (before after : List Event) (c : Channel)
-    (f : Channel → Outcome) (o : Outcome) → mid ≡ old → f c ≡ o → Stands old c →
-    ((d : Channel) → Stands mid d → IfOk r (λ _. Does s mid new before after (f d))) →
-    IfOk r (λ _. Does s old new before after o)
-refusing r s old mid new before after c f o same is stands does =
-    subst (λ p. IfOk r (λ _. Does s old new before after p)) is
-    (subst (λ u. IfOk r (λ _. Does s u new before after (f c))) same (does c (subst (λ u. Stands u c) (sym same) stands)))
+-- what follows a fault that left the channel as it was
+pub refusing : (P : Known → Outcome → Type 0) (old mid : Known) (c : Channel) (f : Channel → Outcome) (o : Outcome) → (f c ≡ o) × (mid ≡ old) → Stands old c →
+    ((d : Channel) → Stands mid d → P mid (f d)) → P old o
+refusing P old mid c f o same stands does =
+    subst (λ p. P old p) same.0 (subst (λ u. P u (f c)) same.1 (does c (subst (λ u. Stands u c) (sym same.1) stands)))
 
 pub unchanged_through : {U : Type 0} (r : Result U Fault) (old mid new : Known) (before after : List Event) → mid ≡ old →
     OnErr r ((new ≡ mid) × (after ≡ before)) → OnErr r ((new ≡ old) × (after ≡ before))
@@ -35,19 +38,28 @@ pub unchanged_between : {U : Type 0} (r : Result U Fault) (old mid new : Known) 
 unchanged_between r old mid new before between after same h =
     unchanged_through r old mid new before after same.0 (subst (λ l. OnErr r ((new ≡ mid) × (after ≡ l))) same.1 h)
 
--- counts that answered
-pub counted : (s : EventOrigin) (old new : Known) (before : List Event) (x : Side) (q : StateName) (c : Channel) (a : Result Counts ℕ) (v : Counts) →
-    new ≡ record old { transfer = new.transfer } → a ≡ Ok v → Stands old c →
-    StandsFor old.terms.interface new.transfer (record c { acknowledged = v.acknowledged; unconfirmed = v.unconfirmed }) →
-    Does s old new before before (counting x q a c)
-counted s old new before x q c a v rest is stands transfer =
-    subst (λ p. Does s old p before before (counting x q a c)) (sym rest)
-    (subst (λ b. Does s old (record old { transfer = new.transfer }) before before (counting x q b c)) (sym is) (record {
+-- a packet that changes the counts alone
+judged_at : {U : Type 0} (r : Result U ℕ) (old : Known) (f : FlowResidues) (x : Side) (q : StateName) (a : Result Counts ℕ) (c : Channel) → Stands old c →
+    IsCounted r old.terms.interface old.transfer (record old.transfer { flow = f }) a c →
+    IsJudged r (λ _. []) x q old (record old { transfer = record old.transfer { flow = f } }) c (counting x q a c)
+judged_at (Ok u) old f x q a c stands answer =
+    let (v, is, transfer) = answer in
+    subst (λ b. Passes old (record old { transfer = record old.transfer { flow = f } }) [] (counting x q b c)) (sym is) (record {
       interface = refl;
       channel = refl;
       stands = record { state = stands.state; owed = stands.owed; terms = record { call = stands.terms.call; values = stands.terms.values }; transfer = transfer };
-      reports = sym (append-nil before);
-    }))
+      reported = refl;
+    })
+judged_at (Err e) old f x q a c stands answer = (ap (λ b. counting x q b c) (sym answer.0), ap (λ t. record old { transfer = t }) answer.1)
+
+pub judged_counts : {U : Type 0} (r : Result U ℕ) (old p new : Known) (f : FlowResidues) (x : Side) (q : StateName) (a : Interface → Result Counts ℕ) (c : Channel) → old ≡ p →
+    new ≡ record old { transfer = record old.transfer { flow = f } } → Stands p c →
+    (StandsFor old.terms.interface old.transfer c → IsCounted r old.terms.interface old.transfer (record old.transfer { flow = f }) (a old.terms.interface) c) →
+    IsJudged r (λ _. []) x q p new c (counting x q (a p.terms.interface) c)
+judged_counts r old p new f x q a c same rest stands answer =
+    let st : Stands old c = subst (λ o. Stands o c) (sym same) stands in
+    subst (λ (o : Known). IsJudged r (λ _. []) x q o new c (counting x q (a o.terms.interface) c)) same
+    (subst (λ o. IsJudged r (λ _. []) x q old o c (counting x q (a old.terms.interface) c)) (sym rest) (judged_at r old f x q (a old.terms.interface) c st (answer st.transfer)))
 
 -- the data packet that a row says
 pub data_is : (i : Interface) (q : StateName) (r : Item) (h : DataHeader) (p : AcceptedData) (x : Side) (c : Channel) → x ≡ r.side → p ≡ heard_of i r h →
@@ -77,57 +89,51 @@ pub refused_by : {U : Type 0} (a : Result U Fault) (s : EventOrigin) (old mid ne
     IfOk a (λ _. Does s old new before after o)
 refused_by a s old mid new before between after x q p r c o stands counted_is k n some heard mid_is between_is does =
     let told = subst (λ j. IsHeard j old.terms.interface s old.transfer mid.transfer before between x p r c) some heard in
-    refusing a s old mid new before after c (failing x q n) o mid_is (sym (told.0 q) ∙ counted_is) stands
+    refusing (λ u p. IfOk a (λ _. Does s u new before after p)) old mid c (failing x q n) o (sym (told.0 q) ∙ counted_is, mid_is) stands
     (λ d st. subst (λ l. IfOk a (λ _. Does s mid new l after (failing x q n d))) between_is (does d st))
 
--- a data packet with Q 0 without fault: the channel after it, and its event
-pub record IsTaken (old new : Known) (x : Side) (n : ℕ) (o : Outcome) : Type 0 where
-  pub interface : new.terms.interface ≡ old.terms.interface
-  pub channel : new.channel ≡ old.channel
-  pub stands : Stands new o.after
-  pub reported : o.reported ≡ what.Data x n ∷ []
+-- a data packet with Q 0 of a row
+pub judged_data : {U : Type 0} (a : Result U ℕ) (ws : Side → U → List What) (old p new : Known) (x : Side) (q : StateName) (r : Item) (h : DataHeader) (n : ℕ) (c : Channel) →
+    old ≡ p → x ≡ r.side → n ≡ r.length - header_length p.terms.interface → IsSaidData p.terms.interface r h → h.qualified ≡ false →
+    IsJudged a (ws x) x q old new c (data_counted old.terms.interface x q (unqualified x h.more h.delivery n) (counted_in_force old.terms.interface x h.send h.receive c) c) →
+    IsJudged a (ws r.side) r.side q p new c (data_step p.terms.interface q r (Some h) c)
+judged_data a ws old p new x q r h n c same side long said without_q judged =
+    let i = p.terms.interface in
+    let d : AcceptedData = unqualified x h.more h.delivery n in
+    subst (λ (v : Side × Outcome). IsJudged a (ws v.0) v.0 q p new c v.1)
+    (λ j. (side j, data_is i q r h d x c side (unqualified_is i r h x n said without_q side long) j))
+    (subst (λ (o : Known). IsJudged a (ws x) x q o new c (data_counted o.terms.interface x q d (counted_in_force o.terms.interface x h.send h.receive c) c)) same judged)
 
-pub taken_by : {U : Type 0} (u : U) (old new : Known) (x : Side) (q : StateName) (p : AcceptedData) (r : Result Counts ℕ) (c : Channel) (o : Outcome) (k : Result U ℕ) →
-    new ≡ record old { transfer = new.transfer } → Stands old c → data_counted old.terms.interface x q p r c ≡ o →
-    k ≡ Ok u → IsAccepted k old.terms.interface old.transfer new.transfer x p r c → IsTaken old new x p.length o
-taken_by {U} u old new x q p r c o k rest stands counted_is ok accepted =
-    let (v, is, transfer) = subst (λ j. IsAccepted j old.terms.interface old.transfer new.transfer x p r c) ok accepted in
-    subst (λ d. IsTaken old d x p.length o) (sym rest)
-    (subst (λ d. IsTaken old (record old { transfer = new.transfer }) x p.length d) (sym (is q) ∙ counted_is) (record {
+pub passes_data : (old new : Known) (x : Side) (q : StateName) (p : AcceptedData) (r : Result Counts ℕ) (c : Channel) → new ≡ record old { transfer = new.transfer } → Stands old c →
+    (v : Counts) × ((t : StateName) → data_counted old.terms.interface x t p r c ≡ hearing x p v None c) × StandsFor old.terms.interface new.transfer (hearing x p v None c).after →
+    Passes old new (what.Data x p.length ∷ []) (data_counted old.terms.interface x q p r c)
+passes_data old new x q p r c rest stands accepted =
+    let (v, is, transfer) = accepted in
+    subst (λ d. Passes old d (what.Data x p.length ∷ []) (data_counted old.terms.interface x q p r c)) (sym rest)
+    (subst (λ o. Passes old (record old { transfer = new.transfer }) (what.Data x p.length ∷ []) o) (sym (is q)) (record {
       interface = refl;
       channel = refl;
       stands = record { state = stands.state; owed = stands.owed; terms = record { call = stands.terms.call; values = stands.terms.values }; transfer = transfer };
       reported = refl;
     }))
 
--- with its event listed, or apart
-pub taken_listed : (s : EventOrigin) (old new : Known) (before after : List Event) (x : Side) (n : ℕ) (o : Outcome) → IsTaken old new x n o →
-    after ≡ before ++ event_at s (what.Data x n) ∷ [] → Does s old new before after o
-taken_listed s old new before after x n o taken listed = record {
-  interface = taken.interface;
-  channel = taken.channel;
-  stands = taken.stands;
-  reports = listed ∙ ap (λ ws. before ++ map (event_at s) ws) (sym taken.reported);
+-- a packet that passes, with its events listed, or that of its data apart
+pub passes_listed : (s : EventOrigin) (old new : Known) (before after : List Event) (ws : List What) (o : Outcome) → Passes old new ws o → Reports s before after ws → Does s old new before after o
+passes_listed s old new before after ws o passes reports = record {
+  interface = passes.interface;
+  channel = passes.channel;
+  stands = passes.stands;
+  reports = reports ∙ ap (λ vs. before ++ map (event_at s) vs) (sym passes.reported);
 }
 
-pub taken_apart : (s : EventOrigin) (old new : Known) (events : List Event) (x : Side) (n : ℕ) (o : Outcome) → IsTaken old new x n o →
-    DoesApart s x old new events events (Some n) o
-taken_apart s old new events x n o taken = record {
-  interface = taken.interface;
-  channel = taken.channel;
-  stands = taken.stands;
-  reports = ap (λ ws. events ++ map (event_at s) ws) (sym taken.reported);
+pub passes_apart : (s : EventOrigin) (old new : Known) (events : List Event) (x : Side) (accepted : Option ℕ) (o : Outcome) → Passes old new (data_of x accepted) o →
+    DoesApart s x old new events events accepted o
+passes_apart s old new events x accepted o passes = record {
+  interface = passes.interface;
+  channel = passes.channel;
+  stands = passes.stands;
+  reports = ap (λ ws. events ++ map (event_at s) ws) (sym passes.reported);
 }
-
--- a data packet with Q 0 that is refused
-pub refused_unqualified : {U V : Type 0} (a : Result U Fault) (s : EventOrigin) (old mid new : Known) (before after : List Event) (x : Side) (q : StateName) (p : AcceptedData) (r : Result Counts ℕ)
-    (c : Channel) (o : Outcome) → Stands old c → data_counted old.terms.interface x q p r c ≡ o →
-    (k : Result V ℕ) (n : ℕ) → k ≡ Err n → IsAccepted k old.terms.interface old.transfer mid.transfer x p r c → mid ≡ old →
-    ((d : Channel) → Stands mid d → IfOk a (λ _. Does s mid new before after (failing x q n d))) →
-    IfOk a (λ _. Does s old new before after o)
-refused_unqualified a s old mid new before after x q p r c o stands counted_is k n refused accepted mid_is does =
-    let told = subst (λ j. IsAccepted j old.terms.interface old.transfer mid.transfer x p r c) refused accepted in
-    refusing a s old mid new before after c (failing x q n) o mid_is (sym (told.0 q) ∙ counted_is) stands does
 
 -- ---- steps whose events are all listed
 

@@ -5,10 +5,12 @@ use Rattle.line_model.specs.declared.state.ChannelState.{ChannelState}
 use Rattle.line_model.specs.declared.state.ChannelState.TheVariants.{Transfer}
 use Rattle.line_model.specs.declared.state.DState.TheVariants.{D1}
 use Rattle.line_model.specs.declared.state.Side.{Side}
+use Rattle.line_model.specs.declared.state.StateName.{StateName}
 use Rattle.line_model.specs.declared.event.Event.{Event}
+use Rattle.line_model.specs.declared.event.What.{What}
 use Rattle.line_model.specs.declared.fault.Fault.{Fault}
 use Rattle.line_model.specs.declared.fault.Fault.TheVariants.{Memory}
-use Rattle.line_model.specs.channels.ChannelStep.{Outcome}
+use Rattle.line_model.specs.channels.ChannelStep.{Outcome, failing}
 use Rattle.line_model.specs.channels.Channels.{Channel}
 use Rattle.data_transfer.specs.Sequences.{Assembly}
 use Rattle.channel_machine.specs.declared.messages.BothSettings.{BothSettings}
@@ -70,6 +72,18 @@ pub record DoesApart (s : EventOrigin) (x : Side) (old new : Known) (before afte
   pub channel : new.channel ≡ old.channel
   pub stands : Stands new o.after
   pub reports : after ++ map (event_at s) (data_of x accepted) ≡ before ++ map (event_at s) o.reported
+
+-- a packet of data transfer that passes: the channel after it, and what it reports
+pub record Passes (old new : Known) (ws : List What) (o : Outcome) : Type 0 where
+  pub interface : new.terms.interface ≡ old.terms.interface
+  pub channel : new.channel ≡ old.channel
+  pub stands : Stands new o.after
+  pub reported : o.reported ≡ ws
+
+-- a packet of data transfer, judged in a state: one that passes reports this, and a fault leaves the channel as it was
+abbrev pub IsJudged : {U : Type 0} → Result U ℕ → (U → List What) → Side → StateName → (old new : Known) → Channel → Outcome → Type 0
+IsJudged (Ok u) ws x q old new c o = Passes old new (ws u) o
+IsJudged (Err n) ws x q old new c o = (failing x q n c ≡ o) × (new ≡ old)
 
 -- a step whose events are all listed
 abbrev pub listed : {U : Type 0} → Result U Fault → Result (Option ℕ) Fault

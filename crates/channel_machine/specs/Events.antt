@@ -4,7 +4,12 @@ use Rattle.line_model.specs.declared.event.Event.{Event}
 use Rattle.line_model.specs.declared.event.What.{What}
 use Rattle.line_model.specs.declared.event.What.TheVariants.{Data}
 use Rattle.line_model.specs.declared.state.Side.{Side}
+use Rattle.line_model.specs.basics.Records.{Item}
 use Rattle.channel_machine.specs.declared.events.EventOrigin.{EventOrigin}
+
+-- the origin of the events of a row on a channel
+abbrev pub origin_at : (epoch channel : ℕ) → Item → EventOrigin
+origin_at e n r = record { epoch = e; channel = n; packet = r.number }
 
 -- an event of a row on a channel
 abbrev pub event_at : EventOrigin → What → Event

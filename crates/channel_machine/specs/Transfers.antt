@@ -57,12 +57,6 @@ IsHeard None i s old new before after x p r c =
     (v : Counts) × (m : Option (List ℕ)) × ((t : StateName) → data_counted i x t p r c ≡ hearing x p v m c)
     × StandsFor i new (hearing x p v m c).after × Reports s before after (hearing x p v m c).reported
 
--- what a data packet does that completes no message, by the answer of its counts: a fault changes nothing
-abbrev pub IsAccepted : {U : Type 0} → Result U ℕ → Interface → (old new : Transfer) → Side → AcceptedData → Result Counts ℕ → Channel → Type 0
-IsAccepted (Err n) i old new x p r c = ((t : StateName) → data_counted i x t p r c ≡ failing x t n c) × (new ≡ old)
-IsAccepted (Ok u) i old new x p r c =
-    (v : Counts) × ((t : StateName) → data_counted i x t p r c ≡ hearing x p v None c) × StandsFor i new (hearing x p v None c).after
-
 -- what a packet that changes the counts alone does, by the answer of the counts
 abbrev pub IsCounted : {U : Type 0} → Result U ℕ → Interface → (old new : Transfer) → Result Counts ℕ → Channel → Type 0
 IsCounted (Ok u) i old new r c =

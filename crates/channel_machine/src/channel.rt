@@ -7,6 +7,7 @@ ghost use Rattle.channel_machine.specs.Messages.{SettingsStand};
 ghost use Rattle.channel_machine.specs.Agreed.{agreed_of};
 ghost use Rattle.channel_machine.specs.TermsStand.{TermsStand};
 ghost use Rattle.channel_machine.specs.Channels.{Stands, Does, Comes, IsUnchanged, IsMemory};
+ghost use Rattle.channel_machine.specs.Events.{origin_at};
 
 use crate::events::{EventOrigin, Judgement};
 use crate::messages::BothSettings;
@@ -18,6 +19,7 @@ use data_transfer::assembler::Assembler;
 use line_model::event::{Event, How, What};
 use line_model::fault::Fault;
 use line_model::finding::Code;
+use line_model::items::ItemRef;
 use line_model::state::{Side, StateName};
 use std::alloc::{Allocator, Global};
 use std::marker::Model;
@@ -57,6 +59,17 @@ impl<A: Allocator + Clone, S: StatusStore> StatusChannel<A, S> {
         let Values { size_t, size_n, .. } = terms.values;
         self.assembler.renew(size_t, size_n);
         self.status = S::entered(self.channel, to.entered(), owed, terms);
+    }
+
+    /// The origin of the events of a row in an epoch.
+    pub(crate) fn origin(&self, epoch: u32, item: &ItemRef<'_>) -> EventOrigin
+        ensures { result ≡ origin_at epoch self.now.channel item.now }
+    {
+        EventOrigin {
+            epoch,
+            channel: self.channel,
+            packet: item.number,
+        }
     }
 
     /// Enters a state, where the call ends.

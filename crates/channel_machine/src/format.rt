@@ -1,12 +1,14 @@
 //! What is read of the packets of a channel, and their first faults (X.25 clause 5).
 
-ghost use Rattle.std.specs.Prelude.{◌≡◌, ◌≤◌, ℕ, List, false, unwrap_or, IfOk, IfNone};
+ghost use Rattle.std.specs.Prelude.{◌≡◌, ◌≤◌, ℕ, List, true, false, unwrap_or, IfOk, IfNone};
 ghost use Rattle.std.specs.Result.{result_err};
 ghost use Rattle.line_model.specs.basics.Bounds.{IsSaid};
 ghost use Rattle.line_model.specs.channels.Channels.{Channel};
 ghost use Rattle.line_model.specs.packets.Classes.{packet_class};
+ghost use Rattle.line_model.specs.packets.Facilities.{fields_of};
 ghost use Rattle.line_model.specs.packets.Formats.{direction_fault, format_fault, packet_fault};
 ghost use Rattle.line_model.specs.packets.Says.{header_in, receive_in};
+ghost use Rattle.packet_decode.specs.Shown.{shown, IsUsable};
 ghost use Rattle.channel_machine.specs.Channels.{Stands};
 ghost use Rattle.channel_machine.specs.Contents.{AreOf, AreUsable, is_call};
 ghost use Rattle.channel_machine.specs.Lengths.{outside, too_long, too_short};
@@ -126,22 +128,34 @@ impl<A: Allocator + Clone, S: StatusStore> StatusChannel<A, S> {
         ensures usable { IfOk result (λ r. AreUsable r self.now.terms.interface) }
     {
         match class {
-            Class::Call => match call_fields(&self.status.interface(), item.octets, false) {
+            Class::Call => match self.fields(class, item) {
                 Ok(fields) => Ok(Contents::Call(fields)),
                 Err(code) => Err(code),
             },
-            Class::Accepted => {
-                let fast = was_fast(self.status.call());
-                match call_fields(&self.status.interface(), item.octets, fast) {
-                    Ok(fields) => Ok(Contents::Accepted(fields)),
-                    Err(code) => Err(code),
-                }
-            }
+            Class::Accepted => match self.fields(class, item) {
+                Ok(fields) => Ok(Contents::Accepted(fields)),
+                Err(code) => Err(code),
+            },
             _ => match self.length_fault(item.side, class, item.length) {
                 Some(code) => Err(code),
                 None => Ok(Contents::Other),
             },
         }
+    }
+
+    /// The fields of a packet of a call, or its first fault.
+    fn fields<'a>(&self, class: Class, item: &ItemRef<'a>) -> Result<CallFields<'a>, u8>
+        requires said { IsSaid self.now.terms.interface item.now }
+        requires class { class ≡ packet_class item.now.packet }
+        requires call { is_call class ≡ true }
+        ensures fault { (c : Channel) → Stands self.now c
+            → result_err result ≡ format_fault self.now.terms.interface c item.now.side class
+            item.now.length item.now.octets }
+        ensures fields { IfOk result (λ f. shown f ≡ fields_of item.now.octets) }
+        ensures usable { IfOk result (λ f. IsUsable self.now.terms.interface f) }
+    {
+        let fast = was_fast(self.status.call());
+        call_fields(&self.status.interface(), item.octets, fast)
     }
 
     /// The first fault of a length, for the class of a packet that is none of a call, with the packet size in force for

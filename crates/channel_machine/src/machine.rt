@@ -3,7 +3,6 @@
 ghost use Rattle.channel_machine.specs.Channels.{StandsForReached, interface_of, number_of};
 
 use crate::channel::StatusChannel;
-use crate::events::EventOrigin;
 use crate::messages::{BothSettings, data_packet};
 use crate::status::StatusStore;
 use crate::terms::Terms;
@@ -80,11 +79,6 @@ impl<A: Allocator + Clone, S: StatusStore + Drop> Channel<A> for StatusChannel<A
         item: &ItemRef<'_>,
         events: &mut Vec<Event, A>,
     ) -> Result<Option<u32>, Fault> {
-        let origin = EventOrigin {
-            epoch,
-            channel: self.channel,
-            packet: item.number,
-        };
-        self.handle(origin, item, events)
+        self.handle(epoch, item, events)
     }
 }

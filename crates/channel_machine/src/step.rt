@@ -1,6 +1,6 @@
 //! What a row does to its channel by the state tables.
 
-ghost use Rattle.std.specs.Prelude.{◌≡◌, ◌≤◌, true, false, Some, IfOk};
+ghost use Rattle.std.specs.Prelude.{◌≡◌, ◌≤◌, true, false, Some, IfOk, OnSome};
 ghost use Rattle.line_model.specs.basics.Bounds.{IsSaid};
 ghost use Rattle.line_model.specs.basics.Records.{Item};
 ghost use Rattle.line_model.specs.channels.Channels.{Channel, is_permanent};
@@ -10,14 +10,15 @@ ghost use Rattle.line_model.specs.packets.Says.{header_in};
 ghost use Rattle.line_model.specs.channels.ChannelStep.{call_change, channel_step, counting, counts_of, data_step, judged, moving, transferring};
 ghost use Rattle.line_model.specs.declared.table.Action.TheVariants.{Move, Normal};
 ghost use Rattle.packet_decode.specs.SaidData.{IsSaidData};
-ghost use Rattle.channel_machine.specs.Channels.{Stands, Does, Comes, IsUnchanged, IsMemory};
+ghost use Rattle.channel_machine.specs.Channels.{Stands, Does, DoesApart, Comes, IsUnchanged, IsMemory, listed};
+ghost use Rattle.channel_machine.specs.Events.{origin_at};
 ghost use Rattle.channel_machine.specs.Contents.{AreOf, AreUsable};
 ghost use Rattle.channel_machine.specs.Reached.{IsReached, is_from};
 ghost use Rattle.channel_machine.specs.Entries.{entry_step, is_entry, is_transfer};
 ghost use Rattle.channel_machine.specs.Sizes.{largest_length};
 
 use crate::channel::StatusChannel;
-use crate::events::{EventOrigin, Judgement};
+use crate::events::Judgement;
 use crate::format::{Contents, header_of, receive_of};
 use crate::judging::judged;
 use crate::messages::data_packet;
@@ -104,11 +105,10 @@ impl<A: Allocator + Clone, S: StatusStore> StatusChannel<A, S> {
         ensures unchanged { IsUnchanged result self.old self.new events.old.items events.new.items }
         ensures memory { IsMemory result }
     {
-        let length = item.length - header_length(&self.status.interface());
         events.reserve(1)?;
-        match self.accept_unqualified(judgement.side, header, length) {
-            Ok(()) => {
-                let what = data_packet(judgement.side, length as u32);
+        match self.accept_unqualified(header, item) {
+            Ok(octets) => {
+                let what = data_packet(judgement.side, octets);
                 events.push_reserved(judgement.origin.event(what));
                 Ok(())
             }
@@ -116,7 +116,7 @@ impl<A: Allocator + Clone, S: StatusStore> StatusChannel<A, S> {
         }
     }
 
-    /// Takes an interrupt without fault of format.
+    /// Accepts or refuses an interrupt without fault of format.
     fn handle_interrupt(
         &mut self,
         judgement: &Judgement,
@@ -129,13 +129,13 @@ impl<A: Allocator + Clone, S: StatusStore> StatusChannel<A, S> {
         ensures unchanged { IsUnchanged result self.old self.new events.old.items events.new.items }
         ensures memory { IsMemory result }
     {
-        match self.status.interrupt(judgement.side) {
+        match self.accept_interrupt(judgement.side) {
             Err(code) => self.fail(judgement, code, events),
             Ok(()) => Ok(()),
         }
     }
 
-    /// Takes an interrupt confirmation without fault of format.
+    /// Accepts or refuses an interrupt confirmation without fault of format.
     fn handle_confirmation(
         &mut self,
         judgement: &Judgement,
@@ -148,15 +148,14 @@ impl<A: Allocator + Clone, S: StatusStore> StatusChannel<A, S> {
         ensures unchanged { IsUnchanged result self.old self.new events.old.items events.new.items }
         ensures memory { IsMemory result }
     {
-        match self.status.confirm(judgement.side) {
+        match self.accept_confirmation(judgement.side) {
             Err(code) => self.fail(judgement, code, events),
             Ok(()) => Ok(()),
         }
     }
 
-    /// Takes the P(R) of a packet without fault of format.
-    #[inline(always)]
-    pub(crate) fn handle_ready(
+    /// Accepts or refuses the P(R) of a packet without fault of format.
+    fn handle_ready(
         &mut self,
         judgement: &Judgement,
         receive: u8,
@@ -170,7 +169,7 @@ impl<A: Allocator + Clone, S: StatusStore> StatusChannel<A, S> {
         ensures unchanged { IsUnchanged result self.old self.new events.old.items events.new.items }
         ensures memory { IsMemory result }
     {
-        match self.status.ack(judgement.side, receive) {
+        match self.accept_ready(judgement.side, receive) {
             Err(code) => self.fail(judgement, code, events),
             Ok(()) => Ok(()),
         }
@@ -333,27 +332,39 @@ impl<A: Allocator + Clone, S: StatusStore> StatusChannel<A, S> {
         }
     }
 
-    /// Steps the channel by what a row says, by the state tables, and appends the events of the row.
+    /// Steps the channel by what a row says in an epoch, by the state tables, and appends the events of the row.
     #[inline(never)]
     pub(crate) fn handle_by_table(
         &mut self,
-        origin: EventOrigin,
+        epoch: u32,
         item: &ItemRef<'_>,
         events: &mut Vec<Event, A>,
-    ) -> Result<(), Fault>
+    ) -> Result<Option<u32>, Fault>
         requires said { IsSaid self.old.terms.interface item.now }
         ensures does { (c : Channel) → IsReached c → Stands self.old c
-            → IfOk result (λ _. Does origin self.old self.new events.old.items events.new.items
+            → IfOk result (λ accepted. DoesApart (origin_at epoch self.old.channel item.now)
+            item.now.side self.old self.new events.old.items events.new.items accepted
             (channel_step self.old.terms.interface self.old.channel c item.now)) }
+        ensures apart { IfOk result (λ accepted. OnSome accepted (events.new ≡ events.old)) }
         ensures unchanged { IsUnchanged result self.old self.new events.old.items events.new.items }
         ensures memory { IsMemory result }
     {
         let (state, entry) = self.judge(item.side, item.packet.class());
         let judgement = Judgement {
-            origin,
+            origin: self.origin(epoch, item),
             side: item.side,
             state,
         };
-        self.act(&judgement, entry, item, events)
+        listed(self.act(&judgement, entry, item, events))
+    }
+}
+
+/// The result of a step whose events are all listed.
+pub(crate) fn listed(done: Result<(), Fault>) -> Result<Option<u32>, Fault>
+    ensures { result ≡ listed done }
+{
+    match done {
+        Ok(()) => Ok(None),
+        Err(fault) => Err(fault),
     }
 }

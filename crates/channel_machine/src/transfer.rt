@@ -1,10 +1,13 @@
 //! A data packet on a channel: its numbers, the sequence that it belongs to, and the message that it may complete.
 
-ghost use Rattle.std.specs.Prelude.{◌≡◌, ◌≤◌, ◌&&◌, length, false, IfOk, OnErr, OnSome};
+ghost use Rattle.std.specs.Prelude.{◌≡◌, ◌≤◌, ◌-◌, ◌&&◌, ◌∷◌, [], length, false, Some, IfOk, OnErr, OnSome};
 ghost use Rattle.line_model.specs.channels.Channels.{Channel};
-ghost use Rattle.data_transfer.specs.Assembly.{unqualified};
-ghost use Rattle.channel_machine.specs.Transfers.{IsAccepted, IsHeard, counted_in_force, packet};
-ghost use Rattle.channel_machine.specs.Channels.{Stands, IsUnchanged, IsMemory};
+ghost use Rattle.line_model.specs.channels.ChannelStep.{counting, counts_of, data_step};
+ghost use Rattle.line_model.specs.channels.FlowControl.{count_confirm, count_interrupt, count_receive};
+ghost use Rattle.line_model.specs.packets.Classes.{header_length};
+ghost use Rattle.packet_decode.specs.SaidData.{IsSaidData};
+ghost use Rattle.channel_machine.specs.Transfers.{IsHeard, counted_in_force, packet};
+ghost use Rattle.channel_machine.specs.Channels.{Stands, IsJudged, IsUnchanged, IsMemory};
 ghost use Rattle.channel_machine.specs.Sizes.{largest_length};
 
 use crate::channel::StatusChannel;
@@ -14,10 +17,12 @@ use crate::status::StatusStore;
 use crate::terms::is_pad_call;
 use data_transfer::sequence::{DataField, Put};
 use line_model::diagnostic::INCONSISTENT_Q_BIT_SETTING;
-use line_model::event::Event;
+use line_model::event::{Event, What};
 use line_model::fault::Fault;
+use line_model::items::ItemRef;
 use line_model::packet::DataHeader;
-use line_model::state::Side;
+use line_model::state::{Side, StateName};
+use packet_decode::decode::header_length;
 use std::alloc::Allocator;
 
 impl<A: Allocator + Clone, S: StatusStore> StatusChannel<A, S> {
@@ -77,27 +82,36 @@ impl<A: Allocator + Clone, S: StatusStore> StatusChannel<A, S> {
         }
     }
 
-    /// Accepts a data packet of a side with Q 0, of which it needs the header and how many octets of user data there are;
-    /// or returns its fault: that of its numbers, or of the Q bit of the sequence begun. It takes no memory.
+    /// How many octets of user data a data packet has.
+    #[inline(always)]
+    pub(crate) fn user_data_length(&self, item: &ItemRef<'_>) -> usize
+        requires whole { header_length self.now.terms.interface ≤ item.now.length }
+        ensures { result ≡ item.now.length - header_length self.now.terms.interface }
+    {
+        item.length - header_length(&self.status.interface())
+    }
+
+    /// Accepts a data packet with Q 0, and returns how many octets of user data it has; or returns its fault, that of its
+    /// numbers or of the Q bit of the sequence begun, and the channel is as it was. It takes no memory.
     #[inline(always)]
     pub(crate) fn accept_unqualified(
         &mut self,
-        side: Side,
         header: &DataHeader,
-        length: usize,
-    ) -> Result<(), u8>
+        item: &ItemRef<'_>,
+    ) -> Result<u32, u8>
+        requires said { IsSaidData self.old.terms.interface item.now header.now }
         requires unqualified { header.now.qualified ≡ false }
-        ensures rest { self.new ≡ record self.old { transfer = self.new.transfer } }
-        ensures accepted { (c : Channel) → Stands self.old c
-            → IsAccepted result self.old.terms.interface self.old.transfer self.new.transfer side
-            (unqualified side header.now.more header.now.delivery length)
-            (counted_in_force self.old.terms.interface side header.now.send
-            header.now.receive c) c }
+        requires short { item.now.length ≤ largest_length }
+        ensures judged { (c : Channel) (q : StateName) → Stands self.old c
+            → IsJudged result (λ n. What.Data item.now.side n ∷ []) item.now.side q
+            self.old self.new c
+            (data_step self.old.terms.interface q item.now (Some header.now) c) }
         ensures faulted { OnErr result (self.new ≡ self.old) }
     {
-        let is_alike = self.assembler.is_unqualified(side);
+        let length = self.user_data_length(item);
+        let is_alike = self.assembler.is_unqualified(item.side);
         let mut status = self.status;
-        if let Err(code) = status.data(side, header.send, header.receive) {
+        if let Err(code) = status.data(item.side, header.send, header.receive) {
             return Err(code);
         }
         if !is_alike {
@@ -105,8 +119,39 @@ impl<A: Allocator + Clone, S: StatusStore> StatusChannel<A, S> {
         }
         self.status = status;
         self.assembler
-            .put_unqualified(side, header.more, header.delivery, length);
-        Ok(())
+            .put_unqualified(item.side, header.more, header.delivery, length);
+        Ok(length as u32)
+    }
+
+    /// Accepts the P(R) of a packet of a side, or returns its fault, and the channel is as it was.
+    #[inline(always)]
+    pub(crate) fn accept_ready(&mut self, side: Side, receive: u8) -> Result<(), u8>
+        ensures judged { (c : Channel) (q : StateName) → Stands self.old c
+            → IsJudged result (λ _. []) side q self.old self.new c (counting side q
+            (count_receive self.old.terms.interface.modulus (counts_of c) side receive) c) }
+        ensures faulted { OnErr result (self.new ≡ self.old) }
+    {
+        self.status.ack(side, receive)
+    }
+
+    /// Accepts an interrupt of a side, or returns its fault, and the channel is as it was.
+    pub(crate) fn accept_interrupt(&mut self, side: Side) -> Result<(), u8>
+        ensures judged { (c : Channel) (q : StateName) → Stands self.old c
+            → IsJudged result (λ _. []) side q self.old self.new c
+            (counting side q (count_interrupt (counts_of c) side) c) }
+        ensures faulted { OnErr result (self.new ≡ self.old) }
+    {
+        self.status.interrupt(side)
+    }
+
+    /// Accepts an interrupt confirmation of a side, or returns its fault, and the channel is as it was.
+    pub(crate) fn accept_confirmation(&mut self, side: Side) -> Result<(), u8>
+        ensures judged { (c : Channel) (q : StateName) → Stands self.old c
+            → IsJudged result (λ _. []) side q self.old self.new c
+            (counting side q (count_confirm (counts_of c) side) c) }
+        ensures faulted { OnErr result (self.new ≡ self.old) }
+    {
+        self.status.confirm(side)
     }
 }
 

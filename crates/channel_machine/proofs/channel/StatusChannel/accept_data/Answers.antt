@@ -1,6 +1,5 @@
-use Rattle.std.proofs.Common.{rules, arith, ◌≡◌, true, refl, sym, ◌∙◌, ap, subst, List, ℕ, [], ◌∷◌, ◌++◌, Ok, Err, None, Some}
+use Rattle.std.proofs.Common.{◌≡◌, true, refl, sym, ◌∙◌, ap, subst, List, ℕ, [], ◌∷◌, ◌++◌, Ok, Err, None, Some}
 use Rattle.std.specs.Prelude.{◌&&◌, map, length}
-use Rattle.std.proofs.lemmas.Result.{IfOk-from_err, MatchResult-from_err, err_from_is_err_and}
 use Rattle.line_model.specs.declared.diagnostic.TheConstants.{INCONSISTENT_Q_BIT_SETTING}
 use Rattle.line_model.specs.channels.Channels.{AcceptedData}
 use Rattle.line_model.specs.channels.Sequences.{sequence_octets}
@@ -13,7 +12,7 @@ use Rattle.channel_machine.specs.Events.{event_at}
 use Rattle.channel_machine.specs.Messages.{message_reports}
 use Rattle.channel_machine.specs.TermsStand.{is_pad}
 use Rattle.channel_machine.specs.Transfers.{Transfer, IsHeard, packet, counted_in_force}
-use Rattle.channel_machine.specs.Channels.{Known, known, Stands, IsMemory}
+use Rattle.channel_machine.specs.Channels.{Known, known, Stands}
 use Rattle.channel_machine.proofs.InForce.{pad_stands}
 use Rattle.channel_machine.proofs.Hearing.{in_force, refused, unlike, heard, going_is, untold_is, told_is}
 use Rattle.channel_machine.proofs.channel.StatusChannel.accept_data.Goals as goal
@@ -117,51 +116,6 @@ returns-then-carries_message-2-clause-heard g c k s =
     (c.report_message.ensures.stands m k.told octets st.transfer.settings)
     (λ v. c.report_message.ensures.reports m k.told octets st.transfer.settings ∙ ap (λ l. l ++ map (event_at c.args.origin) (message_reports c.args.side (length c.args.user_data.now) k.told m)) c.in_ok-reserve.ensures.items))
 
-pub returns-in-Err-clause-unchanged : goal.returns-in-Err-clause-unchanged
-returns-in-Err-clause-unchanged g c = tt
-
-pub returns-in-Err-clause-memory : goal.returns-in-Err-clause-memory
-returns-in-Err-clause-memory g c = tt
-
-pub returns-then-carries_message-2-clause-unchanged : goal.returns-then-carries_message-2-clause-unchanged
-returns-then-carries_message-2-clause-unchanged g c = tt
-
-pub returns-then-carries_message-2-clause-memory : goal.returns-then-carries_message-2-clause-memory
-returns-then-carries_message-2-clause-memory g c = tt
-
-pub returns-in-Mixed-clause-unchanged : goal.returns-in-Mixed-clause-unchanged
-returns-in-Mixed-clause-unchanged g c = tt
-
-pub returns-in-Mixed-clause-memory : goal.returns-in-Mixed-clause-memory
-returns-in-Mixed-clause-memory g c = tt
-
-pub returns-in-Going-clause-unchanged : goal.returns-in-Going-clause-unchanged
-returns-in-Going-clause-unchanged g c = tt
-
-pub returns-in-Going-clause-memory : goal.returns-in-Going-clause-memory
-returns-in-Going-clause-memory g c = tt
-
-pub returns-else-carries_message-2-clause-unchanged : goal.returns-else-carries_message-2-clause-unchanged
-returns-else-carries_message-2-clause-unchanged g c = tt
-
-pub returns-else-carries_message-2-clause-memory : goal.returns-else-carries_message-2-clause-memory
-returns-else-carries_message-2-clause-memory g c = tt
-
-pub returns-then-carries_message-2-clause-faulted : goal.returns-then-carries_message-2-clause-faulted
-returns-then-carries_message-2-clause-faulted g c = tt
-
-pub returns-in-Going-clause-faulted : goal.returns-in-Going-clause-faulted
-returns-in-Going-clause-faulted g c = tt
-
-pub returns-else-carries_message-2-clause-faulted : goal.returns-else-carries_message-2-clause-faulted
-returns-else-carries_message-2-clause-faulted g c = tt
-
-pub returns-in-Err-clause-rest : goal.returns-in-Err-clause-rest
-returns-in-Err-clause-rest g c = refl
-
-pub returns-in-Err-clause-faulted : goal.returns-in-Err-clause-faulted
-returns-in-Err-clause-faulted g c = (refl, refl)
-
 pub returns-in-Going-clause-rest : goal.returns-in-Going-clause-rest
 returns-in-Going-clause-rest g c =
     let i = c.self.inside in
@@ -183,67 +137,9 @@ returns-then-carries_message-2-clause-rest g c =
     ap (λ s. known i.channel s c.put.new.self c.report_message.new.self) c.data.ensures.rest.rest
     ∙ ap (λ (o : Known). record o { transfer = record { flow = after.flow; assembler = c.put.new.self; settings = c.report_message.new.self } }) c.self.view_is
 
-pub returns-in-Mixed-clause-rest : goal.returns-in-Mixed-clause-rest
-returns-in-Mixed-clause-rest g c =
-    let i = c.self.inside in
-    let before = g.S.StatusStore.status i.status in
-    ap (λ (o : Known). record o { transfer = record { flow = before.flow; assembler = c.put.new.self; settings = i.settings } }) c.self.view_is
-
 pub returns-in-Mixed-clause-faulted : goal.returns-in-Mixed-clause-faulted
 returns-in-Mixed-clause-faulted g c =
     let i = c.self.inside in (
       ap (λ a. known i.channel (g.S.StatusStore.status i.status) a i.settings) (subst (λ q. OnMixed q (c.put.new.self ≡ i.assembler)) c.in-Mixed.is c.in_ok-put.ensures.mixed) ∙ c.self.view_is,
       c.in_ok-reserve.ensures.items,
     )
-
-pub returns-in_err-reserve-clause-rest : goal.returns-in_err-reserve-clause-rest
-returns-in_err-reserve-clause-rest g c = refl
-
-pub returns-in_err-reserve-clause-heard : goal.returns-in_err-reserve-clause-heard
-returns-in_err-reserve-clause-heard g c k s = IfOk-from_err _ _ c.from_residual.ensures.0
-
-pub returns-in_err-reserve-clause-faulted : goal.returns-in_err-reserve-clause-faulted
-returns-in_err-reserve-clause-faulted g c = IfOk-from_err _ _ c.from_residual.ensures.0
-
-pub returns-in_err-reserve-clause-unchanged : goal.returns-in_err-reserve-clause-unchanged
-returns-in_err-reserve-clause-unchanged g c = MatchResult-from_err _ _ _ c.from_residual.ensures.0 (λ e. (refl, c.in_err-reserve.ensures.items))
-
-pub returns-in_err-reserve-clause-memory : goal.returns-in_err-reserve-clause-memory
-returns-in_err-reserve-clause-memory g c =
-    let p = err_from_is_err_and c.from_residual.result c.from_residual.ensures.1 in
-    subst (λ r. IsMemory r) (sym p.1) p.2
-
-pub returns-in_err-put-clause-rest : goal.returns-in_err-put-clause-rest
-returns-in_err-put-clause-rest g c =
-    let i = c.self.inside in
-    let before = g.S.StatusStore.status i.status in
-    ap (λ (o : Known). record o { transfer = record { flow = before.flow; assembler = c.put.new.self; settings = i.settings } }) c.self.view_is
-
-pub returns-in_err-put-clause-heard : goal.returns-in_err-put-clause-heard
-returns-in_err-put-clause-heard g c k s = IfOk-from_err _ _ c.from_residual-in_err-put.ensures.0
-
-pub returns-in_err-put-clause-faulted : goal.returns-in_err-put-clause-faulted
-returns-in_err-put-clause-faulted g c = IfOk-from_err _ _ c.from_residual-in_err-put.ensures.0
-
-pub returns-in_err-put-clause-unchanged : goal.returns-in_err-put-clause-unchanged
-returns-in_err-put-clause-unchanged g c =
-    let i = c.self.inside in
-    MatchResult-from_err _ _ _ c.from_residual-in_err-put.ensures.0
-    (λ e. (ap (λ a. known i.channel (g.S.StatusStore.status i.status) a i.settings) c.in_err-put.ensures.unchanged ∙ c.self.view_is, c.in_ok-reserve.ensures.items))
-
-pub returns-in_err-put-clause-memory : goal.returns-in_err-put-clause-memory
-returns-in_err-put-clause-memory g c =
-    let p = err_from_is_err_and c.from_residual-in_err-put.result c.from_residual-in_err-put.ensures.1 in
-    subst (λ r. IsMemory r) (sym p.1) (p.2 ∙ c.in_err-put.ensures.memory)
-
-pub overflow_cast-length : goal.overflow_cast-length
-overflow_cast-length g c = omega arith
-
-pub push_reserved-requires : goal.push_reserved-requires
-push_reserved-requires g c = search rules
-
-pub push_reserved-requires-in-Complete : goal.push_reserved-requires-in-Complete
-push_reserved-requires-in-Complete g c = search rules
-
-pub report_message-requires : goal.report_message-requires
-report_message-requires g c = search rules

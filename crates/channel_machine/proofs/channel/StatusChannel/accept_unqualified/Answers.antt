@@ -1,70 +1,71 @@
-use Rattle.std.proofs.Common.{◌∙◌, false, refl, sym, ap, subst, Ok, Err, None}
+use Rattle.std.proofs.Common.{◌∙◌, ◌∷◌, [], ℕ, false, refl, sym, ap, subst, Ok, Err, None}
+use Rattle.line_model.specs.basics.Records.{Item}
 use Rattle.line_model.specs.channels.Channels.{AcceptedData}
 use Rattle.line_model.specs.channels.ChannelStep.{counts_of, data_counted}
+use Rattle.line_model.specs.declared.event.What.TheVariants.{Data}
 use Rattle.line_model.specs.packets.Formats.{is_pad_call}
 use Rattle.data_transfer.specs.Assembly.{unqualified}
-use Rattle.channel_machine.specs.Transfers.{Transfer, IsAccepted, counted_in_force}
+use Rattle.channel_machine.specs.Transfers.{counted_in_force}
 use Rattle.channel_machine.specs.Channels.{Known, known, Stands}
 use Rattle.channel_machine.proofs.Counting.{answered_err}
 use Rattle.channel_machine.proofs.Hearing.{in_force, accepted, alike_of, unlike, untold_is, without_q}
+use Rattle.channel_machine.proofs.Taking.{judged_data, passes_data}
 use Rattle.channel_machine.proofs.channel.StatusChannel.accept_unqualified.Goals as goal
 
-pub returns-in-Err-clause-accepted : goal.returns-in-Err-clause-accepted
-returns-in-Err-clause-accepted g c k s =
+pub returns-in-Err-clause-judged : goal.returns-in-Err-clause-judged
+returns-in-Err-clause-judged g c k q s =
     let i = c.self.inside in
-    let before = g.S.StatusStore.status i.status in
+    let old : Known = known i.channel (g.S.StatusStore.status i.status) i.assembler i.settings in
     let after = g.S.StatusStore.status c.data.new.self in
-    let old : Known = known i.channel before i.assembler i.settings in
-    let st : Stands old k = subst (λ o. Stands o k) (sym c.self.view_is) s in
-    let x = c.args.side in
+    let st = subst (λ o. Stands o k) (sym c.self.view_is) s in
+    let x = c.item.inside.side in
+    let r : Item = c.args.item.now in
     let h = c.args.header.now in
-    let p : AcceptedData = unqualified x h.more h.delivery c.args.length in
-    let r = counted_in_force before.terms.interface x h.send h.receive k in
-    subst (λ o. IsAccepted {U = Unit {0}} (Err c.in-Err.code) o.terms.interface o.transfer o.transfer x p (counted_in_force o.terms.interface x h.send h.receive k) k) c.self.view_is (
-      (λ q. ap (λ a. data_counted before.terms.interface x q p a k) (answered_err (Unit {0}) c.in-Err.code old.transfer.flow after.flow r
-          (in_force (Unit {0}) (Err c.in-Err.code) before.terms.interface old.transfer after.flow k x h.send h.receive st.transfer (c.in-Err.ensures.counts (counts_of k) st.transfer.flow))).0),
-      refl,
+    let p : AcceptedData = unqualified x h.more h.delivery c.user_data_length-length.result in
+    let counts = counted_in_force old.terms.interface x h.send h.receive k in
+    judged_data {U = ℕ} (Err c.in-Err.code) (λ y n. Data y n ∷ []) old c.args.self.now c.args.self.now x q r h c.user_data_length-length.result k
+    c.self.view_is (ap (λ (u : Item). u.side) c.item.view_is) c.user_data_length-length.ensures c.requires.said c.requires.unqualified (
+      ap (λ a. data_counted old.terms.interface x q p a k) (sym (answered_err (Unit {0}) c.in-Err.code old.transfer.flow after.flow counts
+          (in_force (Unit {0}) (Err c.in-Err.code) old.terms.interface old.transfer after.flow k x h.send h.receive st.transfer (c.in-Err.ensures.counts (counts_of k) st.transfer.flow))).0),
+      sym c.self.view_is,
     )
 
-pub returns-then-not-is_alike-clause-accepted : goal.returns-then-not-is_alike-clause-accepted
-returns-then-not-is_alike-clause-accepted g c k s =
+pub returns-then-not-is_alike-clause-judged : goal.returns-then-not-is_alike-clause-judged
+returns-then-not-is_alike-clause-judged g c k q s =
     let i = c.self.inside in
-    let before = g.S.StatusStore.status i.status in
+    let old : Known = known i.channel (g.S.StatusStore.status i.status) i.assembler i.settings in
     let after = g.S.StatusStore.status c.data.new.self in
-    let old : Known = known i.channel before i.assembler i.settings in
-    let st : Stands old k = subst (λ o. Stands o k) (sym c.self.view_is) s in
-    let x = c.args.side in
+    let st = subst (λ o. Stands o k) (sym c.self.view_is) s in
+    let x = c.item.inside.side in
+    let r : Item = c.args.item.now in
     let h = c.args.header.now in
-    let p : AcceptedData = unqualified x h.more h.delivery c.args.length in
-    let r = counted_in_force before.terms.interface x h.send h.receive k in
-    subst (λ o. IsAccepted {U = Unit {0}} (Err 83) o.terms.interface o.transfer o.transfer x p (counted_in_force o.terms.interface x h.send h.receive k) k) c.self.view_is (
-      unlike c.in_default.field-0 before.terms.interface old.transfer after.flow x p r k st.transfer
-          (in_force (Unit {0}) (Ok c.in_default.field-0) before.terms.interface old.transfer after.flow k x h.send h.receive st.transfer (c.in_default.ensures.counts (counts_of k) st.transfer.flow))
-          (alike_of i.assembler x p k.heard st.transfer.sequences ∙ sym c.is_unqualified-is_alike.ensures ∙ c.if-not-is_alike.true),
-      refl,
+    let p : AcceptedData = unqualified x h.more h.delivery c.user_data_length-length.result in
+    let counts = counted_in_force old.terms.interface x h.send h.receive k in
+    judged_data {U = ℕ} (Err 83) (λ y n. Data y n ∷ []) old c.args.self.now c.args.self.now x q r h c.user_data_length-length.result k
+    c.self.view_is (ap (λ (u : Item). u.side) c.item.view_is) c.user_data_length-length.ensures c.requires.said c.requires.unqualified (
+      sym (unlike c.in_default.field-0 old.terms.interface old.transfer after.flow x p counts k st.transfer
+          (in_force (Unit {0}) (Ok c.in_default.field-0) old.terms.interface old.transfer after.flow k x h.send h.receive st.transfer (c.in_default.ensures.counts (counts_of k) st.transfer.flow))
+          (alike_of i.assembler x p k.heard st.transfer.sequences ∙ sym c.is_unqualified-is_alike.ensures ∙ c.if-not-is_alike.true) q),
+      sym c.self.view_is,
     )
 
-pub returns-clause-rest : goal.returns-clause-rest
-returns-clause-rest g c =
+pub returns-clause-judged : goal.returns-clause-judged
+returns-clause-judged g c k q s =
     let i = c.self.inside in
+    let old : Known = known i.channel (g.S.StatusStore.status i.status) i.assembler i.settings in
     let after = g.S.StatusStore.status c.data.new.self in
-    ap (λ s. known i.channel s c.put_unqualified.new.self i.settings) c.data.ensures.rest.rest
-    ∙ ap (λ (o : Known). record o { transfer = record { flow = after.flow; assembler = c.put_unqualified.new.self; settings = i.settings } }) c.self.view_is
-
-pub returns-clause-accepted : goal.returns-clause-accepted
-returns-clause-accepted g c k s =
-    let i = c.self.inside in
-    let before = g.S.StatusStore.status i.status in
-    let after = g.S.StatusStore.status c.data.new.self in
-    let old : Known = known i.channel before i.assembler i.settings in
-    let st : Stands old k = subst (λ o. Stands o k) (sym c.self.view_is) s in
-    let x = c.args.side in
+    let st = subst (λ o. Stands o k) (sym c.self.view_is) s in
+    let x = c.item.inside.side in
+    let r : Item = c.args.item.now in
     let h = c.args.header.now in
-    let p : AcceptedData = unqualified x h.more h.delivery c.args.length in
+    let p : AcceptedData = unqualified x h.more h.delivery c.user_data_length-length.result in
+    let counts = counted_in_force old.terms.interface x h.send h.receive k in
+    let new : Known = known i.channel after c.put_unqualified.new.self i.settings in
     let put = c.put_unqualified.ensures.put k.heard st.transfer.sequences in
-    let new : Transfer = record old.transfer { flow = after.flow; assembler = c.put_unqualified.new.self } in
-    subst (λ o. IsAccepted {U = Unit {0}} (Ok tt) o.terms.interface o.transfer new x p (counted_in_force o.terms.interface x h.send h.receive k) k) c.self.view_is
-    (accepted c.in_default.field-0 before.terms.interface old.transfer new k x h.send h.receive p None st.transfer refl
-    (in_force (Unit {0}) (Ok c.in_default.field-0) before.terms.interface old.transfer after.flow k x h.send h.receive st.transfer (c.in_default.ensures.counts (counts_of k) st.transfer.flow))
-    put.0 (untold_is before.terms.interface k x p (without_q (is_pad_call k) false refl))
-    c.data.ensures.rest.modulus c.data.ensures.rest.windows put.1 c.put_unqualified.ensures.sizes st.transfer.settings)
+    judged_data (Ok c.user_data_length-length.result) (λ y n. Data y n ∷ []) old c.args.self.now new x q r h c.user_data_length-length.result k
+    c.self.view_is (ap (λ (u : Item). u.side) c.item.view_is) c.user_data_length-length.ensures c.requires.said c.requires.unqualified
+    (passes_data old new x q p counts k (ap (λ t. known i.channel t c.put_unqualified.new.self i.settings) c.data.ensures.rest.rest) st
+    (accepted c.in_default.field-0 old.terms.interface old.transfer new.transfer k x h.send h.receive p None st.transfer refl
+    (in_force (Unit {0}) (Ok c.in_default.field-0) old.terms.interface old.transfer after.flow k x h.send h.receive st.transfer (c.in_default.ensures.counts (counts_of k) st.transfer.flow))
+    put.0 (untold_is old.terms.interface k x p (without_q (is_pad_call k) false refl))
+    c.data.ensures.rest.modulus c.data.ensures.rest.windows put.1 c.put_unqualified.ensures.sizes st.transfer.settings))

@@ -8,11 +8,6 @@ use Rattle.channel_machine.specs.Entries.{entry_step, is_entry}
 use Rattle.channel_machine.proofs.Entries.{nothing_by}
 use Rattle.channel_machine.proofs.channel.StatusChannel.act.Goals as goal
 
-pub handle_transfer-requires-clause-transfer : goal.handle_transfer-requires-clause-transfer
-handle_transfer-requires-clause-transfer g c =
-    let old = c.args.self.now in
-    ap (λ a. is_entry a c.args.judgement.now.side (packet_class c.args.item.now.packet) old.state) (sym c.in-Normal.is) ∙ c.requires.fits
-
 pub returns-in-Move-clause-does : goal.returns-in-Move-clause-does
 returns-in-Move-clause-does g c k reached s =
     let old = c.args.self.now in
@@ -49,21 +44,3 @@ returns-in-Error-clause-does g c k reached s =
     (sym c.in-Error.is)
     (subst (λ x. IfOk c.fail.result (λ _. Does c.args.judgement.now.origin old c.fail.new.self c.args.events.now.items c.fail.new.events.items (failing x c.args.judgement.now.state c.in-Error.code k)))
     c.requires.side (c.fail.ensures.does k s))
-
-pub returns-in-Move-clause-unchanged : goal.returns-in-Move-clause-unchanged
-returns-in-Move-clause-unchanged g c = c.handle_move.ensures.unchanged
-
-pub returns-in-Move-clause-memory : goal.returns-in-Move-clause-memory
-returns-in-Move-clause-memory g c = c.handle_move.ensures.memory
-
-pub returns-in-Normal-clause-unchanged : goal.returns-in-Normal-clause-unchanged
-returns-in-Normal-clause-unchanged g c = c.handle_transfer.ensures.unchanged
-
-pub returns-in-Normal-clause-memory : goal.returns-in-Normal-clause-memory
-returns-in-Normal-clause-memory g c = c.handle_transfer.ensures.memory
-
-pub returns-in-Error-clause-unchanged : goal.returns-in-Error-clause-unchanged
-returns-in-Error-clause-unchanged g c = c.fail.ensures.unchanged
-
-pub returns-in-Error-clause-memory : goal.returns-in-Error-clause-memory
-returns-in-Error-clause-memory g c = c.fail.ensures.memory

@@ -8,18 +8,6 @@ use Rattle.channel_machine.specs.Channels.{Does}
 use Rattle.channel_machine.proofs.SaidData.{other_transfers}
 use Rattle.channel_machine.proofs.channel.StatusChannel.carry.Goals as goal
 
-pub handle_data-requires-clause-class : goal.handle_data-requires-clause-class
-handle_data-requires-clause-class g c = sym c.requires.class ∙ c.in-Data.is
-
-pub handle_data-requires-clause-short : goal.handle_data-requires-clause-short
-handle_data-requires-clause-short g c = c.requires.short c.in-Data.is
-
-pub returns-in-Data-clause-does : goal.returns-in-Data-clause-does
-returns-in-Data-clause-does g c k s =
-    let judgement = c.args.judgement.now in
-    subst (λ v. IfOk c.handle_data.result (λ _. Does judgement.origin c.args.self.now c.handle_data.new.self c.args.events.now.items c.handle_data.new.events.items (transferring c.args.self.now.terms.interface judgement.state v c.args.item.now k)))
-    (sym c.in-Data.is) (c.handle_data.ensures.does k s)
-
 pub returns-in-Interrupt-clause-does : goal.returns-in-Interrupt-clause-does
 returns-in-Interrupt-clause-does g c k s =
     let judgement = c.args.judgement.now in
@@ -46,27 +34,3 @@ returns-in_default-clause-does g c k s =
     ((λ j. counting (side j) judgement.state (count_receive i.modulus (counts_of k) (side j) (received j)) k)
     ∙ other_transfers i judgement.state c.args.class c.args.item.now k c.in_default.not-Data c.in_default.not-Interrupt c.in_default.not-InterruptConfirm)
     (c.handle_ready.ensures.does k s)
-
-pub returns-in-Data-clause-unchanged : goal.returns-in-Data-clause-unchanged
-returns-in-Data-clause-unchanged g c = c.handle_data.ensures.unchanged
-
-pub returns-in-Data-clause-memory : goal.returns-in-Data-clause-memory
-returns-in-Data-clause-memory g c = c.handle_data.ensures.memory
-
-pub returns-in-Interrupt-clause-unchanged : goal.returns-in-Interrupt-clause-unchanged
-returns-in-Interrupt-clause-unchanged g c = c.handle_interrupt.ensures.unchanged
-
-pub returns-in-Interrupt-clause-memory : goal.returns-in-Interrupt-clause-memory
-returns-in-Interrupt-clause-memory g c = c.handle_interrupt.ensures.memory
-
-pub returns-in-InterruptConfirm-clause-unchanged : goal.returns-in-InterruptConfirm-clause-unchanged
-returns-in-InterruptConfirm-clause-unchanged g c = c.handle_confirmation.ensures.unchanged
-
-pub returns-in-InterruptConfirm-clause-memory : goal.returns-in-InterruptConfirm-clause-memory
-returns-in-InterruptConfirm-clause-memory g c = c.handle_confirmation.ensures.memory
-
-pub returns-in_default-clause-unchanged : goal.returns-in_default-clause-unchanged
-returns-in_default-clause-unchanged g c = c.handle_ready.ensures.unchanged
-
-pub returns-in_default-clause-memory : goal.returns-in_default-clause-memory
-returns-in_default-clause-memory g c = c.handle_ready.ensures.memory

@@ -5,7 +5,7 @@ use Rattle.line_model.specs.packets.Classes.{packet_class}
 use Rattle.channel_machine.specs.Reached.{is_from}
 use Rattle.channel_machine.specs.TermsStand.{TermsStand}
 use Rattle.channel_machine.specs.Agreed.{agreed_of}
-use Rattle.channel_machine.specs.Moves.{IsChange, TakesUsable}
+use Rattle.channel_machine.specs.Moves.{IsChange}
 use Rattle.channel_machine.specs.Channels.{Known, Does}
 use Rattle.channel_machine.proofs.Reached.{unanswered}
 use Rattle.channel_machine.proofs.channel.StatusChannel.go.Goals as goal
@@ -37,13 +37,3 @@ returns-in-Keeps-clause-does g c k item of r from s =
       stands = c.enter.ensures.stands k (subst (λ t. TermsStand t k) (sym terms_are) s.terms) s.transfer.settings;
       reports = sym (append-nil c.args.events.now.items);
     })
-
-pub open-requires : goal.open-requires
-open-requires g c =
-    let i = c.args.self.now.terms.interface in
-    record { usable = subst (λ d. TakesUsable d i) c.in-Opens.is (c.change_of.ensures.usable i c.requires.usable) }
-
-pub go_up-requires : goal.go_up-requires
-go_up-requires g c =
-    let i = c.args.self.now.terms.interface in
-    record { usable = subst (λ d. TakesUsable d i) c.in-GoesUp.is (c.change_of.ensures.usable i c.requires.usable) }

@@ -1,15 +1,9 @@
 use Rattle.std.proofs.Common.{◌≡◌, sym, subst, ◌∙◌, ap, [], ◌∷◌, ◌++◌, Some}
-use Rattle.packet_decode.specs.Shown.{IsUsable}
 use Rattle.channel_machine.specs.TermsStand.{TermsStand}
 use Rattle.channel_machine.specs.Agreed.{agreed_of}
 use Rattle.channel_machine.specs.Channels.{Known}
 use Rattle.channel_machine.proofs.InForce.{accepted_stands}
 use Rattle.channel_machine.proofs.channel.StatusChannel.go_up.Goals as goal
-
-pub accepted-terms-requires : goal.accepted-terms-requires
-accepted-terms-requires g c = record {
-  usable = subst (λ i. IsUsable i c.args.fields.now) (sym (ap (λ t. t.interface) (c.terms.ensures ∙ ap (λ (o : Known). o.terms) c.self.view_is))) c.requires.usable;
-}
 
 pub returns-clause-does : goal.returns-clause-does
 returns-clause-does g c k xs shows u s =

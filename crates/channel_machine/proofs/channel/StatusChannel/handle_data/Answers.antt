@@ -41,9 +41,3 @@ pub list_unqualified-requires-clause-said : goal.list_unqualified-requires-claus
 list_unqualified-requires-clause-said g c =
     data_said c.args.self.now.terms.interface c.args.item.now c.in-Some.header c.requires.said c.requires.class
     (ap (λ (x : Item). header_in x.packet) (sym c.item.view_is) ∙ sym c.header_of.ensures ∙ c.in-Some.is)
-
-pub handle_qualified-requires-clause-qualified : goal.handle_qualified-requires-clause-qualified
-handle_qualified-requires-clause-qualified g c = c.if-header.true
-
-pub list_unqualified-requires-clause-unqualified : goal.list_unqualified-requires-clause-unqualified
-list_unqualified-requires-clause-unqualified g c = c.if-header.false

@@ -4,26 +4,9 @@ use Rattle.line_model.specs.basics.Records.{Item}
 use Rattle.line_model.specs.packets.Classes.{header_length}
 use Rattle.channel_machine.specs.Channels.{Known}
 use Rattle.channel_machine.specs.Transfers.{counted_in_force, packet}
-use Rattle.channel_machine.proofs.SaidData.{few_of, qualified_is, rest_of, whole_octets}
-use Rattle.channel_machine.proofs.Taking.{data_is, unchanged_between, heard_by, refused_by}
+use Rattle.channel_machine.proofs.SaidData.{qualified_is, rest_of, whole_octets}
+use Rattle.channel_machine.proofs.Taking.{data_is, heard_by, refused_by}
 use Rattle.channel_machine.proofs.channel.StatusChannel.handle_qualified.Goals as goal
-
-pub slice_bounds-user_data-count : goal.slice_bounds-user_data-count
-slice_bounds-user_data-count g c =
-    let same : c.interface.result ≡ c.args.self.now.terms.interface = c.interface.ensures ∙ ap (λ (o : Known). o.terms.interface) c.self.view_is in
-    subst (λ n. n ≤ length c.item.inside.octets.now) (sym (c.header_length.ensures.length ∙ ap header_length same))
-    (subst (λ (x : Item). header_length c.args.self.now.terms.interface ≤ length x.octets) (sym c.item.view_is) (whole_octets c.args.self.now.terms.interface c.args.item.now c.args.header.now c.requires.said c.requires.qualified))
-
-pub accept_data-requires : goal.accept_data-requires
-accept_data-requires g c = record {
-  short = few_of c.header_length.result c.args.item.now.length c.item.inside.octets.now
-      (ap (λ (x : Item). length x.octets) c.item.view_is ∙ c.requires.said.full c.requires.qualified) c.requires.short;
-}
-
-pub returns-in-Some-clause-unchanged : goal.returns-in-Some-clause-unchanged
-returns-in-Some-clause-unchanged g c =
-    unchanged_between c.fail.result c.args.self.now c.accept_data.new.self c.fail.new.self c.args.events.now.items c.accept_data.new.events.items c.fail.new.events.items
-    (rw c.in-Some.is at c.in_ok-code.ensures.faulted) c.fail.ensures.unchanged
 
 pub returns-in-Some-clause-does : goal.returns-in-Some-clause-does
 returns-in-Some-clause-does g c k s =

@@ -1,14 +1,12 @@
-use Rattle.std.proofs.Common.{◌≡◌, ◌≤◌, ◌∙◌, ap, sym, subst, None}
-use Rattle.std.specs.Prelude.{IfOk, IfNone}
+use Rattle.std.proofs.Common.{◌∙◌, ap, sym, subst, None}
+use Rattle.std.specs.Prelude.{IfOk}
 use Rattle.line_model.specs.basics.Records.{Item}
-use Rattle.line_model.specs.declared.packet.Class.TheVariants.{Data}
 use Rattle.line_model.specs.channels.ChannelStep.{failing, transferring, verdict, verdict_step}
 use Rattle.line_model.specs.declared.table.Action.TheVariants.{Normal}
 use Rattle.line_model.specs.packets.Classes.{packet_class}
 use Rattle.line_model.specs.packets.Formats.{format_fault}
 use Rattle.channel_machine.specs.Channels.{Does}
 use Rattle.channel_machine.specs.Entries.{is_transfer}
-use Rattle.channel_machine.specs.Sizes.{largest_length}
 use Rattle.channel_machine.proofs.FirstFault.{first_fault_is, transfer_no_call, undirected}
 use Rattle.channel_machine.proofs.channel.StatusChannel.handle_transfer.Goals as goal
 
@@ -47,10 +45,3 @@ returns-in-None-clause-does g c k s =
     (sym c.in-None.is ∙ fault)
     (subst (λ v. IfOk c.carry.result (λ _. Does judgement.origin old c.carry.new.self c.args.events.now.items c.carry.new.events.items (transferring i judgement.state v r k)))
     class (c.carry.ensures.does k s))
-
-pub carry-requires-clause-class : goal.carry-requires-clause-class
-carry-requires-clause-class g c = c.class-class.ensures ∙ ap (λ (x : Item). packet_class x.packet) c.item.view_is
-
-pub carry-requires-clause-short : goal.carry-requires-clause-short
-carry-requires-clause-short g c =
-    λ e. subst (λ (x : Item). x.length ≤ largest_length) c.item.view_is (subst (λ o. IfNone o (c.class-class.result ≡ Data → c.item.inside.length ≤ largest_length)) c.in-None.is c.length_fault.ensures.short e)

@@ -1,4 +1,4 @@
-use Rattle.std.proofs.Common.{◌∙◌, refl, ap, sym, subst, [], ◌∷◌, ◌++◌, Some, false, Option}
+use Rattle.std.proofs.Common.{◌∙◌, refl, ap, subst, [], ◌∷◌, ◌++◌, Some, false, Option}
 use Rattle.std.specs.Prelude.{map}
 use Rattle.line_model.specs.channels.Channels.{Channel, Opening}
 use Rattle.line_model.specs.declared.event.What.{What}
@@ -6,7 +6,6 @@ use Rattle.line_model.specs.declared.event.What.TheVariants.{Open}
 use Rattle.line_model.specs.declared.event.How.TheVariants.{Collision}
 use Rattle.line_model.specs.packets.Facilities.{fields_of}
 use Rattle.line_model.specs.channels.ChannelStep.{Outcome, ending, entering, opening}
-use Rattle.packet_decode.specs.Shown.{IsUsable}
 use Rattle.channel_machine.specs.Events.{event_at}
 use Rattle.channel_machine.specs.TermsStand.{TermsStand}
 use Rattle.channel_machine.specs.Agreed.{agreed_of}
@@ -14,11 +13,6 @@ use Rattle.channel_machine.specs.Channels.{Known, Stands, Does}
 use Rattle.channel_machine.proofs.Calls.{after_events, bare_after, reopens}
 use Rattle.channel_machine.proofs.InForce.{opened_stands}
 use Rattle.channel_machine.proofs.channel.StatusChannel.open.Goals as goal
-
-pub opened-terms-requires : goal.opened-terms-requires
-opened-terms-requires g c = record {
-  usable = subst (λ i. IsUsable i c.args.fields.now) (sym (c.interface.ensures ∙ ap (λ (o : Known). o.terms.interface) c.self.view_is ∙ c.end.ensures.interface)) c.requires.usable;
-}
 
 pub returns-clause-does : goal.returns-clause-does
 returns-clause-does g c k xs shows bare s =

@@ -6,9 +6,6 @@ use Rattle.line_model.specs.packets.Formats.{direction_fault, format_fault, or_o
 use Rattle.channel_machine.proofs.FirstFault.{first_fault_is}
 use Rattle.channel_machine.proofs.channel.StatusChannel.read.Goals as goal
 
-pub read_format-requires-clause-class : goal.read_format-requires-clause-class
-read_format-requires-clause-class g c = c.class-class.ensures ∙ ap (λ (x : Item). packet_class x.packet) c.item.view_is
-
 pub returns-in-None-clause-fault : goal.returns-in-None-clause-fault
 returns-in-None-clause-fault g c k s =
     let old = c.args.self.now in
