@@ -87,7 +87,7 @@ impl<A: Allocator> EpochWalk<A> {
     }
 
     /// The step of a row by the table of the restart machine.
-    #[inline(never)]
+    #[inline(always)]
     fn step_by_table(&mut self, item: &ItemRef<'_>) -> Result<Step, AllocError>
         requires epochs { self.old.epoch + 1 < 2 ^ 32 }
         ensures step { IfOk result (IsStep self.old.machine self.old.epoch item.now) }
