@@ -5,7 +5,7 @@ import argparse
 import shlex
 from collections.abc import Sequence
 
-from x25tools_lib.options import Words, check, header_words, reading_words, side_words
+from x25tools_lib.options import Words, check, given_option, header_words, reading_words, side_words
 from x25tools_lib.refusals import PageWhy, Why
 
 REASONS = ", ".join(why.value for why in (*Why, *PageWhy))
@@ -99,13 +99,7 @@ def check_several(words: argparse.Namespace) -> None:
 
 def of_captures(words: argparse.Namespace) -> str | None:
     """An option among the words that is of captures alone, or None."""
-    program, given = parser(), vars(words)
-    bare = vars(program.parse_args(["-"]))
-    for action in program._actions:
-        if action.option_strings and action.dest in given and action.dest not in OF_PAGES:
-            if given[action.dest] != bare[action.dest]:
-                return action.option_strings[0]
-    return None
+    return given_option(words, parser(), OF_PAGES)
 
 
 def line_with(arguments: Sequence[str], *options: str) -> str:
