@@ -40,12 +40,12 @@ def say_failure(fault: OSError) -> None:
     say(f"reading or writing failed: {name}{fault.strerror or fault}")
 
 
-def is_live(words: argparse.Namespace, wishes: Wishes) -> bool:
+def is_live(words: argparse.Namespace, wishes: Wishes, waiting: Waiting) -> bool:
     """Whether rows can be written as frames come: from a pipe, with all numbers of the header given."""
     if not any(map(is_pipe, words.captures)):
         return False
     missing = wishes.missing()
-    if missing and (words.is_followed or wishes.window and wishes.size):
+    if missing and not waiting.is_over and (words.is_followed or wishes.window and wishes.size):
         say(f"rows wait for the end of the input; with {', '.join(missing)} too they are written as frames come")
     return not missing
 
@@ -72,7 +72,7 @@ def write_captures(
     choices, wishes = chosen(words)
     if words.comments is not None:
         write_comments(words, ledger, waiting)
-    elif is_live(words, wishes):
+    elif is_live(words, wishes, waiting):
         captures = Captures(words.captures, choices.kinds, ledger, waiting, first)
         live = Live(ledger, Reading(ledger, choices), wishes, words.times)
         live.write(captures.frames(), title_of(words.captures), out)

@@ -1,7 +1,6 @@
 """A trace that is read in place of a capture, and goes on as it is."""
 from __future__ import annotations
 
-import contextlib
 from collections.abc import Iterator
 
 from x25tools_lib.ledger import Ledger, Reason, Topic
@@ -18,9 +17,12 @@ LONGEST_LINE = 8501
 
 def is_next(source: Source) -> bool:
     """Whether a trace comes: a header, perhaps after comments. Of a text that grows it waits for no more than that."""
-    with contextlib.suppress(Interrupted):
+    try:
         return has_header(source)
-    return False
+    except Interrupted:
+        if not source.waiting.interrupted:
+            raise
+        return False
 
 
 def has_header(source: Source) -> bool:
@@ -40,7 +42,10 @@ def has_header(source: Source) -> bool:
 
 
 def lines_of(source: Source, ledger: Ledger) -> Iterator[bytes]:
-    """The text of a trace in whole lines, as they come. An interruption leaves out a line that was begun."""
+    """The text of a trace in whole lines, as they come.
+
+    Where the reading is interrupted, or a gzip file is cut off or damaged, a line that was begun is left out.
+    """
     rest = b""
     try:
         while octets := source.rest():
@@ -58,7 +63,7 @@ def lines_of(source: Source, ledger: Ledger) -> Iterator[bytes]:
             raise
         ledger.report(Topic.INTERRUPTED, "interrupted: the trace is of what was read before")
     else:
-        if rest:
+        if rest and not source.damages:
             yield rest
     for words in source.damages:
         ledger.damaged(Reason.BAD_FILE, f"{source.name}: {words}")
