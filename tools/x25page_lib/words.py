@@ -10,8 +10,8 @@ from x25tools_lib.refusals import PageWhy, Why
 
 REASONS = ", ".join(why.value for why in (*Why, *PageWhy))
 NAMES_OF_PAGES = """\
-Without -o the page is NAME.html in the current folder, for a file NAME or NAME.pcap, and nothing else is written. It is
-one file: a browser shows it from the disk, and it asks no network for anything. It replaces a page of that name, but no
+Without -o the page is NAME.html in the current folder, for a file NAME, NAME.pcap or NAME.pcap.gz, and nothing else is
+written. It is one file: a browser shows it from the disk, and it asks no network for anything. It replaces a page of that name, but no
 other file."""
 EPILOG = f"""
 examples:
@@ -51,7 +51,8 @@ def parser() -> Words:
         allow_abbrev=False,
     )
     words.add_argument("captures", metavar="CAPTURE", nargs="+",
-                       help="a trace; or a capture, or files of a rotated one in their order; - for standard input")
+                       help="a trace; or a capture, or files of a rotated one in their order; - for standard input. Each may be "
+                       "packed by gzip")
     words.add_argument("-o", dest="page", metavar="OUT", help="the file of the page, by default NAME.html")
     words.add_argument("--each", dest="is_each", action="store_true",
                        help="write a page for each file, also for those in folders that are named, and an index of them, "

@@ -11,12 +11,13 @@ from x25tools_lib.streams import is_pipe, is_same, shown_name
 FOLLOWING = """\
 With --follow, x25scan prints each finding as soon as its row is written, and the rest of the report at the end. Ctrl-C
 (SIGINT) and SIGTERM end the reading, and the report of what was read follows. A second one ends all at once. Findings of
-a pipe come at once where options give all numbers of the header, or where the pipe has a trace."""
+a pipe come at once where options give all numbers of the header, or where the pipe has a trace. The exit status is that
+of x25scan where there is a trace: 0 without findings, 1 with findings."""
 EPILOG = f"""
 examples:
   x25trace xot.pcapng > xot.trace && x25scan < xot.trace
   x25trace --dte 192.0.2.7 --win 2 --size 128 xot.pcap | x25scan
-  x25trace --as 147=lapb line.pcap      a user link type that holds LAPB
+  x25trace --as 147=x25 line.pcap       a user link type that holds packets; LAPB is tried by itself
   x25trace --as x25 debug.txt           a hex dump of packets, with a line I or O before each
   tcpdump -U -w - | x25trace --follow --mod 8 --win 2 --size 128 --pvc 0 --svc 64 -
   tail -n +1 -F line.trace | x25trace --follow -
@@ -31,8 +32,6 @@ exit status:
   3   reading or writing failed
   64  the command line was refused
   130 it was interrupted (SIGINT): the trace has what was read before
-
-With --follow the status is that of x25scan, where there is a trace: 0 without findings, 1 with findings.
 """
 # The options that a trace may have.
 OF_TRACES = ("is_followed", "scanner")
