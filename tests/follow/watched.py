@@ -93,7 +93,8 @@ def second_problems(number: signal.Signals) -> list[str]:
         other = int(read_until(running.stdout.fileno(), b"\n"))
         running.send_signal(number)
         errors = read_until(running.stderr.fileno(), b"\n")
-        while running.poll() is None:
+        end = time.monotonic() + SECONDS
+        while running.poll() is None and time.monotonic() < end:
             running.send_signal(number)
             time.sleep(0.05)
         found = [] if running.returncode == 130 else [f"status {running.returncode}, wanted 130: {errors!r}"]

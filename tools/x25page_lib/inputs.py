@@ -7,7 +7,7 @@ import os
 import sys
 import tempfile
 from collections.abc import Iterator
-from typing import BinaryIO
+from typing import BinaryIO, cast
 
 from x25tools_lib import notes
 from x25tools_lib.ledger import Ledger
@@ -92,8 +92,8 @@ def named_trace(name: str, source: Source, ledger: Ledger) -> Iterator[tuple[Bin
         with open_input(name) as file:
             yield file, head_of(file)
         return
-    with tempfile.TemporaryFile() as copy:
-        size = 0
+    with tempfile.TemporaryFile() as file_of_copy:
+        copy, size = cast(BinaryIO, file_of_copy), 0
         for lines in lines_of(source, ledger):
             copy.write(lines)
             size += len(lines)
