@@ -23,9 +23,10 @@ CAPTURE = runner.ROOT / "tests" / "captures" / "files" / "dump-of-packets.txt"
 SECONDS = 60
 PIPES = dict.fromkeys(("stdin", "stdout", "stderr"), subprocess.PIPE)
 INTERRUPTED = "x25trace: interrupted: the trace is of what was read before\n"
-# Scripts in place of x25scan: one that reads to its end, and one that ends by nothing that ends the reading.
-READER, SLEEPER = "cat > /dev/null; echo reported; exit {}", "echo $$; exec sleep 1000"
+# Scripts in place of x25scan: one that reads to its end, and one that reads a line and does not end.
+READER, SLEEPER = "cat > /dev/null; echo reported; exit {}", "read line; echo $$; exec sleep 1000"
 CTRL_C = b"\x03"
+LATER = 0.5
 
 
 def script(folder: str, text: str) -> pathlib.Path:
@@ -89,15 +90,17 @@ def signal_problems(scanner: str, number: signal.Signals, send: Callable[[int, s
 def second_problems(number: signal.Signals) -> list[str]:
     """A second signal ends both programs at once, though x25scan would go on."""
     with tempfile.TemporaryDirectory() as folder, watching(script(folder, SLEEPER)) as running:
-        assert running.stdout and running.stderr
+        assert running.stdin and running.stdout and running.stderr
+        running.stdin.write(EXAMPLE.read_bytes())
         other = int(read_until(running.stdout.fileno(), b"\n"))
         running.send_signal(number)
         errors = read_until(running.stderr.fileno(), b"\n")
-        end = time.monotonic() + SECONDS
-        while running.poll() is None and time.monotonic() < end:
-            running.send_signal(number)
-            time.sleep(0.05)
-        found = [] if running.returncode == 130 else [f"status {running.returncode}, wanted 130: {errors!r}"]
+        # Signals that come sooner after each other are one.
+        time.sleep(LATER)
+        found = [] if running.poll() is None else ["it did not wait for x25scan"]
+        running.send_signal(number)
+        outcome = ended(running, b"", errors)
+    found += runner.differences(outcome, (130, b"", INTERRUPTED.encode()))
     return found + ([f"{other} runs"] if os.path.exists(f"/proc/{other}") else [])
 
 
