@@ -5,7 +5,7 @@ import argparse
 import shlex
 from collections.abc import Sequence
 
-from x25tools_lib.options import Words, check, given_option, header_words, reading_words, side_words
+from x25tools_lib.options import Words, check, option_among, header_words, reading_words, side_words
 from x25tools_lib.refusals import PageWhy, Why
 
 REASONS = ", ".join(why.value for why in (*Why, *PageWhy))
@@ -100,7 +100,7 @@ def check_several(words: argparse.Namespace) -> None:
 
 def of_captures(words: argparse.Namespace) -> str | None:
     """An option among the words that is of captures alone, or None."""
-    return given_option(words, parser(), OF_PAGES)
+    return option_among(words, parser(), OF_PAGES)
 
 
 def line_with(arguments: Sequence[str], *options: str) -> str:

@@ -136,7 +136,7 @@ def chosen(words: argparse.Namespace) -> tuple[Choices, Wishes]:
     return choices, wishes
 
 
-def given_option(words: argparse.Namespace, parser: argparse.ArgumentParser, others: Collection[str]) -> str | None:
+def option_among(words: argparse.Namespace, parser: argparse.ArgumentParser, others: Collection[str]) -> str | None:
     """An option among parsed words that is none of these others; None where there is none."""
     given, bare = vars(words), vars(parser.parse_args(["-"]))
     for action in parser._actions:

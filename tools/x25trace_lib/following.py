@@ -21,7 +21,7 @@ def shield() -> None:
 
 
 class Follower:
-    """A program x25scan that follows the trace, in a session of its own: Ctrl-C at the terminal doesn't reach it."""
+    """A program x25scan that follows the trace, in a session of its own, so Ctrl-C at the terminal doesn't reach it."""
 
     def __init__(self, scanner: str | None, waiting: Waiting) -> None:
         self.waiting, self.name = waiting, str(scanner or SCANNER)
@@ -37,7 +37,7 @@ class Follower:
 
     @property
     def out(self) -> TextIO:
-        """What takes the trace."""
+        """Where the trace is written."""
         return cast(TextIO, self.process.stdin)
 
     def look(self, _number: int = 0, _frame: FrameType | None = None) -> None:

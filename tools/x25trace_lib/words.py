@@ -4,7 +4,7 @@ from __future__ import annotations
 import argparse
 from collections.abc import Sequence
 
-from x25tools_lib.options import Words, check, given_option, header_words, reading_words, side_words
+from x25tools_lib.options import Words, check, option_among, header_words, reading_words, side_words
 from x25tools_lib.refusals import Why
 from x25tools_lib.streams import is_pipe, is_same, shown_name
 
@@ -17,7 +17,7 @@ EPILOG = f"""
 examples:
   x25trace xot.pcapng > xot.trace && x25scan < xot.trace
   x25trace --dte 192.0.2.7 --win 2 --size 128 xot.pcap | x25scan
-  x25trace --as 147=x25 line.pcap       a user link type that holds packets; LAPB is tried by itself
+  x25trace --as 147=x25 line.pcap       a user link type that holds packets; without --as LAPB is tried
   x25trace --as x25 debug.txt           a hex dump of packets, with a line I or O before each
   tcpdump -U -w - | x25trace --follow --mod 8 --win 2 --size 128 --pvc 0 --svc 64 -
   tail -n +1 -F line.trace | x25trace --follow -
@@ -82,6 +82,6 @@ def parsed(arguments: Sequence[str]) -> argparse.Namespace:
 
 def check_trace(words: argparse.Namespace) -> None:
     """Refuses the words of a trace that are of captures."""
-    if option := given_option(words, parser(), OF_TRACES):
+    if option := option_among(words, parser(), OF_TRACES):
         name = shown_name(words.captures[0])
         parser().error(f"{option} is of captures, and {name} is a trace, which has its header and its sides")
