@@ -1,4 +1,6 @@
 """Tests of parts that no small capture reaches."""
+import os
+import signal
 import unittest
 
 from x25tools_lib.halves import Halves
@@ -7,6 +9,7 @@ from x25tools_lib.ledger import Ledger
 from x25tools_lib.notes import Head
 from x25tools_lib.sides import Side
 from x25tools_lib.streams import TOGETHER, Interrupted, Waiting
+from x25tools_lib.waking import Waker
 from x25trace_lib.channels import assign
 from x25trace_lib.comments import comments_of
 from x25trace_lib.internet import Segment
@@ -43,6 +46,37 @@ class Signals(unittest.TestCase):
         waiting.since -= 1000 + 2 * TOGETHER
         with self.assertRaises(KeyboardInterrupt):
             waiting.interrupt(2, None)
+
+
+class Waking(unittest.TestCase):
+    """A signal wakes what waits, also one that came just before; octets wake it, and their end."""
+
+    def setUp(self):
+        self.waker, before = Waker(), signal.signal(signal.SIGUSR1, lambda *_: None)
+        self.addCleanup(signal.signal, signal.SIGUSR1, before)
+        self.waker.start()
+        self.addCleanup(signal.set_wakeup_fd, -1)
+
+    def test_signal_that_came_before(self):
+        os.kill(os.getpid(), signal.SIGUSR1)
+        self.assertFalse(self.waker.wait())
+
+    def test_octets(self):
+        reader, writer = os.pipe()
+        self.addCleanup(os.close, reader)
+        os.write(writer, b"octets")
+        self.assertTrue(self.waker.wait(reader))
+        os.kill(os.getpid(), signal.SIGUSR1)
+        self.assertTrue(self.waker.wait(reader))
+        self.assertEqual(os.read(reader, 6), b"octets")
+        os.kill(os.getpid(), signal.SIGUSR1)
+        self.assertFalse(self.waker.wait(reader))
+        os.close(writer)
+        self.assertTrue(self.waker.wait(reader))
+
+    def test_without_signals(self):
+        """Where no signal was asked for, the call that waits is the reading itself."""
+        self.assertTrue(Waker().wait())
 
 
 class Kinds(unittest.TestCase):

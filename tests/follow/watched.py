@@ -27,6 +27,8 @@ INTERRUPTED = "x25trace: interrupted: the trace is of what was read before\n"
 READER, SLEEPER = "cat > /dev/null; echo reported; exit {}", "read line; echo $$; exec sleep 1000"
 CTRL_C = b"\x03"
 LATER = 0.5
+# What no program writes.
+NEVER = b"\0"
 
 
 def script(folder: str, text: str) -> pathlib.Path:
@@ -65,8 +67,8 @@ def read_until(stream: int, text: bytes) -> bytes:
 def ended(running: subprocess.Popen[bytes], before: bytes, rest: bytes = b"") -> runner.Outcome:
     """The outcome once it has ended, with its input still open; before and rest were read of its output and its errors."""
     assert running.stdout and running.stderr
-    out = before + running.stdout.read()
-    errors = rest + running.stderr.read()
+    out = before + read_until(running.stdout.fileno(), NEVER)
+    errors = rest + read_until(running.stderr.fileno(), NEVER)
     return runner.Outcome(running.wait(SECONDS), out, errors)
 
 

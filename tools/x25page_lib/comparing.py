@@ -24,7 +24,7 @@ def totals(job: Job, label: str, name: str) -> tuple[Totals, bool]:
     words = copy.copy(job.words)
     words.captures = [name]
     waiting = Waiting()
-    signal.signal(signal.SIGINT, waiting.interrupt)
+    waiting.handle(signal.SIGINT)
     messages, accounts = Messages(lambda it: say(f"{label}: {it}")), Accounts()
     found = read(replace(job, words=words, arguments=[name], waiting=waiting), messages, accounts.watch)
     if waiting.interrupted:

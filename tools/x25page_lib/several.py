@@ -117,7 +117,7 @@ def line_of(page: Page, path: str, name: str) -> Line:
 def write_page(job: Job, one: Input, place: pathlib.Path) -> Outcome:
     """Writes the page of an input."""
     waiting = job.waiting
-    signal.signal(signal.SIGINT, waiting.interrupt)
+    waiting.handle(signal.SIGINT)
     messages = Messages(None)
     page = Page(read(job, messages))
     with written(place) as out:

@@ -5,6 +5,7 @@ import errno
 import io
 import os
 import pathlib
+import signal
 import stat
 import sys
 import time
@@ -14,6 +15,7 @@ from typing import BinaryIO
 
 from .packed import ENDING
 from .refusals import Refusal, Why
+from .waking import WAKER
 
 CHUNK = 1 << 18
 
@@ -118,6 +120,12 @@ class Waiting:
         self.interrupted = self.is_over = self.inside = False
         self.since = 0.0
 
+    def handle(self, *numbers: signal.Signals) -> None:
+        """Has signals end the reading."""
+        WAKER.start()
+        for number in numbers:
+            signal.signal(number, self.interrupt)
+
     def interrupt(self, _number: int, _frame: FrameType | None) -> None:
         """The handler of the signal; a second one ends the program."""
         now = time.monotonic()
@@ -140,6 +148,8 @@ class Waiting:
         try:
             if self.is_over:
                 raise Interrupted
+            while not WAKER.wait(stream.fileno()):
+                pass
             return stream.read1(CHUNK)  # type: ignore[attr-defined, no-any-return]
         finally:
             self.inside = False

@@ -159,5 +159,5 @@ def program(arguments: Sequence[str]) -> int:
     # Nothing that is made for a frame refers to itself, so there is nothing to search for.
     gc.disable()
     signal.signal(signal.SIGPIPE, signal.SIG_DFL)
-    signal.signal(signal.SIGINT, waiting.interrupt)
+    waiting.handle(signal.SIGINT)
     return main(arguments, waiting)

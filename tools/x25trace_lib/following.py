@@ -10,6 +10,7 @@ from typing import TextIO, cast
 
 from x25tools_lib.scanner import SCANNER
 from x25tools_lib.streams import Waiting
+from x25tools_lib.waking import WAKER
 
 ENDINGS = (signal.SIGINT, signal.SIGTERM)
 
@@ -25,8 +26,7 @@ class Follower:
 
     def __init__(self, scanner: str | None, waiting: Waiting) -> None:
         self.waiting, self.name = waiting, str(scanner or SCANNER)
-        for number in ENDINGS:
-            signal.signal(number, waiting.interrupt)
+        waiting.handle(*ENDINGS)
         # Where x25scan has ended, the next write fails.
         signal.signal(signal.SIGPIPE, signal.SIG_IGN)
         self.process = subprocess.Popen(
@@ -49,7 +49,10 @@ class Follower:
         """Ends the trace, and waits for the end of the report; returns the status, below 0 where a signal ended x25scan."""
         with contextlib.suppress(BrokenPipeError):
             self.out.close()
-        return self.process.wait()
+        # Its end is a signal too.
+        while (status := self.process.poll()) is None:
+            WAKER.wait()
+        return status
 
     def kill(self) -> None:
         """Ends x25scan at once, where it runs: it reports nothing."""
