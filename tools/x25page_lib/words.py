@@ -11,8 +11,8 @@ from x25tools_lib.refusals import PageWhy, Why
 REASONS = ", ".join(why.value for why in (*Why, *PageWhy))
 NAMES_OF_PAGES = """\
 Without -o the page is NAME.html in the current folder, for a file NAME, NAME.pcap or NAME.pcap.gz, and nothing else is
-written. It is one file: a browser shows it from the disk, and it asks no network for anything. It replaces a page of that name, but no
-other file."""
+written. It is one file: a browser shows it from the disk, and it asks no network for anything. It replaces a page of
+that name, but no other file."""
 EPILOG = f"""
 examples:
   x25page day.pcap                      writes day.html, of XOT, LAPB or X.25 in a pcap, pcapng or snoop file

@@ -89,7 +89,7 @@ def is_frame(octets: bytes) -> bool:
 
 
 def kind_of(octets: bytes) -> str | None:
-    """The kind of --as by which octets look like a frame of LAPB: with a right check sequence, or without; None for others."""
+    """The kind of --as by which octets look like a frame of LAPB, with a right check sequence or without; or None."""
     unframed = unframe(octets)
     if unframed is not None and is_frame(unframed):
         return "hdlc"

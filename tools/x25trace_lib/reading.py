@@ -90,8 +90,8 @@ class Reading:
             words = f"frame {frame.number}: link type {link} is not known; {option} says what it holds: {KINDS_TEXT}"
             self.ledger.report(Topic.UNKNOWN_LINK, words)
             return Carried.UNKNOWN, 0
-        words = f"frame {frame.number} looks like LAPB, so link type {link} is read as {kind}; {option} reads it as something else"
-        self.ledger.report(Topic.UNKNOWN_LINK, words)
+        words = f"frame {frame.number} looks like LAPB, so link type {link} is read as {kind}"
+        self.ledger.report(Topic.UNKNOWN_LINK, f"{words}; {option} reads it as something else")
         self.tried.add(kind)
         self.openers[link] = OPENERS[kind]
         return self.openers[link](frame)
