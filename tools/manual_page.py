@@ -19,7 +19,6 @@ sys.dont_write_bytecode = True
 from codes_document import rows  # noqa: E402
 from option_tables import OPTIONS, ROOT, Option, section, texts_of_scan  # noqa: E402
 from x25page_lib import words as page_words  # noqa: E402
-from x25tools_lib.choices import KINDS  # noqa: E402
 from x25trace_lib import words as trace_words  # noqa: E402
 
 WORDS = ROOT / "crates" / "command_line" / "src" / "options.rt"
@@ -120,9 +119,8 @@ def python_page(program: str, summary: str, words: argparse.ArgumentParser, more
 def trace_page() -> str:
     """The page of x25trace."""
     words = trace_words.parser()
-    kinds = f"Kinds of --as: {', '.join(KINDS)}."
     documents = f"{DOCUMENTS}CAPTURES.md says which captures are read and how, and {DOCUMENTS}TRACE.md how a trace is written."
-    return python_page("x25trace", "the trace of the X.25 packets in a capture", words, kinds, documents)
+    return python_page("x25trace", "the trace of the X.25 packets in a capture", words, trace_words.FOLLOWING, documents)
 
 
 def page_page() -> str:

@@ -8,6 +8,7 @@ import re
 from dataclasses import dataclass
 
 from x25page_lib import words as page_words
+from x25tools_lib.choices import KINDS
 from x25trace_lib import words as trace_words
 
 ROOT = pathlib.Path(__file__).resolve().parent.parent
@@ -16,6 +17,8 @@ CONSTANT = re.compile(r'pub const (\w+): &str = "((?:[^"\\]|\\.)*)";', re.DOTALL
 OPTION = re.compile(r"^ +(?:(-\w), )?(--[\w-]+)(?: (\[?)<(\w+)>\]?)? {2,}(.+)$", re.MULTILINE)
 OPERAND = re.compile(r"^  \[(\w+)\] {2,}(.+)$", re.MULTILINE)
 FILES = ("FILE", "CAPTURE", "OUT", "PROGRAM")
+# What completes a value that may be another one too.
+SUGGESTED = {"kinds": KINDS}
 TITLES_OF_ARGPARSE = ("positional arguments", "options")
 
 
@@ -69,7 +72,7 @@ def options_of_scan():
 
 def option_of_action(action, group):
     """The option that an action of a parser is."""
-    choices = tuple(map(str, action.choices or ()))
+    choices = tuple(map(str, action.choices or SUGGESTED.get(action.dest, ())))
     has_value = action.nargs != 0
     value = (action.metavar or "|".join(choices)) if has_value else ""
     option = Option(tuple(action.option_strings), action.help, value, choices=choices, group=group)

@@ -1,6 +1,7 @@
 """Tests of the program as it is called: what is refused, its streams, its exit status and its command line."""
+import bz2
 import fcntl
-import gzip
+import lzma
 import os
 import pathlib
 import signal
@@ -57,8 +58,9 @@ class Refused(unittest.TestCase):
     def test_empty(self):
         self.refused(b"", "Empty")
 
-    def test_gzip(self):
-        self.refused(gzip.compress((FILES / "ethernet.pcap").read_bytes()), "Compressed")
+    def test_packed_otherwise(self):
+        self.refused(bz2.compress((FILES / "ethernet.pcap").read_bytes()), "Compressed")
+        self.refused(lzma.compress((FILES / "ethernet.pcap").read_bytes()), "Compressed")
 
     def test_other_file(self):
         self.refused(b"\x7fELF\2\1\1" + bytes(100), "UnknownFormat")
@@ -87,7 +89,13 @@ class Refused(unittest.TestCase):
         self.refused(pcap(1, [ethernet(bytes(46), 0x0806)]), "NoPacket")
 
     def test_unknown_link_type(self):
+        """What does not look like LAPB is not read as such; a link type that is no user's is not tried."""
         self.refused(pcap(147, [octets for _, octets in packets_of()]), "NoPacket")
+        line = (FILES / "lapb-on-a-user-link-type.pcap").read_bytes()
+        self.refused(line[:20] + (163).to_bytes(4, "little") + line[24:], "NoPacket")
+        done = run("x25-with-direction-on-a-user-link-type.pcap", cwd=FILES)
+        words = b"--as 147=KIND says what it holds: ethernet, sll, sll2, ip, lapb, lapb-dir, hdlc, x25 or x25-dir\n"
+        self.assertIn(b"x25trace: frame 1: link type 147 is not known; " + words, done.stderr)
 
     def test_two_carriers(self):
         frames = [cooked_1(one, 4) for one in conversation()] + [cooked_1(one, 4, 0x0805) for _, one in packets_of()]
@@ -110,6 +118,24 @@ class Called(unittest.TestCase):
         piped = run("-", input=capture)
         want = (FILES / "ethernet.trace").read_bytes().replace(b"from ethernet.pcap", b"from standard input")
         self.assertEqual((piped.returncode, piped.stdout), (0, want))
+
+    def test_user_link_types(self):
+        """LAPB is tried for the link types of users, with a check sequence and without one, as the first frame looks."""
+        for name, kind in (("lapb-on-a-user-link-type", "lapb"), ("hdlc-with-check-sequence", "hdlc"), ("hdlc-with-flags", "hdlc")):
+            octets = (FILES / f"{name}.pcap").read_bytes()
+            for link in (147, 155, 162):
+                done = run("-", input=octets[:20] + link.to_bytes(4, "little") + octets[24:])
+                words = f"frame 1 looks like LAPB, so link type {link} is read as {kind}; --as {link}=KIND reads it as something else"
+                self.assertEqual(done.returncode, 0)
+                self.assertIn(f"x25trace: {words}\n".encode(), done.stderr)
+                self.assertIn(f"# {words}\n".encode(), done.stdout)
+                rows = [line for line in (FILES / f"{name}.trace").read_bytes().splitlines() if line[:1] != b"#"]
+                self.assertEqual([line for line in done.stdout.splitlines() if line[:1] != b"#"], rows)
+
+    def test_kind_that_is_none(self):
+        done = run("--as", "147=x26", "a")
+        words = b"argument --as: 'x26' is no kind: it is ethernet, sll, sll2, ip, lapb, lapb-dir, hdlc, x25 or x25-dir\n"
+        self.assertTrue(done.stderr.endswith(b"x25trace: " + words), done.stderr)
 
     def test_only_one_carrier(self):
         frames = [cooked_1(one, 4) for one in conversation()] + [cooked_1(one, 4, 0x0805) for _, one in packets_of()]
@@ -274,7 +300,7 @@ class Rotated(unittest.TestCase):
 
     def test_refused_before_it_is_read(self):
         good = (FILES / "ethernet.pcap").read_bytes()
-        for why, octets in (("Empty", b""), ("UnknownFormat", b"\x7fELF"), ("Compressed", gzip.compress(good))):
+        for why, octets in (("Empty", b""), ("UnknownFormat", b"\x7fELF"), ("Compressed", bz2.compress(good))):
             done = self.run_on(("a", good), ("b", octets))
             self.assertEqual((done.returncode, done.stdout), (2, b""))
             self.assertIn(f"x25trace: {why}: b ".encode(), done.stderr)

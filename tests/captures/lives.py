@@ -3,6 +3,7 @@ import io
 import pathlib
 import re
 import select
+import signal
 import subprocess
 import time
 import unittest
@@ -31,6 +32,8 @@ HEAD = re.compile(
     r"|.* gets no channel"
 )
 ENDS = "192.0.2.1 port 1025 (T) and 192.0.2.2 port 1998 (N)"
+# What is found in the followed frames as they come, and what follows at the end.
+FOLLOWED = (["F 6 T d1 1"], ["C 1 1 1 out - - 4 5 - open 0 0 0 0 0", "A - 1 0", "P 1 5", "Z 3 1 1 0 0"])
 CHANNEL = f"# connection 1 is channel 1: {ENDS}, logical channel 1 in the capture"
 
 
@@ -134,17 +137,36 @@ class Cases(unittest.TestCase):
                 self.assertEqual(self.written(case, Live), self.written(case, Trace))
 
 
+def followed_frames():
+    """A call whose third packet has P(S) 2, which is out of order."""
+    talk = Talk()
+    return [*talk.open(), talk.a(CALL), talk.b(ACCEPTED), talk.a(DATA[:4] + "04AA")]
+
+
 def follow_complaints(program):
     """What is wrong with the findings of x25scan --follow on a capture as it is written."""
-    talk = Talk()
-    frames = [*talk.open(), talk.a(CALL), talk.b(ACCEPTED), talk.a(DATA[:4] + "04AA")]
     with subprocess.Popen([PROGRAM, *GIVEN, "-"], stdin=subprocess.PIPE, stdout=subprocess.PIPE,
                           stderr=subprocess.DEVNULL) as writer:
         with subprocess.Popen([*program, "--follow"], stdin=writer.stdout, stdout=subprocess.PIPE) as reader:
-            writer.stdin.write(pcap(1, [ethernet(one) for one in frames]))
+            writer.stdin.write(pcap(1, [ethernet(one) for one in followed_frames()]))
             writer.stdin.flush()
             first = said_by(reader.stdout, 1)
             writer.stdin.close()
             rest = reader.stdout.read().decode().splitlines()
-    wanted = (["F 6 T d1 1"], ["C 1 1 1 out - - 4 5 - open 0 0 0 0 0", "A - 1 0", "P 1 5", "Z 3 1 1 0 0"])
-    return [] if (first, rest) == wanted else [f"got {first} and then {rest}"]
+    return [] if (first, rest) == FOLLOWED else [f"got {first} and then {rest}"]
+
+
+def interrupted_complaints(program):
+    """What is wrong with x25trace --follow on a capture that is interrupted while it is written."""
+    words = [PROGRAM, "--follow", "--scanner", program, *GIVEN, "-"]
+    with subprocess.Popen(words, **STREAMS) as running:
+        running.stdin.write(pcap(1, [ethernet(one) for one in followed_frames()]))
+        running.stdin.flush()
+        first = said_by(running.stdout, 1)
+        running.send_signal(signal.SIGINT)
+        rest = running.stdout.read().decode().splitlines()
+        errors = running.stderr.read().decode().splitlines()
+    said = ["x25trace: interrupted: the trace is of what was read before, 6 frames",
+            "x25trace: left out: TCP segments without octets: 3"]
+    got, wanted = (first, rest, errors, running.returncode), (*FOLLOWED, said, 1)
+    return [] if got == wanted else [f"got {got}, wanted {wanted}"]

@@ -1,4 +1,6 @@
 """Tests of parts that no small capture reaches."""
+import os
+import signal
 import unittest
 
 from x25tools_lib.halves import Halves
@@ -6,9 +8,12 @@ from x25tools_lib.header import Header
 from x25tools_lib.ledger import Ledger
 from x25tools_lib.notes import Head
 from x25tools_lib.sides import Side
+from x25tools_lib.streams import TOGETHER, Interrupted, Waiting
+from x25tools_lib.waking import Waker
 from x25trace_lib.channels import assign
 from x25trace_lib.comments import comments_of
 from x25trace_lib.internet import Segment
+from x25trace_lib.lapb import kind_of
 from x25trace_lib.packets import Packet, Type
 from x25trace_lib.spool import Spool
 from x25trace_lib.tcp import MOST_OF_ONE, PATIENCE, PATIENCE_ONE_WAY, Budget, Connection, Gap
@@ -19,6 +24,82 @@ ENDS = (b"\1\2\3\4\4\1", b"\1\2\3\5\7\xce")
 
 def segment(sequence, payload, frame=1, acknowledged=None):
     return Segment(frame, *ENDS, sequence, acknowledged, 0, payload, 0)
+
+
+class Signals(unittest.TestCase):
+    """The first signal ends the reading; one that comes with it is the same, and one that comes later ends the program."""
+
+    def test_reading(self):
+        waiting = Waiting()
+        waiting.inside = True
+        with self.assertRaises(Interrupted):
+            waiting.interrupt(2, None)
+        with self.assertRaises(Interrupted):
+            waiting.octets(None)
+
+    def test_second(self):
+        waiting = Waiting()
+        waiting.interrupt(2, None)
+        waiting.since += 1000
+        waiting.interrupt(2, None)
+        self.assertTrue(waiting.interrupted)
+        waiting.since -= 1000 + 2 * TOGETHER
+        with self.assertRaises(KeyboardInterrupt):
+            waiting.interrupt(2, None)
+
+
+class Waking(unittest.TestCase):
+    """A signal wakes what waits, also one that came just before; octets wake it, and their end."""
+
+    def setUp(self):
+        self.waker, before = Waker(), signal.signal(signal.SIGUSR1, lambda *_: None)
+        self.addCleanup(signal.signal, signal.SIGUSR1, before)
+        self.waker.start()
+        self.addCleanup(signal.set_wakeup_fd, -1)
+
+    def test_signal_that_came_before(self):
+        os.kill(os.getpid(), signal.SIGUSR1)
+        self.assertFalse(self.waker.wait())
+
+    def test_octets(self):
+        reader, writer = os.pipe()
+        self.addCleanup(os.close, reader)
+        os.write(writer, b"octets")
+        self.assertTrue(self.waker.wait(reader))
+        os.kill(os.getpid(), signal.SIGUSR1)
+        self.assertTrue(self.waker.wait(reader))
+        self.assertEqual(os.read(reader, 6), b"octets")
+        os.kill(os.getpid(), signal.SIGUSR1)
+        self.assertFalse(self.waker.wait(reader))
+        os.close(writer)
+        self.assertTrue(self.waker.wait(reader))
+
+    def test_without_signals(self):
+        """Where no signal was asked for, the call that waits is the reading itself."""
+        self.assertTrue(Waker().wait())
+
+
+class Kinds(unittest.TestCase):
+    """What looks like a frame of LAPB, by ISO/IEC 7776: addresses, control fields and lengths."""
+
+    def test_frames(self):
+        # SABM, SABME, DISC, UA, DM, FRMR of both moduli, RR, RNR and REJ of both moduli, and I frames of both.
+        good = ("013F", "036F", "0143", "0373", "010F", "0397000000", "0187" + "00" * 5, "0121", "03E5", "0159", "010101",
+                "0305FF", "010900", "010010010B", "03001001FB", "01000010010B", "03FE0120012B", "01005001AA")
+        for frame in good:
+            self.assertEqual(kind_of(bytes.fromhex(frame)), "lapb", frame)
+
+    def test_others(self):
+        # Other addresses, UI and XID, S and U frames with octets behind them, I frames without a packet, and packets.
+        other = ("", "01", "003F", "0F3F", "FF03", "0103", "01AF", "013F00", "03970000", "012100", "010100000000", "0100",
+                 "01001001", "0100000000", "010033333333", "1000FB0700", "10010B0000", "4500001C", "7E7E")
+        for frame in other:
+            self.assertIsNone(kind_of(bytes.fromhex(frame)), frame)
+
+    def test_check_sequences(self):
+        # SABM with its sum, reckoned bit by bit from the polynomial of ISO/IEC 13239.
+        self.assertEqual(kind_of(bytes.fromhex("013FEBDF")), "hdlc")
+        self.assertIsNone(kind_of(bytes.fromhex("013FEBDE")))
 
 
 class Numbers(unittest.TestCase):

@@ -137,7 +137,7 @@ class Called(unittest.TestCase):
             ("Absent: there is no file nowhere.pcap", "nowhere.pcap"),
             ("Folder: ", "-o", "a.html", self.folder),
             ("UnknownFormat: ", "odd"),
-            ("Compressed: ", FILES / "write-me.pcap.gz"),
+            ("Compressed: a.pcap.gz: its gzip data is damaged (unknown compression method): ", FILES / "write-me.pcap.gz"),
             ("Trace: ", FAULTY),
             ("Header: WIN 8 is not 1 to 7", "--win", "8", CAPTURE),
         )

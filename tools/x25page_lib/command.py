@@ -99,6 +99,6 @@ def program(arguments: Sequence[str]) -> Status:
     # Little that is made for a row refers to itself, so there is little to search for.
     gc.disable()
     signal.signal(signal.SIGPIPE, signal.SIG_DFL)
-    signal.signal(signal.SIGINT, waiting.interrupt)
+    waiting.handle(signal.SIGINT)
     signal.signal(signal.SIGTERM, terminate)
     return main(arguments, waiting)

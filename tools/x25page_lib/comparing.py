@@ -7,7 +7,7 @@ import signal
 from dataclasses import replace
 
 from x25tools_lib.options import Status
-from x25tools_lib.streams import Waiting, write_text
+from x25tools_lib.streams import Waiting, stem_of, write_text
 
 from .comparison_page import comparison_page
 from .comparison_text import comparison_text
@@ -24,7 +24,7 @@ def totals(job: Job, label: str, name: str) -> tuple[Totals, bool]:
     words = copy.copy(job.words)
     words.captures = [name]
     waiting = Waiting()
-    signal.signal(signal.SIGINT, waiting.interrupt)
+    waiting.handle(signal.SIGINT)
     messages, accounts = Messages(lambda it: say(f"{label}: {it}")), Accounts()
     found = read(replace(job, words=words, arguments=[name], waiting=waiting), messages, accounts.watch)
     if waiting.interrupted:
@@ -38,7 +38,7 @@ def path_of(job: Job) -> pathlib.Path | None:
     if words.page is None and words.summary:
         return None
     is_named = words.page is not None
-    stems = [pathlib.PurePath(it).stem for it in words.captures]
+    stems = map(stem_of, words.captures)
     return checked(pathlib.Path(words.page if is_named else f"{'-to-'.join(stems)}.html"), words.captures, is_named)
 
 

@@ -16,6 +16,7 @@ from x25tools_lib.ledger import Ledger
 from x25tools_lib.notes import Head
 from x25tools_lib.streams import Waiting, title_of
 from x25trace_lib.captures import is_trace
+from x25trace_lib.source import first_source
 
 from . import inputs
 from .facts import Facts
@@ -38,7 +39,7 @@ class Messages(Ledger):
         super().__init__(self.add)
         self.say_it = say_it
         self.all: list[str] = []
-        self.is_capture = False
+        self.is_capture = self.is_packed = False
 
     def add(self, words: str) -> None:
         """Keeps and says a message."""
@@ -77,18 +78,20 @@ class Read:
 def opened_trace(words: argparse.Namespace, messages: Messages, waiting: Waiting) -> Iterator[tuple[BinaryIO, Head]]:
     """The trace that is named, or that of the captures that are, and what it says besides its rows."""
     inputs.take_pipe(words)
-    if not is_trace(inputs.start_of(words.captures[0])):
-        messages.is_capture = True
-        with inputs.trace_of(words, messages, waiting) as made:
-            yield made
-        return
-    if len(words.captures) > 1:
-        parser().error("a trace stands alone; docs/GUIDE.md says how several become one")
-    if not words.has_several and (option := of_captures(words)):
-        reason = f"{words.captures[0]} is a trace, which has its header and its sides"
-        parser().error(f"{option} is of captures, and {reason}")
-    with inputs.named_trace(words.captures[0]) as named:
-        yield named
+    name = words.captures[0]
+    with first_source(words.captures, waiting) as source:
+        if not is_trace(inputs.start_of(source)):
+            messages.is_capture = True
+            with inputs.trace_of(words, messages, waiting, source) as made:
+                yield made
+            return
+        if len(words.captures) > 1:
+            parser().error("a trace stands alone; docs/GUIDE.md says how several become one")
+        if not words.has_several and (option := of_captures(words)):
+            parser().error(f"{option} is of captures, and {name} is a trace, which has its header and its sides")
+        messages.is_packed = source.is_packed
+        with inputs.named_trace(name, source, messages) as named:
+            yield named
 
 
 def show_header(head: Head, messages: Messages) -> None:
@@ -101,14 +104,15 @@ def show_header(head: Head, messages: Messages) -> None:
         messages.lack(head.halves)
 
 
-def again(words: argparse.Namespace, arguments: Sequence[str], is_capture: bool) -> Again:
+def again(words: argparse.Namespace, arguments: Sequence[str], messages: Messages) -> Again:
     """What stands in a command that reads the same again: of a capture, also without a number that is changed."""
-    if is_capture:
+    if messages.is_capture:
         # The page may be for other people: it has no folder of this machine.
         shown = [os.path.basename(word) if word in words.captures else word for word in arguments]
         return {"all": line_with(shown), **{name: line_with(shown, option) for name, option in OPTIONS.items()}}
     name = words.captures[0]
-    return "TRACE" if name == "-" else shlex.quote(os.path.basename(name))
+    shown_trace = "TRACE" if name == "-" else shlex.quote(os.path.basename(name))
+    return f"<(gzip -dc {shown_trace})" if messages.is_packed else shown_trace
 
 
 def read(job: Job, messages: Messages, watch: Watch | None = None) -> Read:
@@ -123,5 +127,5 @@ def read(job: Job, messages: Messages, watch: Watch | None = None) -> Read:
         explanations, facts = scanner.explanations(), Facts(Halves(head))
         facts.use.begin(*(int(head.numbers.get(name) or standard) for name, standard in (("WIN", 2), ("MOD", 8))))
         scanner.report(facts, trace, watch)
-    words_again = again(words, job.arguments, messages.is_capture)
+    words_again = again(words, job.arguments, messages)
     return Read(title_of(words.captures), head, facts, messages, explanations, words_again)

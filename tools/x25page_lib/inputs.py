@@ -4,22 +4,22 @@ from __future__ import annotations
 import argparse
 import contextlib
 import os
-import shutil
 import sys
 import tempfile
 from collections.abc import Iterator
-from typing import BinaryIO
+from typing import BinaryIO, cast
 
 from x25tools_lib import notes
 from x25tools_lib.ledger import Ledger
 from x25tools_lib.notes import MOST_CIRCUITS, Circuit, Head
-from x25tools_lib.streams import Waiting, is_pipe, open_input
+from x25tools_lib.streams import Interrupted, Waiting, is_pipe, open_input
 from x25trace_lib.captures import LOOK
 from x25trace_lib.making import file_of, gathered
+from x25trace_lib.passing import LONGEST_LINE, lines_of
+from x25trace_lib.source import Source
+from x25trace_lib.trace import LARGEST_TEXT
 
 MOST_COMMENTS, LONGEST_COMMENT = 20, 300
-# Of a trace that x25scan takes no line is longer.
-LONGEST_LINE = 8501
 
 
 def take_pipe(words: argparse.Namespace) -> None:
@@ -32,12 +32,11 @@ def take_pipe(words: argparse.Namespace) -> None:
         words.captures = ["-"]
 
 
-def start_of(name: str) -> bytes:
-    """The first octets of a file, which can be read again; none of a pipe among several files."""
-    if name == "-":
-        return b"" if sys.stdin is None else sys.stdin.buffer.peek(LOOK)  # type: ignore[attr-defined, no-any-return]
-    with open_input(name) as stream:
-        return b"" if is_pipe(name) else stream.read(LOOK)
+def start_of(source: Source) -> bytes:
+    """The first octets of a source, which are read again; after an interruption those that came before."""
+    with contextlib.suppress(Interrupted):
+        return source.peek(LOOK)
+    return source.ahead
 
 
 def head_of(trace: BinaryIO) -> Head:
@@ -84,22 +83,33 @@ def add_comment(head: Head, words: str) -> None:
 
 
 @contextlib.contextmanager
-def named_trace(name: str) -> Iterator[tuple[BinaryIO, Head]]:
-    """A trace in an open file, the file itself or a copy of standard input, and what it says besides its rows."""
-    with contextlib.ExitStack() as held:
-        file = held.enter_context(open_input(name))
-        if name == "-":
-            copy = held.enter_context(tempfile.TemporaryFile())
-            shutil.copyfileobj(file, copy)
-            copy.seek(0)
-            file = copy  # type: ignore[assignment]
-        yield file, head_of(file)
+def named_trace(name: str, source: Source, ledger: Ledger) -> Iterator[tuple[BinaryIO, Head]]:
+    """A trace in an open file, and what it says besides its rows.
+
+    It is the file itself, or a copy of standard input or of what a gzip file holds.
+    """
+    if name != "-" and not source.is_packed:
+        with open_input(name) as file:
+            yield file, head_of(file)
+        return
+    with tempfile.TemporaryFile() as file_of_copy:
+        copy, size = cast(BinaryIO, file_of_copy), 0
+        for lines in lines_of(source, ledger):
+            copy.write(lines)
+            size += len(lines)
+            # x25scan refuses it, and needs no more to do so.
+            if size > LARGEST_TEXT:
+                break
+        copy.seek(0)
+        yield copy, head_of(copy)
 
 
 @contextlib.contextmanager
-def trace_of(words: argparse.Namespace, ledger: Ledger, waiting: Waiting) -> Iterator[tuple[BinaryIO, Head]]:
+def trace_of(
+    words: argparse.Namespace, ledger: Ledger, waiting: Waiting, first: Source,
+) -> Iterator[tuple[BinaryIO, Head]]:
     """The trace of the packets in captures, in an open file; each row has the time of its frame."""
-    with file_of(gathered(words, ledger, waiting, True), words.captures) as (file, head):
+    with file_of(gathered(words, ledger, waiting, True, first), words.captures) as (file, head):
         os.lseek(file.fileno(), 0, os.SEEK_SET)
         with open(file.fileno(), "rb", closefd=False) as octets:
             yield octets, head

@@ -11,7 +11,7 @@ from collections.abc import Iterable, Iterator
 from typing import TextIO
 
 from x25tools_lib.refusals import PageWhy, Refusal
-from x25tools_lib.streams import is_same
+from x25tools_lib.streams import is_same, stem_of
 
 from .markup import is_page
 
@@ -21,8 +21,8 @@ def path_of(words: argparse.Namespace) -> pathlib.Path:
     if words.page is not None:
         return checked(pathlib.Path(words.page), words.captures, True)
     name = pathlib.PurePath(words.captures[0])
-    path = pathlib.Path(name.stem + ".html") if name.suffix != ".html" else pathlib.Path(name.name + ".html")
-    return checked(path, words.captures, False)
+    stem = name.name if name.suffix == ".html" else stem_of(name.name)
+    return checked(pathlib.Path(f"{stem}.html"), words.captures, False)
 
 
 def checked(path: pathlib.Path, inputs: Iterable[str], is_named: bool) -> pathlib.Path:

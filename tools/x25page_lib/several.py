@@ -13,9 +13,10 @@ from dataclasses import dataclass, replace
 from x25tools_lib.ledger import Reason
 from x25tools_lib.options import Status
 from x25tools_lib.refusals import PageWhy, Refusal, Why
-from x25tools_lib.streams import Waiting, is_pipe
+from x25tools_lib.streams import Waiting, is_pipe, stem_of
 from x25trace_lib.captures import BINARY, is_trace
 from x25trace_lib.hexdump import is_dump
+from x25trace_lib.source import first_source
 
 from . import inputs
 from .gathering import Job, Messages, read, say
@@ -67,7 +68,7 @@ def names_of(found: Iterable[Input]) -> dict[Input, str]:
     """The file of the page of each input: of two inputs with one name the later one's has a number."""
     taken, names = {INDEX}, {}
     for one in found:
-        stem, number = pathlib.PurePath(one.path).stem, 1
+        stem, number = stem_of(one.path), 1
         name = f"{stem}.html"
         while name in taken:
             number += 1
@@ -83,7 +84,8 @@ def is_foreign(one: Input, job: Job, folder: pathlib.Path) -> bool:
     if path.suffix == ".html" and folder.resolve() in path.resolve().parents or is_pipe(one.path):
         return True
     try:
-        start = inputs.start_of(one.path)
+        with first_source([one.path], Waiting()) as source:
+            start = inputs.start_of(source)
     except Refusal:
         return False
     if is_trace(start):
@@ -115,7 +117,7 @@ def line_of(page: Page, path: str, name: str) -> Line:
 def write_page(job: Job, one: Input, place: pathlib.Path) -> Outcome:
     """Writes the page of an input."""
     waiting = job.waiting
-    signal.signal(signal.SIGINT, waiting.interrupt)
+    waiting.handle(signal.SIGINT)
     messages = Messages(None)
     page = Page(read(job, messages))
     with written(place) as out:

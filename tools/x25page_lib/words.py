@@ -5,14 +5,14 @@ import argparse
 import shlex
 from collections.abc import Sequence
 
-from x25tools_lib.options import Words, check, header_words, reading_words, side_words
+from x25tools_lib.options import Words, check, option_among, header_words, reading_words, side_words
 from x25tools_lib.refusals import PageWhy, Why
 
 REASONS = ", ".join(why.value for why in (*Why, *PageWhy))
 NAMES_OF_PAGES = """\
-Without -o the page is NAME.html in the current folder, for a file NAME or NAME.pcap, and nothing else is written. It is
-one file: a browser shows it from the disk, and it asks no network for anything. It replaces a page of that name, but no
-other file."""
+Without -o the page is NAME.html in the current folder, for a file NAME, NAME.pcap or NAME.pcap.gz, and nothing else is
+written. It is one file: a browser shows it from the disk, and it asks no network for anything. It replaces a page of
+that name, but no other file."""
 EPILOG = f"""
 examples:
   x25page day.pcap                      writes day.html, of XOT, LAPB or X.25 in a pcap, pcapng or snoop file
@@ -51,7 +51,8 @@ def parser() -> Words:
         allow_abbrev=False,
     )
     words.add_argument("captures", metavar="CAPTURE", nargs="+",
-                       help="a trace; or a capture, or files of a rotated one in their order; - for standard input")
+                       help="a trace; or a capture, or files of a rotated one in their order; - for standard input. Each may be "
+                       "packed by gzip")
     words.add_argument("-o", dest="page", metavar="OUT", help="the file of the page, by default NAME.html")
     words.add_argument("--each", dest="is_each", action="store_true",
                        help="write a page for each file, also for those in folders that are named, and an index of them, "
@@ -99,13 +100,7 @@ def check_several(words: argparse.Namespace) -> None:
 
 def of_captures(words: argparse.Namespace) -> str | None:
     """An option among the words that is of captures alone, or None."""
-    program, given = parser(), vars(words)
-    bare = vars(program.parse_args(["-"]))
-    for action in program._actions:
-        if action.option_strings and action.dest in given and action.dest not in OF_PAGES:
-            if given[action.dest] != bare[action.dest]:
-                return action.option_strings[0]
-    return None
+    return option_among(words, parser(), OF_PAGES)
 
 
 def line_with(arguments: Sequence[str], *options: str) -> str:

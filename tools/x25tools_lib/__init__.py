@@ -1,6 +1,7 @@
 """What x25trace and x25page share.
 
-streams     standard streams, files and pipes by name, and how SIGINT ends the reading
+streams     standard streams, files and pipes by name, and how SIGINT ends the reading; packed has gzip files, waking
+            what wakes a program that waits
 refusals    why there is no output; ledger has what is damaged and how much was left out
 options     the options of both command lines, and the exit status; choices has how a capture is read, header what the
             header of a trace says

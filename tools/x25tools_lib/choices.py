@@ -9,6 +9,7 @@ from .sides import Side
 XOT_PORT = 1998
 # What frames of a link type may hold, as --as names it.
 KINDS = ("ethernet", "sll", "sll2", "ip", "lapb", "lapb-dir", "hdlc", "x25", "x25-dir")
+KINDS_TEXT = f"{', '.join(KINDS[:-1])} or {KINDS[-1]}"
 
 
 class Carrier(enum.Enum):

@@ -5,10 +5,10 @@ import argparse
 import enum
 import ipaddress
 import sys
-from collections.abc import Callable
+from collections.abc import Callable, Collection
 from typing import NoReturn
 
-from .choices import KINDS, XOT_PORT, Carrier, Choices, SideBy
+from .choices import KINDS, KINDS_TEXT, XOT_PORT, Carrier, Choices, SideBy
 from .header import LARGEST_SIZE, LAST_CHANNEL, SMALLEST_SIZE, Wishes
 from .sides import Side
 
@@ -62,7 +62,7 @@ def kind(word: str) -> tuple[int | None, str]:
     """A link type, None for those that are not known, and what its frames hold."""
     link, parted, name = word.rpartition("=")
     if name not in KINDS:
-        raise argparse.ArgumentTypeError(f"{name!r} is not one of {', '.join(KINDS)}")
+        raise argparse.ArgumentTypeError(f"{name!r} is no kind: it is {KINDS_TEXT}")
     return number(0, 65_535)(link) if parted else None, name
 
 
@@ -78,7 +78,8 @@ def sender(word: str) -> tuple[int, Side]:
 def reading_words(group: argparse._ArgumentGroup) -> None:
     """The options of how a capture is read."""
     group.add_argument("--as", dest="kinds", metavar="[LINKTYPE=]KIND", type=kind, action="append", default=[],
-                       help="what the frames of a link type hold, or those of a hex dump and of all unknown link types")
+                       help="what the frames of a link type hold, or those of a hex dump and of all unknown link types: "
+                       f"{KINDS_TEXT}; by default LAPB is tried for the link types 147 to 162 of users")
     group.add_argument("--only", choices=[one.value for one in Carrier], help="read only what this carrier carries")
     group.add_argument("--interface", metavar="N", type=number(0, 65_535), action="append", default=[],
                        help="read only this interface of a pcapng file, from 0; may be repeated")
@@ -133,6 +134,16 @@ def chosen(words: argparse.Namespace) -> tuple[Choices, Wishes]:
         link_modulus=words.link_modulus,
     )
     return choices, wishes
+
+
+def option_among(words: argparse.Namespace, parser: argparse.ArgumentParser, others: Collection[str]) -> str | None:
+    """An option among parsed words that is none of these others; None where there is none."""
+    given, bare = vars(words), vars(parser.parse_args(["-"]))
+    for action in parser._actions:
+        if action.option_strings and action.dest in given and action.dest not in others:
+            if given[action.dest] != bare[action.dest]:
+                return action.option_strings[0]
+    return None
 
 
 def check(words: argparse.Namespace, parser: argparse.ArgumentParser) -> None:

@@ -5,13 +5,17 @@ import errno
 import io
 import os
 import pathlib
+import signal
 import stat
 import sys
+import time
 from collections.abc import Callable, Sequence
 from types import FrameType
 from typing import BinaryIO
 
+from .packed import ENDING
 from .refusals import Refusal, Why
+from .waking import WAKER
 
 CHUNK = 1 << 18
 
@@ -24,6 +28,11 @@ def shown_name(name: str) -> str:
 def title_of(names: Sequence[str]) -> str:
     """What an output says that it is from."""
     return shown_name(pathlib.PurePath(names[0]).name) if len(names) == 1 else f"{len(names)} captures"
+
+
+def stem_of(name: str) -> str:
+    """The name of a file without its folder and without its ending, also where it is packed: day, of day.pcap.gz."""
+    return pathlib.PurePath(pathlib.PurePath(name).name.removesuffix(ENDING)).stem
 
 
 def write_text(text: str) -> None:
@@ -94,6 +103,10 @@ class Interrupted(Exception):
     """The reading is to end here."""
 
 
+# Signals that come within so many seconds are one: timeout sends its signal to its command, and then to its group.
+TOGETHER = 0.25
+
+
 def nothing() -> None:
     """What is done before waiting, unless something else is asked for."""
 
@@ -103,13 +116,28 @@ class Waiting:
 
     def __init__(self) -> None:
         self.before: Callable[[], object] = nothing
-        self.interrupted = self.inside = False
+        # Whether a signal ended the reading, and when; whether it is over for any reason; whether octets are waited for.
+        self.interrupted = self.is_over = self.inside = False
+        self.since = 0.0
+
+    def handle(self, *numbers: signal.Signals) -> None:
+        """Has signals end the reading."""
+        WAKER.start()
+        for number in numbers:
+            signal.signal(number, self.interrupt)
 
     def interrupt(self, _number: int, _frame: FrameType | None) -> None:
         """The handler of the signal; a second one ends the program."""
-        if self.interrupted:
+        now = time.monotonic()
+        if not self.interrupted:
+            self.interrupted, self.since = True, now
+            self.end()
+        elif now - self.since > TOGETHER:
             raise KeyboardInterrupt
-        self.interrupted = True
+
+    def end(self) -> None:
+        """Ends the reading."""
+        self.is_over = True
         if self.inside:
             raise Interrupted
 
@@ -118,8 +146,10 @@ class Waiting:
         self.before()
         self.inside = True
         try:
-            if self.interrupted:
+            if self.is_over:
                 raise Interrupted
+            while not WAKER.wait(stream.fileno()):
+                pass
             return stream.read1(CHUNK)  # type: ignore[attr-defined, no-any-return]
         finally:
             self.inside = False

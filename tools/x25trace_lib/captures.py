@@ -5,12 +5,14 @@ import contextlib
 import os
 from collections.abc import Iterator, Sequence
 
-from x25tools_lib.ledger import Ledger, Topic
+from x25tools_lib.choices import KINDS_TEXT
+from x25tools_lib.ledger import Ledger, Reason, Topic
 from x25tools_lib.refusals import Refusal, Why
 from x25tools_lib.streams import Interrupted, Waiting, is_pipe, open_input, shown_name
 
 from .frames import Frame
 from .hexdump import HexDump, is_dump
+from .passing import is_next
 from .pcap import MAGICS, Pcap
 from .pcapng import MAGIC, Pcapng
 from .snoop import MAGIC as SNOOP_MAGIC
@@ -52,6 +54,8 @@ def form_of(source: Source, kinds: dict[int | None, str]) -> type[Form]:
         return Pcapng
     start = source.peek(LOOK)
     if not start:
+        if source.damages:
+            raise Refusal(Why.COMPRESSED, f"{source.name}: {source.damages[0]}")
         raise Refusal(Why.EMPTY, f"{source.name} has no octet")
     if start.startswith(SNOOP_MAGIC):
         return Snoop
@@ -62,11 +66,15 @@ def form_of(source: Source, kinds: dict[int | None, str]) -> type[Form]:
         if start.startswith(magic):
             words = f"{source.name} is a {form} file"
             raise Refusal(Why.UNKNOWN_FORMAT, f"{words}; {TURN}, of Wireshark, turns it into one that is read")
+    if is_next(source):
+        words = f"{source.name} is a trace, which stands alone; docs/GUIDE.md says how several become one"
+        raise Refusal(Why.UNKNOWN_FORMAT, words)
     if not is_dump(start):
         words = f"{source.name} is no pcap, pcapng, snoop or hex dump; it begins with {start[:4].hex(' ').upper()}"
         raise Refusal(Why.UNKNOWN_FORMAT, f"{words}; {TURN} turns what Wireshark opens")
     if None not in kinds:
-        raise Refusal(Why.KIND_MISSING, f"{source.name}, a hex dump, does not say what it holds; --as KIND does")
+        words = f"{source.name}, a hex dump, does not say what it holds; --as KIND does: {KINDS_TEXT}"
+        raise Refusal(Why.KIND_MISSING, words)
     return HexDump
 
 
@@ -83,10 +91,13 @@ def is_trace(start: bytes) -> bool:
 
 
 class Captures:
-    """The frames of files, numbered on from each to the next."""
+    """The frames of files, numbered on from each to the next. The first one may be open, and looked at."""
 
-    def __init__(self, names: Sequence[str], kinds: dict[int | None, str], ledger: Ledger, waiting: Waiting) -> None:
-        self.names, self.kinds, self.ledger, self.waiting = names, kinds, ledger, waiting
+    def __init__(
+        self, names: Sequence[str], kinds: dict[int | None, str], ledger: Ledger, waiting: Waiting,
+        first: Source | None = None,
+    ) -> None:
+        self.names, self.kinds, self.ledger, self.waiting, self.first = names, kinds, ledger, waiting, first
         self.several = len(names) > 1
         self.number = 0
         # The time of the last frame that was read, where the capture says it.
@@ -102,6 +113,8 @@ class Captures:
                     self.ledger.note(f"frames from {self.number + 1} on are of {os.path.basename(name)}")
                 yield from self.frames_of(name)
         except Interrupted:
+            if not self.waiting.interrupted:
+                raise
             words = f"interrupted: the trace is of what was read before, {self.number} frames"
             self.ledger.report(Topic.INTERRUPTED, words)
 
@@ -141,6 +154,11 @@ class Captures:
     @contextlib.contextmanager
     def opened(self, name: str) -> Iterator[Form]:
         """What reads a file."""
-        with open_input(name) as stream:
-            source = Source(stream, self.waiting, shown_name(name), self.several)
+        with contextlib.ExitStack() as held:
+            source, self.first = self.first, None
+            if source is None:
+                stream = held.enter_context(open_input(name))
+                source = Source(stream, self.waiting, shown_name(name), self.several)
             yield form_of(source, self.kinds)(source, self.ledger, self.number)
+            for words in source.damages:
+                self.ledger.damaged(Reason.BAD_FILE, f"{source.name}: {words}")

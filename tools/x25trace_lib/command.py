@@ -7,49 +7,77 @@ import os
 import signal
 import sys
 from collections.abc import Sequence
+from typing import TextIO
 
 from x25tools_lib.halves import Halves
 from x25tools_lib.header import Wishes
 from x25tools_lib.ledger import Ledger
 from x25tools_lib.options import Status, chosen
 from x25tools_lib.refusals import Refusal
-from x25tools_lib.streams import Waiting, is_open, is_pipe, mute_errors, title_of
+from x25tools_lib.streams import Interrupted, Waiting, is_open, is_pipe, mute_errors, title_of
 
-from . import comments
+from . import comments, passing
 from .captures import Captures
+from .following import Follower
 from .live import Live
 from .making import file_of, gathered
 from .reading import Reading
-from .words import parsed
+from .source import Source, first_source
+from .words import check_trace, parsed
 
 
 def say(words: object) -> None:
-    print(f"x25trace: {words}", file=sys.stderr)
+    try:
+        print(f"x25trace: {words}", file=sys.stderr)
+    except BrokenPipeError:
+        # With --follow the reader of the report may be there, and no signal ends the program.
+        mute_errors()
 
 
-def is_live(words: argparse.Namespace, wishes: Wishes) -> bool:
+def say_failure(fault: OSError) -> None:
+    """Says what failed."""
+    name = f"{fault.filename}: " if isinstance(fault.filename, str) else ""
+    say(f"reading or writing failed: {name}{fault.strerror or fault}")
+
+
+def is_live(words: argparse.Namespace, wishes: Wishes, waiting: Waiting) -> bool:
     """Whether rows can be written as frames come: from a pipe, with all numbers of the header given."""
     if not any(map(is_pipe, words.captures)):
         return False
     missing = wishes.missing()
-    if missing and wishes.window and wishes.size:
+    if missing and not waiting.is_over and (words.is_followed or wishes.window and wishes.size):
         say(f"rows wait for the end of the input; with {', '.join(missing)} too they are written as frames come")
     return not missing
 
 
-def write(words: argparse.Namespace, ledger: Ledger, waiting: Waiting) -> None:
-    """Reads the captures, and writes their trace or their comments."""
+def write(words: argparse.Namespace, ledger: Ledger, waiting: Waiting, out: TextIO) -> None:
+    """Reads what is named, and writes its trace, or comments into captures."""
+    waiting.before = out.flush
+    if len(words.captures) > 1:
+        write_captures(words, ledger, waiting, None, out)
+        return
+    with first_source(words.captures, waiting) as source:
+        if not passing.is_next(source):
+            write_captures(words, ledger, waiting, source, out)
+            return
+        check_trace(words)
+        for lines in passing.lines_of(source, ledger):
+            out.buffer.write(lines)
+
+
+def write_captures(
+    words: argparse.Namespace, ledger: Ledger, waiting: Waiting, first: Source | None, out: TextIO,
+) -> None:
+    """Writes the trace of captures, or comments into them; the first one may be open, and looked at."""
     choices, wishes = chosen(words)
     if words.comments is not None:
         write_comments(words, ledger, waiting)
-    elif is_live(words, wishes):
-        waiting.before = sys.stdout.flush
-        captures = Captures(words.captures, choices.kinds, ledger, waiting)
+    elif is_live(words, wishes, waiting):
+        captures = Captures(words.captures, choices.kinds, ledger, waiting, first)
         live = Live(ledger, Reading(ledger, choices), wishes, words.times)
-        live.write(captures.frames(), title_of(words.captures), sys.stdout)
+        live.write(captures.frames(), title_of(words.captures), out)
     else:
-        gathered(words, ledger, waiting, words.times).write(title_of(words.captures), sys.stdout)
-    sys.stdout.flush()
+        gathered(words, ledger, waiting, words.times, first).write(title_of(words.captures), out)
 
 
 def write_comments(words: argparse.Namespace, ledger: Ledger, waiting: Waiting) -> None:
@@ -65,11 +93,12 @@ def write_comments(words: argparse.Namespace, ledger: Ledger, waiting: Waiting) 
     say(f"{sum(map(len, texts.values()))} comments, in {len(texts)} frames of {words.comments}")
 
 
-def run(words: argparse.Namespace, waiting: Waiting) -> Status:
+def run(words: argparse.Namespace, waiting: Waiting, out: TextIO) -> Status:
     """Reads and writes; returns the status."""
     ledger = Ledger(say)
     try:
-        write(words, ledger, waiting)
+        write(words, ledger, waiting, out)
+        out.flush()
     except Refusal as refusal:
         status = Status.REFUSED
         say(refusal)
@@ -77,24 +106,49 @@ def run(words: argparse.Namespace, waiting: Waiting) -> Status:
         status = Status.WHOLE if ledger.whole else Status.DAMAGED
     for line in ledger.lines():
         say(line)
-    return Status.INTERRUPTED if waiting.interrupted else status
+    return status
 
 
-def main(arguments: Sequence[str], waiting: Waiting | None = None) -> Status:
+def follow(words: argparse.Namespace, waiting: Waiting) -> int:
+    """Has x25scan follow the trace; returns its status, or that of a trace that could not be made."""
+    follower = Follower(words.scanner, waiting)
+    try:
+        if run(words, waiting, follower.out) is Status.REFUSED:
+            return Status.INTERRUPTED if waiting.interrupted else Status.REFUSED
+        status = follower.end()
+    except (BrokenPipeError, Interrupted):
+        # x25scan has ended, and said why.
+        status = follower.end()
+    except OSError as fault:
+        say_failure(fault)
+        follower.end()
+        return Status.FAILED
+    finally:
+        follower.kill()
+    if status < 0:
+        say(f"{follower.name} was ended by signal {-status}")
+    return status if status >= 0 else 128 - status
+
+
+def main(arguments: Sequence[str], waiting: Waiting | None = None) -> int:
     """Runs in a process whose streams and signals are as they are."""
     words = parsed(arguments)
+    waiting = waiting or Waiting()
     try:
-        return run(words, waiting or Waiting())
+        if words.is_followed:
+            return follow(words, waiting)
+        status = run(words, waiting, sys.stdout)
+        return Status.INTERRUPTED if waiting.interrupted else status
     except OSError as fault:
         # What was not written yet cannot be: nothing may try it again at the end.
         os.dup2(os.open(os.devnull, os.O_WRONLY), sys.stdout.fileno())
-        say(f"reading or writing failed: {fault.strerror or fault}")
+        say_failure(fault)
         return Status.FAILED
     except KeyboardInterrupt:
         return Status.INTERRUPTED
 
 
-def program(arguments: Sequence[str]) -> Status:
+def program(arguments: Sequence[str]) -> int:
     """Runs as a program: a closed pipe ends it as it ends other filters, and SIGINT ends the reading."""
     if not is_open(2):
         mute_errors()
@@ -105,5 +159,5 @@ def program(arguments: Sequence[str]) -> Status:
     # Nothing that is made for a frame refers to itself, so there is nothing to search for.
     gc.disable()
     signal.signal(signal.SIGPIPE, signal.SIG_DFL)
-    signal.signal(signal.SIGINT, waiting.interrupt)
+    waiting.handle(signal.SIGINT)
     return main(arguments, waiting)

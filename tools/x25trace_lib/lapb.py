@@ -25,6 +25,9 @@ COMMAND_SIDES = {0x01: Side.T, 0x03: Side.N}
 RESPONSE_SIDES = {0x03: Side.T, 0x01: Side.N}
 POLL = 0x10
 REJECT = 0x09
+SUPERVISORY = (0x01, 0x05, REJECT)
+# The octets of a frame reject, modulo 8 and modulo 128.
+REJECTED = (5, 7)
 FLAG = b"\x7e"
 
 
@@ -69,6 +72,28 @@ def unframe(octets: bytes) -> bytes | None:
             return None
         octets = octets[:-1]
     return octets[:-2]
+
+
+def is_frame(octets: bytes) -> bool:
+    """Whether octets look like a frame of LAPB: by address, control field and length, and of an I frame by its packet."""
+    if len(octets) < 2 or octets[0] not in COMMAND_SIDES:
+        return False
+    control, length = octets[1], len(octets)
+    if not control & 1:
+        # The general format identifier of a packet, after a control field of one octet or two.
+        return any(length >= at + 3 and octets[at] >> 4 & 3 in (1, 2) for at in (2, 3))
+    if control & 3 == 1:
+        return length == 2 and control & 0x0F in SUPERVISORY or length == 3 and control in SUPERVISORY
+    kind = control & ~POLL
+    return kind in NAMES and (length in REJECTED if kind == Unnumbered.FRMR else length == 2)
+
+
+def kind_of(octets: bytes) -> str | None:
+    """The kind of --as by which octets look like a frame of LAPB, with a right check sequence or without; or None."""
+    unframed = unframe(octets)
+    if unframed is not None and is_frame(unframed):
+        return "hdlc"
+    return "lapb" if is_frame(octets) else None
 
 
 @dataclass(slots=True)

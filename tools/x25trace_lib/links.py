@@ -203,6 +203,9 @@ LINKS: dict[int | str | None, Opener] = {
     276: cooked_2,
 }
 
+# Link types that everybody may use for their own: DLT_USER0 to DLT_USER15.
+USER_LINKS = range(147, 163)
+
 # What reads the frames of each kind, in the order of the kinds.
 OPENERS: dict[str, Opener] = dict(
     zip(KINDS, (ethernet, cooked_1, cooked_2, raw_ip, lapb, lapb_directed, hdlc, x25, x25_directed), strict=True)

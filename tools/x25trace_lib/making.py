@@ -14,13 +14,16 @@ from x25tools_lib.streams import Waiting, title_of
 
 from .captures import Captures
 from .reading import Reading
+from .source import Source
 from .trace import Trace
 
 
-def gathered(words: argparse.Namespace, ledger: Ledger, waiting: Waiting, has_times: bool) -> Trace:
-    """What the trace of the captures that are named is made of."""
+def gathered(
+    words: argparse.Namespace, ledger: Ledger, waiting: Waiting, has_times: bool, first: Source | None = None,
+) -> Trace:
+    """What the trace of the captures that are named is made of; the first one may be open, and looked at."""
     choices, wishes = chosen(words)
-    captures = Captures(words.captures, choices.kinds, ledger, waiting)
+    captures = Captures(words.captures, choices.kinds, ledger, waiting, first)
     trace = Trace(ledger, Reading(ledger, choices), wishes, has_times)
     trace.gather(captures.frames())
     return trace

@@ -3,15 +3,15 @@ from __future__ import annotations
 
 from collections.abc import Iterable, Iterator, Sequence
 
-from x25tools_lib.choices import Carrier, Choices
+from x25tools_lib.choices import KINDS_TEXT, Carrier, Choices
 from x25tools_lib.ledger import Ledger, Reason, Topic
 from x25tools_lib.refusals import Refusal, Why
 from x25tools_lib.sides import Side
 
 from .frames import Direction, Frame
 from .internet import Internet
-from .lapb import Lapb, unframe
-from .links import LINKS, OPENERS, Carried, Found, Opener
+from .lapb import Lapb, kind_of, unframe
+from .links import LINKS, OPENERS, USER_LINKS, Carried, Found, Opener
 from .packets import Packet
 from .xot import Xot
 
@@ -37,6 +37,8 @@ class Reading:
         self.openers.update({link: OPENERS[kind] for link, kind in choices.kinds.items() if link is not None})
         self.other = OPENERS.get(choices.kinds.get(None, ""))
         self.unknown_links: set[int | str | None] = set()
+        # The kinds of link types that --as does not name, as their first frames look.
+        self.tried: set[str] = set()
 
     def packets(self, frames: Iterable[Frame]) -> Iterator[tuple[Carrier, Packet]]:
         """Pairs of a carrier and a packet."""
@@ -72,18 +74,27 @@ class Reading:
 
     def no_packet(self) -> Refusal:
         """The refusal of a capture that has no packet."""
-        kinds = " and ".join(sorted(set(self.choices.kinds.values())))
+        kinds = " and ".join(sorted(self.tried.union(self.choices.kinds.values())))
         hint = f", with frames read as {kinds}: another KIND of --as may be right" if kinds else ""
         return Refusal(Why.NO_PACKET, f"no packet of X.25 in {self.frames} frames{hint}")
 
     def unknown(self, frame: Frame) -> Found:
-        """What a frame of an unknown link type holds."""
-        if frame.link not in self.unknown_links:
-            self.unknown_links.add(frame.link)
-            option = f"--as {frame.link}=KIND" if isinstance(frame.link, int) else "--as KIND"
-            words = f"frame {frame.number}: link type {frame.link} is not known; {option}"
+        """What a frame of an unknown link type holds. The first frame of a user link type decides whether it is LAPB."""
+        link = frame.link
+        if link in self.unknown_links:
+            return Carried.UNKNOWN, 0
+        self.unknown_links.add(link)
+        option = f"--as {link}=KIND" if isinstance(link, int) else "--as KIND"
+        kind = kind_of(frame.octets) if link in USER_LINKS else None
+        if kind is None:
+            words = f"frame {frame.number}: link type {link} is not known; {option} says what it holds: {KINDS_TEXT}"
             self.ledger.report(Topic.UNKNOWN_LINK, words)
-        return Carried.UNKNOWN, 0
+            return Carried.UNKNOWN, 0
+        words = f"frame {frame.number} looks like LAPB, so link type {link} is read as {kind}"
+        self.ledger.report(Topic.UNKNOWN_LINK, f"{words}; {option} reads it as something else")
+        self.tried.add(kind)
+        self.openers[link] = OPENERS[kind]
+        return self.openers[link](frame)
 
     def not_carried(self, frame: Frame, carried: Carried) -> None:
         if carried is Carried.BROKEN:

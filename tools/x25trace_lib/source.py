@@ -1,11 +1,15 @@
-"""The octets of a file or a pipe, with the offset of what comes next; what was looked at is read again."""
+"""The octets of a file or a pipe, with the offset of what comes next; what was looked at is read again.
+
+A gzip file is read as what it holds, and offsets are those of what it holds.
+"""
 from __future__ import annotations
 
-
-from collections.abc import Iterator
+import contextlib
+from collections.abc import Iterator, Sequence
 from typing import BinaryIO
 
-from x25tools_lib.streams import CHUNK, Waiting
+from x25tools_lib.packed import MAGIC, More, Packed, beginning
+from x25tools_lib.streams import CHUNK, Waiting, open_input, shown_name
 
 LONGEST_LINE = 1 << 20
 
@@ -18,6 +22,10 @@ class Source:
         # The octets that came and are not dropped yet, where they begin in the file, and how many of them were read.
         self.ahead = b""
         self.begun = self.at = 0
+        # What returns the octets that come next, once the first ones came; and what is wrong with a gzip file.
+        self.more: More | None = None
+        self.is_packed = False
+        self.damages: list[str] = []
 
     @property
     def can_wait(self) -> bool:
@@ -34,14 +42,34 @@ class Source:
         return f"{self.name}, offset {offset}" if self.several else f"offset {offset}"
 
     def fill(self, many: int) -> None:
-        """Takes octets from the stream until so many are ahead, or it ends."""
+        """Takes octets from the stream until so many are ahead, or it ends. An interruption leaves those that came."""
         parts = [self.ahead[self.at:]]
         there = len(parts[0])
-        while there < many and (more := self.waiting.octets(self.stream)):
-            parts.append(more)
-            there += len(more)
-        self.begun += self.at
-        self.ahead, self.at = b"".join(parts), 0
+        try:
+            while there < many and (octets := self.coming()):
+                parts.append(octets)
+                there += len(octets)
+        finally:
+            self.begun += self.at
+            self.ahead, self.at = b"".join(parts), 0
+
+    def coming(self) -> bytes:
+        """The octets that come next from the stream, of a gzip file what they hold; none at the end."""
+        if self.more is None:
+            stream, wait = self.stream, self.waiting.octets
+            start = beginning(lambda: wait(stream))
+            self.is_packed = start.startswith(MAGIC)
+            if not self.is_packed:
+                self.more = lambda: wait(stream)
+                return start
+            self.more = Packed(start, lambda: wait(stream), self.damages.append).octets
+        return self.more()
+
+    def rest(self) -> bytes:
+        """The octets that are ahead, or those that come next; none at the end."""
+        if self.at == len(self.ahead):
+            self.fill(1)
+        return self.read(len(self.ahead) - self.at)
 
     def read(self, many: int) -> bytes:
         """The next octets; fewer where the file ends."""
@@ -61,6 +89,11 @@ class Source:
         if len(self.ahead) - self.at < many:
             self.fill(many)
         return self.ahead[self.at:self.at + many]
+
+    def look(self, many: int) -> bytes:
+        """All that is ahead, without reading it: at least so many octets, unless the file ends before."""
+        self.peek(many)
+        return self.ahead[self.at:]
 
     def skip(self, many: int) -> int:
         """Reads over octets, in pieces; returns how many there were."""
@@ -90,3 +123,10 @@ class Source:
             seen = len(self.ahead) - self.at
             if seen >= LONGEST_LINE or len(self.peek(seen + 1)) == seen:
                 return seen
+
+
+@contextlib.contextmanager
+def first_source(names: Sequence[str], waiting: Waiting) -> Iterator[Source]:
+    """The octets of the first of some files."""
+    with open_input(names[0]) as stream:
+        yield Source(stream, waiting, shown_name(names[0]), len(names) > 1)

@@ -4,21 +4,26 @@ from __future__ import annotations
 import argparse
 from collections.abc import Sequence
 
-from x25tools_lib.choices import KINDS
-from x25tools_lib.options import Words, check, header_words, reading_words, side_words
+from x25tools_lib.options import Words, check, option_among, header_words, reading_words, side_words
 from x25tools_lib.refusals import Why
-from x25tools_lib.streams import is_pipe, is_same
+from x25tools_lib.streams import is_pipe, is_same, shown_name
 
+FOLLOWING = """\
+With --follow, x25scan prints each finding as soon as its row is written, and the rest of the report at the end. Ctrl-C
+(SIGINT) and SIGTERM end the reading, and the report of what was read follows. A second one ends all at once. Findings of
+a pipe come at once where options give all numbers of the header, or where the pipe has a trace. The exit status is that
+of x25scan where there is a trace: 0 without findings, 1 with findings."""
 EPILOG = f"""
 examples:
   x25trace xot.pcapng > xot.trace && x25scan < xot.trace
   x25trace --dte 192.0.2.7 --win 2 --size 128 xot.pcap | x25scan
-  x25trace --as 147=lapb line.pcap      a user link type that holds LAPB
+  x25trace --as 147=x25 line.pcap       a user link type that holds packets; without --as LAPB is tried
   x25trace --as x25 debug.txt           a hex dump of packets, with a line I or O before each
-  tcpdump -U -w - | x25trace --mod 8 --win 2 --size 128 --pvc 0 --svc 64 - | x25scan --follow
+  tcpdump -U -w - | x25trace --follow --mod 8 --win 2 --size 128 --pvc 0 --svc 64 -
+  tail -n +1 -F line.trace | x25trace --follow -
   x25trace day.pcap0 day.pcap1          the files of a rotated capture, in their order
 
-kinds of --as: {', '.join(KINDS)}
+{FOLLOWING}
 
 exit status:
   0   the trace is written, and no packet may be missing
@@ -28,6 +33,8 @@ exit status:
   64  the command line was refused
   130 it was interrupted (SIGINT): the trace has what was read before
 """
+# The options that a trace may have.
+OF_TRACES = ("is_followed", "scanner")
 
 
 def parser() -> Words:
@@ -35,20 +42,25 @@ def parser() -> Words:
     words = Words(
         prog="x25trace",
         description="Writes the trace, as x25scan reads it, of the X.25 packets in a capture: pcap, pcapng, snoop or a "
-        "hex dump; XOT, LAPB or packets. Messages and counts go to standard error, and into the trace as comments.",
+        "hex dump; XOT, LAPB or packets. With --follow it prints the report of x25scan in place of the trace. Messages and "
+        "counts go to standard error, and into the trace as comments. Files may be packed by gzip.",
         epilog=EPILOG,
         formatter_class=argparse.RawDescriptionHelpFormatter,
         allow_abbrev=False,
     )
     words.add_argument("captures", metavar="CAPTURE", nargs="+",
-                       help="the file, or files of a rotated capture in their order; - for standard input")
+                       help="the file, or files of a rotated capture in their order; - for standard input; or a trace, "
+                       "which goes on as it is")
+    words.add_argument("--follow", dest="is_followed", action="store_true",
+                       help="have x25scan read the trace while it is written: print its findings as they come, and after "
+                       "Ctrl-C the whole report")
     words.add_argument("--times", action="store_true",
                        help="write a comment '#@ SECONDS' before each row: the time of its frame, since 1970 (UTC)")
     words.add_argument("--comments", metavar="OUT",
                        help="write this pcapng file in place of the trace: the capture, with what x25scan finds as "
                        "comments of its frames")
     words.add_argument("--scanner", metavar="PROGRAM",
-                       help="the x25scan that --comments runs, by default bin/x25scan next to this program")
+                       help="the x25scan that --follow and --comments run, by default bin/x25scan next to this program")
     reading_words(words.add_argument_group("reading"))
     side_words(words.add_argument_group("sides"))
     header_words(words.add_argument_group("header, by default estimated from what was seen"))
@@ -59,8 +71,17 @@ def parsed(arguments: Sequence[str]) -> argparse.Namespace:
     """The words of a command line, which may be refused."""
     words = parser().parse_args(arguments)
     check(words, parser())
+    if words.comments is not None and words.is_followed:
+        parser().error("--follow prints a report, and --comments writes a capture: they do not go together")
     if words.comments is not None and any(map(is_pipe, words.captures)):
         parser().error("--comments reads the capture twice: it needs a file, not a pipe")
     if words.comments is not None and any(is_same(words.comments, name) for name in words.captures):
         parser().error("--comments would write over the capture: name another file")
     return words
+
+
+def check_trace(words: argparse.Namespace) -> None:
+    """Refuses the words of a trace that are of captures."""
+    if option := option_among(words, parser(), OF_TRACES):
+        name = shown_name(words.captures[0])
+        parser().error(f"{option} is of captures, and {name} is a trace, which has its header and its sides")

@@ -1,0 +1,64 @@
+"""x25scan --follow, which reads the trace while it is written; the signals that end the reading don't end it."""
+from __future__ import annotations
+
+import contextlib
+import os
+import signal
+import subprocess
+from types import FrameType
+from typing import TextIO, cast
+
+from x25tools_lib.scanner import SCANNER
+from x25tools_lib.streams import Waiting
+from x25tools_lib.waking import WAKER
+
+ENDINGS = (signal.SIGINT, signal.SIGTERM)
+
+
+def shield() -> None:
+    """Runs in the new process: what ends the reading must not end the report of what was read."""
+    for number in ENDINGS:
+        signal.signal(number, signal.SIG_IGN)
+
+
+class Follower:
+    """A program x25scan that follows the trace, in a session of its own, so Ctrl-C at the terminal doesn't reach it."""
+
+    def __init__(self, scanner: str | None, waiting: Waiting) -> None:
+        self.waiting, self.name = waiting, str(scanner or SCANNER)
+        waiting.handle(*ENDINGS)
+        # Where x25scan has ended, the next write fails.
+        signal.signal(signal.SIGPIPE, signal.SIG_IGN)
+        self.process = subprocess.Popen(
+            [self.name, "--follow"], stdin=subprocess.PIPE, encoding="ascii", start_new_session=True, preexec_fn=shield,
+        )
+        signal.signal(signal.SIGCHLD, self.look)
+        self.look()
+
+    @property
+    def out(self) -> TextIO:
+        """Where the trace is written."""
+        return cast(TextIO, self.process.stdin)
+
+    def look(self, _number: int = 0, _frame: FrameType | None = None) -> None:
+        """Ends the reading where x25scan has ended: the handler of SIGCHLD."""
+        if self.process.poll() is not None:
+            self.waiting.end()
+
+    def end(self) -> int:
+        """Ends the trace, and waits for the end of the report; returns the status, below 0 where a signal ended x25scan."""
+        with contextlib.suppress(BrokenPipeError):
+            self.out.close()
+        # Its end is a signal too.
+        while (status := self.process.poll()) is None:
+            WAKER.wait()
+        return status
+
+    def kill(self) -> None:
+        """Ends x25scan at once, where it runs: it reports nothing."""
+        if self.process.poll() is None:
+            with contextlib.suppress(ProcessLookupError):
+                os.killpg(self.process.pid, signal.SIGKILL)
+            self.process.wait()
+        with contextlib.suppress(BrokenPipeError):
+            self.out.close()
