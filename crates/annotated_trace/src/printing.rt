@@ -67,6 +67,7 @@ impl<A: Allocator + Copy, O: TraceObserver<A>, P: Printer<A, O>> TracePrinter<A,
     }
 
     /// Holds what a line becomes that the trace has just taken, by its end with the LF.
+    #[inline(always)]
     fn print_line(&mut self, end: &[u8]) -> Result<(), AllocError>
         ensures form { (before : List Line) (l : Line) (text : List ℕ)
             → P.printed self.old.printer before → O.stands_for self.old.trace text
@@ -96,6 +97,7 @@ impl<A: Allocator + Copy, O: TraceObserver<A>, P: Printer<A, O>> TracePrinter<A,
     }
 
     /// Takes the end of a line with its LF, and holds what the line becomes.
+    #[inline(always)]
     fn take_line(&mut self, end: &[u8]) -> Result<(), Fault>
         requires { IsFed O.TraceObserver P.Printer self.old }
         ensures fed { (choice : AnyRows) (text front : List ℕ)

@@ -20,6 +20,7 @@ use live_report::observer::Observer;
 use std::alloc::Allocator;
 
 /// Whether the observer's last row is one of a call's.
+#[inline(always)]
 fn judge_call<A: Allocator + Copy, C: Channel<A>>(
     call: &mut CallRows,
     observer: &Observer<A, C>,
@@ -70,6 +71,7 @@ impl Chosen {
     }
 
     /// Judges the observer's last row, the next one: whether it is told of.
+    #[inline(always)]
     fn judge<A: Allocator + Copy, C: Channel<A>>(&mut self, observer: &Observer<A, C>) -> bool
         ensures told { (i : Interface) (before : List Item) (r : Item)
             → Follows i before self.old.call
@@ -93,6 +95,7 @@ impl Chosen {
 
     /// Judges the last line of a trace, the next one: whether it writes a row that is told of; none where it writes no
     /// row.
+    #[inline(always)]
     pub(crate) fn judge_line<A: Allocator + Copy, C: Channel<A>>(
         &mut self,
         trace: &Live<A, C>,

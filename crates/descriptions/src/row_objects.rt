@@ -77,6 +77,7 @@ impl<A: Allocator + Copy> Past<A> {
 
     /// The object of the last row of a trace, where it is told of, is as most are, and has no time. Such a row changes nothing
     /// that is remembered.
+    #[inline(always)]
     fn usual_object<'r, C: Channel<A>>(
         &self,
         trace: &Live<A, C>,
@@ -119,6 +120,7 @@ impl<A: Allocator + Copy> Past<A> {
     }
 
     /// Takes the last row of a trace, and appends its object where it is told of.
+    #[inline(never)]
     fn append_row<C: Channel<A>>(
         &mut self,
         trace: &Live<A, C>,
@@ -224,6 +226,7 @@ impl<A: Allocator + Copy> RowObjects<A> {
     }
 
     /// Takes the last row of a trace, and appends its object where it is told of.
+    #[inline(always)]
     fn print_row<C: Channel<A>>(
         &mut self,
         trace: &Live<A, C>,
@@ -267,6 +270,7 @@ impl<A: Allocator + Copy, C: Channel<A>> Printer<A, Live<A, C>> for RowObjects<A
         self.past = Past::new(self.alloc);
     }
 
+    #[inline(always)]
     fn print(
         &mut self,
         trace: &Live<A, C>,

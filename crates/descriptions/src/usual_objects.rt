@@ -77,6 +77,7 @@ fn put_ready(line: &mut LineRoom, receive: u8, digits: &[u8])
 }
 
 /// Puts the members after the call of a row, if it is data with Q 0 that was counted, or a receive ready.
+#[inline(always)]
 fn put_packet(line: &mut LineRoom, kind: &PacketKind, fate: Fate, digits: &[u8]) -> bool
     ensures { OnTrue result (IsOneLine digits.now → PutsPlain line.old line.new) }
 {
@@ -171,6 +172,7 @@ fn usual_fate(events: &[Event]) -> Fate
 }
 
 /// Writes the object of a row in place of what a room has, if the row is as most are and its object finds room.
+#[inline(always)]
 pub fn usual_object<'r>(room: &'r mut LineRoom, usual: &UsualRow<'_>) -> Option<&'r [u8]>
     ensures { IfSome result (λ object. IsOneLine usual.now.digits.now
         → IsUsualObject usual.now.row usual.now.events.now object.now) }

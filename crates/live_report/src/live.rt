@@ -93,6 +93,7 @@ impl<A: Allocator + Copy, C: Channel<A>> Live<A, C> {
     }
 
     /// Takes the rows of a chunk, and appends what they find.
+    #[inline(always)]
     fn feed_rows(&mut self, chunk: &[u8]) -> Result<(), Fault>
         requires { (text : List ℕ) × WasFed C.Channel text self.old }
         ensures stands { IsFedOn C.Channel self.old chunk.now self.new result }
@@ -119,6 +120,7 @@ impl<A: Allocator + Copy, C: Channel<A>> Live<A, C> {
     }
 
     /// Takes the rows of a chunk before which there was none, and appends what they find.
+    #[inline(never)]
     fn begin(&mut self, chunk: &[u8]) -> Result<(), Fault>
         requires fed { (text : List ℕ) × WasFed C.Channel text self.old }
         requires bare { self.old.observer ≡ None }
@@ -156,6 +158,7 @@ impl<A: Allocator + Copy, C: Channel<A>> Live<A, C> {
 
     /// Takes the next chunk of the text, of any size. It refuses by the first line that is faulty however the text goes
     /// on, and for want of memory; from then on it answers the same.
+    #[inline(always)]
     pub fn feed(&mut self, chunk: &[u8]) -> Result<(), Fault>
         requires fed { IsFed C.interface_of C.number_of C.stands_for self.old }
         ensures fed { IsFed C.interface_of C.number_of C.stands_for self.new }

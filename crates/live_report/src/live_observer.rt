@@ -19,6 +19,7 @@ impl<A: Allocator + Copy, C: Channel<A>> TraceObserver<A> for Live<A, C> {
 
     ghost size = { λ live. bytes_fed live.lines };
 
+    #[inline(always)]
     fn feed(&mut self, chunk: &[u8]) -> Result<(), Fault> {
         Live::feed(self, chunk)
     }

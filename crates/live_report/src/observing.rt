@@ -22,6 +22,7 @@ use std::alloc::Allocator;
 use trace_text::lines::Lines;
 
 /// Has an observer take the rows of a chunk, each in the place of the one before it, and appends what they find.
+#[inline(always)]
 pub fn observe_chunk<A: Allocator + Copy, C: Channel<A>>(
     chunk: &[u8],
     lines: &mut Lines<A>,
