@@ -1,5 +1,5 @@
 -- A chunk that is read row by row, and an observer that takes the rows.
-use Rattle.std.proofs.Common.{◌≡◌, ◌∙◌, ◌≤◌, ◌^◌, All, map, sum_by, length, sym, ap, subst, refl, ℕ, List, [], ◌∷◌, ◌++◌, Some, None, append-nil, append_assoc}
+use Rattle.std.proofs.Common.{arith, ◌≡◌, ◌∙◌, ◌≤◌, ◌^◌, All, map, sum_by, length, sym, ap, subst, refl, ℕ, List, [], ◌∷◌, ◌++◌, Some, None, append-nil, append_assoc}
 use Rattle.std.proofs.lemmas.List.Elements.{All-map}
 use Rattle.line_model.specs.declared.fault.Fault.{Fault}
 use Rattle.line_model.specs.declared.fault.Fault.TheVariants.{Memory}
@@ -107,6 +107,17 @@ course_end I N S i text chunk rest reader after o out out_after c t kept =
       header = header_stays reader after (text ++ c.read) rest i w.reads w.header kept;
       observes = subst (λ x. IsObserverOf I N S i (items_of i (early_rows x)) o) all (subst (λ rows. IsObserverOf I N S i (items_of i rows) o) (sym (t.rows (text ++ c.read) w.reads)) w.observes);
     }
+
+no_bytes : (bytes : List ℕ) → length bytes ≡ 0 → bytes ≡ []
+no_bytes [] none = refl
+no_bytes (b ∷ bytes) none = absurd (omega (arith, none))
+
+-- the chunk was read to its end
+pub course_done : {A C : Type 0} → (I : C → Interface) (N : C → ℕ) (S : C → Channel → Type 0) (i : Interface) (text chunk rest : List ℕ) (reader : Progress) (o : Observer A C) (out out_after : List Finding)
+    → Course I N S i text chunk reader o rest out out_after → length rest ≡ 0 → IsObserving I N S i (text ++ chunk) reader o × HasFound out out_after (found_at i text) (found_at i (text ++ chunk))
+course_done I N S i text chunk rest reader o out out_after c none =
+    let all : text ++ c.read ≡ text ++ chunk = ap (λ x. text ++ x) (sym (c.whole ∙ ap (λ x. c.read ++ x) (no_bytes rest none) ∙ append-nil c.read)) in
+    (subst (λ x. IsObserving I N S i x reader o) all c.observing, subst (λ x. HasFound out out_after (found_at i text) (found_at i x)) all c.found)
 
 -- the rest of the chunk has no further row
 pub course_found : {A C : Type 0} → (I : C → Interface) (N : C → ℕ) (S : C → Channel → Type 0) (i : Interface) (text chunk rest : List ℕ) (reader after : Progress) (o : Observer A C) (out out_after : List Finding)

@@ -233,7 +233,6 @@ impl<A: Allocator + Copy, C: Channel<A>> Observer<A, C> {
     }
 
     /// Takes the next row, and returns what it finds. Fails only when memory is refused; drop the observer then.
-    #[inline(always)]
     pub fn take(&mut self, row: &ReadRow<A>) -> Result<Option<Finding>, Fault>
         requires room { MayWalk C.Channel self.old (λ i. item_read i row.now ∷ []) }
         // Of any rows that it took: it stands for them and this one.

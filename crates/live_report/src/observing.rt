@@ -47,6 +47,9 @@ pub fn observe_chunk<A: Allocator + Copy, C: Channel<A>>(
     let mut rest = chunk;
     while let Some(after) = lines.next_row(rest, row)? {
         append_finding(found, observer.take(row)?)?;
+        if after.is_empty() {
+            return Ok(());
+        }
         rest = after;
     }
     Ok(())
@@ -73,7 +76,6 @@ pub fn finish_observing<A: Allocator + Copy, C: Channel<A>>(
 }
 
 /// The report of an observer after one more row, and the data that was not counted.
-#[inline(never)]
 fn observe_last<A: Allocator + Copy, C: Channel<A>>(
     mut observer: Observer<A, C>,
     row: &ReadRow<A>,

@@ -1,4 +1,4 @@
-use Rattle.std.proofs.Common.{◌≡◌, ◌∙◌, ◌+◌, ◌<◌, ◌++◌, List, Err, ap, subst, sym, refl, length, length-append, arith}
+use Rattle.std.proofs.Common.{eqb-true, ◌≡◌, ◌∙◌, ◌+◌, ◌<◌, ◌++◌, List, Err, ap, subst, sym, refl, length, length-append, arith}
 use Rattle.std.specs.Option.{option_to_list}
 use Rattle.std.proofs.lemmas.Result.{err_from_is_err_and}
 use Rattle.line_model.specs.text.Text.{early, early_rows}
@@ -10,7 +10,7 @@ use Rattle.trace_text.specs.Progress.{bytes_fed}
 use Rattle.trace_text.specs.StandsFor.{IsFaultOf, ReadsChunk}
 use Rattle.live_report.specs.Found.{IsFoundBy, IsFoundUpTo, found_at}
 use Rattle.live_report.proofs.FoundLemmas.{at_most_one}
-use Rattle.live_report.proofs.ChunkLemmas.{ReadsRow, course_begun, course_end, course_found, course_refused, course_row, course_stopped, course_text, next_rows}
+use Rattle.live_report.proofs.ChunkLemmas.{ReadsRow, course_begun, course_done, course_end, course_found, course_refused, course_row, course_stopped, course_text, next_rows}
 use Rattle.live_report.proofs.observing.observe_chunk.Goals as goal
 
 pub loop-after-init : goal.loop-after-init
@@ -56,6 +56,42 @@ loop-after-preserved g c =
           (next_rows i c.loop-after.lines c.next_row.new.self (text ++ course.read) c.loop-after.rest.now c.in-Some.after.now c.next_row.new.row course.observing.reads row))
           noted (c.in_ok-take.ensures.finding i (items_of i (early_rows (text ++ course.read))) course.observing.observes);
     }
+
+pub returns-then-is_empty-clause-observes : goal.returns-then-is_empty-clause-observes
+returns-then-is_empty-clause-observes g c i text w =
+    let row : ReadsRow c.loop-after.lines c.next_row.new.self c.loop-after.rest.now c.in-Some.after.now c.next_row.new.row = rw c.in-Some.is at c.in_ok-after.ensures.ok in
+    let finding = c.in_ok-take.field-0 in
+    let noted = c.in_ok-append_finding.ensures.ok in
+    let course = c.loop-after.invariant.course i text w in
+    let none = eqb-true _ 0 (sym c.is_empty.ensures ∙ c.if-is_empty.true) in
+    (course_done g.C.Channel.interface_of g.C.Channel.number_of g.C.Channel.stands_for i text c.args.chunk.now c.in-Some.after.now c.next_row.new.self c.take.new.self c.args.found.now.items c.append_finding.new.findings.items
+    (course_row g.C.Channel.interface_of g.C.Channel.number_of g.C.Channel.stands_for i text c.args.chunk.now c.loop-after.rest.now c.in-Some.after.now c.next_row.new.row c.loop-after.lines c.next_row.new.self c.loop-after.observer c.take.new.self
+    c.args.found.now.items c.loop-after.found.items c.append_finding.new.findings.items (option_to_list finding)
+    course row (c.in_ok-after.ensures.header (text ++ course.read) course.observing.reads)
+    (c.in_ok-take.ensures.stands i (items_of i (early_rows (text ++ course.read))) course.observing.observes
+    (next_rows i c.loop-after.lines c.next_row.new.self (text ++ course.read) c.loop-after.rest.now c.in-Some.after.now c.next_row.new.row course.observing.reads row))
+    noted (c.in_ok-take.ensures.finding i (items_of i (early_rows (text ++ course.read))) course.observing.observes)) none).0
+
+pub returns-then-is_empty-clause-found : goal.returns-then-is_empty-clause-found
+returns-then-is_empty-clause-found g c i text w =
+    let row : ReadsRow c.loop-after.lines c.next_row.new.self c.loop-after.rest.now c.in-Some.after.now c.next_row.new.row = rw c.in-Some.is at c.in_ok-after.ensures.ok in
+    let finding = c.in_ok-take.field-0 in
+    let noted = c.in_ok-append_finding.ensures.ok in
+    let course = c.loop-after.invariant.course i text w in
+    let none = eqb-true _ 0 (sym c.is_empty.ensures ∙ c.if-is_empty.true) in
+    (course_done g.C.Channel.interface_of g.C.Channel.number_of g.C.Channel.stands_for i text c.args.chunk.now c.in-Some.after.now c.next_row.new.self c.take.new.self c.args.found.now.items c.append_finding.new.findings.items
+    (course_row g.C.Channel.interface_of g.C.Channel.number_of g.C.Channel.stands_for i text c.args.chunk.now c.loop-after.rest.now c.in-Some.after.now c.next_row.new.row c.loop-after.lines c.next_row.new.self c.loop-after.observer c.take.new.self
+    c.args.found.now.items c.loop-after.found.items c.append_finding.new.findings.items (option_to_list finding)
+    course row (c.in_ok-after.ensures.header (text ++ course.read) course.observing.reads)
+    (c.in_ok-take.ensures.stands i (items_of i (early_rows (text ++ course.read))) course.observing.observes
+    (next_rows i c.loop-after.lines c.next_row.new.self (text ++ course.read) c.loop-after.rest.now c.in-Some.after.now c.next_row.new.row course.observing.reads row))
+    noted (c.in_ok-take.ensures.finding i (items_of i (early_rows (text ++ course.read))) course.observing.observes)) none).1
+
+pub returns-then-is_empty-clause-few : goal.returns-then-is_empty-clause-few
+returns-then-is_empty-clause-few g c =
+    let shorter : length c.in-Some.after.now < length c.loop-after.rest.now = rw c.in-Some.is at c.in_ok-after.ensures.shorter in
+    let finding = c.in_ok-take.field-0 in
+    omega (arith, c.loop-after.invariant.few, shorter, ap (λ (xs : List Finding). length xs) c.in_ok-append_finding.ensures.ok, length-append c.loop-after.found.items (option_to_list finding), at_most_one finding)
 
 pub returns-clause-keeps : goal.returns-clause-keeps
 returns-clause-keeps g c = c.loop-after.invariant.keeps
