@@ -61,6 +61,11 @@ judged_counts r old p new f x q a c same rest stands answer =
     subst (λ (o : Known). IsJudged r (λ _. []) x q o new c (counting x q (a o.terms.interface) c)) same
     (subst (λ o. IsJudged r (λ _. []) x q old o c (counting x q (a old.terms.interface) c)) (sym rest) (judged_at r old f x q (a old.terms.interface) c st (answer st.transfer)))
 
+-- the same of the side and the outcome that it is known to have
+pub judged_as : {U : Type 0} (a : Result U ℕ) (old new : Known) (x y : Side) (q : StateName) (c : Channel) (o p : Outcome) → x ≡ y → o ≡ p →
+    IsJudged a (λ _. []) x q old new c o → IsJudged a (λ _. []) y q old new c p
+judged_as a old new x y q c o p side same judged = subst (λ (v : Side × Outcome). IsJudged a (λ _. []) v.0 q old new c v.1) (λ j. (side j, same j)) judged
+
 -- the data packet that a row says
 pub data_is : (i : Interface) (q : StateName) (r : Item) (h : DataHeader) (p : AcceptedData) (x : Side) (c : Channel) → x ≡ r.side → p ≡ heard_of i r h →
     data_counted i x q p (counted_in_force i x h.send h.receive c) c ≡ data_step i q r (Some h) c
