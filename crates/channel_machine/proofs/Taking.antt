@@ -1,5 +1,5 @@
 -- What a packet of data transfer does to a channel.
-use Rattle.std.proofs.Common.{◌≡◌, ◌-◌, ℕ, false, refl, sym, ◌∙◌, ap, subst, List, [], ◌∷◌, ◌++◌, map, append-nil, Option, Some, None, Result, Ok, Err}
+use Rattle.std.proofs.Common.{◌≡◌, ◌-◌, ℕ, false, refl, sym, ◌∙◌, ap, subst, List, [], ◌∷◌, ◌++◌, map, Option, Some, None, Result, Ok, Err}
 use Rattle.channel_machine.specs.Events.{Reports, data_of, event_at}
 use Rattle.channel_machine.proofs.SaidData.{unqualified_is}
 use Rattle.packet_decode.specs.SaidData.{IsSaidData}
@@ -8,7 +8,7 @@ use Rattle.line_model.specs.declared.event.What.{What}
 use Rattle.line_model.specs.declared.event.What.TheVariants as what
 use Rattle.data_transfer.specs.Assembly.{unqualified}
 use Rattle.data_transfer.specs.FlowResidues.{FlowResidues}
-use Rattle.std.specs.Prelude.{IfOk, OnErr, OnSome}
+use Rattle.std.specs.Prelude.{OnErr}
 use Rattle.line_model.specs.declared.event.Event.{Event}
 use Rattle.line_model.specs.declared.fault.Fault.{Fault}
 use Rattle.line_model.specs.declared.interface.Interface.{Interface}
@@ -18,10 +18,10 @@ use Rattle.line_model.specs.declared.state.StateName.{StateName}
 use Rattle.line_model.specs.channels.Channels.{Channel, AcceptedData}
 use Rattle.line_model.specs.basics.Records.{Item}
 use Rattle.line_model.specs.channels.FlowControl.{Counts}
-use Rattle.line_model.specs.channels.ChannelStep.{Outcome, counting, data_counted, data_step, failing, heard_of, hearing}
+use Rattle.line_model.specs.channels.ChannelStep.{Outcome, counting, data_counted, data_step, heard_of, hearing}
 use Rattle.channel_machine.specs.declared.events.EventOrigin.{EventOrigin}
 use Rattle.channel_machine.specs.Transfers.{StandsFor, IsCounted, IsHeard, counted_in_force}
-use Rattle.channel_machine.specs.Channels.{Known, Stands, Does, DoesApart, IsJudged, IsMemory, IsUnchanged, Passes, listed}
+use Rattle.channel_machine.specs.Channels.{Known, Stands, Does, DoesApart, IsJudged, Passes}
 
 -- what follows a fault that left the channel as it was
 pub refusing : (P : Known → Outcome → Type 0) (old mid : Known) (c : Channel) (f : Channel → Outcome) (o : Outcome) → (f c ≡ o) × (mid ≡ old) → Stands old c →
@@ -32,11 +32,6 @@ refusing P old mid c f o same stands does =
 pub unchanged_through : {U : Type 0} (r : Result U Fault) (old mid new : Known) (before after : List Event) → mid ≡ old →
     OnErr r ((new ≡ mid) × (after ≡ before)) → OnErr r ((new ≡ old) × (after ≡ before))
 unchanged_through r old mid new before after same h = subst (λ u. OnErr r ((new ≡ u) × (after ≡ before))) same h
-
-pub unchanged_between : {U : Type 0} (r : Result U Fault) (old mid new : Known) (before between after : List Event) →
-    (mid ≡ old) × (between ≡ before) → OnErr r ((new ≡ mid) × (after ≡ between)) → OnErr r ((new ≡ old) × (after ≡ before))
-unchanged_between r old mid new before between after same h =
-    unchanged_through r old mid new before after same.0 (subst (λ l. OnErr r ((new ≡ mid) × (after ≡ l))) same.1 h)
 
 -- a packet that changes the counts alone
 judged_at : {U : Type 0} (r : Result U ℕ) (old : Known) (f : FlowResidues) (x : Side) (q : StateName) (a : Result Counts ℕ) (c : Channel) → Stands old c →
@@ -85,18 +80,6 @@ heard_by s old new before after x q p r c o rest stands counted_is k none heard 
       reports = reports;
     }))
 
--- a data packet with a fault of its numbers or its Q bit
-pub refused_by : {U : Type 0} (a : Result U Fault) (s : EventOrigin) (old mid new : Known) (before between after : List Event) (x : Side) (q : StateName) (p : AcceptedData) (r : Result Counts ℕ)
-    (c : Channel) (o : Outcome) → Stands old c → data_counted old.terms.interface x q p r c ≡ o →
-    (k : Option ℕ) (n : ℕ) → k ≡ Some n → IsHeard k old.terms.interface s old.transfer mid.transfer before between x p r c →
-    mid ≡ old → between ≡ before →
-    ((d : Channel) → Stands mid d → IfOk a (λ _. Does s mid new between after (failing x q n d))) →
-    IfOk a (λ _. Does s old new before after o)
-refused_by a s old mid new before between after x q p r c o stands counted_is k n some heard mid_is between_is does =
-    let told = subst (λ j. IsHeard j old.terms.interface s old.transfer mid.transfer before between x p r c) some heard in
-    refusing (λ u p. IfOk a (λ _. Does s u new before after p)) old mid c (failing x q n) o (sym (told.0 q) ∙ counted_is, mid_is) stands
-    (λ d st. subst (λ l. IfOk a (λ _. Does s mid new l after (failing x q n d))) between_is (does d st))
-
 -- a data packet with Q 0 of a row
 pub judged_data : {U : Type 0} (a : Result U ℕ) (ws : Side → U → List What) (old p new : Known) (x : Side) (q : StateName) (r : Item) (h : DataHeader) (n : ℕ) (c : Channel) →
     old ≡ p → x ≡ r.side → n ≡ r.length - header_length p.terms.interface → IsSaidData p.terms.interface r h → h.qualified ≡ false →
@@ -141,25 +124,3 @@ passes_apart s old new events x accepted o passes = record {
 }
 
 -- ---- steps whose events are all listed
-
-pub listed_does : {U : Type 0} (a : Result U Fault) (s : EventOrigin) (x : Side) (old new : Known) (before after : List Event) (o : Outcome) →
-    IfOk a (λ _. Does s old new before after o) → IfOk (listed a) (λ k. DoesApart s x old new before after k o)
-listed_does (Ok u) s x old new before after o does = record {
-  interface = does.interface;
-  channel = does.channel;
-  stands = does.stands;
-  reports = append-nil after ∙ does.reports;
-}
-listed_does (Err e) s x old new before after o does = tt
-
-pub listed_apart : {U : Type 0} (a : Result U Fault) (P : Type 0) → IfOk (listed a) (λ k. OnSome k P)
-listed_apart (Ok u) P = tt
-listed_apart (Err e) P = tt
-
-pub listed_unchanged : {U : Type 0} (a : Result U Fault) (old new : Known) (before after : List Event) → IsUnchanged a old new before after → IsUnchanged (listed a) old new before after
-listed_unchanged (Ok u) old new before after h = tt
-listed_unchanged (Err e) old new before after h = h
-
-pub listed_memory : {U : Type 0} (a : Result U Fault) → IsMemory a → IsMemory (listed a)
-listed_memory (Ok u) h = tt
-listed_memory (Err e) h = h
