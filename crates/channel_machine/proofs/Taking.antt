@@ -8,9 +8,7 @@ use Rattle.line_model.specs.declared.event.What.{What}
 use Rattle.line_model.specs.declared.event.What.TheVariants as what
 use Rattle.data_transfer.specs.Assembly.{unqualified}
 use Rattle.data_transfer.specs.FlowResidues.{FlowResidues}
-use Rattle.std.specs.Prelude.{OnErr}
 use Rattle.line_model.specs.declared.event.Event.{Event}
-use Rattle.line_model.specs.declared.fault.Fault.{Fault}
 use Rattle.line_model.specs.declared.interface.Interface.{Interface}
 use Rattle.line_model.specs.declared.packet.DataHeader.{DataHeader}
 use Rattle.line_model.specs.declared.state.Side.{Side}
@@ -28,10 +26,6 @@ pub refusing : (P : Known → Outcome → Type 0) (old mid : Known) (c : Channel
     ((d : Channel) → Stands mid d → P mid (f d)) → P old o
 refusing P old mid c f o same stands does =
     subst (λ p. P old p) same.0 (subst (λ u. P u (f c)) same.1 (does c (subst (λ u. Stands u c) (sym same.1) stands)))
-
-pub unchanged_through : {U : Type 0} (r : Result U Fault) (old mid new : Known) (before after : List Event) → mid ≡ old →
-    OnErr r ((new ≡ mid) × (after ≡ before)) → OnErr r ((new ≡ old) × (after ≡ before))
-unchanged_through r old mid new before after same h = subst (λ u. OnErr r ((new ≡ u) × (after ≡ before))) same h
 
 -- a packet that changes the counts alone
 judged_at : {U : Type 0} (r : Result U ℕ) (old : Known) (f : FlowResidues) (x : Side) (q : StateName) (a : Result Counts ℕ) (c : Channel) → Stands old c →
