@@ -1,11 +1,10 @@
 -- What a packet of data transfer does to a channel.
-use Rattle.std.proofs.Common.{◌≡◌, ◌-◌, ℕ, false, refl, sym, ◌∙◌, ap, subst, List, [], ◌∷◌, ◌++◌, map, Option, Some, None, Result, Ok, Err}
+use Rattle.std.proofs.Common.{◌≡◌, ◌-◌, ℕ, false, refl, sym, ◌∙◌, ap, subst, List, [], ◌++◌, map, Option, Some, None, Result, Ok, Err}
 use Rattle.channel_machine.specs.Events.{Reports, data_of, event_at}
 use Rattle.channel_machine.proofs.SaidData.{unqualified_is}
 use Rattle.packet_decode.specs.SaidData.{IsSaidData}
 use Rattle.line_model.specs.packets.Classes.{header_length}
 use Rattle.line_model.specs.declared.event.What.{What}
-use Rattle.line_model.specs.declared.event.What.TheVariants as what
 use Rattle.data_transfer.specs.Assembly.{unqualified}
 use Rattle.data_transfer.specs.FlowResidues.{FlowResidues}
 use Rattle.line_model.specs.declared.event.Event.{Event}
@@ -60,20 +59,6 @@ pub data_is : (i : Interface) (q : StateName) (r : Item) (h : DataHeader) (p : A
     data_counted i x q p (counted_in_force i x h.send h.receive c) c ≡ data_step i q r (Some h) c
 data_is i q r h p x c side same = λ j. data_counted i (side j) q (same j) (counted_in_force i (side j) h.send h.receive c) c
 
--- a data packet without fault
-pub heard_by : (s : EventOrigin) (old new : Known) (before after : List Event) (x : Side) (q : StateName) (p : AcceptedData) (r : Result Counts ℕ) (c : Channel) (o : Outcome) →
-    new ≡ record old { transfer = new.transfer } → Stands old c → data_counted old.terms.interface x q p r c ≡ o →
-    (k : Option ℕ) → k ≡ None → IsHeard k old.terms.interface s old.transfer new.transfer before after x p r c → Does s old new before after o
-heard_by s old new before after x q p r c o rest stands counted_is k none heard =
-    let (v, m, is, transfer, reports) = subst (λ j. IsHeard j old.terms.interface s old.transfer new.transfer before after x p r c) none heard in
-    subst (λ d. Does s old d before after o) (sym rest)
-    (subst (λ d. Does s old (record old { transfer = new.transfer }) before after d) (sym (is q) ∙ counted_is) (record {
-      interface = refl;
-      channel = refl;
-      stands = record { state = stands.state; owed = stands.owed; terms = record { call = stands.terms.call; values = stands.terms.values }; transfer = transfer };
-      reports = reports;
-    }))
-
 -- a data packet with Q 0 of a row
 pub judged_data : {U : Type 0} (a : Result U ℕ) (ws : Side → U → List What) (old p new : Known) (x : Side) (q : StateName) (r : Item) (h : DataHeader) (n : ℕ) (c : Channel) →
     old ≡ p → x ≡ r.side → n ≡ r.length - header_length p.terms.interface → IsSaidData p.terms.interface r h → h.qualified ≡ false →
@@ -85,19 +70,6 @@ judged_data a ws old p new x q r h n c same side long said without_q judged =
     subst (λ (v : Side × Outcome). IsJudged a (ws v.0) v.0 q p new c v.1)
     (λ j. (side j, data_is i q r h d x c side (unqualified_is i r h x n said without_q side long) j))
     (subst (λ (o : Known). IsJudged a (ws x) x q o new c (data_counted o.terms.interface x q d (counted_in_force o.terms.interface x h.send h.receive c) c)) same judged)
-
-pub passes_data : (old new : Known) (x : Side) (q : StateName) (p : AcceptedData) (r : Result Counts ℕ) (c : Channel) → new ≡ record old { transfer = new.transfer } → Stands old c →
-    (v : Counts) × ((t : StateName) → data_counted old.terms.interface x t p r c ≡ hearing x p v None c) × StandsFor old.terms.interface new.transfer (hearing x p v None c).after →
-    Passes old new (what.Data x p.length ∷ []) (data_counted old.terms.interface x q p r c)
-passes_data old new x q p r c rest stands accepted =
-    let (v, is, transfer) = accepted in
-    subst (λ d. Passes old d (what.Data x p.length ∷ []) (data_counted old.terms.interface x q p r c)) (sym rest)
-    (subst (λ o. Passes old (record old { transfer = new.transfer }) (what.Data x p.length ∷ []) o) (sym (is q)) (record {
-      interface = refl;
-      channel = refl;
-      stands = record { state = stands.state; owed = stands.owed; terms = record { call = stands.terms.call; values = stands.terms.values }; transfer = transfer };
-      reported = refl;
-    }))
 
 -- a packet that passes, with its events listed, or that of its data apart
 pub passes_listed : (s : EventOrigin) (old new : Known) (before after : List Event) (ws : List What) (o : Outcome) → Passes old new ws o → Reports s before after ws → Does s old new before after o
@@ -117,4 +89,23 @@ passes_apart s old new events x accepted o passes = record {
   reports = ap (λ ws. events ++ map (event_at s) ws) (sym passes.reported);
 }
 
--- ---- steps whose events are all listed
+-- a data packet without fault
+pub passes_heard : (old new : Known) (x : Side) (q : StateName) (p : AcceptedData) (m : Option (List ℕ)) (v : Counts) (r : Result Counts ℕ) (c : Channel) →
+    new ≡ record old { transfer = new.transfer } → Stands old c → ((t : StateName) → data_counted old.terms.interface x t p r c ≡ hearing x p v m c) →
+    StandsFor old.terms.interface new.transfer (hearing x p v m c).after → Passes old new (hearing x p v m c).reported (data_counted old.terms.interface x q p r c)
+passes_heard old new x q p m v r c rest stands is transfer =
+    subst (λ d. Passes old d (hearing x p v m c).reported (data_counted old.terms.interface x q p r c)) (sym rest)
+    (subst (λ o. Passes old (record old { transfer = new.transfer }) (hearing x p v m c).reported o) (sym (is q)) (record {
+      interface = refl;
+      channel = refl;
+      stands = record { state = stands.state; owed = stands.owed; terms = record { call = stands.terms.call; values = stands.terms.values }; transfer = transfer };
+      reported = refl;
+    }))
+
+pub heard_by : (s : EventOrigin) (old new : Known) (before after : List Event) (x : Side) (q : StateName) (p : AcceptedData) (r : Result Counts ℕ) (c : Channel) (o : Outcome) →
+    new ≡ record old { transfer = new.transfer } → Stands old c → data_counted old.terms.interface x q p r c ≡ o →
+    (k : Option ℕ) → k ≡ None → IsHeard k old.terms.interface s old.transfer new.transfer before after x p r c → Does s old new before after o
+heard_by s old new before after x q p r c o rest stands counted_is k none heard =
+    let (v, m, is, transfer, reports) = subst (λ j. IsHeard j old.terms.interface s old.transfer new.transfer before after x p r c) none heard in
+    subst (λ d. Does s old new before after d) counted_is
+    (passes_listed s old new before after (hearing x p v m c).reported (data_counted old.terms.interface x q p r c) (passes_heard old new x q p m v r c rest stands is transfer) reports)
