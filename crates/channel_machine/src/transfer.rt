@@ -135,7 +135,7 @@ impl<A: Allocator + Clone, S: StatusStore> StatusChannel<A, S> {
         self.status.ack(side, receive)
     }
 
-    /// Accepts a packet of data transfer other than data, or returns its fault, and the channel is as it was.
+    /// Accepts an interrupt, an interrupt confirmation, RR or RNR, or returns its fault, and the channel is as it was.
     pub(crate) fn accept_control(&mut self, class: Class, item: &ItemRef<'_>) -> Result<(), u8>
         requires class { class ≡ packet_class item.now.packet }
         requires no_data { class ≡ Class.Data → ⊥ }
