@@ -15,6 +15,5 @@ pub mod Reached
 pub mod Usable
 pub mod PackedLemmas
 pub mod CommonRows
-pub mod Changes
 pub mod SaidData
 pub mod CallFaults

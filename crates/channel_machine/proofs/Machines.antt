@@ -26,16 +26,6 @@ events_are s r (w ∷ ws) e =
     (λ j. record { epoch = s.epoch; channel = s.channel; packet = e j; what = w }) in
     λ j. first j ∷ events_are s r ws e j
 
-pub keeps_interface : (q : Result (Option ℕ) Fault) (s : EventOrigin) (x : Side) (old new : Known) (before after : List Event) (o : Outcome) →
-    IfOk q (λ k. DoesApart s x old new before after k o) → IfOk q (λ _. new.terms.interface ≡ old.terms.interface)
-keeps_interface (Ok k) s x old new before after o d = d.interface
-keeps_interface (Err e) s x old new before after o d = tt
-
-pub keeps_number : (q : Result (Option ℕ) Fault) (s : EventOrigin) (x : Side) (old new : Known) (before after : List Event) (o : Outcome) →
-    IfOk q (λ k. DoesApart s x old new before after k o) → IfOk q (λ _. new.channel ≡ old.channel)
-keeps_number (Ok k) s x old new before after o d = d.channel
-keeps_number (Err e) s x old new before after o d = tt
-
 pub stands_after : (q : Result (Option ℕ) Fault) (s : EventOrigin) (x : Side) (old new : Known) (before after : List Event) (o : Outcome) → IsReached o.after →
     IfOk q (λ k. DoesApart s x old new before after k o) → IfOk q (λ _. StandsForReached new o.after)
 stands_after (Ok k) s x old new before after o reached d = record { stands = d.stands; reached = reached }

@@ -1,11 +1,10 @@
 -- The fields of a status in a word.
-use Rattle.std.proofs.Common.{◌≡◌, ◌<◌, ◌+◌, ◌*◌, ◌/◌, ◌%◌, ◌^◌, ◌==◌, ℕ, Bool, true, false, refl, sym, ◌∙◌, ap, subst, arith}
+use Rattle.std.proofs.Common.{◌≡◌, ◌<◌, ◌+◌, ◌*◌, ◌/◌, ◌%◌, ◌^◌, ◌==◌, ℕ, Bool, true, false, refl, sym, ◌∙◌, ap, arith}
 use mir.Val.{bool_byte}
 use Rattle.data_transfer.specs.FlowResidues.{FlowResidues}
 use Rattle.line_model.specs.declared.interface.Interface.{Interface}
 use Rattle.data_transfer.specs.Packed.{Packed}
 use Rattle.channel_machine.specs.declared.terms.Values.{Values}
-use Rattle.channel_machine.specs.Terms.{AreUsable}
 use Rattle.channel_machine.specs.Status.{CountsAlone, Status, view_of}
 use Rattle.std.specs.Prelude.{◌&&◌, cond, Some, None}
 use Rattle.channel_run.specs.StatusWord.{state_by, state_in, owed_in, pad_call_in, fast_in, view_in}
@@ -108,17 +107,6 @@ settled_status i old new owner_bits flow =
       flow = old.flow;
     })
 
-pub settled_usable : (m : ℕ) (old new : Packed) → new.owner_bits ≡ settled old.owner_bits → new.flow ≡ old.flow →
-    AreUsable m (values_in old) → AreUsable m (values_in new)
-settled_usable m old new owner_bits flow usable =
-    subst (λ v. AreUsable m v) (sym ((λ j. values_in (record { flow = flow j; owner_bits = owner_bits j }))
-    ∙ (λ j. record {
-      size_t = 2 ^ settled_size_t old.owner_bits j;
-      size_n = 2 ^ settled_size_n old.owner_bits j;
-      window_t = old.flow.windows.of_t;
-      window_n = old.flow.windows.of_n;
-    }))) usable
-
 -- other counts under the same number of the owner
 pub counts_alone : (i : Interface) (old new : Packed) → new.owner_bits ≡ old.owner_bits → new.flow.modulus ≡ old.flow.modulus → new.flow.windows ≡ old.flow.windows →
     CountsAlone (status_in i old) (status_in i new)
@@ -141,16 +129,6 @@ counts_alone i old new owner_bits modulus windows = record {
   modulus = modulus;
   windows = windows;
 }
-
-pub counted_usable : (m : ℕ) (old new : Packed) → new.owner_bits ≡ old.owner_bits → new.flow.windows ≡ old.flow.windows →
-    AreUsable m (values_in old) → AreUsable m (values_in new)
-counted_usable m old new owner_bits windows usable =
-    subst (λ v. AreUsable m v) (sym (λ j. record {
-      size_t = 2 ^ (owner_bits j / 1024 % 16);
-      size_n = 2 ^ (owner_bits j / 16384 % 16);
-      window_t = (windows j).of_t;
-      window_n = (windows j).of_n;
-    })) usable
 
 -- the bits of a call, one by one
 open_bit : (a : ℕ) → a / 64 % 16 / 8 ≡ a / 2 ^ 9 % 2

@@ -17,7 +17,7 @@ use Rattle.line_model.specs.channels.Verdicts.CallChange.{Opens, GoesUp, Ends, K
 use Rattle.line_model.specs.declared.table.Action.{Action}
 use Rattle.line_model.specs.declared.table.Action.TheVariants.{Move, Normal, Error, Discard, Pass, Ends as EndsIndication, Below, ToChannel}
 use Rattle.line_model.specs.basics.Records.{Item}
-use Rattle.line_model.specs.channels.Channels.{Channel, Opening, AcceptedData, fresh, fresh_state, is_joined, is_permanent, channel_in}
+use Rattle.line_model.specs.channels.Channels.{Channel, Opening, AcceptedData, is_permanent}
 use Rattle.line_model.specs.channels.FlowControl.{Counts}
 use Rattle.line_model.specs.packets.Classes.{packet_class}
 use Rattle.line_model.specs.packets.Says.{header_in}
@@ -157,12 +157,3 @@ reached_step i n c r reached =
     let k : Class = packet_class r.packet in
     let j = judged (is_permanent i n) r.side c.state c.owed k in
     by_entry i j.state r j.entry (packet_fault i n c r) c (fits (is_permanent i n) r.side c.state c.owed k) reached
-
--- a fresh channel
-pub reached_fresh : (i : Interface) (e n : ℕ) → IsReached (fresh i e n)
-reached_fresh i e n = by (is_joined i e) (is_permanent i n)
-  where
-    by : (joined permanent : Bool) → IsReached (channel_in (fresh_state joined permanent))
-    by true permanent = idle (channel_in (fresh_state true permanent)) refl refl
-    by false true = idle (channel_in (fresh_state false true)) refl refl
-    by false false = idle (channel_in (fresh_state false false)) refl refl

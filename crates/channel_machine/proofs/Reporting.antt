@@ -1,5 +1,5 @@
 -- Events, one after another.
-use Rattle.std.proofs.Common.{◌≡◌, refl, sym, ◌∙◌, ap, subst, List, [], ◌∷◌, ◌++◌, append_assoc, append-nil}
+use Rattle.std.proofs.Common.{◌≡◌, refl, sym, ◌∙◌, ap, List, [], ◌∷◌, ◌++◌, append_assoc}
 use Rattle.std.specs.Prelude.{map, flat_map}
 use Rattle.line_model.specs.declared.event.Event.{Event}
 use Rattle.line_model.specs.declared.event.What.{What}
@@ -31,9 +31,6 @@ pub record IsReported (s : EventOrigin) (f : Pair → List What) (start now : Li
   pub reports : Reports s start now done
   pub whole : done ++ flat_map f left ≡ flat_map f all
 
-pub reported_none : (s : EventOrigin) (f : Pair → List What) (start : List Event) (left all : List Pair) → left ≡ all → IsReported s f start start left all
-reported_none s f start left all e = record { done = []; reports = sym (append-nil start); whole = ap (λ l. flat_map f l) e }
-
 pub reported_one : (s : EventOrigin) (f : Pair → List What) (start now new : List Event) (p : Pair) (left rest all : List Pair) →
     IsReported s f start now left all → left ≡ p ∷ rest → Reports s now new (f p) → IsReported s f start new rest all
 reported_one s f start now new p left rest all h e one = record {
@@ -41,8 +38,3 @@ reported_one s f start now new p left rest all h e one = record {
   reports = more s start now new h.done (f p) h.reports one;
   whole = append_assoc h.done (f p) (flat_map f rest) ∙ ap (λ l. h.done ++ flat_map f l) (sym e) ∙ h.whole;
 }
-
-pub reported_all : (s : EventOrigin) (f : Pair → List What) (start now : List Event) (left all : List Pair) →
-    IsReported s f start now left all → left ≡ [] → Reports s start now (flat_map f all)
-reported_all s f start now left all h e =
-    subst (Reports s start now) (sym (append-nil h.done) ∙ ap (λ l. h.done ++ flat_map f l) (sym e) ∙ h.whole) h.reports

@@ -17,14 +17,10 @@ use Rattle.line_model.specs.packets.Classes.{header_length}
 use Rattle.line_model.specs.packets.Says.{receive_in}
 use Rattle.data_transfer.specs.Assembly.{unqualified}
 use Rattle.packet_decode.specs.SaidData.{IsSaidData}
-use Rattle.channel_machine.specs.Sizes.{largest_length}
 use Rattle.channel_machine.specs.Transfers.{packet}
 
 pub rest_of : (n least : ℕ) (xs : List ℕ) → n ≡ least → least ≤ length xs → take (length xs - n) (drop n xs) ≡ drop least xs
 rest_of n least xs e h = grind (arith, common_steps, e, h)
-
-pub few_of : (n m : ℕ) (xs : List ℕ) → length xs ≡ m → m ≤ largest_length → length (take (length xs - n) (drop n xs)) ≤ largest_length
-few_of n m xs e h = grind (arith, common_steps, e, h)
 
 -- with Q 1 the header lies in the octets
 pub whole_octets : (i : Interface) (r : Item) (h : DataHeader) → IsSaidData i r h → h.qualified ≡ true → header_length i ≤ length r.octets

@@ -1,16 +1,13 @@
 -- What a packet of data transfer does to a channel.
-use Rattle.std.proofs.Common.{◌≡◌, ◌-◌, ℕ, false, refl, sym, ◌∙◌, ap, subst, List, [], ◌∷◌, ◌++◌, map, append-nil, Option, Some, None, Result, Ok, Err}
+use Rattle.std.proofs.Common.{◌≡◌, ◌-◌, ℕ, false, refl, sym, ◌∙◌, ap, subst, List, [], ◌++◌, map, Option, Some, None, Result, Ok, Err}
 use Rattle.channel_machine.specs.Events.{Reports, data_of, event_at}
 use Rattle.channel_machine.proofs.SaidData.{unqualified_is}
 use Rattle.packet_decode.specs.SaidData.{IsSaidData}
 use Rattle.line_model.specs.packets.Classes.{header_length}
 use Rattle.line_model.specs.declared.event.What.{What}
-use Rattle.line_model.specs.declared.event.What.TheVariants as what
 use Rattle.data_transfer.specs.Assembly.{unqualified}
 use Rattle.data_transfer.specs.FlowResidues.{FlowResidues}
-use Rattle.std.specs.Prelude.{IfOk, OnErr, OnSome}
 use Rattle.line_model.specs.declared.event.Event.{Event}
-use Rattle.line_model.specs.declared.fault.Fault.{Fault}
 use Rattle.line_model.specs.declared.interface.Interface.{Interface}
 use Rattle.line_model.specs.declared.packet.DataHeader.{DataHeader}
 use Rattle.line_model.specs.declared.state.Side.{Side}
@@ -18,25 +15,16 @@ use Rattle.line_model.specs.declared.state.StateName.{StateName}
 use Rattle.line_model.specs.channels.Channels.{Channel, AcceptedData}
 use Rattle.line_model.specs.basics.Records.{Item}
 use Rattle.line_model.specs.channels.FlowControl.{Counts}
-use Rattle.line_model.specs.channels.ChannelStep.{Outcome, counting, data_counted, data_step, failing, heard_of, hearing}
+use Rattle.line_model.specs.channels.ChannelStep.{Outcome, counting, data_counted, data_step, heard_of, hearing}
 use Rattle.channel_machine.specs.declared.events.EventOrigin.{EventOrigin}
 use Rattle.channel_machine.specs.Transfers.{StandsFor, IsCounted, IsHeard, counted_in_force}
-use Rattle.channel_machine.specs.Channels.{Known, Stands, Does, DoesApart, IsJudged, IsMemory, IsUnchanged, Passes, listed}
+use Rattle.channel_machine.specs.Channels.{Known, Stands, Does, DoesApart, IsJudged, Passes}
 
 -- what follows a fault that left the channel as it was
 pub refusing : (P : Known → Outcome → Type 0) (old mid : Known) (c : Channel) (f : Channel → Outcome) (o : Outcome) → (f c ≡ o) × (mid ≡ old) → Stands old c →
     ((d : Channel) → Stands mid d → P mid (f d)) → P old o
 refusing P old mid c f o same stands does =
     subst (λ p. P old p) same.0 (subst (λ u. P u (f c)) same.1 (does c (subst (λ u. Stands u c) (sym same.1) stands)))
-
-pub unchanged_through : {U : Type 0} (r : Result U Fault) (old mid new : Known) (before after : List Event) → mid ≡ old →
-    OnErr r ((new ≡ mid) × (after ≡ before)) → OnErr r ((new ≡ old) × (after ≡ before))
-unchanged_through r old mid new before after same h = subst (λ u. OnErr r ((new ≡ u) × (after ≡ before))) same h
-
-pub unchanged_between : {U : Type 0} (r : Result U Fault) (old mid new : Known) (before between after : List Event) →
-    (mid ≡ old) × (between ≡ before) → OnErr r ((new ≡ mid) × (after ≡ between)) → OnErr r ((new ≡ old) × (after ≡ before))
-unchanged_between r old mid new before between after same h =
-    unchanged_through r old mid new before after same.0 (subst (λ l. OnErr r ((new ≡ mid) × (after ≡ l))) same.1 h)
 
 -- a packet that changes the counts alone
 judged_at : {U : Type 0} (r : Result U ℕ) (old : Known) (f : FlowResidues) (x : Side) (q : StateName) (a : Result Counts ℕ) (c : Channel) → Stands old c →
@@ -61,36 +49,15 @@ judged_counts r old p new f x q a c same rest stands answer =
     subst (λ (o : Known). IsJudged r (λ _. []) x q o new c (counting x q (a o.terms.interface) c)) same
     (subst (λ o. IsJudged r (λ _. []) x q old o c (counting x q (a old.terms.interface) c)) (sym rest) (judged_at r old f x q (a old.terms.interface) c st (answer st.transfer)))
 
+-- the same of the side and the outcome that it is known to have
+pub judged_as : {U : Type 0} (a : Result U ℕ) (old new : Known) (x y : Side) (q : StateName) (c : Channel) (o p : Outcome) → x ≡ y → o ≡ p →
+    IsJudged a (λ _. []) x q old new c o → IsJudged a (λ _. []) y q old new c p
+judged_as a old new x y q c o p side same judged = subst (λ (v : Side × Outcome). IsJudged a (λ _. []) v.0 q old new c v.1) (λ j. (side j, same j)) judged
+
 -- the data packet that a row says
 pub data_is : (i : Interface) (q : StateName) (r : Item) (h : DataHeader) (p : AcceptedData) (x : Side) (c : Channel) → x ≡ r.side → p ≡ heard_of i r h →
     data_counted i x q p (counted_in_force i x h.send h.receive c) c ≡ data_step i q r (Some h) c
 data_is i q r h p x c side same = λ j. data_counted i (side j) q (same j) (counted_in_force i (side j) h.send h.receive c) c
-
--- a data packet without fault
-pub heard_by : (s : EventOrigin) (old new : Known) (before after : List Event) (x : Side) (q : StateName) (p : AcceptedData) (r : Result Counts ℕ) (c : Channel) (o : Outcome) →
-    new ≡ record old { transfer = new.transfer } → Stands old c → data_counted old.terms.interface x q p r c ≡ o →
-    (k : Option ℕ) → k ≡ None → IsHeard k old.terms.interface s old.transfer new.transfer before after x p r c → Does s old new before after o
-heard_by s old new before after x q p r c o rest stands counted_is k none heard =
-    let (v, m, is, transfer, reports) = subst (λ j. IsHeard j old.terms.interface s old.transfer new.transfer before after x p r c) none heard in
-    subst (λ d. Does s old d before after o) (sym rest)
-    (subst (λ d. Does s old (record old { transfer = new.transfer }) before after d) (sym (is q) ∙ counted_is) (record {
-      interface = refl;
-      channel = refl;
-      stands = record { state = stands.state; owed = stands.owed; terms = record { call = stands.terms.call; values = stands.terms.values }; transfer = transfer };
-      reports = reports;
-    }))
-
--- a data packet with a fault of its numbers or its Q bit
-pub refused_by : {U : Type 0} (a : Result U Fault) (s : EventOrigin) (old mid new : Known) (before between after : List Event) (x : Side) (q : StateName) (p : AcceptedData) (r : Result Counts ℕ)
-    (c : Channel) (o : Outcome) → Stands old c → data_counted old.terms.interface x q p r c ≡ o →
-    (k : Option ℕ) (n : ℕ) → k ≡ Some n → IsHeard k old.terms.interface s old.transfer mid.transfer before between x p r c →
-    mid ≡ old → between ≡ before →
-    ((d : Channel) → Stands mid d → IfOk a (λ _. Does s mid new between after (failing x q n d))) →
-    IfOk a (λ _. Does s old new before after o)
-refused_by a s old mid new before between after x q p r c o stands counted_is k n some heard mid_is between_is does =
-    let told = subst (λ j. IsHeard j old.terms.interface s old.transfer mid.transfer before between x p r c) some heard in
-    refusing (λ u p. IfOk a (λ _. Does s u new before after p)) old mid c (failing x q n) o (sym (told.0 q) ∙ counted_is, mid_is) stands
-    (λ d st. subst (λ l. IfOk a (λ _. Does s mid new l after (failing x q n d))) between_is (does d st))
 
 -- a data packet with Q 0 of a row
 pub judged_data : {U : Type 0} (a : Result U ℕ) (ws : Side → U → List What) (old p new : Known) (x : Side) (q : StateName) (r : Item) (h : DataHeader) (n : ℕ) (c : Channel) →
@@ -103,19 +70,6 @@ judged_data a ws old p new x q r h n c same side long said without_q judged =
     subst (λ (v : Side × Outcome). IsJudged a (ws v.0) v.0 q p new c v.1)
     (λ j. (side j, data_is i q r h d x c side (unqualified_is i r h x n said without_q side long) j))
     (subst (λ (o : Known). IsJudged a (ws x) x q o new c (data_counted o.terms.interface x q d (counted_in_force o.terms.interface x h.send h.receive c) c)) same judged)
-
-pub passes_data : (old new : Known) (x : Side) (q : StateName) (p : AcceptedData) (r : Result Counts ℕ) (c : Channel) → new ≡ record old { transfer = new.transfer } → Stands old c →
-    (v : Counts) × ((t : StateName) → data_counted old.terms.interface x t p r c ≡ hearing x p v None c) × StandsFor old.terms.interface new.transfer (hearing x p v None c).after →
-    Passes old new (what.Data x p.length ∷ []) (data_counted old.terms.interface x q p r c)
-passes_data old new x q p r c rest stands accepted =
-    let (v, is, transfer) = accepted in
-    subst (λ d. Passes old d (what.Data x p.length ∷ []) (data_counted old.terms.interface x q p r c)) (sym rest)
-    (subst (λ o. Passes old (record old { transfer = new.transfer }) (what.Data x p.length ∷ []) o) (sym (is q)) (record {
-      interface = refl;
-      channel = refl;
-      stands = record { state = stands.state; owed = stands.owed; terms = record { call = stands.terms.call; values = stands.terms.values }; transfer = transfer };
-      reported = refl;
-    }))
 
 -- a packet that passes, with its events listed, or that of its data apart
 pub passes_listed : (s : EventOrigin) (old new : Known) (before after : List Event) (ws : List What) (o : Outcome) → Passes old new ws o → Reports s before after ws → Does s old new before after o
@@ -135,26 +89,23 @@ passes_apart s old new events x accepted o passes = record {
   reports = ap (λ ws. events ++ map (event_at s) ws) (sym passes.reported);
 }
 
--- ---- steps whose events are all listed
+-- a data packet without fault
+pub passes_heard : (old new : Known) (x : Side) (q : StateName) (p : AcceptedData) (m : Option (List ℕ)) (v : Counts) (r : Result Counts ℕ) (c : Channel) →
+    new ≡ record old { transfer = new.transfer } → Stands old c → ((t : StateName) → data_counted old.terms.interface x t p r c ≡ hearing x p v m c) →
+    StandsFor old.terms.interface new.transfer (hearing x p v m c).after → Passes old new (hearing x p v m c).reported (data_counted old.terms.interface x q p r c)
+passes_heard old new x q p m v r c rest stands is transfer =
+    subst (λ d. Passes old d (hearing x p v m c).reported (data_counted old.terms.interface x q p r c)) (sym rest)
+    (subst (λ o. Passes old (record old { transfer = new.transfer }) (hearing x p v m c).reported o) (sym (is q)) (record {
+      interface = refl;
+      channel = refl;
+      stands = record { state = stands.state; owed = stands.owed; terms = record { call = stands.terms.call; values = stands.terms.values }; transfer = transfer };
+      reported = refl;
+    }))
 
-pub listed_does : {U : Type 0} (a : Result U Fault) (s : EventOrigin) (x : Side) (old new : Known) (before after : List Event) (o : Outcome) →
-    IfOk a (λ _. Does s old new before after o) → IfOk (listed a) (λ k. DoesApart s x old new before after k o)
-listed_does (Ok u) s x old new before after o does = record {
-  interface = does.interface;
-  channel = does.channel;
-  stands = does.stands;
-  reports = append-nil after ∙ does.reports;
-}
-listed_does (Err e) s x old new before after o does = tt
-
-pub listed_apart : {U : Type 0} (a : Result U Fault) (P : Type 0) → IfOk (listed a) (λ k. OnSome k P)
-listed_apart (Ok u) P = tt
-listed_apart (Err e) P = tt
-
-pub listed_unchanged : {U : Type 0} (a : Result U Fault) (old new : Known) (before after : List Event) → IsUnchanged a old new before after → IsUnchanged (listed a) old new before after
-listed_unchanged (Ok u) old new before after h = tt
-listed_unchanged (Err e) old new before after h = h
-
-pub listed_memory : {U : Type 0} (a : Result U Fault) → IsMemory a → IsMemory (listed a)
-listed_memory (Ok u) h = tt
-listed_memory (Err e) h = h
+pub heard_by : (s : EventOrigin) (old new : Known) (before after : List Event) (x : Side) (q : StateName) (p : AcceptedData) (r : Result Counts ℕ) (c : Channel) (o : Outcome) →
+    new ≡ record old { transfer = new.transfer } → Stands old c → data_counted old.terms.interface x q p r c ≡ o →
+    (k : Option ℕ) → k ≡ None → IsHeard k old.terms.interface s old.transfer new.transfer before after x p r c → Does s old new before after o
+heard_by s old new before after x q p r c o rest stands counted_is k none heard =
+    let (v, m, is, transfer, reports) = subst (λ j. IsHeard j old.terms.interface s old.transfer new.transfer before after x p r c) none heard in
+    subst (λ d. Does s old new before after d) counted_is
+    (passes_listed s old new before after (hearing x p v m c).reported (data_counted old.terms.interface x q p r c) (passes_heard old new x q p m v r c rest stands is transfer) reports)

@@ -4,10 +4,9 @@ ghost use Rattle.std.specs.Prelude.{◌≡◌, ◌≤◌, true, false, Some, IfO
 ghost use Rattle.line_model.specs.basics.Bounds.{IsSaid};
 ghost use Rattle.line_model.specs.basics.Records.{Item};
 ghost use Rattle.line_model.specs.channels.Channels.{Channel, is_permanent};
-ghost use Rattle.line_model.specs.channels.FlowControl.{count_confirm, count_interrupt, count_receive};
 ghost use Rattle.line_model.specs.packets.Classes.{packet_class};
 ghost use Rattle.line_model.specs.packets.Says.{header_in};
-ghost use Rattle.line_model.specs.channels.ChannelStep.{call_change, channel_step, counting, counts_of, data_step, judged, moving, transferring};
+ghost use Rattle.line_model.specs.channels.ChannelStep.{call_change, channel_step, data_step, judged, moving, transferring};
 ghost use Rattle.line_model.specs.declared.table.Action.TheVariants.{Move, Normal};
 ghost use Rattle.packet_decode.specs.SaidData.{IsSaidData};
 ghost use Rattle.channel_machine.specs.Channels.{Stands, Does, DoesApart, Comes, IsUnchanged, IsMemory, listed};
@@ -19,7 +18,7 @@ ghost use Rattle.channel_machine.specs.Sizes.{largest_length};
 
 use crate::channel::StatusChannel;
 use crate::events::Judgement;
-use crate::format::{Contents, header_of, receive_of};
+use crate::format::{Contents, header_of};
 use crate::judging::judged;
 use crate::messages::data_packet;
 use crate::moves::{Change, change_of};
@@ -116,65 +115,6 @@ impl<A: Allocator + Clone, S: StatusStore> StatusChannel<A, S> {
         }
     }
 
-    /// Accepts or refuses an interrupt without fault of format.
-    fn handle_interrupt(
-        &mut self,
-        judgement: &Judgement,
-        events: &mut Vec<Event, A>,
-    ) -> Result<(), Fault>
-        ensures does { Comes result judgement.now.origin self.old self.new
-            events.old.items events.new.items
-            (λ c. counting judgement.now.side judgement.now.state
-            (count_interrupt (counts_of c) judgement.now.side) c) }
-        ensures unchanged { IsUnchanged result self.old self.new events.old.items events.new.items }
-        ensures memory { IsMemory result }
-    {
-        match self.accept_interrupt(judgement.side) {
-            Err(code) => self.fail(judgement, code, events),
-            Ok(()) => Ok(()),
-        }
-    }
-
-    /// Accepts or refuses an interrupt confirmation without fault of format.
-    fn handle_confirmation(
-        &mut self,
-        judgement: &Judgement,
-        events: &mut Vec<Event, A>,
-    ) -> Result<(), Fault>
-        ensures does { Comes result judgement.now.origin self.old self.new
-            events.old.items events.new.items
-            (λ c. counting judgement.now.side judgement.now.state
-            (count_confirm (counts_of c) judgement.now.side) c) }
-        ensures unchanged { IsUnchanged result self.old self.new events.old.items events.new.items }
-        ensures memory { IsMemory result }
-    {
-        match self.accept_confirmation(judgement.side) {
-            Err(code) => self.fail(judgement, code, events),
-            Ok(()) => Ok(()),
-        }
-    }
-
-    /// Accepts or refuses the P(R) of a packet without fault of format.
-    fn handle_ready(
-        &mut self,
-        judgement: &Judgement,
-        receive: u8,
-        events: &mut Vec<Event, A>,
-    ) -> Result<(), Fault>
-        ensures does { Comes result judgement.now.origin self.old self.new
-            events.old.items events.new.items
-            (λ c. counting judgement.now.side judgement.now.state
-            (count_receive self.old.terms.interface.modulus (counts_of c)
-            judgement.now.side receive) c) }
-        ensures unchanged { IsUnchanged result self.old self.new events.old.items events.new.items }
-        ensures memory { IsMemory result }
-    {
-        match self.accept_ready(judgement.side, receive) {
-            Err(code) => self.fail(judgement, code, events),
-            Ok(()) => Ok(()),
-        }
-    }
-
     /// Moves to a state.
     fn go(
         &mut self,
@@ -254,9 +194,10 @@ impl<A: Allocator + Clone, S: StatusStore> StatusChannel<A, S> {
     {
         match class {
             Class::Data => self.handle_data(judgement, item, events),
-            Class::Interrupt => self.handle_interrupt(judgement, events),
-            Class::InterruptConfirm => self.handle_confirmation(judgement, events),
-            _ => self.handle_ready(judgement, receive_of(&item.packet), events),
+            _ => match self.accept_control(class, item) {
+                Ok(()) => Ok(()),
+                Err(code) => self.fail(judgement, code, events),
+            },
         }
     }
 

@@ -2,9 +2,9 @@
 
 ghost use Rattle.std.specs.Prelude.{◌≡◌, ◌≤◌, ◌-◌, ◌&&◌, ◌∷◌, [], length, false, Some, IfOk, OnErr, OnSome};
 ghost use Rattle.line_model.specs.channels.Channels.{Channel};
-ghost use Rattle.line_model.specs.channels.ChannelStep.{counting, counts_of, data_step};
-ghost use Rattle.line_model.specs.channels.FlowControl.{count_confirm, count_interrupt, count_receive};
-ghost use Rattle.line_model.specs.packets.Classes.{header_length};
+ghost use Rattle.line_model.specs.channels.ChannelStep.{counting, counts_of, data_step, transferring};
+ghost use Rattle.line_model.specs.channels.FlowControl.{count_receive};
+ghost use Rattle.line_model.specs.packets.Classes.{header_length, packet_class};
 ghost use Rattle.packet_decode.specs.SaidData.{IsSaidData};
 ghost use Rattle.channel_machine.specs.Transfers.{IsHeard, counted_in_force, packet};
 ghost use Rattle.channel_machine.specs.Channels.{Stands, IsJudged, IsUnchanged, IsMemory};
@@ -12,6 +12,7 @@ ghost use Rattle.channel_machine.specs.Sizes.{largest_length};
 
 use crate::channel::StatusChannel;
 use crate::events::EventOrigin;
+use crate::format::receive_of;
 use crate::messages::{ROOM, data_packet};
 use crate::status::StatusStore;
 use crate::terms::is_pad_call;
@@ -20,7 +21,7 @@ use line_model::diagnostic::INCONSISTENT_Q_BIT_SETTING;
 use line_model::event::{Event, What};
 use line_model::fault::Fault;
 use line_model::items::ItemRef;
-use line_model::packet::DataHeader;
+use line_model::packet::{Class, DataHeader};
 use line_model::state::{Side, StateName};
 use packet_decode::decode::header_length;
 use std::alloc::Allocator;
@@ -134,24 +135,20 @@ impl<A: Allocator + Clone, S: StatusStore> StatusChannel<A, S> {
         self.status.ack(side, receive)
     }
 
-    /// Accepts an interrupt of a side, or returns its fault, and the channel is as it was.
-    pub(crate) fn accept_interrupt(&mut self, side: Side) -> Result<(), u8>
+    /// Accepts an interrupt, an interrupt confirmation, RR or RNR, or returns its fault, and the channel is as it was.
+    pub(crate) fn accept_control(&mut self, class: Class, item: &ItemRef<'_>) -> Result<(), u8>
+        requires class { class ≡ packet_class item.now.packet }
+        requires no_data { class ≡ Class.Data → ⊥ }
         ensures judged { (c : Channel) (q : StateName) → Stands self.old c
-            → IsJudged result (λ _. []) side q self.old self.new c
-            (counting side q (count_interrupt (counts_of c) side) c) }
+            → IsJudged result (λ _. []) item.now.side q self.old self.new c
+            (transferring self.old.terms.interface q class item.now c) }
         ensures faulted { OnErr result (self.new ≡ self.old) }
     {
-        self.status.interrupt(side)
-    }
-
-    /// Accepts an interrupt confirmation of a side, or returns its fault, and the channel is as it was.
-    pub(crate) fn accept_confirmation(&mut self, side: Side) -> Result<(), u8>
-        ensures judged { (c : Channel) (q : StateName) → Stands self.old c
-            → IsJudged result (λ _. []) side q self.old self.new c
-            (counting side q (count_confirm (counts_of c) side) c) }
-        ensures faulted { OnErr result (self.new ≡ self.old) }
-    {
-        self.status.confirm(side)
+        match class {
+            Class::Interrupt => self.status.interrupt(item.side),
+            Class::InterruptConfirm => self.status.confirm(item.side),
+            _ => self.accept_ready(item.side, receive_of(&item.packet)),
+        }
     }
 }
 

@@ -6,7 +6,6 @@ use Rattle.line_model.specs.channels.Sequences.{sequence_octets}
 use Rattle.line_model.specs.packets.Formats.{is_pad_call}
 use Rattle.line_model.specs.channels.ChannelStep.{counts_of}
 use Rattle.data_transfer.specs.Assembler.{IsPut, begun_by}
-use Rattle.data_transfer.specs.Assembly.{OnMixed}
 use Rattle.data_transfer.specs.declared.sequence.Put.TheVariants.{Going, Complete, Mixed}
 use Rattle.channel_machine.specs.Events.{event_at}
 use Rattle.channel_machine.specs.Messages.{message_reports}
@@ -115,31 +114,3 @@ returns-then-carries_message-2-clause-heard g c k s =
     b.0 (told_is before.terms.interface old.transfer k c.args.side h st.transfer told b.1) c.data.ensures.rest.modulus c.data.ensures.rest.windows b.2 c.put.ensures.sizes
     (c.report_message.ensures.stands m k.told octets st.transfer.settings)
     (λ v. c.report_message.ensures.reports m k.told octets st.transfer.settings ∙ ap (λ l. l ++ map (event_at c.args.origin) (message_reports c.args.side (length c.args.user_data.now) k.told m)) c.in_ok-reserve.ensures.items))
-
-pub returns-in-Going-clause-rest : goal.returns-in-Going-clause-rest
-returns-in-Going-clause-rest g c =
-    let i = c.self.inside in
-    let after = g.S.StatusStore.status c.data.new.self in
-    ap (λ s. known i.channel s c.put.new.self i.settings) c.data.ensures.rest.rest
-    ∙ ap (λ (o : Known). record o { transfer = record { flow = after.flow; assembler = c.put.new.self; settings = i.settings } }) c.self.view_is
-
-pub returns-else-carries_message-2-clause-rest : goal.returns-else-carries_message-2-clause-rest
-returns-else-carries_message-2-clause-rest g c =
-    let i = c.self.inside in
-    let after = g.S.StatusStore.status c.data.new.self in
-    ap (λ s. known i.channel s c.put.new.self i.settings) c.data.ensures.rest.rest
-    ∙ ap (λ (o : Known). record o { transfer = record { flow = after.flow; assembler = c.put.new.self; settings = i.settings } }) c.self.view_is
-
-pub returns-then-carries_message-2-clause-rest : goal.returns-then-carries_message-2-clause-rest
-returns-then-carries_message-2-clause-rest g c =
-    let i = c.self.inside in
-    let after = g.S.StatusStore.status c.data.new.self in
-    ap (λ s. known i.channel s c.put.new.self c.report_message.new.self) c.data.ensures.rest.rest
-    ∙ ap (λ (o : Known). record o { transfer = record { flow = after.flow; assembler = c.put.new.self; settings = c.report_message.new.self } }) c.self.view_is
-
-pub returns-in-Mixed-clause-faulted : goal.returns-in-Mixed-clause-faulted
-returns-in-Mixed-clause-faulted g c =
-    let i = c.self.inside in (
-      ap (λ a. known i.channel (g.S.StatusStore.status i.status) a i.settings) (subst (λ q. OnMixed q (c.put.new.self ≡ i.assembler)) c.in-Mixed.is c.in_ok-put.ensures.mixed) ∙ c.self.view_is,
-      c.in_ok-reserve.ensures.items,
-    )

@@ -9,7 +9,7 @@ use Rattle.channel_machine.specs.Transfers.{counted_in_force}
 use Rattle.channel_machine.specs.Channels.{Known, known, Stands}
 use Rattle.channel_machine.proofs.Counting.{answered_err}
 use Rattle.channel_machine.proofs.Hearing.{in_force, accepted, alike_of, unlike, untold_is, without_q}
-use Rattle.channel_machine.proofs.Taking.{judged_data, passes_data}
+use Rattle.channel_machine.proofs.Taking.{judged_data, passes_heard}
 use Rattle.channel_machine.proofs.channel.StatusChannel.accept_unqualified.Goals as goal
 
 pub returns-in-Err-clause-judged : goal.returns-in-Err-clause-judged
@@ -62,10 +62,10 @@ returns-clause-judged g c k q s =
     let counts = counted_in_force old.terms.interface x h.send h.receive k in
     let new : Known = known i.channel after c.put_unqualified.new.self i.settings in
     let put = c.put_unqualified.ensures.put k.heard st.transfer.sequences in
-    judged_data (Ok c.user_data_length-length.result) (λ y n. Data y n ∷ []) old c.args.self.now new x q r h c.user_data_length-length.result k
-    c.self.view_is (ap (λ (u : Item). u.side) c.item.view_is) c.user_data_length-length.ensures c.requires.said c.requires.unqualified
-    (passes_data old new x q p counts k (ap (λ t. known i.channel t c.put_unqualified.new.self i.settings) c.data.ensures.rest.rest) st
-    (accepted c.in_default.field-0 old.terms.interface old.transfer new.transfer k x h.send h.receive p None st.transfer refl
+    let (v, is, transfer) = accepted c.in_default.field-0 old.terms.interface old.transfer new.transfer k x h.send h.receive p None st.transfer refl
     (in_force (Unit {0}) (Ok c.in_default.field-0) old.terms.interface old.transfer after.flow k x h.send h.receive st.transfer (c.in_default.ensures.counts (counts_of k) st.transfer.flow))
     put.0 (untold_is old.terms.interface k x p (without_q (is_pad_call k) false refl))
-    c.data.ensures.rest.modulus c.data.ensures.rest.windows put.1 c.put_unqualified.ensures.sizes st.transfer.settings))
+    c.data.ensures.rest.modulus c.data.ensures.rest.windows put.1 c.put_unqualified.ensures.sizes st.transfer.settings in
+    judged_data (Ok c.user_data_length-length.result) (λ y n. Data y n ∷ []) old c.args.self.now new x q r h c.user_data_length-length.result k
+    c.self.view_is (ap (λ (u : Item). u.side) c.item.view_is) c.user_data_length-length.ensures c.requires.said c.requires.unqualified
+    (passes_heard old new x q p None v counts k (ap (λ t. known i.channel t c.put_unqualified.new.self i.settings) c.data.ensures.rest.rest) st is transfer)
