@@ -1,16 +1,17 @@
 -- Digits at the front of a text that are counted, and not converted.
-use Rattle.std.proofs.Common.{◌≡◌, ◌∙◌, sym, ap, refl, subst, ℕ, ◌+◌, ◌-◌, ◌*◌, ◌/◌, ◌%◌, ◌<◌, ◌≤◌, true, List, [], ◌∷◌, ◌++◌, length, min, replicate, take, drop, get_or, get_or-take, Option, Some, None, append_assoc, arith, length-append, take-take}
-use Rattle.std.specs.Prelude.{is_some, ◌==◌, zero, suc}
+use Rattle.std.proofs.Common.{◌≡◌, ◌∙◌, sym, ap, refl, subst, ℕ, ◌+◌, ◌-◌, ◌*◌, ◌/◌, ◌%◌, ◌<◌, ◌≤◌, true, List, [], ◌∷◌, ◌++◌, length, min, replicate, take, drop, get_or, ltb, length-drop, length-take-le, Bool, false, leb, get_or-take, Option, Some, None, append_assoc, arith, length-append, take-take}
+use Rattle.std.specs.Prelude.{is_some, not, zero, suc}
 use Rattle.std.specs.List.{AllPass}
-use lib.Seq.{take-append-add}
+use lib.Seq.{take-add, take-append-add}
+use Rattle.std.proofs.lemmas.Bool.{leb-false, leb-true}
 use Rattle.std.proofs.Math.Nat.{min-le_left, min-le_right}
-use Rattle.std.proofs.lemmas.List.{take-append-drop, take-append-le, length-take-le}
+use Rattle.std.proofs.lemmas.List.{take-append-drop, take-append-le}
 use Rattle.std.proofs.lemmas.List.Elements.{All-append, All-from_get_or, All-head, All-tail, All-take}
 use Rattle.std.proofs.lemmas.Simd.{get_or-chunk, length-chunk}
 use lib.Lanes.{chunk}
 use Rattle.hex.specs.Hex.{hex_digit_value, is_hex_digit}
-use Rattle.trace_text.specs.Digits.{AreMisses, AreOctets, BeginsOctets, octet_in}
-use Rattle.trace_text.proofs.DigitLemmas.{twice}
+use Rattle.trace_text.specs.Digits.{AreDigitValues, AreHits, AreOctets, BeginsOctets, HasValues, IsDigitValue, octet_in}
+use Rattle.trace_text.proofs.DigitLemmas.{right_digit, twice}
 
 octet_there : (h l : Option ℕ) → is_some h ≡ true → is_some l ≡ true → (octet : ℕ) × (octet_in h l ≡ Some octet)
 octet_there None l p q = cc
@@ -71,21 +72,69 @@ counted-last text rest count n c digits m =
     subst (AllPass is_hex_digit) (sym front) (All-append (λ b. is_hex_digit b ≡ true) c.done (take count rest) c.digits digits)
 
 -- and in its first block
-pub counted : (text rest block : List ℕ) (count n : ℕ) → HasCounted text rest → block ≡ take 32 rest → count ≤ 32 → AllPass is_hex_digit (take count block) → n ≡ length text - length rest + count → AllPass is_hex_digit (take n text)
+pub counted : (text rest block : List ℕ) (count n : ℕ) → HasCounted text rest → block ≡ take 64 rest → count ≤ 64 → AllPass is_hex_digit (take count block) → n ≡ length text - length rest + count → AllPass is_hex_digit (take n text)
 counted text rest block count n c e few digits m =
-    counted-last text rest count n c (subst (AllPass is_hex_digit) (ap (take count) e ∙ take-take count 32 rest few) digits) m
+    counted-last text rest count n c (subst (AllPass is_hex_digit) (ap (take count) e ∙ take-take count 64 rest few) digits) m
 
-is_zero : (m : ℕ) → m ≤ 0 → (m == 0) ≡ true
-is_zero zero h = refl
-is_zero (suc m) h = absurd (omega (arith, h))
-
--- bytes that miss by nothing are digits
-pub no-misses : (bytes misses : List ℕ) (count : ℕ) → length bytes ≡ 32 → AreMisses (chunk 0 32 bytes) misses → count ≤ 32 → ((i : ℕ) → i < count → get_or misses i 0 ≤ 0) → AllPass is_hex_digit (take count bytes)
-no-misses bytes misses count whole are few none =
+-- bytes that all hit are digits
+pub all-hit : (bytes hits : List ℕ) (count : ℕ) → length bytes ≡ 64 → AreHits (chunk 0 64 bytes) hits → count ≤ 64 → ((i : ℕ) → i < count → ltb (get_or hits i 0) 128 ≡ false) → AllPass is_hex_digit (take count bytes)
+all-hit bytes hits count whole are few none =
     let size : length (take count bytes) ≡ count = length-take-le count bytes (omega (arith, whole, few)) in
-    let lanes : length (chunk 0 32 bytes) ≡ 32 = length-chunk 0 32 bytes (omega (arith, whole)) in
+    let lanes : length (chunk 0 64 bytes) ≡ 64 = length-chunk 0 64 bytes (omega (arith, whole)) in
     All-from_get_or (λ b. is_hex_digit b ≡ true) (take count bytes) 0
     (λ i l.
     let less : i < count = omega (arith, l, size) in
-    let lane : get_or (chunk 0 32 bytes) i 0 ≡ get_or bytes i 0 = get_or-chunk 0 32 bytes i 0 (omega (arith, less, few)) ∙ ap (λ m. get_or bytes m 0) (omega arith) in
-    ap is_hex_digit (get_or-take count bytes i 0 less ∙ sym lane) ∙ sym (are.1 i (omega (arith, less, few, lanes))) ∙ is_zero (get_or misses i 0) (none i less))
+    let lane : get_or (chunk 0 64 bytes) i 0 ≡ get_or bytes i 0 = get_or-chunk 0 64 bytes i 0 (omega (arith, less, few)) ∙ ap (λ m. get_or bytes m 0) (omega arith) in
+    ap is_hex_digit (get_or-take count bytes i 0 less ∙ sym lane) ∙ sym (are.1 i (omega (arith, less, few, lanes))) ∙ ap not (none i less))
+
+-- ---- the values of the first 32 bytes
+
+zeros : (n i : ℕ) → get_or {A = ℕ} (replicate n 0) i 0 ≡ 0
+zeros zero i = refl
+zeros (suc n) zero = refl
+zeros (suc n) (suc i) = zeros n i
+
+pub get_or-zeros : (xs : List ℕ) (n i : ℕ) → get_or (xs ++ replicate n 0) i 0 ≡ get_or xs i 0
+get_or-zeros [] n i = zeros n i
+get_or-zeros (x ∷ xs) n zero = refl
+get_or-zeros (x ∷ xs) n (suc i) = get_or-zeros xs n i
+
+beyond : (xs : List ℕ) → get_or xs (length xs) 0 ≡ 0
+beyond [] = refl
+beyond (x ∷ xs) = beyond xs
+
+pub has-values : (text block values : List ℕ) → AreDigitValues (chunk 0 32 block) values → length block ≡ 32 → ((i : ℕ) → i < 32 → get_or block i 0 ≡ get_or text i 0) → HasValues text values
+has-values text block values are long same =
+    let size : length (chunk 0 32 block) ≡ 32 = length-chunk 0 32 block (omega (arith, long)) in (
+      are.0 ∙ size,
+      λ i h. subst (λ (b : ℕ). IsDigitValue b (get_or values i 0)) (get_or-chunk 0 32 block i 0 h ∙ ap (λ m. get_or block m 0) (omega arith) ∙ same i h) (are.1 i (omega (arith, h, size))),
+    )
+
+-- values below 16 are those of digits, which the text has
+pub digits-first : (text values : List ℕ) (count : ℕ) → HasValues text values → count ≤ 32 → ((i : ℕ) → i < count → get_or values i 0 < 16) → (count ≤ length text) × AllPass is_hex_digit (take count text)
+digits-first text values count has few low = (
+  there,
+  All-from_get_or (λ b. is_hex_digit b ≡ true) (take count text) 0 (λ i l.
+      let less : i < count = omega (arith, l, length-take-le count text there) in
+      ap is_hex_digit (get_or-take count text i 0 less) ∙ ap is_some (right_digit (get_or text i 0) (get_or values i 0) (has.1 i (omega (arith, less, few))) (low i less))),
+)
+  where
+    no_digit : (byte value : ℕ) → byte ≡ 0 → hex_digit_value byte ≡ Some value → ⊥
+    no_digit byte value e h = let none : hex_digit_value 0 ≡ Some value = subst (λ b. hex_digit_value b ≡ Some value) e h in cc
+
+    fits : (b : Bool) → leb count (length text) ≡ b → count ≤ length text
+    fits true e = leb-true count (length text) e
+    fits false e =
+        let i : ℕ = length text in
+        let less : i < count = leb-false count (length text) e in
+        absurd (no_digit (get_or text i 0) (get_or values i 0) (beyond text) (right_digit (get_or text i 0) (get_or values i 0) (has.1 i (omega (arith, less, few))) (low i less)))
+
+    there : count ≤ length text
+    there = fits (leb count (length text)) refl
+
+-- and the digits after them
+pub digits-after : (text rest : List ℕ) (count : ℕ) → (32 ≤ length text) × AllPass is_hex_digit (take 32 text) → rest ≡ drop 32 text → count ≤ length rest → AllPass is_hex_digit (take count rest) → (32 + count ≤ length text) × AllPass is_hex_digit (take (32 + count) text)
+digits-after text rest count first e few digits = (
+  omega (arith, first.0, few, ap (λ (xs : List ℕ). length xs) e, length-drop 32 text),
+  subst (AllPass is_hex_digit) (sym (take-add 32 count text)) (All-append (λ b. is_hex_digit b ≡ true) (take 32 text) (take count (drop 32 text)) first.1 (subst (λ (xs : List ℕ). AllPass is_hex_digit (take count xs)) e digits)),
+)

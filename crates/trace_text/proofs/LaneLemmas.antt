@@ -1,21 +1,21 @@
 -- Vectors that are computed lane by lane, and the octets that 32 bytes write.
-use Rattle.std.proofs.Common.{◌≡◌, ◌∙◌, sym, ap, ap₂, refl, subst, ℕ, ◌+◌, ◌*◌, ◌/◌, ◌%◌, ◌^◌, ◌<◌, ◌≤◌, Bool, true, false, cond, List, [], ◌∷◌, map, length, take, get_or, replicate, ltb, arith, w8, get_or-take, length-take-le, inl, inr}
-use Rattle.std.specs.Prelude.{◌⊎◌, suc, zero, Option, Some, None, is_some, ◌==◌}
+use Rattle.std.proofs.Common.{◌≡◌, ◌∙◌, sym, ap, ap₂, refl, subst, ℕ, ◌+◌, ◌*◌, ◌/◌, ◌%◌, ◌^◌, ◌<◌, ◌≤◌, Bool, true, false, cond, List, [], ◌∷◌, map, length, drop, take, get_or, replicate, ltb, arith, w8, get_or-take, length-take-le, inl, inr}
+use Rattle.std.specs.Prelude.{◌⊎◌, suc, zero, Option, Some, None, is_some, not}
 use Rattle.std.specs.List.{AllPass}
 use Rattle.std.proofs.lemmas.List.Elements.{All-get_or}
-use Rattle.std.specs.Int.Bits.{bit_or}
-use Rattle.std.proofs.lemmas.Nat.{le_or_l, le_or_r}
 use Rattle.hex.specs.Hex.{hex_digit_value, is_hex_digit}
-use Rattle.std.specs.List.{range_with_len}
+use Rattle.std.specs.List.{prefix_len, range_with_len}
+use Rattle.std.proofs.lemmas.List.Sums.{prefix_len-le-length, prefix_len_passes}
+use Rattle.std.proofs.lemmas.Bool.{not-true}
 use Rattle.std.proofs.lemmas.Bool.Decides.{nat_tests}
 use Rattle.std.proofs.lemmas.List.{get_or-map, length-map}
 use Rattle.std.proofs.lemmas.List.FromFn.{get_or-map-range_with_len}
-use Rattle.std.proofs.lemmas.Simd.{Each1-from_get_or, Each1-get_or, get_or_wider, map-map, mask_l-lt, mask_l-mod, tops_compared, zip2-map, zip2_splat_left}
-use lib.Count.{count_trailing_zeros, trailing_le, under}
-use lib.Lanes.{Each1, chunk, fold_l, digits_l, number_l, zip2, mask_l, sel_l, top}
-use Rattle.trace_text.specs.Digits.{AreDigitValues, AreMisses, AreOctets, IsDigitValue, octet_of}
+use Rattle.std.proofs.lemmas.Simd.{Each1-from_get_or, Each1-get_or, get_or_wider, leading_from_mask_l, map-map, mask_l-mod, tops_compared, trailing_mask_l, zip2-map, zip2_splat_left}
+use lib.Count.{count_trailing_zeros}
+use lib.Lanes.{Each1, chunk, digits_l, number_l, zip2, mask_l, sel_l, top}
+use Rattle.trace_text.specs.Digits.{AreDigitValues, AreHits, AreOctets, HasDecoded, HasValues, IsDigitValue, octet_of}
 use Rattle.trace_text.proofs.DigitLemmas.{octets-each, right_octet}
-use Rattle.trace_text.proofs.DigitValueLemmas.{are_misses, are_values, table_miss, table_value}
+use Rattle.trace_text.proofs.DigitValueLemmas.{are_hits, are_values, table_hit, table_value}
 
 -- what is computed of v, lane by lane
 pub itself : (v : List ℕ) → v ≡ map (λ x. x) v
@@ -53,54 +53,39 @@ all_lanes P f v result bytes e all = (
 pub all_values : (f : ℕ → ℕ) (v result : List ℕ) → Each1 (λ d. d < 256) v → result ≡ map f v → are_values 0 (map f (range_with_len 0 256)) ≡ true → AreDigitValues v result
 all_values f v result bytes e all = all_lanes IsDigitValue f v result bytes e (λ d byte. table_value (map f (range_with_len 0 256)) d all byte)
 
--- and the misses
-pub all_misses : (f : ℕ → ℕ) (v result : List ℕ) → Each1 (λ d. d < 256) v → result ≡ map f v → are_misses 0 (map f (range_with_len 0 256)) ≡ true → AreMisses v result
-all_misses f v result bytes e all = all_lanes (λ d m. (m == 0) ≡ is_hex_digit d) f v result bytes e (λ d byte. table_miss (map f (range_with_len 0 256)) d all byte)
+-- and the hits
+pub all_hits : (f : ℕ → ℕ) (v result : List ℕ) → Each1 (λ d. d < 256) v → result ≡ map f v → are_hits 0 (map f (range_with_len 0 256)) ≡ true → AreHits v result
+all_hits f v result bytes e all = all_lanes (λ d m. not (ltb m 128) ≡ is_hex_digit d) f v result bytes e (λ d byte. table_hit (map f (range_with_len 0 256)) d all byte)
 
--- a reduction by `|` is no less than any lane
-or_above : (a : ℕ) (v : List ℕ) → a ≤ fold_l bit_or a v
-or_above a [] = omega arith
-or_above a (x ∷ xs) = omega (arith, le_or_l a x, or_above (bit_or a x) xs)
+-- which lanes are above a limit, as a mask
+abbrev pub mask_of : ℕ → ℕ → List ℕ → ℕ
+mask_of n most v = mask_l (map (top 7) (zip2 (λ a b. cond (ltb a b) 255 0) (replicate n most) v)) % 2 ^ 64
 
-pub or_lane : (a : ℕ) (v : List ℕ) (i : ℕ) → i < length v → get_or v i 0 ≤ fold_l bit_or a v
-or_lane a [] i h = absurd (omega (arith, h))
-or_lane a (x ∷ xs) zero h = omega (arith, le_or_r a x, or_above (bit_or a x) xs)
-or_lane a (x ∷ xs) (suc i) h = or_lane (bit_or a x) xs i (omega (arith, h))
-
--- whether a lane is above the most that a digit has
-abbrev pub mask_of : ℕ → List ℕ → ℕ
-mask_of most v = mask_l (map (top 7) (zip2 (λ a b. cond (ltb a b) 255 0) (replicate 32 most) v)) % 2 ^ 64
-
-great_mask : (most : ℕ) (v : List ℕ) → length v ≡ 32 → mask_of most v ≡ mask_l (map (ltb most) v)
-great_mask most v n =
-    ap (λ (ms : List Bool). mask_l ms % 2 ^ 64) (tops_compared w8 ltb (replicate 32 most) v ∙ zip2_splat_left ltb most 32 v n) ∙ mask_l-mod (map (ltb most) v) 64 (omega (arith, length-map v (ltb most), n))
-
-pub mask_small : (most : ℕ) (v : List ℕ) → length v ≡ 32 → mask_of most v < 2 ^ 32
-mask_small most v n = let size = length-map v (ltb most) in omega (arith, great_mask most v n, subst (λ k. mask_l (map (ltb most) v) < 2 ^ k) (size ∙ n) (mask_l-lt (map (ltb most) v)))
-
-bit_first : (b : Bool) (n : ℕ) → ((cond b 1 0 + 2 * n) % 2 ≡ cond b 1 0) × ((cond b 1 0 + 2 * n) / 2 ≡ n)
-bit_first true n = omega arith
-bit_first false n = omega arith
-
--- below the lowest bit of a mask the lanes are not so
-below_lowest : (p : ℕ → Bool) (k : ℕ) (v : List ℕ) (i : ℕ) → i < count_trailing_zeros k (mask_l (map p v)) → i < length v → p (get_or v i 0) ≡ false
-unfolding count_trailing_zeros
-below_lowest p k [] i h l = absurd (omega (arith, l))
-below_lowest p zero (x ∷ xs) i h l = absurd (omega (arith, h))
-below_lowest p (suc k) (x ∷ xs) i h l = let bits = bit_first (p x) (mask_l (map p xs)) in lane (p x) refl i (rw (bits.0, bits.1) at h) l (below_lowest p k xs)
-  where
-    lane : (b : Bool) → p x ≡ b → (i : ℕ) → i < under (cond b 1 0) (count_trailing_zeros k (mask_l (map p xs))) → i < length (x ∷ xs) → ((i : ℕ) → i < count_trailing_zeros k (mask_l (map p xs)) → i < length xs → p (get_or xs i 0) ≡ false) → p (get_or (x ∷ xs) i 0) ≡ false
-    lane true e i h l later = absurd (omega (arith, h))
-    lane false e zero h l later = e
-    lane false e (suc i) h l later = later i (omega (arith, h)) (omega (arith, l))
+great_mask : (n most : ℕ) (v : List ℕ) → length v ≡ n → n ≤ 64 → mask_of n most v ≡ mask_l (map (ltb most) v)
+great_mask n most v long few =
+    ap (λ (ms : List Bool). mask_l ms % 2 ^ 64) (tops_compared w8 ltb (replicate n most) v ∙ zip2_splat_left ltb most n v long) ∙ mask_l-mod (map (ltb most) v) 64 (omega (arith, length-map v (ltb most), long, few))
 
 not_great : (most x : ℕ) → ltb most x ≡ false → x ≤ most
 not_great most x k = grind (arith, nat_tests)
 
-pub leading_small : (most : ℕ) (v : List ℕ) → length v ≡ 32 → (i : ℕ) → i < count_trailing_zeros 32 (mask_of most v) → get_or v i 0 ≤ most
-leading_small most v n i h =
-    let few = trailing_le 32 (mask_of most v) in
-    not_great most (get_or v i 0) (below_lowest (ltb most) 32 v i (subst (λ m. i < count_trailing_zeros 32 m) (great_mask most v n) h) (omega (arith, h, few, n)))
+-- where a mask has no bit, no lane passes the test
+pub none_passes : (p : ℕ → Bool) (v : List ℕ) (m n : ℕ) → length v ≡ n → m ≡ mask_l (map p v) → m ≡ 0 → (i : ℕ) → i < n → p (get_or v i 0) ≡ false
+none_passes p v m n long mask none i h = not-true _ (prefix_len_passes (λ x. not (p x)) v i 0 (omega (arith, h, long, leading_from_mask_l p v (sym mask ∙ none))))
+
+-- and no lane before the lowest bit
+pub first_passes : (p : ℕ → Bool) (v : List ℕ) (m n : ℕ) → length v ≡ n → n ≤ 64 → m ≡ mask_l (map p v) → 0 < m → (count_trailing_zeros 64 m ≤ n) × ((i : ℕ) → i < count_trailing_zeros 64 m → p (get_or v i 0) ≡ false)
+first_passes p v m n long few mask some =
+    let count : count_trailing_zeros 64 m ≡ prefix_len (λ x. not (p x)) v =
+    ap (count_trailing_zeros 64) mask ∙ trailing_mask_l p 64 v (omega (arith, long, few)) (omega (arith, mask, some)) in
+    (omega (arith, count, long, prefix_len-le-length (λ x. not (p x)) v), λ i h. not-true _ (prefix_len_passes (λ x. not (p x)) v i 0 (omega (arith, h, count))))
+
+pub none_great : (n most : ℕ) (v : List ℕ) → length v ≡ n → n ≤ 64 → mask_of n most v ≡ 0 → (i : ℕ) → i < n → get_or v i 0 ≤ most
+none_great n most v long few none i h = not_great most (get_or v i 0) (none_passes (ltb most) v (mask_of n most v) n long (great_mask n most v long few) none i h)
+
+pub first_great : (n most : ℕ) (v : List ℕ) → length v ≡ n → n ≤ 64 → 0 < mask_of n most v → (count_trailing_zeros 64 (mask_of n most v) ≤ n) × ((i : ℕ) → i < count_trailing_zeros 64 (mask_of n most v) → get_or v i 0 ≤ most)
+first_great n most v long few some =
+    let first = first_passes (ltb most) v (mask_of n most v) n long few (great_mask n most v long few) some in
+    (first.0, λ i h. not_great most (get_or v i 0) (first.1 i h))
 
 -- the octets that pairs of values make: a pair is a + 256 * b, and its octet is the second byte of that times 4,097
 abbrev pub pair_octets : List ℕ → List ℕ
@@ -138,10 +123,10 @@ is_value None value h (inr w) = cc
 is_value (Some v) value h (inr w) = cc
 
 -- the first pairs that are digits
-pub block-octets : (bytes values : List ℕ) (k : ℕ) → length bytes ≡ 32 → length values ≡ 32 → ((i : ℕ) → i < 32 → IsDigitValue (get_or bytes i 0) (get_or values i 0)) → k ≤ 16 → AllPass is_hex_digit (take (2 * k) bytes) → AreOctets (take (2 * k) bytes) (take k (pair_octets values))
-block-octets bytes values k size lanes are few hex =
+block-octets : (bytes values : List ℕ) (k : ℕ) → 2 * k ≤ length bytes → length values ≡ 32 → ((i : ℕ) → i < 32 → IsDigitValue (get_or bytes i 0) (get_or values i 0)) → k ≤ 16 → AllPass is_hex_digit (take (2 * k) bytes) → AreOctets (take (2 * k) bytes) (take k (pair_octets values))
+block-octets bytes values k there lanes are few hex =
     let octets : List ℕ = pair_octets values in
-    let bytes_len : length (take (2 * k) bytes) ≡ 2 * k = length-take-le (2 * k) bytes (omega (arith, size, few)) in
+    let bytes_len : length (take (2 * k) bytes) ≡ 2 * k = length-take-le (2 * k) bytes there in
     let octets_len : length (take k octets) ≡ k = length-take-le k octets (omega (arith, few)) in
     let small = λ (i : ℕ) (l : i < 2 * k). is_value (hex_digit_value (get_or bytes i 0)) (get_or values i 0)
     (ap is_hex_digit (sym (get_or-take (2 * k) bytes i 0 l)) ∙ All-get_or (λ b. is_hex_digit b ≡ true) (take (2 * k) bytes) i 0 (omega (arith, l, bytes_len)) hex) (are i (omega (arith, l, few))) in
@@ -151,3 +136,9 @@ block-octets bytes values k size lanes are few hex =
     let low : get_or (take (2 * k) bytes) (2 * i + 1) 0 ≡ get_or bytes (2 * i + 1) 0 = get_or-take (2 * k) bytes (2 * i + 1) 0 (omega (arith, less)) in
     let octet : get_or (take k octets) i 0 ≡ get_or octets i 0 = get_or-take k octets i 0 less in
     rw (high, low, octet) (one_octet bytes values (2 * k) i lanes are small (omega (arith, few)) (omega (arith, less))))
+
+pub decodes-values : (text values : List ℕ) → HasValues text values → HasDecoded text (pair_octets values) (drop 32 text)
+decodes-values text values has = record {
+  left = let all : 32 ≡ 2 * length (pair_octets values) = omega arith in ap (λ (n : ℕ). drop n text) all;
+  octets_are = λ k few there hex. block-octets text values k there has.0 has.1 (omega (arith, few)) hex;
+}

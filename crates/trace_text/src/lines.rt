@@ -302,7 +302,7 @@ impl<A: Allocator> Lines<A> {
         if size_fault(self.start, 1, len).is_some() {
             return None;
         }
-        convert_digits(front.digits, front.length, &mut row.octets)?;
+        convert_digits(front.values, front.digits, front.length, &mut row.octets)?;
         row.number = front.number;
         row.side = front.side;
         row.length = front.length;

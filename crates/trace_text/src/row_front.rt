@@ -1,7 +1,7 @@
 //! The front of a row, whose line is validated in one pass where it lies whole in a text.
 
 ghost use Rattle.std.specs.Prelude.{IfSome};
-ghost use Rattle.trace_text.specs.Digits.{BeginsOctets};
+ghost use Rattle.trace_text.specs.Digits.{BeginsOctets, HasValues};
 ghost use Rattle.trace_text.specs.Reads.{BeginsNumber, BeginsRow};
 
 use crate::cuts::after_byte;
@@ -22,6 +22,8 @@ pub struct RowFront<'a> {
     pub length: usize,
     /// The text from the row's hex digits on.
     pub digits: &'a [u8],
+    /// The values of the first 32 bytes of these.
+    pub values: [u8; 32],
     /// What follows the line's LF.
     pub rest: &'a [u8],
 }
@@ -68,15 +70,17 @@ fn split_front(last: u32, text: &[u8]) -> Option<(u32, Side, &[u8])>
 #[inline(always)]
 pub fn read_front(last: u32, text: &[u8]) -> Option<RowFront<'_>>
     ensures { IfSome result (λ front. BeginsRow last text.now front.number front.side front.digits.now
-        × BeginsOctets front.digits.now front.length front.rest.now) }
+        × BeginsOctets front.digits.now front.length front.rest.now
+        × HasValues front.digits.now front.values) }
 {
     let (number, side, digits) = split_front(last, text)?;
-    let (length, rest) = split_digits(digits)?;
+    let (length, values, rest) = split_digits(digits)?;
     Some(RowFront {
         number,
         side,
         length,
         digits,
+        values,
         rest,
     })
 }

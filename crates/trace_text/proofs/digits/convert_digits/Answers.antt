@@ -1,12 +1,24 @@
-use Rattle.std.proofs.Common.{◌-◌, length}
-use Rattle.trace_text.proofs.DigitLemmas.{decodes-first, decodes-last}
+use Rattle.std.proofs.Common.{◌∙◌, ◌≤◌, ◌++◌, ap, arith, drop, length, subst, sym, take, ◌*◌, ℕ, List}
+use Rattle.std.proofs.lemmas.Option.{IfSome_then}
+use Rattle.trace_text.specs.Digits.{AreOctets, HasDecoded}
+use Rattle.trace_text.proofs.DigitLemmas.{converts, decodes-none}
 use Rattle.trace_text.proofs.digits.convert_digits.Goals as goal
 
-pub returns-in-Some : goal.returns-in-Some
-returns-in-Some g c rest w =
-    c.keep_octets.ensures c.args.digits.now rest w (decodes-first c.args.digits.now c.in-Some.first.now c.in-Some.more.now c.read_block.result c.in-Some.ensures.cases c.read_block.ensures.long c.read_block.ensures.octets)
+pub returns-then-count-gt16 : goal.returns-then-count-gt16
+returns-then-count-gt16 g c rest w =
+    let text = c.args.digits.now in
+    let first = c.octets_of-first.ensures.octets text c.requires in
+    IfSome_then c.append_octets.result c.append_octets.ensures
+    (λ _ are. converts text rest (drop 32 text) c.append_octets.new.octets.items c.octets_of-first.result c.args.size c.read_count-count.result w first c.octets_of-first.ensures.long c.read_count-count.ensures
+    (are text (subst (λ (xs : List ℕ). HasDecoded text xs text) (sym c.clear.ensures.items) (decodes-none text))))
 
-pub returns-in-None : goal.returns-in-None
-returns-in-None g c rest w =
-    c.keep_octets-in-None.ensures c.args.digits.now rest w
-    (decodes-last c.args.digits.now c.read_block-in-None.result c.padded.result (32 - length c.args.digits.now) c.in-None.ensures.cases c.read_block-in-None.ensures.long c.padded.ensures c.read_block-in-None.ensures.octets)
+pub returns : goal.returns
+returns g c rest w =
+    let text = c.args.digits.now in
+    let front = c.octets_of-first.result in
+    let first = c.octets_of-first.ensures.octets text c.requires in
+    let count = c.read_count-count.result in
+    let items = c.in-Ok.ensures.items ∙ ap (λ (xs : List ℕ). xs ++ front) c.clear.ensures.items in
+    let few : count ≤ length front = omega (arith, c.if-count-gt16.false, c.octets_of-first.ensures.long) in
+    converts text rest (drop 32 text) c.truncate.new.self.items front c.args.size count w first c.octets_of-first.ensures.long c.read_count-count.ensures
+    (λ there all. subst (AreOctets (take (2 * count) text)) (sym (c.truncate.ensures.items ∙ ap (take count) items)) (first.octets_are count few there all))

@@ -1,20 +1,21 @@
-use Rattle.std.proofs.Common.{arith, subst, take_all}
+use Rattle.std.proofs.Common.{◌∙◌, arith, ltb, subst, take_all, w8}
 use Rattle.std.specs.List.{AllPass}
-use Rattle.std.proofs.lemmas.Simd.{length-chunk}
-use lib.Count.{trailing_le}
+use Rattle.std.proofs.lemmas.Simd.{bitmask_splat, length-chunk}
 use Rattle.hex.specs.Hex.{is_hex_digit}
-use Rattle.trace_text.proofs.DigitCounts.{no-misses}
-use Rattle.trace_text.proofs.LaneLemmas.{or_lane}
+use Rattle.trace_text.proofs.DigitCounts.{all-hit}
+use Rattle.trace_text.proofs.LaneLemmas.{first_passes, none_passes}
 use Rattle.trace_text.proofs.digits.leading_digits.Goals as goal
 
-pub returns-then-misses-eq0 : goal.returns-then-misses-eq0
-returns-then-misses-eq0 c =
-    let size = length-chunk 0 32 c.args.bytes.now (omega (arith, c.requires)) in
-    subst (AllPass is_hex_digit) (take_all 32 c.args.bytes.now (omega (arith, c.requires)))
-    (no-misses c.args.bytes.now c.misses-misses.result 32 c.requires c.misses-misses.ensures (omega arith)
-    (λ i h. omega (arith, c.if-misses-eq0.true, or_lane 0 c.misses-misses.result i (omega (arith, h, size, c.misses-misses.ensures.0)))))
+pub returns-then-others-eq0 : goal.returns-then-others-eq0
+returns-then-others-eq0 c =
+    let hits = c.hits-hits.result in
+    let long = c.hits-hits.ensures.0 ∙ length-chunk 0 64 c.args.bytes.now (omega (arith, c.requires)) in
+    subst (AllPass is_hex_digit) (take_all 64 c.args.bytes.now (omega (arith, c.requires)))
+    (all-hit c.args.bytes.now hits 64 c.requires c.hits-hits.ensures (omega arith) (none_passes (λ x. ltb x 128) hits _ 64 long (bitmask_splat w8 ltb hits 64 128 long (omega arith)) c.if-others-eq0.true))
 
 pub returns : goal.returns
 returns c =
-    let few = trailing_le 32 c.others.result in
-    (few, no-misses c.args.bytes.now c.misses-misses.result _ c.requires c.misses-misses.ensures few (λ i h. omega (arith, c.others.ensures i h)))
+    let hits = c.hits-hits.result in
+    let long = c.hits-hits.ensures.0 ∙ length-chunk 0 64 c.args.bytes.now (omega (arith, c.requires)) in
+    let first = first_passes (λ x. ltb x 128) hits _ 64 long (omega arith) (bitmask_splat w8 ltb hits 64 128 long (omega arith)) (omega (arith, c.if-others-eq0.false)) in
+    (first.0, all-hit c.args.bytes.now hits _ c.requires c.hits-hits.ensures first.0 first.1)
