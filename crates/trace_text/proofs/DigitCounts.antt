@@ -47,9 +47,6 @@ pub record HasCounted (text rest : List ℕ) : Type 0 where
   pub whole : text ≡ done ++ rest
   pub digits : AllPass is_hex_digit done
 
-pub counts-none : (text : List ℕ) → HasCounted text text
-counts-none text = record { done = []; whole = refl; digits = λ k d h. absurd (omega (arith, h)) }
-
 pub counts-block : (text rest block more : List ℕ) → HasCounted text rest → rest ≡ block ++ more → AllPass is_hex_digit block → HasCounted text more
 counts-block text rest block more c e digits = record {
   done = c.done ++ block;

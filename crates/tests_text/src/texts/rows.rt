@@ -15,6 +15,10 @@ pub const DIGITS: [&[u8]; 3] = [
     b"9001006789abcdefABCDEF9876543210fedcbaFEDCBA0123456789abcdefABCDEF9876",
 ];
 
+/// Digits of data with Q 0, more than 32 and two blocks of 64 after these.
+const LONG_DIGITS: &[u8] =
+    b"1001006789abcdefABCDEF9876543210fedcbaFEDCBA0123456789abcdefABCDEF9876543210fedcbaFEDCBA0123456789abcdefABCDEF9876543210fedcbaFEDCBA0123456789abcdefABCDEF9876543210fedcba";
+
 /// Lines that come after those that are tested, so that these lie far from the end.
 pub const AFTER: &[u8] =
     b"1000 N 0123456789abcdefABCDEF9876543210fedcbaFEDCBA0123456789\n1001 T -\n";
@@ -122,6 +126,7 @@ fn digits_of_each_length_are_read_in_one_pass(rt: HostRuntime) -> Result<(), Fai
     for digits in DIGITS {
         check_lengths(&rt, rt.alloc(), digits)?;
     }
+    check_lengths(&rt, rt.alloc(), LONG_DIGITS)?;
     for number in &NUMBERS {
         let line = line_of(rt.alloc(), number, DIGITS[1])?;
         check_line(&rt, rt.alloc(), line.as_slice())?;
@@ -129,9 +134,9 @@ fn digits_of_each_length_are_read_in_one_pass(rt: HostRuntime) -> Result<(), Fai
     Ok(())
 }
 
-/// Puts each other byte at each place of these digits.
-fn check_places(rt: &impl Abort, alloc: Global, digits: &[u8]) -> Result<(), Fail> {
-    for place in 0..digits.len() {
+/// Puts each other byte at each place of these digits from one on.
+fn check_places(rt: &impl Abort, alloc: Global, digits: &[u8], from: usize) -> Result<(), Fail> {
+    for place in from..digits.len() {
         for other in &OTHERS {
             let changed = with_other(alloc, digits, place, *other)?;
             let line = line_of(alloc, b"7", changed.as_slice())?;
@@ -144,7 +149,8 @@ fn check_places(rt: &impl Abort, alloc: Global, digits: &[u8]) -> Result<(), Fai
 #[test]
 fn each_other_byte_is_seen_at_each_place(rt: HostRuntime) -> Result<(), Fail> {
     for digits in DIGITS {
-        check_places(&rt, rt.alloc(), digits)?;
+        check_places(&rt, rt.alloc(), digits, 0)?;
     }
+    check_places(&rt, rt.alloc(), LONG_DIGITS, 64)?;
     Ok(())
 }
