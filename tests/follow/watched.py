@@ -138,6 +138,9 @@ def terminal_problems(scanner: str, source: str) -> list[str]:
     words = f"{source} | '{TRACER}' --follow --scanner '{scanner}' -"
     child, terminal = pty.fork()
     if not child:
+        # A job in the background of a script has them ignored.
+        for number in (signal.SIGINT, signal.SIGHUP):
+            signal.signal(number, signal.SIG_DFL)
         os.execvp("bash", ["bash", "-c", words])
     shown = read_until(terminal, report.partition(b"\n")[0])
     os.write(terminal, CTRL_C)
